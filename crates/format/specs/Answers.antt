@@ -1,0 +1,65 @@
+-- The answers, case by case: document 01's number and values for each (number, place, rows, bytes, the loader's packed number),
+-- and the case that stands for each thing that document 01 has a call answer.
+-- Assumes nothing.
+use Prim.Native.Nat.{ℕ, _+_, _*_}
+use Rattle.format.specs.declared.Kind.{Kind}
+use Rattle.format.specs.declared.Kind.the-variants.{ShortRepeat, Direct, PatchedBase, Delta, Booleans, ByteValues}
+use Rattle.format.specs.declared.Answer.{Answer}
+use Rattle.format.specs.declared.Answer.the-variants.{End, Run, Refused}
+use Rattle.format.specs.declared.Stream as stream
+use Rattle.format.specs.declared.Stream.{Stream}
+
+-- the two bits of a run's header; booleans and byte values are kinds of their own, with no header
+abbrev pub kindNumber : Kind → ℕ
+kindNumber ShortRepeat = 0
+kindNumber Direct = 1
+kindNumber PatchedBase = 2
+kindNumber Delta = 3
+kindNumber Booleans = 4
+kindNumber ByteValues = 5
+
+-- ---- an answer carries either the run's kind with its counts (rows, and bytes consumed or written) ..
+abbrev pub ran : Kind → ℕ → ℕ → Answer
+ran kind rows bytes = Run (record { kind = kind; rows = record { rows = rows }; consumed = record { bytes = bytes } })
+
+-- .. or a refusal with its number and the byte where the refused run begins
+abbrev pub refusedAt : ℕ → ℕ → Answer
+refusedAt number place = Refused (record { number = number; place = record { bytes = place } })
+
+-- the refusal's number: none is 0
+abbrev pub answerNumber : Answer → ℕ
+answerNumber End = 0
+answerNumber (Run r) = 0
+answerNumber (Refused f) = f .number
+
+abbrev pub answerPlace : Answer → ℕ
+answerPlace End = 0
+answerPlace (Run r) = 0
+answerPlace (Refused f) = f .place .bytes
+
+-- a refused call yields 0 rows and consumes 0 bytes
+abbrev pub answerRows : Answer → ℕ
+answerRows End = 0
+answerRows (Run r) = r .rows .rows
+answerRows (Refused f) = 0
+
+abbrev pub answerBytes : Answer → ℕ
+answerBytes End = 0
+answerBytes (Run r) = r .consumed .bytes
+answerBytes (Refused f) = 0
+
+-- the loader's one number: 0 for end, 1 to 11 for a refusal, else 65,536·consumed + rows
+abbrev pub answerPacked : Answer → ℕ
+answerPacked End = 0
+answerPacked (Run r) = 65536 * (r .consumed .bytes) + r .rows .rows
+answerPacked (Refused f) = f .number
+
+-- ---- the stream reader: "whole stream read" with its counts ..
+abbrev pub readWhole : ℕ → ℕ → Stream
+readWhole rows bytes = stream.the-variants.Whole (record { rows = record { rows = rows }; consumed = record { bytes = bytes } })
+
+-- .. or the first refusal, with the byte where the refused run begins, and the counts of the runs before it
+abbrev pub brokeAt : ℕ → ℕ → ℕ → ℕ → Stream
+brokeAt number place rows bytes =
+    stream.the-variants.Refused (record { number = number; place = record { bytes = place } })
+    (record { rows = record { rows = rows }; consumed = record { bytes = bytes } })

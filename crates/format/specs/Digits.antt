@@ -1,0 +1,20 @@
+-- Numbers and their digits. A list of bytes is a number in base 256, a packed block is a number in base 2^w: one pair of functions serves both.
+-- Assumes nothing.
+use Prim.Native.Nat.{ℕ, zero, suc, _+_, _*_, _/_, _%_, _^_, _<_}
+use mathlib.Core.List.{List, [], _∷_}
+use lib.ListN.{length}
+
+-- each of the numbers is below b
+abbrev pub AllBelow : ℕ → List ℕ → Type 0
+AllBelow b [] = Unit {0}
+AllBelow b (d ∷ ds) = (d < b) × AllBelow b ds
+
+-- the number that the digits ds, most significant first, write in base b
+unfoldable pub number : ℕ → List ℕ → ℕ
+number b [] = 0
+number b (d ∷ ds) = d * b ^ length ds + number b ds
+
+-- the n lowest digits of x in base b, most significant first
+unfoldable pub digits : ℕ → ℕ → ℕ → List ℕ
+digits b zero x = []
+digits b (suc n) x = x / b ^ n % b ∷ digits b n x

@@ -1,0 +1,10 @@
+-- The definitions that the contracts cite. Document 01 is the text that each of them is checked against.
+pub mod Digits
+pub mod Fields
+pub mod Runs
+pub mod Rows
+pub mod Parse
+pub mod Streams
+pub mod Answers
+pub mod Promises
+pub mod Table

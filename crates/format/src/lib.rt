@@ -1,0 +1,212 @@
+// The nouns of document 01: units, kinds, answers. What bytes mean stands in specs/, and the laws of that meaning in proofs/.
+ghost use mathlib.Core.Path.{_≡_};
+ghost use Prim.Native.Nat.{_<_};
+ghost use Rattle.format.specs.Answers.{ran, refusedAt, kindNumber, answerNumber, answerPlace, answerRows, answerBytes, answerPacked, readWhole, brokeAt};
+
+// File offsets count bytes.
+pub struct ByteOffset {
+    pub bytes: usize,
+}
+
+// Row numbers count rows.
+pub struct RowNumber {
+    pub rows: usize,
+}
+
+// What a call read or wrote: one of the four kinds of integer run, booleans, or a byte value.
+pub enum Kind {
+    ShortRepeat,
+    Direct,
+    PatchedBase,
+    Delta,
+    Booleans,
+    ByteValues,
+}
+
+// A run: its kind, and how many rows and bytes it has.
+pub struct Run {
+    pub kind: Kind,
+    pub rows: RowNumber,
+    pub consumed: ByteOffset,
+}
+
+// A refusal: its number in document 01's table, and the byte where the refused run begins.
+pub struct Refusal {
+    pub number: u8,
+    pub place: ByteOffset,
+}
+
+// What a call answers.
+pub enum Answer {
+    End,
+    Run(Run),
+    Refused(Refusal),
+}
+
+// The rows and bytes of several runs.
+pub struct Counts {
+    pub rows: RowNumber,
+    pub consumed: ByteOffset,
+}
+
+// What the stream reader answers: every run was read, or a run was refused, with the counts of the runs before it.
+pub enum Stream {
+    Whole(Counts),
+    Refused(Refusal, Counts),
+}
+
+impl ByteOffset {
+    pub fn new(bytes: usize) -> Self
+        ensures { λ r. ⌜ r .bytes ≡ bytes ⌝ }
+    {
+        ByteOffset { bytes }
+    }
+}
+
+impl RowNumber {
+    pub fn new(rows: usize) -> Self
+        ensures { λ r. ⌜ r .rows ≡ rows ⌝ }
+    {
+        RowNumber { rows }
+    }
+}
+
+impl Kind {
+    // The most rows that a run holds: nine bits of a header, and one.
+    pub const MAX_ROWS: usize = 512;
+
+    // The fewest and the most rows of a short repeat: three bits of its header, and three.
+    pub const MIN_REPEAT: usize = 3;
+
+    pub const MAX_REPEAT: usize = 10;
+
+    // The most entries of a patch list: five bits of the header.
+    pub const MAX_PATCHES: usize = 31;
+
+    // The two bits of a run's header; 4 and 5 are the kinds that have no header.
+    pub fn number(self) -> u8
+        ensures { λ r. ⌜ r ≡ kindNumber self ⌝ }
+    {
+        match self {
+            Kind::ShortRepeat => 0,
+            Kind::Direct => 1,
+            Kind::PatchedBase => 2,
+            Kind::Delta => 3,
+            Kind::Booleans => 4,
+            Kind::ByteValues => 5,
+        }
+    }
+}
+
+impl Answer {
+    pub fn end() -> Self
+        ensures { λ r. ⌜ r ≡ Answer.End ⌝ }
+    {
+        Answer::End
+    }
+
+    pub fn run(kind: Kind, rows: usize, consumed: usize) -> Self
+        ensures { λ r. ⌜ r ≡ ran kind rows consumed ⌝ }
+    {
+        Answer::Run(Run {
+            kind,
+            rows: RowNumber { rows },
+            consumed: ByteOffset { bytes: consumed },
+        })
+    }
+
+    pub fn refused(number: u8, place: usize) -> Self
+        ensures { λ r. ⌜ r ≡ refusedAt number place ⌝ }
+    {
+        Answer::Refused(Refusal {
+            number,
+            place: ByteOffset { bytes: place },
+        })
+    }
+
+    // The number of the refusal: 0 where nothing is refused.
+    pub fn number(self) -> u8
+        ensures { λ r. ⌜ r ≡ answerNumber self ⌝ }
+    {
+        match self {
+            Answer::Refused(f) => f.number,
+            Answer::Run(_) => 0,
+            Answer::End => 0,
+        }
+    }
+
+    // The byte where the refused run begins: 0 where nothing is refused.
+    pub fn place(self) -> usize
+        ensures { λ r. ⌜ r ≡ answerPlace self ⌝ }
+    {
+        match self {
+            Answer::Refused(f) => f.place.bytes,
+            Answer::Run(_) => 0,
+            Answer::End => 0,
+        }
+    }
+
+    // How many rows the answer yields.
+    pub fn rows(self) -> usize
+        ensures { λ r. ⌜ r ≡ answerRows self ⌝ }
+    {
+        match self {
+            Answer::Run(r) => r.rows.rows,
+            Answer::Refused(_) => 0,
+            Answer::End => 0,
+        }
+    }
+
+    // How many bytes it consumes, or of the writer, writes.
+    pub fn consumed(self) -> usize
+        ensures { λ r. ⌜ r ≡ answerBytes self ⌝ }
+    {
+        match self {
+            Answer::Run(r) => r.consumed.bytes,
+            Answer::Refused(_) => 0,
+            Answer::End => 0,
+        }
+    }
+
+    // The loader's one number.
+    pub fn packed(self) -> u64
+        requires { ⌜ (answerRows self < 65536) × (answerBytes self < 281474976710656) ⌝ }
+        ensures { λ r. ⌜ r ≡ answerPacked self ⌝ }
+    {
+        match self {
+            Answer::Run(r) => {
+                let rows = r.rows;
+                let consumed = r.consumed;
+                65536 * (consumed.bytes as u64) + (rows.rows as u64)
+            }
+            Answer::Refused(f) => f.number as u64,
+            Answer::End => 0,
+        }
+    }
+}
+
+impl Stream {
+    pub fn whole(rows: usize, consumed: usize) -> Self
+        ensures { λ r. ⌜ r ≡ readWhole rows consumed ⌝ }
+    {
+        Stream::Whole(Counts {
+            rows: RowNumber { rows },
+            consumed: ByteOffset { bytes: consumed },
+        })
+    }
+
+    pub fn refused(number: u8, place: usize, rows: usize, consumed: usize) -> Self
+        ensures { λ r. ⌜ r ≡ brokeAt number place rows consumed ⌝ }
+    {
+        Stream::Refused(
+            Refusal {
+                number,
+                place: ByteOffset { bytes: place },
+            },
+            Counts {
+                rows: RowNumber { rows },
+                consumed: ByteOffset { bytes: consumed },
+            },
+        )
+    }
+}
