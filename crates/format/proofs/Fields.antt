@@ -104,6 +104,10 @@ block-size w n =
     rw (pow-pow 2 8 (bytesFor (n * w)), pow-pow 2 w n, ← (pow-add 2 (n * w) (padBits w n)))
     (ap (λ (x : ℕ). 2 ^ x) (omega arith))
 
+pub length-block : (w n : ℕ) (k : Block) → length (blockBytes w n k) ≡ bytesFor (n * w)
+unfolding blockBytes
+length-block w n k = length-digits 256 (bytesFor (n * w)) _
+
 module _ (w n : ℕ) (k : Block) (v : IsBlock w n k) where
   blockNumber : ℕ
   blockNumber = number (2 ^ w) (k .values) * 2 ^ padBits w n + k .pad
@@ -129,10 +133,6 @@ module _ (w n : ℕ) (k : Block) (v : IsBlock w n k) where
         number-digits 256 (zero-lt-suc 255) (bytesFor (n * w)) blockNumber blockNumber-lt,
         unpack-block,
       )
-
-  pub length-block : length (blockBytes w n k) ≡ bytesFor (n * w)
-  unfolding blockBytes
-  length-block = length-digits 256 (bytesFor (n * w)) _
 
   pub block-below : AllBelow 256 (blockBytes w n k)
   unfolding blockBytes blockNumber

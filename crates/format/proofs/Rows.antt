@@ -50,25 +50,25 @@ byteCount (fixed rows first base) = 2 + length first + length base
 byteCount (delta code first base k) = 2 + length first + length base + bytesFor (length (k .values) * width code)
 byteCount (patched code base pc gw k l) = 4 + length base + bytesFor (length (k .values) * width code) + bytesFor (length (l .values) * entryWidth pc gw)
 
-pub bytes-count : (d : Description) → Valid d → length (layout d) ≡ byteCount d
+pub bytes-count : (d : Description) → length (layout d) ≡ byteCount d
 unfolding layout
-bytes-count (short count value) v = omega arith
-bytes-count (direct code k) v = omega (arith, length-block (width code) (length (k .values)) k (v .block))
-bytes-count (fixed rows first base) v = omega (arith, length-append first base)
-bytes-count (delta code first base k) v =
+bytes-count (short count value) = omega arith
+bytes-count (direct code k) = omega (arith, length-block (width code) (length (k .values)) k)
+bytes-count (fixed rows first base) = omega (arith, length-append first base)
+bytes-count (delta code first base k) =
     omega (
       arith,
       length-append first (base ++ blockBytes (width code) (length (k .values)) k),
       length-append base (blockBytes (width code) (length (k .values)) k),
-      length-block (width code) (length (k .values)) k (v .block),
+      length-block (width code) (length (k .values)) k,
     )
-bytes-count (patched code base pc gw k l) v =
+bytes-count (patched code base pc gw k l) =
     omega (
       arith,
       length-append base (blockBytes (width code) (length (k .values)) k ++ blockBytes (entryWidth pc gw) (length (l .values)) l),
       length-append (blockBytes (width code) (length (k .values)) k) (blockBytes (entryWidth pc gw) (length (l .values)) l),
-      length-block (width code) (length (k .values)) k (v .block),
-      length-block (entryWidth pc gw) (length (l .values)) l (v .list),
+      length-block (width code) (length (k .values)) k,
+      length-block (entryWidth pc gw) (length (l .values)) l,
     )
 
 -- ---- each row is below 2^64
