@@ -6,3 +6,4 @@ pub mod Streams
 pub mod Table
 pub mod Rows
 pub mod Cut
+pub mod Reading

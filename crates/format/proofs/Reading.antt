@@ -1,0 +1,67 @@
+-- What the small readers give at a place p of a lent slice s: by the tests that a reader makes on lengths. Assumes nothing.
+use mathlib.Core.Path.{_≡_, refl, sym, ap, _∙_}
+use Prim.Native.Nat.{ℕ, zero, suc, _+_, _-_, _*_, _/_, _%_, _^_, _<_, _≤_}
+use native.Mathlib.Omega.{arith}
+use native.Mathlib.Numerals.{add-one}
+use mathlib.Core.Bool.{Bool, true, false}
+use mathlib.Core.List.{List, [], _∷_, _++_}
+use lib.ListN.{length, getD, take, drop, length-append, length-drop}
+use lib.Seq.{drop-cons, drop-drop, drop-append-add, drop-at}
+use lib.IntN.{ℤ}
+use borrow.Author.Tests.{le-leb, lt-leb, le-ltb, lt-ltb}
+use Rattle.format.specs.Digits.{AllBelow, number}
+use Rattle.format.specs.Fields.{Block, bytesFor, Varint}
+use Rattle.format.specs.Runs.{Description, rowCount, layout}
+use Rattle.format.specs.Rows.{i64Rows}
+use Rattle.format.specs.Parse.{Reason, plain, cutIn, Parsed, end, got, refused, bytes, unpack, block, varint, into}
+use Rattle.format.specs.Answers.{ran, refusedAt}
+use Rattle.format.specs.Promises.{kindOf, answerOf, placesOf, Gives}
+use Rattle.format.specs.declared.Kind.{Kind}
+use Rattle.format.specs.declared.Answer.{Answer}
+use Rattle.format.proofs.Fields.{Post, at-got, at-refused, Took, varint-sound, below-drop}
+use Rattle.format.proofs.Streams.{into-got, into-refused, into-end}
+
+module _ (s : List ℕ) (p : ℕ) where
+  pub byte-here : p < length s → drop p s ≡ getD s p 0 ∷ drop (p + 1) s
+  byte-here h = rw (add-one, drop-cons s p 0 h)
+
+  pub bytes-here : (c n : ℕ) → n ≤ length s - p → bytes c n (drop p s) ≡ got (take n (drop p s)) (drop (p + n) s)
+  unfolding bytes
+  bytes-here c n h = rw (le-leb n (length (drop p s)) (rw length-drop h), drop-drop n p s)
+
+  pub bytes-cut : (c n : ℕ) → length s - p < n → bytes c n (drop p s) ≡ refused (cutIn c (drop p s))
+  unfolding bytes
+  bytes-cut c n h = rw (lt-leb n (length (drop p s)) (rw length-drop h))
+
+  -- the block that stands at p
+  abbrev pub blockAt : ℕ → ℕ → Block
+  blockAt w n = unpack w n (number 256 (take (bytesFor (n * w)) (drop p s)))
+
+  pub block-here : (c w n : ℕ) → bytesFor (n * w) ≤ length s - p → block c w n (drop p s) ≡ got (blockAt w n) (drop (p + bytesFor (n * w)) s)
+  unfolding block
+  block-here c w n h = rw (bytes-here c (bytesFor (n * w)) h)
+
+  pub block-cut : (c w n : ℕ) → length s - p < bytesFor (n * w) → block c w n (drop p s) ≡ refused (cutIn c (drop p s))
+  unfolding block
+  block-cut c w n h = rw (bytes-cut c (bytesFor (n * w)) h)
+
+-- ---- what a call gives, by what reading gives
+
+module _ (at : ℕ) (signed : Bool) (m : Parsed Description) (out : List ℤ) where
+  pub gives-end : m ≡ end → Gives at signed m out out (answerOf at end)
+  gives-end e = record { answer = rw (e, into-end (length out)); places = rw (e, into-end (length out)) }
+
+  pub gives-refused : (n : ℕ) → m ≡ refused (plain n) → Gives at signed m out out (refusedAt n at)
+  gives-refused n e = record { answer = rw (e, into-refused (length out) (plain n)); places = rw (e, into-refused (length out) (plain n)) }
+
+  module _ (d : Description) (rest : List ℕ) (e : m ≡ got d rest) where
+    pub gives-8 : length out < rowCount d → Gives at signed m out out (refusedAt 8 at)
+    unfolding into
+    gives-8 h = record { answer = rw (e, lt-ltb _ _ h); places = rw (e, lt-ltb _ _ h) }
+
+    pub gives-run : (out′ : List ℤ) (k : Kind) (n b : ℕ) → rowCount d ≤ length out → k ≡ kindOf d → n ≡ rowCount d → b ≡ length (layout d)
+        → out′ ≡ i64Rows signed d ++ drop n out → Gives at signed m out out′ (ran k n b)
+    gives-run out′ k n b h ek en eb eo = record {
+      answer = rw (e, into-got (length out) d rest h, ek, en, eb);
+      places = rw (e, into-got (length out) d rest h, ← en) eo;
+    }
