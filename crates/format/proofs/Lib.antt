@@ -4,5 +4,6 @@ pub mod Fields
 pub mod Runs
 pub mod Streams
 pub mod Table
+pub mod Patterns
 pub mod Rows
 pub mod Cut
