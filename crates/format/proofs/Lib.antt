@@ -4,6 +4,7 @@ pub mod Fields
 pub mod Runs
 pub mod Streams
 pub mod Table
+pub mod Patterns
 pub mod Rows
 pub mod Cut
 pub mod Reading

@@ -7,17 +7,17 @@ use native.Mathlib.Omega.{arith}
 use native.Mathlib.Numerals.{add-two}
 use mathlib.Core.Bool.{Bool, true, false}
 use mathlib.Core.List.{List, [], _∷_, _++_, map}
-use lib.Dec.{eqb}
 use lib.Pow.{pow-pos, pow-mono}
 use lib.ListN.{getD, length, length-map, length-replicate, replicate, length-append}
 use Rattle.format.specs.Digits.{AllBelow, number}
-use Rattle.format.specs.Fields.{width, Block, IsBlock, blockBytes, bytesFor, row, widths, two64, zigzag, negative, pick, varintValue, groups}
+use Rattle.format.specs.Fields.{width, Block, IsBlock, blockBytes, bytesFor, row, widths, two64, varintValue, groups}
 use Rattle.format.specs.Runs
 use Rattle.format.specs.Runs.{Description, short, direct, fixed, delta, patched, rowCount, Valid, layout, Patch, entryWidth}
 use Rattle.format.specs.Rows
 use Rattle.format.specs.Rows.{rowsOf}
 use Rattle.format.proofs.Fields.{length-block}
 use Rattle.format.proofs.Digits.{number-lt}
+use Rattle.format.proofs.Patterns.{zigzag-lt}
 
 length-steps : (n x step : ℕ) → length (Rows.steps n x step) ≡ n
 unfolding Rows.steps
@@ -97,14 +97,10 @@ width-le code = omega (arith, below-getD 65 widths code 64 widths-below (omega a
 plus-lt : (x y : ℕ) → Rows.plus x y < two64
 plus-lt x y = mod-lt (x + y) (pow-pos 64)
 
-row-lt : (signed : Bool) (u : ℕ) → u < two64 → row signed u < two64
-unfolding row zigzag negative
+pub row-lt : (signed : Bool) (u : ℕ) → u < two64 → row signed u < two64
+unfolding row
 row-lt false u h = h
-row-lt true u h = go (eqb (u % 2) 0)
-  where
-    go : (t : Bool) → pick t (u / 2) ((two64 - (u + 1) / 2) % two64) < two64
-    go true = omega (arith, h)
-    go false = mod-lt _ (pow-pos 64)
+row-lt true u h = zigzag-lt u h
 
 below-steps : (n x step : ℕ) → x < two64 → AllBelow two64 (Rows.steps n x step)
 unfolding Rows.steps
@@ -121,7 +117,7 @@ unfolding Rows.patchedRows
 below-patched base w ps p [] = tt
 below-patched base w ps p (v ∷ vs) = (plus-lt base _, below-patched base w ps (suc p) vs)
 
-varint-lt : (bs : List ℕ) → varintValue bs < two64
+pub varint-lt : (bs : List ℕ) → varintValue bs < two64
 unfolding varintValue
 varint-lt bs = mod-lt (groups bs) (pow-pos 64)
 

@@ -1,0 +1,2 @@
+-- The laws that the readers and the writer cite.
+pub mod Grow

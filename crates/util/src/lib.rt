@@ -1,0 +1,2 @@
+// What the readers and the writer share: each module is a kind of field of document 01's layouts.
+pub mod pattern;
