@@ -29,10 +29,10 @@ unfolding Rows.walk
 length-walk falling x [] = refl
 length-walk falling x (m ∷ ms) = ap suc (length-walk falling _ ms)
 
-length-patched : (base w : ℕ) (ps : List Patch) (p : ℕ) (vs : List ℕ) → length (Rows.patchedRows base w ps p vs) ≡ length vs
+pub length-patchedRows : (base w : ℕ) (ps : List Patch) (p : ℕ) (vs : List ℕ) → length (Rows.patchedRows base w ps p vs) ≡ length vs
 unfolding Rows.patchedRows
-length-patched base w ps p [] = refl
-length-patched base w ps p (v ∷ vs) = ap suc (length-patched base w ps (suc p) vs)
+length-patchedRows base w ps p [] = refl
+length-patchedRows base w ps p (v ∷ vs) = ap suc (length-patchedRows base w ps (suc p) vs)
 
 pub rows-count : (signed : Bool) (d : Description) → length (rowsOf signed d) ≡ rowCount d
 unfolding rowsOf
@@ -40,7 +40,7 @@ rows-count signed (short count value) = length-replicate count _
 rows-count signed (direct code k) = length-map (k .values) (row signed)
 rows-count signed (fixed rows first base) = length-steps rows _ _
 rows-count signed (delta code first base k) = ap (λ (n : ℕ). suc (suc n)) (length-walk _ _ (k .values)) ∙ sym (add-two _)
-rows-count signed (patched code base pc gw k l) = length-patched _ _ _ 0 (k .values)
+rows-count signed (patched code base pc gw k l) = length-patchedRows _ _ _ 0 (k .values)
 
 -- bytes consumed
 abbrev pub byteCount : Description → ℕ

@@ -1,0 +1,2 @@
+pub mod PatchList
+pub mod Pass

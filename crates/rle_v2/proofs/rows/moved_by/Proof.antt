@@ -1,0 +1,27 @@
+use Rattle.format.specs.Fields.{negative}
+use mathlib.Core.Path.{_≡_, sym, _∙_}
+use native.Mathlib.Nat.{add-mod-mod}
+use borrow.Author.Needs.{needs, sfits-of}
+use native.Mathlib.Omega.{arith}
+use Rattle.rle_v2.proofs.rows.moved_by.Statement.{statement}
+use Rattle.rle_v2.proofs.rows.moved_by.Tie as tie
+use Rattle.rle_v2.proofs.rows.moved_by.Reads as reads
+use Rattle.rle_v2.proofs.rows.moved_by.Lts as lts
+use Rattle.util.proofs.pattern.add.Reads as add-reads
+use Rattle.util.proofs.pattern.sub.Reads as sub-reads
+
+sub-requires : tie.Need-sub-requires
+sub-requires c κs = search needs
+
+add-requires : tie.Need-add-requires
+add-requires c κs = search needs
+
+returns : tie.Need-returns
+unfolding negative
+returns c = rw (c .before .if1 .taken) (c .sub .ensures ∙ sym (add-mod-mod _ _ _))
+
+returns-2 : tie.Need-returns-2
+returns-2 c = rw (c .before .if1 .left) (c .add .ensures)
+
+pub moved-by-spec : {M : Type 1} → statement M
+moved-by-spec = tie.close (tie.spec sub-requires add-requires returns returns-2)

@@ -1,0 +1,72 @@
+use Rattle.rle_v2.proofs.Pass.{Turn, turn-first, turn-next, turn-last}
+use Rattle.format.specs.Rows.{plus, asI64, asU64}
+use Rattle.format.specs.Fields.{zigzag}
+use Rattle.rle_v2.specs.Pass.{moved}
+use Prim.Native.Nat.{ℕ, _-_}
+use lib.IntN.{pos}
+use mathlib.Core.Path.{_≡_, refl, sym, _∙_, ap}
+use mir.Facts.{toZ-ofZ}
+use borrow.Author.Needs.{needs, sfits-of}
+use native.Mathlib.Omega.{arith}
+use Rattle.rle_v2.proofs.rows.steps.Statement.{statement}
+use Rattle.rle_v2.proofs.rows.steps.Tie as tie
+use Rattle.rle_v2.proofs.rows.steps.Reads as reads
+use Rattle.rle_v2.proofs.rows.steps.Lts as lts
+use Rattle.util.proofs.pattern.add.Reads as add-reads
+use Rattle.util.proofs.pattern.to_i64.Reads as to-i64-reads
+
+abbrev Inv-loop : tie.InvT-loop
+Inv-loop first step n out₀ x₀ i₀ out x i = Turn (λ x z. asI64 x) (λ x z. plus x step) first n out₀ out i x
+
+abbrev μ-loop : tie.MeasureT-loop
+μ-loop first step n out₀ x₀ i₀ out x i = n - i
+
+loop-holds : tie.Need-loop-holds Inv-loop μ-loop
+loop-holds c = turn-first _ _ _ _ _
+
+to-i64-requires : tie.Need-to-i64-requires Inv-loop μ-loop
+to-i64-requires c κs = search needs
+
+mul-r : tie.Need-mul-r Inv-loop μ-loop
+mul-r c = omega arith
+
+slice-set-from-r : tie.Need-slice-set-from-r Inv-loop μ-loop
+slice-set-from-r c = omega arith
+
+add-requires : tie.Need-add-requires Inv-loop μ-loop
+add-requires c κs = search needs
+
+add-i : tie.Need-add-i Inv-loop μ-loop
+add-i c = omega arith
+
+loop-less : tie.Need-loop-less Inv-loop μ-loop
+loop-less c = omega arith
+
+loop-again : tie.Need-loop-again Inv-loop μ-loop
+loop-again c =
+    let l = c .before .before .before .loop in
+    turn-next _ _ _ _ _ (l .out) (l .i) _ (pos 0) _ _ (l .inv) (omega arith) (omega arith)
+    (toZ-ofZ (sfits-of (c .before .to-i64 .ok)) ∙ c .before .to-i64 .ensures) (c .add .ensures)
+
+same-length : tie.Need-same-length Inv-loop μ-loop
+same-length c = c .before .loop .inv .long
+
+returns : tie.Need-returns Inv-loop μ-loop
+returns c = turn-last _ _ _ _ _ _ _ _ (c .before .loop .inv) (c .loop-test .left)
+
+pub steps-spec : {M : Type 1} → statement M
+steps-spec =
+    tie.close
+    (tie.spec
+    Inv-loop
+    μ-loop
+    loop-holds
+    to-i64-requires
+    mul-r
+    slice-set-from-r
+    add-requires
+    add-i
+    loop-less
+    loop-again
+    same-length
+    returns)

@@ -1,0 +1,86 @@
+use Rattle.rle_v2.proofs.Pass.{Turn, turn-first, turn-next, turn-last}
+use Rattle.format.specs.Rows.{plus, asI64, asU64}
+use Rattle.format.specs.Fields.{zigzag}
+use Rattle.rle_v2.specs.Pass.{moved}
+use Prim.Native.Nat.{ℕ, _-_}
+use lib.IntN.{pos}
+use mathlib.Core.Path.{_≡_, refl, sym, _∙_, ap}
+use mir.Facts.{toZ-ofZ}
+use borrow.Author.Needs.{needs, sfits-of}
+use native.Mathlib.Omega.{arith}
+use Rattle.rle_v2.proofs.rows.sum.Statement.{statement}
+use Rattle.rle_v2.proofs.rows.sum.Tie as tie
+use Rattle.rle_v2.proofs.rows.sum.Reads as reads
+use Rattle.rle_v2.proofs.rows.sum.Lts as lts
+use Rattle.rle_v2.proofs.rows.moved_by.Reads as moved-by-reads
+use Rattle.util.proofs.pattern.to_i64.Reads as to-i64-reads
+use Rattle.util.proofs.pattern.to_u64.Reads as to-u64-reads
+
+abbrev Inv-loop : tie.InvT-loop
+Inv-loop falling before n out₀ x₀ i₀ out x i = Turn (λ y z. asI64 (moved falling y (asU64 z))) (λ y z. moved falling y (asU64 z)) before n out₀ out i x
+
+abbrev μ-loop : tie.MeasureT-loop
+μ-loop falling before n out₀ x₀ i₀ out x i = n - i
+
+loop-holds : tie.Need-loop-holds Inv-loop μ-loop
+loop-holds c = turn-first _ _ _ _ _
+
+mul-to-u64 : tie.Need-mul-to-u64 Inv-loop μ-loop
+mul-to-u64 c = omega arith
+
+slice-copy-out-to-u64 : tie.Need-slice-copy-out-to-u64 Inv-loop μ-loop
+slice-copy-out-to-u64 c = omega arith
+
+to-u64-requires : tie.Need-to-u64-requires Inv-loop μ-loop
+to-u64-requires c κs = search needs
+
+moved-by-requires : tie.Need-moved-by-requires Inv-loop μ-loop
+moved-by-requires c κs = search needs
+
+to-i64-requires : tie.Need-to-i64-requires Inv-loop μ-loop
+to-i64-requires c κs = search needs
+
+mul-r : tie.Need-mul-r Inv-loop μ-loop
+mul-r c = omega arith
+
+slice-set-from-r : tie.Need-slice-set-from-r Inv-loop μ-loop
+slice-set-from-r c = omega arith
+
+add-i : tie.Need-add-i Inv-loop μ-loop
+add-i c = omega arith
+
+loop-less : tie.Need-loop-less Inv-loop μ-loop
+loop-less c = omega arith
+
+loop-again : tie.Need-loop-again Inv-loop μ-loop
+loop-again c =
+    let l = c .before .before .before .before .before .loop in
+    let e = rw (c .before .before .to-u64 .ensures, toZ-ofZ (sfits-of (c .before .before .before .to-u64-arg .given))) at (c .before .moved-by .ensures) in
+    turn-next _ _ _ _ _ (l .out) (l .i) _ (pos 0) _ _ (l .inv) (omega arith) (omega arith)
+    (toZ-ofZ (sfits-of (c .to-i64 .ok)) ∙ c .to-i64 .ensures ∙ rw e) e
+
+same-length : tie.Need-same-length Inv-loop μ-loop
+same-length c = c .before .loop .inv .long
+
+returns : tie.Need-returns Inv-loop μ-loop
+returns c = turn-last _ _ _ _ _ _ _ _ (c .before .loop .inv) (c .loop-test .left)
+
+pub sum-spec : {M : Type 1} → statement M
+sum-spec =
+    tie.close
+    (tie.spec
+    Inv-loop
+    μ-loop
+    loop-holds
+    mul-to-u64
+    slice-copy-out-to-u64
+    to-u64-requires
+    moved-by-requires
+    to-i64-requires
+    mul-r
+    slice-set-from-r
+    add-i
+    loop-less
+    loop-again
+    same-length
+    returns)

@@ -1,0 +1,3 @@
+-- What the reader's inner functions are stated with. The promises themselves cite `format`.
+pub mod Pass
+pub mod PatchList

@@ -1,0 +1,36 @@
+-- A pass over places: each is made anew from what it holds and from what was carried to it, and something is carried on.
+-- Assumes nothing.
+use mathlib.Core.Path.{_≡_}
+use Prim.Native.Nat.{ℕ, _+_, _-_, _≤_}
+use mathlib.Core.Bool.{Bool, true, false}
+use mathlib.Core.List.{List, [], _∷_, _++_}
+use lib.ListN.{length, take, drop}
+use lib.IntN.{ℤ}
+use Rattle.format.specs.Fields.{pick, negative, zigzag}
+use Rattle.format.specs.Rows.{plus, asI64, asU64}
+
+unfoldable pub pass : {S A : Type 0} → (S → A → A) → (S → A → S) → S → List A → List A
+pass new on s [] = []
+pass new on s (a ∷ rest) = new s a ∷ pass new on (on s a) rest
+
+-- ---- the passes of the readers
+
+-- rows from the first on, each the one before it plus the step: what stood there does not count
+abbrev pub stepped : ℕ → ℕ → List ℤ → List ℤ
+stepped first step out = pass (λ x z. asI64 x) (λ x z. plus x step) first out
+
+-- each value zigzag decoded
+abbrev pub unzigzagged : List ℤ → List ℤ
+unzigzagged out = pass (λ (x : ℕ) z. asI64 (zigzag (asU64 z))) (λ x z. x) 0 out
+
+-- each value with the base added
+abbrev pub based : ℕ → List ℤ → List ℤ
+based base out = pass (λ (x : ℕ) z. asI64 (plus x (asU64 z))) (λ x z. x) base out
+
+-- the row after x, by a magnitude: subtracted when falling, and added otherwise
+abbrev pub moved : Bool → ℕ → ℕ → ℕ
+moved falling x m = plus x (pick falling (negative m) m)
+
+-- each magnitude summed up from the row before the first of them
+abbrev pub summed : Bool → ℕ → List ℤ → List ℤ
+summed falling x out = pass (λ y z. asI64 (moved falling y (asU64 z))) (λ y z. moved falling y (asU64 z)) x out

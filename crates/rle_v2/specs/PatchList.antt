@@ -1,0 +1,31 @@
+-- A patch list, entry by entry, as the reader walks it: the test of its places, and the patches put into rows that are already laid down.
+-- Assumes nothing.
+use Prim.Native.Nat.{ℕ, _+_, _*_, _^_}
+use mathlib.Core.Bool.{Bool, true, false, _||_}
+use mathlib.Core.List.{List, [], _∷_}
+use lib.ListN.{getD, set}
+use lib.IntN.{ℤ, pos}
+use lib.Dec.{leb, ltb}
+use Rattle.format.specs.Fields.{pick}
+use Rattle.format.specs.Runs.{isSkip, gapOf, patchOf}
+use Rattle.format.specs.Rows.{plus, asI64, asU64}
+
+-- Some entry is out of place. `before` is the sum of the gaps so far, `free` the least place that no entry may name any more below it, and
+-- `skip` whether the entry before was a skip. Places never fall, so two entries share one only if the later names a place below `free`.
+unfoldable pub misplaced : ℕ → ℕ → ℕ → ℕ → Bool → List ℕ → Bool
+misplaced pw rows before free skip [] = skip
+misplaced pw rows before free skip (e ∷ es) =
+    pick (isSkip pw e) (misplaced pw rows (before + gapOf pw e) free true es)
+    (pick (ltb (before + gapOf pw e) free || leb rows (before + gapOf pw e)) true
+    (misplaced pw rows (before + gapOf pw e) (before + gapOf pw e + 1) false es))
+
+-- a row with a patch above its w bits
+abbrev pub patchedRow : ℕ → ℕ → ℤ → ℤ
+patchedRow w patch z = asI64 (plus (asU64 z) (patch * 2 ^ w))
+
+-- the places after the patches of the entries es
+unfoldable pub patchAll : ℕ → ℕ → ℕ → List ℤ → List ℕ → List ℤ
+patchAll w pw before out [] = out
+patchAll w pw before out (e ∷ es) =
+    patchAll w pw (before + gapOf pw e)
+    (pick (isSkip pw e) out (set out (before + gapOf pw e) (patchedRow w (patchOf pw e) (getD out (before + gapOf pw e) (pos 0))))) es

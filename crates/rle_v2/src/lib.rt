@@ -1,0 +1,2 @@
+// RLE version 2: the run reader, a module for each kind of run, and the stream reader.
+mod rows;

@@ -1,0 +1,74 @@
+// The pass that finishes rows in their places: every reader makes one at most, after all its tests.
+ghost use mathlib.Core.Path.{_≡_};
+ghost use mathlib.Core.List.{_++_};
+ghost use Prim.Native.Nat.{_≤_};
+ghost use lib.ListN.{length, take, drop};
+ghost use Rattle.rle_v2.specs.Pass.{stepped, unzigzagged, based, moved, summed};
+use util::pattern;
+
+// n rows from the first on, each the one before it plus the step.
+pub(crate) fn steps(first: u64, step: u64, n: usize, out: &mut [i64])
+    requires { ⌜ n ≤ length (now out) ⌝ }
+    ensures { λ _. ⌜ now (out .exit) ≡ stepped first step (take n (now (out .entry))) ++ drop n (now (out .entry)) ⌝ }
+{
+    let mut x = first;
+    let mut i: usize = 0;
+    while i < n {
+        let r = pattern::to_i64(x);
+        out[i] = r;
+        x = pattern::add(x, step);
+        i += 1;
+    }
+}
+
+// The first n places, zigzag decoded.
+pub(crate) fn unzigzag(n: usize, out: &mut [i64])
+    requires { ⌜ n ≤ length (now out) ⌝ }
+    ensures { λ _. ⌜ now (out .exit) ≡ unzigzagged (take n (now (out .entry))) ++ drop n (now (out .entry)) ⌝ }
+{
+    let mut i: usize = 0;
+    while i < n {
+        let r = pattern::to_i64(pattern::unzigzag(pattern::to_u64(out[i])));
+        out[i] = r;
+        i += 1;
+    }
+}
+
+// The first n places, with the base added.
+pub(crate) fn add_base(base: u64, n: usize, out: &mut [i64])
+    requires { ⌜ n ≤ length (now out) ⌝ }
+    ensures { λ _. ⌜ now (out .exit) ≡ based base (take n (now (out .entry))) ++ drop n (now (out .entry)) ⌝ }
+{
+    let mut i: usize = 0;
+    while i < n {
+        let r = pattern::to_i64(pattern::add(base, pattern::to_u64(out[i])));
+        out[i] = r;
+        i += 1;
+    }
+}
+
+// The row after x, by a magnitude.
+fn moved_by(falling: bool, x: u64, m: u64) -> u64
+    ensures { λ r. ⌜ r ≡ moved falling x m ⌝ }
+{
+    if falling {
+        pattern::sub(x, m)
+    } else {
+        pattern::add(x, m)
+    }
+}
+
+// The first n places, which hold magnitudes, summed up from the row before them.
+pub(crate) fn sum(falling: bool, before: u64, n: usize, out: &mut [i64])
+    requires { ⌜ n ≤ length (now out) ⌝ }
+    ensures { λ _. ⌜ now (out .exit) ≡ summed falling before (take n (now (out .entry))) ++ drop n (now (out .entry)) ⌝ }
+{
+    let mut x = before;
+    let mut i: usize = 0;
+    while i < n {
+        x = moved_by(falling, x, pattern::to_u64(out[i]));
+        let r = pattern::to_i64(x);
+        out[i] = r;
+        i += 1;
+    }
+}
