@@ -4,6 +4,7 @@ pub mod Fields
 pub mod Runs
 pub mod Streams
 pub mod Table
+pub mod Widths
 pub mod Patterns
 pub mod Rows
 pub mod Cut

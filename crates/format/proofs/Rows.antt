@@ -8,9 +8,9 @@ use native.Mathlib.Numerals.{add-two}
 use mathlib.Core.Bool.{Bool, true, false}
 use mathlib.Core.List.{List, [], _∷_, _++_, map}
 use lib.Pow.{pow-pos, pow-mono}
-use lib.ListN.{getD, length, length-map, length-replicate, replicate, length-append}
+use lib.ListN.{length, length-map, length-replicate, replicate, length-append}
 use Rattle.format.specs.Digits.{AllBelow, number}
-use Rattle.format.specs.Fields.{width, Block, IsBlock, blockBytes, bytesFor, row, widths, two64, varintValue, groups}
+use Rattle.format.specs.Fields.{width, Block, IsBlock, blockBytes, bytesFor, row, two64, varintValue, groups}
 use Rattle.format.specs.Runs
 use Rattle.format.specs.Runs.{Description, short, direct, fixed, delta, patched, rowCount, Valid, layout, Patch, entryWidth}
 use Rattle.format.specs.Rows
@@ -18,6 +18,7 @@ use Rattle.format.specs.Rows.{rowsOf}
 use Rattle.format.proofs.Fields.{length-block}
 use Rattle.format.proofs.Digits.{number-lt}
 use Rattle.format.proofs.Patterns.{zigzag-lt}
+use Rattle.format.proofs.Widths.{width-is}
 
 length-steps : (n x step : ℕ) → length (Rows.steps n x step) ≡ n
 unfolding Rows.steps
@@ -73,11 +74,6 @@ bytes-count (patched code base pc gw k l) =
 
 -- ---- each row is below 2^64
 
-below-getD : (b : ℕ) (l : List ℕ) (i d : ℕ) → AllBelow b l → d < b → getD l i d < b
-below-getD b [] i d h hd = hd
-below-getD b (x ∷ l) zero d h hd = h .0
-below-getD b (x ∷ l) (suc i) d h hd = below-getD b l i d (h .1) hd
-
 below-map : (f : ℕ → ℕ) (b c : ℕ) (l : List ℕ) → ((x : ℕ) → x < b → f x < c) → AllBelow b l → AllBelow c (map f l)
 below-map f b c [] h p = tt
 below-map f b c (x ∷ l) h p = (h x (p .0), below-map f b c l h (p .1))
@@ -86,13 +82,8 @@ below-replicate : (b n x : ℕ) → x < b → AllBelow b (replicate n x)
 below-replicate b zero x h = tt
 below-replicate b (suc n) x h = (h, below-replicate b n x h)
 
-widths-below : AllBelow 65 widths
-unfolding widths
-widths-below = omega arith
-
 pub width-le : (code : ℕ) → width code ≤ 64
-unfolding width
-width-le code = omega (arith, below-getD 65 widths code 64 widths-below (omega arith))
+width-le code = width-is code .le
 
 plus-lt : (x y : ℕ) → Rows.plus x y < two64
 plus-lt x y = mod-lt (x + y) (pow-pos 64)

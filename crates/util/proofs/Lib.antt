@@ -1,2 +1,3 @@
 -- The laws that the readers and the writer cite.
 pub mod Grow
+pub mod Widths

@@ -1,0 +1,28 @@
+-- `width::narrowest_code` meets its contract: the leading zeros give the bits that x needs. Assumes nothing.
+use mathlib.Core.Path.{_≡_}
+use Prim.Native.Nat.{_-_}
+use native.Mathlib.Omega.{arith}
+use lib.Count.{leadingZeros, leading-le, leading-length}
+use borrow.Author.Needs.{needs}
+use Rattle.util.proofs.Widths.{narrowest-is}
+use Rattle.util.proofs.width.narrowest_code.Statement.{statement}
+use Rattle.util.proofs.width.narrowest_code.Tie as tie
+
+sub-code-of : tie.Need-sub-code-of
+sub-code-of c = leading-le 64 (c .args .x)
+
+cast-code-of : tie.Need-cast-code-of
+cast-code-of c = search needs
+
+code-of-requires : tie.Need-code-of-requires
+code-of-requires c κs = search needs
+
+returns : tie.Need-returns
+returns c =
+    let x = c .before .args .x in
+    let l = leading-length 64 x (c .before .fits .x .fits) in
+    let e : 64 - leadingZeros 64 (c .before .args .x) ≡ l .0 = omega (arith, l .1) in
+    narrowest-is x (l .0) _ (omega (arith, l .1)) (l .2) (l .3) (rw e at (c .code-of .ensures))
+
+pub narrowest-code-spec : {M : Type 1} → statement M
+narrowest-code-spec = tie.close (tie.spec sub-code-of cast-code-of code-of-requires returns)

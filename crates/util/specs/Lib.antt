@@ -1,0 +1,2 @@
+-- What the contracts of the shared fields cite beyond the definitions of `format`.
+pub mod Width
