@@ -3,8 +3,8 @@ pub mod Digits
 pub mod Fields
 pub mod Runs
 pub mod Streams
-pub mod Table
 pub mod Patterns
+pub mod Examples
 pub mod Rows
 pub mod Cut
 pub mod Reading
