@@ -3,9 +3,9 @@ pub mod Digits
 pub mod Fields
 pub mod Runs
 pub mod Streams
-pub mod Table
 pub mod Widths
 pub mod Patterns
+pub mod Examples
 pub mod Rows
 pub mod Cut
 pub mod Reading

@@ -7,4 +7,3 @@ pub mod Parse
 pub mod Streams
 pub mod Answers
 pub mod Promises
-pub mod Table

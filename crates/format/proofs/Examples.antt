@@ -1,0 +1,82 @@
+-- A run for each easy slip of document 01 that concerns integer runs, and for each limit that the laws leave open, by computation: an edit of the
+-- definitions that makes the slip is refused here. The starred table and the specification's examples stand in the crate `promises`.
+-- Assumes nothing.
+use mathlib.Core.Path.{_≡_, refl}
+use Prim.Native.Nat.{ℕ, _+_, _*_}
+use mathlib.Core.Bool.{Bool, true, false}
+use mathlib.Core.List.{List, [], _∷_, _++_}
+use lib.IntN.{ℤ, pos, negsuc}
+use Rattle.format.specs.declared.Kind.the-variants.{ShortRepeat, Direct, PatchedBase, Delta}
+use Rattle.format.specs.declared.Answer.{Answer}
+use Rattle.format.specs.declared.Stream.{Stream}
+use Rattle.format.specs.Answers.{ran, refusedAt, readWhole}
+use Rattle.format.specs.Digits
+use Rattle.format.specs.Fields
+use Rattle.format.specs.Runs
+use Rattle.format.specs.Runs.{patches}
+use Rattle.format.specs.Rows
+use Rattle.format.specs.Parse
+use Rattle.format.specs.Parse.{parse, into}
+use Rattle.format.specs.Streams
+use Rattle.format.specs.Streams.{readAll, runsOf, joinedRows}
+use Rattle.format.specs.Promises.{answerOf, placesOf, streamAnswer}
+
+-- the answer and the rows of one run in ten places
+-- (the `unfolding` line opens all that computes: whoever says `unfolding told` computes with it)
+unfoldable pub told : Bool → List ℕ → Answer × List ℤ
+unfolding Digits.number Digits.digits Fields.widths Fields.width Fields.leastOf Fields.leastWidth Fields.negative Fields.zigzag Fields.row Fields.blockBytes Fields.varintValue
+    Runs.patchesFrom Runs.patches Runs.lastIsSkip Runs.taken Runs.shared Runs.outside Runs.outOfPlace Runs.layout Runs.joined
+    Rows.steps Rows.walk Rows.baseValue Rows.patchAt Rows.patchedRows Rows.rowsOf Rows.asI64 Rows.i64Rows
+    Parse.bytes Parse.block Parse.varint Parse.shortRun Parse.directRun Parse.fixedBody Parse.deltaBody Parse.deltaRun Parse.patchedBody Parse.patchedRun Parse.byKind Parse.parse Parse.into
+    Streams.runsFrom Streams.readAll Streams.totalRows Streams.joinedRows
+told signed bs = (answerOf 0 (into 10 (parse bs)), placesOf signed [] (into 10 (parse bs)))
+
+-- a repeat of 3 yields 3
+repeat-of-three : told true (0x00 ∷ 0x01 ∷ []) ≡ (ran ShortRepeat 3 2, negsuc 0 ∷ negsuc 0 ∷ negsuc 0 ∷ [])
+unfolding told
+repeat-of-three = refl
+
+-- the highest bits of a byte come first
+highest-first : told false (0x46 ∷ 0x02 ∷ 0x12 ∷ 0x30 ∷ []) ≡ (ran Direct 3 4, pos 1 ∷ pos 2 ∷ pos 3 ∷ [])
+unfolding told
+highest-first = refl
+
+-- no zigzag on patched rows when the flag says signed
+patched-plain : told true (0x86 ∷ 0x03 ∷ 0x03 ∷ 0x20 ∷ 0xE4 ∷ 0x12 ∷ 0x34 ∷ []) ≡ (ran PatchedBase 4 7, negsuc 98 ∷ negsuc 97 ∷ negsuc 96 ∷ negsuc 95 ∷ [])
+unfolding told
+patched-plain = refl
+
+-- the gap of the second patch is counted from the first, and of a patch after a skip from the skip
+gaps-from-previous : told true (0x86 ∷ 0x03 ∷ 0x03 ∷ 0x22 ∷ 0x64 ∷ 0x12 ∷ 0x34 ∷ 0x46 ∷ 0x20 ∷ []) ≡ (ran PatchedBase 4 9, pos 101 ∷ pos 118 ∷ pos 103 ∷ pos 136 ∷ [])
+unfolding told
+gaps-from-previous = refl
+
+after-a-skip : patches 2 ((255 * 4 + 0) ∷ (10 * 4 + 3) ∷ []) ≡ record { place = 265; patch = 3 } ∷ []
+unfolding told
+after-a-skip = refl
+
+-- place 4 of 4 rows
+place-at-rows : told false (0x86 ∷ 0x03 ∷ 0x03 ∷ 0x41 ∷ 0x64 ∷ 0x12 ∷ 0x34 ∷ 0x8A ∷ []) ≡ (refusedAt 7 0, [])
+unfolding told
+place-at-rows = refl
+
+-- the magnitudes of a falling delta run are taken away
+falling : told false (0xC6 ∷ 0x03 ∷ 0x64 ∷ 0x05 ∷ 0x14 ∷ []) ≡ (ran Delta 4 5, pos 100 ∷ pos 97 ∷ pos 96 ∷ pos 92 ∷ [])
+unfolding told
+falling = refl
+
+-- code 0 of a delta header is a fixed delta, and not one bit
+fixed-delta : told false (0xC0 ∷ 0x04 ∷ 0x0A ∷ 0x04 ∷ []) ≡ (ran Delta 5 4, pos 10 ∷ pos 12 ∷ pos 14 ∷ pos 16 ∷ pos 18 ∷ [])
+unfolding told
+fixed-delta = refl
+
+-- ten bytes with the top bit set are refused, whatever follows
+eleven-bytes : told false (0xC0 ∷ 0x04 ∷ 0x80 ∷ 0x80 ∷ 0x80 ∷ 0x80 ∷ 0x80 ∷ 0x80 ∷ 0x80 ∷ 0x80 ∷ 0x80 ∷ 0x80 ∷ 0x00 ∷ 0x00 ∷ []) ≡ (refusedAt 5 0, [])
+unfolding told
+eleven-bytes = refl
+
+-- a stream goes on after its first run
+two-runs : (let m = readAll 10 (0x00 ∷ 0x01 ∷ 0x00 ∷ 0x02 ∷ []) in _≡_ {A = Stream × List ℤ} (streamAnswer 0 m, joinedRows false (runsOf m))
+    (readWhole 6 4, pos 1 ∷ pos 1 ∷ pos 1 ∷ pos 2 ∷ pos 2 ∷ pos 2 ∷ []))
+unfolding told
+two-runs = refl

@@ -1,0 +1,4 @@
+-- The theorems.
+pub mod Table
+pub mod Outcomes
+pub mod Demand3

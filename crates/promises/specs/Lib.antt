@@ -1,0 +1,5 @@
+-- The user's demands, as statements over the definitions that the contracts cite; the theorems stand in proofs/. Document 01 is the text that each
+-- of them is checked against.
+pub mod Table
+pub mod Outcomes
+pub mod Demand3

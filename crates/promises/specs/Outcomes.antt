@@ -1,0 +1,23 @@
+-- "Each public promise determines the answer and every lent place, refused inputs too: show that any two outcomes allowed by it are equal."
+-- Assumes nothing.
+use mathlib.Core.Path.{_≡_}
+use Prim.Native.Nat.{ℕ}
+use mathlib.Core.Bool.{Bool}
+use mathlib.Core.List.{List}
+use lib.IntN.{ℤ}
+use Rattle.format.specs.declared.Answer.{Answer}
+use Rattle.format.specs.declared.Stream.{Stream}
+use Rattle.format.specs.Promises.{RunRead, StreamRead}
+
+-- A promise, as a relation of the places at exit and the answer: some outcome is allowed, and any two that are allowed are equal.
+pub record Determines (P A : Type 0) (Allows : P → A → Type 0) : Type 0 where
+  pub some-outcome : (p : P) × (r : A) × Allows p r
+  pub same-places : (p p′ : P) (r r′ : A) → Allows p r → Allows p′ r′ → p ≡ p′
+  pub same-answer : (p p′ : P) (r r′ : A) → Allows p r → Allows p′ r′ → r ≡ r′
+
+-- for every input, position, flag and lent places
+abbrev pub RunDetermined : Type 0
+RunDetermined = (input : List ℕ) (at : ℕ) (signed : Bool) (out : List ℤ) → Determines (List ℤ) Answer (λ p r. RunRead input at signed out p r)
+
+abbrev pub StreamDetermined : Type 0
+StreamDetermined = (input : List ℕ) (at : ℕ) (signed : Bool) (out : List ℤ) → Determines (List ℤ) Stream (λ p r. StreamRead input at signed out p r)

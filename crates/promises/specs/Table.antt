@@ -1,0 +1,161 @@
+-- The starred runs of document 01 ("Runs on each side of the line") as one table; beside it the lines that they leave open, and the public
+-- specification's own examples. Each line is stated by the run reader's promise: this answer, and these places at exit, are what it allows.
+-- Assumes nothing.
+use mathlib.Core.Path.{_≡_}
+use Prim.Native.Nat.{ℕ, _-_}
+use mathlib.Core.Bool.{Bool, true, false}
+use mathlib.Core.List.{List, [], _∷_, _++_}
+use lib.ListN.{length, drop, replicate}
+use lib.IntN.{ℤ, pos, negsuc}
+use Rattle.format.specs.declared.Kind.{Kind}
+use Rattle.format.specs.declared.Kind.the-variants.{ShortRepeat, Direct, PatchedBase, Delta}
+use Rattle.format.specs.declared.Answer.{Answer}
+use Rattle.format.specs.declared.Answer.the-variants.{End}
+use Rattle.format.specs.Answers.{ran, refusedAt}
+use Rattle.format.specs.Promises.{RunRead}
+
+-- what a line says: the run's kind, its rows and the bytes consumed; or the number of a refusal; or "end"
+pub data Said : Type 0 where
+  run : Kind → List ℤ → ℕ → Said
+  refusal : ℕ → Said
+  nothing : Said
+
+-- a line: the position, the flag, the bytes, how many places are lent, and what is said of them
+pub record Line : Type 0 where
+  pub at : ℕ
+  pub signed? : Bool
+  pub input : List ℕ
+  pub room : ℕ
+  pub said : Said
+
+-- the places lent, each with 7777 in it
+abbrev pub places : ℕ → List ℤ
+places n = replicate n (pos 7777)
+
+abbrev pub lent : ℕ → ℕ → Bool → List ℕ → Said → Line
+lent n p f i s = record { at = p; signed? = f; input = i; room = n; said = s }
+
+-- a line that names no position begins at byte 0, and has twenty places
+abbrev line : Bool → List ℕ → Said → Line
+line = lent 20 0
+
+abbrev pub unsigned : List ℕ → Said → List Line
+unsigned i s = line false i s ∷ []
+
+abbrev pub signed : List ℕ → Said → List Line
+signed i s = line true i s ∷ []
+
+-- a line that names no flag holds under both
+abbrev pub either : List ℕ → Said → List Line
+either i s = line false i s ∷ line true i s ∷ []
+
+-- a row below 0
+abbrev pub minus : ℕ → ℤ
+minus n = negsuc (n - 1)
+
+-- ---- what a line promises
+
+abbrev pub answerSaid : ℕ → Said → Answer
+answerSaid at (run kind rows bytes) = ran kind (length rows) bytes
+answerSaid at (refusal n) = refusedAt n at
+answerSaid at nothing = End
+
+-- the rows in the first places; the others, and all where the run is refused, keep their content
+abbrev pub placesSaid : List ℤ → Said → List ℤ
+placesSaid out (run kind rows bytes) = rows ++ drop (length rows) out
+placesSaid out (refusal n) = out
+placesSaid out nothing = out
+
+abbrev pub Holds : List Line → Type 0
+Holds [] = Unit {0}
+Holds (l ∷ ls) =
+    RunRead (l .input) (l .at) (l .signed?) (places (l .room)) (placesSaid (places (l .room)) (l .said)) (answerSaid (l .at) (l .said)) × Holds ls
+
+-- ---- THE STARRED LINES
+
+abbrev pub starred : List Line
+starred =
+    unsigned (0x0A ∷ 0x01 ∷ 0x2C ∷ []) (run ShortRepeat (pos 300 ∷ pos 300 ∷ pos 300 ∷ pos 300 ∷ pos 300 ∷ []) 3)
+    ++ signed (0x0A ∷ 0x01 ∷ 0x2C ∷ []) (run ShortRepeat (pos 150 ∷ pos 150 ∷ pos 150 ∷ pos 150 ∷ pos 150 ∷ []) 3)
+    ++ signed (0x00 ∷ 0x01 ∷ []) (run ShortRepeat (minus 1 ∷ minus 1 ∷ minus 1 ∷ []) 2)
+    ++ unsigned (0x46 ∷ 0x02 ∷ 0x12 ∷ 0x30 ∷ []) (run Direct (pos 1 ∷ pos 2 ∷ pos 3 ∷ []) 4)
+    ++ signed (0x46 ∷ 0x02 ∷ 0x12 ∷ 0x30 ∷ []) (run Direct (minus 1 ∷ pos 1 ∷ minus 2 ∷ []) 4)
+    ++ unsigned (0x70 ∷ 0x00 ∷ 0x00 ∷ 0x00 ∷ 0x00 ∷ 0x40 ∷ []) (run Direct (pos 1 ∷ []) 6)
+    ++ unsigned (0xC0 ∷ 0x04 ∷ 0x0A ∷ 0x04 ∷ []) (run Delta (pos 10 ∷ pos 12 ∷ pos 14 ∷ pos 16 ∷ pos 18 ∷ []) 4)
+    ++ unsigned (0xC6 ∷ 0x03 ∷ 0x64 ∷ 0x05 ∷ 0x14 ∷ []) (run Delta (pos 100 ∷ pos 97 ∷ pos 96 ∷ pos 92 ∷ []) 5)
+    ++ either (0xC2 ∷ 0x00 ∷ []) (refusal 4)
+    ++ either (0x86 ∷ 0x03 ∷ 0x03 ∷ 0x21 ∷ 0x64 ∷ 0x12 ∷ 0x34 ∷ 0x94 ∷ []) (run PatchedBase (pos 101 ∷ pos 102 ∷ pos 183 ∷ pos 104 ∷ []) 8)
+    ++ either (0x86 ∷ 0x03 ∷ 0x03 ∷ 0x20 ∷ 0xE4 ∷ 0x12 ∷ 0x34 ∷ []) (run PatchedBase (minus 99 ∷ minus 98 ∷ minus 97 ∷ minus 96 ∷ []) 7)
+    ++ either (0x86 ∷ 0x03 ∷ 0x03 ∷ 0x41 ∷ 0x64 ∷ 0x12 ∷ 0x34 ∷ 0x8A ∷ []) (refusal 7)
+
+-- ---- LINES BESIDE THEM
+
+abbrev pub others : List Line
+others =
+    -- the other lines of document 01: the widest step, one row, a refusal before the missing body
+    signed (0xC0 ∷ 0x01 ∷ 0xFE ∷ 0xFF ∷ 0xFF ∷ 0xFF ∷ 0xFF ∷ 0xFF ∷ 0xFF ∷ 0xFF ∷ 0xFF ∷ 0x01 ∷ 0x02 ∷ []) (run Delta (pos 9223372036854775807 ∷ minus 9223372036854775808 ∷ []) 13)
+    ++ unsigned (0xC0 ∷ 0x00 ∷ 0x07 ∷ 0x00 ∷ []) (run Delta (pos 7 ∷ []) 4)
+    ++ either (0x86 ∷ 0x03 ∷ 0x1F ∷ 0x21 ∷ []) (refusal 2)
+    -- value width 64 and patch width 28
+    ++ either (0xBE ∷ 0x00 ∷ 0x1B ∷ 0x21 ∷ []) (refusal 3)
+    -- headers that are cut
+    ++ either (0x46 ∷ []) (refusal 1)
+    ++ either (0xC0 ∷ []) (refusal 1)
+    ++ either (0x86 ∷ 0x03 ∷ 0x03 ∷ []) (refusal 1)
+    -- nine bytes of a varint with the top bit set and then the end; ten of them
+    ++ either (0xC0 ∷ 0x04 ∷ 0x80 ∷ 0x80 ∷ 0x80 ∷ 0x80 ∷ 0x80 ∷ 0x80 ∷ 0x80 ∷ 0x80 ∷ 0x80 ∷ []) (refusal 6)
+    ++ either (0xC0 ∷ 0x04 ∷ 0x80 ∷ 0x80 ∷ 0x80 ∷ 0x80 ∷ 0x80 ∷ 0x80 ∷ 0x80 ∷ 0x80 ∷ 0x80 ∷ 0x80 ∷ []) (refusal 5)
+    ++ either (0xC0 ∷ 0x04 ∷ 0x00 ∷ 0x80 ∷ 0x80 ∷ 0x80 ∷ 0x80 ∷ 0x80 ∷ 0x80 ∷ 0x80 ∷ 0x80 ∷ 0x80 ∷ 0x80 ∷ 0x01 ∷ []) (refusal 5)
+    -- a value, a block and a list that are cut
+    ++ either (0x0A ∷ 0x01 ∷ []) (refusal 6)
+    ++ either (0x46 ∷ 0x02 ∷ 0x12 ∷ []) (refusal 6)
+    ++ either (0x86 ∷ 0x03 ∷ 0x03 ∷ 0x21 ∷ 0x64 ∷ 0x12 ∷ 0x34 ∷ []) (refusal 6)
+    -- two patches, whose gaps are counted one from another; and two that share a place
+    ++ either (0x86 ∷ 0x03 ∷ 0x03 ∷ 0x22 ∷ 0x64 ∷ 0x12 ∷ 0x34 ∷ 0x46 ∷ 0x20 ∷ []) (run PatchedBase (pos 101 ∷ pos 118 ∷ pos 103 ∷ pos 136 ∷ []) 9)
+    ++ either (0x86 ∷ 0x03 ∷ 0x03 ∷ 0x22 ∷ 0x64 ∷ 0x12 ∷ 0x34 ∷ 0x44 ∷ 0x20 ∷ []) (refusal 7)
+    -- base -0
+    ++ either (0x86 ∷ 0x03 ∷ 0x03 ∷ 0x20 ∷ 0x80 ∷ 0x12 ∷ 0x34 ∷ []) (run PatchedBase (pos 1 ∷ pos 2 ∷ pos 3 ∷ pos 4 ∷ []) 7)
+    -- set padding bits
+    ++ unsigned (0x46 ∷ 0x02 ∷ 0x12 ∷ 0x3F ∷ []) (run Direct (pos 1 ∷ pos 2 ∷ pos 3 ∷ []) 4)
+    ++ unsigned (0xC6 ∷ 0x03 ∷ 0x64 ∷ 0x04 ∷ 0x14 ∷ []) (run Delta (pos 100 ∷ pos 102 ∷ pos 103 ∷ pos 107 ∷ []) 5)
+    ++ unsigned (0xC6 ∷ 0x02 ∷ 0x64 ∷ 0x05 ∷ 0x1F ∷ []) (run Delta (pos 100 ∷ pos 97 ∷ pos 96 ∷ []) 5)
+    -- codes 25 and 26 are 28 and 30 bits
+    ++ unsigned (0x72 ∷ 0x00 ∷ 0x00 ∷ 0x00 ∷ 0x00 ∷ 0x10 ∷ []) (run Direct (pos 1 ∷ []) 6)
+    ++ unsigned (0x74 ∷ 0x00 ∷ 0x00 ∷ 0x00 ∷ 0x00 ∷ 0x04 ∷ []) (run Direct (pos 1 ∷ []) 6)
+    -- sums that pass the ends of 64 bits
+    ++ unsigned (0xC0 ∷ 0x02 ∷ 0x00 ∷ 0x01 ∷ []) (run Delta (pos 0 ∷ minus 1 ∷ minus 2 ∷ []) 4)
+    ++ unsigned (0xC6 ∷ 0x02 ∷ 0x00 ∷ 0x01 ∷ 0x10 ∷ []) (run Delta (pos 0 ∷ minus 1 ∷ minus 2 ∷ []) 5)
+    ++ either (0x84 ∷ 0x00 ∷ 0xE0 ∷ 0x20 ∷ 0x7F ∷ 0xFF ∷ 0xFF ∷ 0xFF ∷ 0xFF ∷ 0xFF ∷ 0xFF ∷ 0xFF ∷ 0xA0 ∷ []) (run PatchedBase (minus 9223372036854775804 ∷ []) 13)
+    ++ either (0x84 ∷ 0x00 ∷ 0xE0 ∷ 0x20 ∷ 0x80 ∷ 0x00 ∷ 0x00 ∷ 0x00 ∷ 0x00 ∷ 0x00 ∷ 0x00 ∷ 0x01 ∷ 0xA0 ∷ []) (run PatchedBase (pos 4 ∷ []) 13)
+    -- a skip, and then a gap of 10: the patch is at row 265 of 300
+    ++ (lent 300 0 true
+    (0x81 ∷ 0x2B ∷ 0x00 ∷ 0xE2 ∷ 0x05 ∷ (replicate 38 0 ++ (0xFF ∷ 0x05 ∷ 0x40 ∷ [])))
+    (run PatchedBase (replicate 265 (pos 5) ++ (pos 7 ∷ replicate 34 (pos 5))) 46)
+    -- four places for five rows; five are enough
+    ∷ lent 4 0 false (0x0A ∷ 0x01 ∷ 0x2C ∷ []) (refusal 8)
+    ∷ lent 5 0 false (0x0A ∷ 0x01 ∷ 0x2C ∷ []) (run ShortRepeat (replicate 5 (pos 300)) 3)
+    -- the bytes after a run are not read; a run that begins at byte 2, and one that is refused there; and nothing from byte 4 on
+    ∷ lent 5 0 true (0x00 ∷ 0x01 ∷ 0x00 ∷ 0x02 ∷ []) (run ShortRepeat (minus 1 ∷ minus 1 ∷ minus 1 ∷ []) 2)
+    ∷ lent 5 2 true (0x00 ∷ 0x01 ∷ 0x00 ∷ 0x02 ∷ []) (run ShortRepeat (pos 1 ∷ pos 1 ∷ pos 1 ∷ []) 2)
+    ∷ lent 5 2 true (0x00 ∷ 0x01 ∷ 0x46 ∷ 0x02 ∷ []) (refusal 6)
+    ∷ lent 5 4 true (0x00 ∷ 0x01 ∷ 0x46 ∷ 0x02 ∷ []) nothing
+    ∷ lent 5 9 true (0x00 ∷ 0x01 ∷ 0x46 ∷ 0x02 ∷ []) nothing
+    ∷ [])
+
+-- ---- THE SPECIFICATION'S OWN EXAMPLES: its four runs; its varints, each as the first row of a run of one row; and its zigzags, as five fields of 3 bits
+
+abbrev pub specification : List Line
+specification =
+    unsigned (0x0A ∷ 0x27 ∷ 0x10 ∷ []) (run ShortRepeat (pos 10000 ∷ pos 10000 ∷ pos 10000 ∷ pos 10000 ∷ pos 10000 ∷ []) 3)
+    ++ unsigned (0x5E ∷ 0x03 ∷ 0x5C ∷ 0xA1 ∷ 0xAB ∷ 0x1E ∷ 0xDE ∷ 0xAD ∷ 0xBE ∷ 0xEF ∷ []) (run Direct (pos 23713 ∷ pos 43806 ∷ pos 57005 ∷ pos 48879 ∷ []) 10)
+    ++ either (0x8E ∷ 0x13 ∷ 0x2B ∷ 0x21 ∷ 0x07 ∷ 0xD0 ∷ 0x1E ∷ 0x00 ∷ 0x14 ∷ 0x70 ∷ 0x28 ∷ 0x32 ∷ 0x3C ∷ 0x46 ∷ 0x50 ∷ 0x5A ∷ 0x64 ∷ 0x6E ∷ 0x78 ∷ 0x82 ∷ 0x8C ∷ 0x96 ∷ 0xA0 ∷ 0xAA ∷ 0xB4 ∷ 0xBE ∷ 0xFC ∷ 0xE8 ∷ []) (run PatchedBase (pos 2030 ∷ pos 2000 ∷ pos 2020 ∷ pos 1000000 ∷ pos 2040 ∷ pos 2050 ∷ pos 2060 ∷ pos 2070 ∷ pos 2080 ∷ pos 2090 ∷ pos 2100 ∷ pos 2110 ∷ pos 2120 ∷ pos 2130 ∷ pos 2140 ∷ pos 2150 ∷ pos 2160 ∷ pos 2170 ∷ pos 2180 ∷ pos 2190 ∷ []) 28)
+    ++ unsigned (0xC6 ∷ 0x09 ∷ 0x02 ∷ 0x02 ∷ 0x22 ∷ 0x42 ∷ 0x42 ∷ 0x46 ∷ []) (run Delta (pos 2 ∷ pos 3 ∷ pos 5 ∷ pos 7 ∷ pos 11 ∷ pos 13 ∷ pos 17 ∷ pos 19 ∷ pos 23 ∷ pos 29 ∷ []) 8)
+    ++ unsigned (0xC0 ∷ 0x00 ∷ 0x00 ∷ 0x00 ∷ []) (run Delta (pos 0 ∷ []) 4)
+    ++ unsigned (0xC0 ∷ 0x00 ∷ 0x01 ∷ 0x00 ∷ []) (run Delta (pos 1 ∷ []) 4)
+    ++ unsigned (0xC0 ∷ 0x00 ∷ 0x7F ∷ 0x00 ∷ []) (run Delta (pos 127 ∷ []) 4)
+    ++ unsigned (0xC0 ∷ 0x00 ∷ 0x80 ∷ 0x01 ∷ 0x00 ∷ []) (run Delta (pos 128 ∷ []) 5)
+    ++ unsigned (0xC0 ∷ 0x00 ∷ 0x81 ∷ 0x01 ∷ 0x00 ∷ []) (run Delta (pos 129 ∷ []) 5)
+    ++ unsigned (0xC0 ∷ 0x00 ∷ 0xFF ∷ 0x7F ∷ 0x00 ∷ []) (run Delta (pos 16383 ∷ []) 5)
+    ++ unsigned (0xC0 ∷ 0x00 ∷ 0x80 ∷ 0x80 ∷ 0x01 ∷ 0x00 ∷ []) (run Delta (pos 16384 ∷ []) 6)
+    ++ unsigned (0xC0 ∷ 0x00 ∷ 0x81 ∷ 0x80 ∷ 0x01 ∷ 0x00 ∷ []) (run Delta (pos 16385 ∷ []) 6)
+    ++ signed (0x44 ∷ 0x04 ∷ 0x05 ∷ 0x38 ∷ []) (run Direct (pos 0 ∷ minus 1 ∷ pos 1 ∷ minus 2 ∷ pos 2 ∷ []) 4)
