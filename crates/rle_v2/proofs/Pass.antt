@@ -11,13 +11,13 @@ use lib.ListN.{length, take, drop, getD, set, length-set, length-map, length-app
 use lib.Seq.{drop-cons, take-nil, getD-drop}
 use lib.IntN.{ℤ, pos}
 use Rattle.format.specs.Digits.{AllBelow}
-use Rattle.format.specs.Fields.{two64, zigzag}
+use Rattle.format.specs.Fields.{two64, zigzag, row}
 use Rattle.format.specs.Rows as Rows
 use Rattle.format.specs.Rows.{plus, asI64, asU64}
 use Rattle.format.specs.Runs.{Patch}
 use Rattle.format.proofs.Patterns.{as-back}
 use Rattle.util.proofs.Grow.{grow, kept, filled}
-use Rattle.rle_v2.specs.Pass.{pass, stepped, unzigzagged, based, moved, summed}
+use Rattle.rle_v2.specs.Pass.{pass, stepped, unzigzagged, decoded, based, moved, summed}
 
 -- ---- the loop: i of n places are made anew, s is carried to the next
 
@@ -67,6 +67,15 @@ pub unzigzagged-is : (vs : List ℕ) → AllBelow two64 vs → unzigzagged (map 
 unfolding pass
 unzigzagged-is [] h = refl
 unzigzagged-is (v ∷ vs) h = rw (as-back v (h .0)) (ap (λ (l : List ℤ). asI64 (zigzag v) ∷ l) (unzigzagged-is vs (h .1)))
+
+pub decoded-is : (signed : Bool) (vs : List ℕ) → AllBelow two64 vs → decoded signed (map asI64 vs) ≡ map asI64 (map (row signed) vs)
+unfolding row
+decoded-is true vs h = unzigzagged-is vs h
+decoded-is false vs h = ap (map asI64) (sym (map-same vs))
+  where
+    map-same : (l : List ℕ) → map (λ u. u) l ≡ l
+    map-same [] = refl
+    map-same (x ∷ l) = ap (λ (t : List ℕ). x ∷ t) (map-same l)
 
 -- no patch yet
 pub based-is : (base w p : ℕ) (vs : List ℕ) → AllBelow two64 vs → based base (map asI64 vs) ≡ map asI64 (Rows.patchedRows base w [] p vs)

@@ -23,6 +23,11 @@ stepped first step out = pass (λ x z. asI64 x) (λ x z. plus x step) first out
 abbrev pub unzigzagged : List ℤ → List ℤ
 unzigzagged out = pass (λ (x : ℕ) z. asI64 (zigzag (asU64 z))) (λ x z. x) 0 out
 
+-- if signed
+abbrev pub decoded : Bool → List ℤ → List ℤ
+decoded true out = unzigzagged out
+decoded false out = out
+
 -- each value with the base added
 abbrev pub based : ℕ → List ℤ → List ℤ
 based base out = pass (λ (x : ℕ) z. asI64 (plus x (asU64 z))) (λ x z. x) base out

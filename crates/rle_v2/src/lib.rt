@@ -1,2 +1,3 @@
 // RLE version 2: the run reader, a module for each kind of run, and the stream reader.
+mod header;
 mod rows;

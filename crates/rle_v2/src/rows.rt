@@ -3,7 +3,7 @@ ghost use mathlib.Core.Path.{_≡_};
 ghost use mathlib.Core.List.{_++_};
 ghost use Prim.Native.Nat.{_≤_};
 ghost use lib.ListN.{length, take, drop};
-ghost use Rattle.rle_v2.specs.Pass.{stepped, unzigzagged, based, moved, summed};
+ghost use Rattle.rle_v2.specs.Pass.{stepped, unzigzagged, decoded, based, moved, summed};
 use util::pattern;
 
 // n rows from the first on, each the one before it plus the step.
@@ -22,7 +22,7 @@ pub(crate) fn steps(first: u64, step: u64, n: usize, out: &mut [i64])
 }
 
 // The first n places, zigzag decoded.
-pub(crate) fn unzigzag(n: usize, out: &mut [i64])
+fn unzigzag(n: usize, out: &mut [i64])
     requires { ⌜ n ≤ length (now out) ⌝ }
     ensures { λ _. ⌜ now (out .exit) ≡ unzigzagged (take n (now (out .entry))) ++ drop n (now (out .entry)) ⌝ }
 {
@@ -31,6 +31,16 @@ pub(crate) fn unzigzag(n: usize, out: &mut [i64])
         let r = pattern::to_i64(pattern::unzigzag(pattern::to_u64(out[i])));
         out[i] = r;
         i += 1;
+    }
+}
+
+// The first n places, which hold stored values, as rows.
+pub(crate) fn decode(signed: bool, n: usize, out: &mut [i64])
+    requires { ⌜ n ≤ length (now out) ⌝ }
+    ensures { λ _. ⌜ now (out .exit) ≡ decoded signed (take n (now (out .entry))) ++ drop n (now (out .entry)) ⌝ }
+{
+    if signed {
+        unzigzag(n, out);
     }
 }
 
