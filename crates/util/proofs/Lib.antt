@@ -1,2 +1,4 @@
 -- The laws that the readers and the writer cite.
 pub mod Grow
+pub mod Window
+pub mod Packing
