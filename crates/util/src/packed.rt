@@ -1,10 +1,10 @@
 // Packed fields: a block of n fields of width w, highest bit of each byte first, both ways.
 ghost use mathlib.Core.Path.{_≡_};
 ghost use mathlib.Core.List.{_++_, map};
-ghost use Prim.Native.Nat.{_+_, _*_, _/_, _%_, _^_, _≤_, _<_};
+ghost use Prim.Native.Nat.{_+_, _-_, _*_, _/_, _%_, _^_, _≤_, _<_};
 ghost use lib.ListN.{length, take, drop};
-ghost use Rattle.format.specs.Digits.{number, digits};
-ghost use Rattle.format.specs.Fields.{bytesFor};
+ghost use Rattle.format.specs.Digits.{AllBelow, number, digits};
+ghost use Rattle.format.specs.Fields.{bytesFor, blockBytes};
 ghost use Rattle.format.specs.Rows.{asI64};
 ghost use Rattle.util.specs.Packed.{fields, bits, fieldAt, Width, lowFirst, swap};
 use crate::pattern;
@@ -123,5 +123,31 @@ pub fn unpack(s: &[u8], w: usize, n: usize, out: &mut [i64])
         let row = pattern::to_i64(field(s, w, k));
         out[k] = row;
         k += 1;
+    }
+}
+
+fn byte(x: u64) -> u8
+    ensures { λ r. ⌜ r ≡ x % 256 ⌝ }
+{
+    (x % 256) as u8
+}
+
+// x moved up by c bits. Two shifts, since c can be 64.
+fn raised(x: u64, c: usize) -> u64
+    requires { ⌜ c ≤ 64 ⌝ }
+    ensures { λ r. ⌜ r ≡ x * 2 ^ c % 2 ^ 64 ⌝ }
+{
+    (x << (c / 2)) << (c - c / 2)
+}
+
+// The q highest bytes of x, written at i.
+fn put(out: &mut [u8], i: usize, x: u64, q: usize)
+    requires { ⌜ (q ≤ 8) × (i + q ≤ length (now out)) ⌝ }
+    ensures { λ _. ⌜ now (out .exit) ≡ (take i (now (out .entry)) ++ digits 256 q (x / 256 ^ (8 - q))) ++ drop (i + q) (now (out .entry)) ⌝ }
+{
+    let mut j = 0;
+    while j < q {
+        out[i + j] = byte(x >> (56 - 8 * j));
+        j += 1;
     }
 }
