@@ -1,3 +1,5 @@
 -- The laws that the readers and the writer cite.
 pub mod Grow
 pub mod Widths
+pub mod Window
+pub mod Packing

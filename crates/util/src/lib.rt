@@ -1,3 +1,4 @@
 // What the readers and the writer share: each module is a kind of field of document 01's layouts.
+pub mod packed;
 pub mod pattern;
 pub mod width;

@@ -1,0 +1,137 @@
+-- What reading packed fields rests on: bits are those of any window of bytes that holds them, and field k of a block is bits k·w to k·w+w-1.
+-- Assumes nothing.
+use mathlib.Core.Path.{_≡_, refl, sym, ap, _∙_}
+use Prim.Native.Nat.{ℕ, zero, suc, _+_, _-_, _*_, _/_, _%_, _^_, _≤_, _<_}
+use native.Mathlib.Nat.{le-refl, lt-of-not-le, lt-of-lt-of-le, le-trans, min-le-left, pow-le-pow-right, mul-le-mul-right, zero-lt-suc}
+use native.Mathlib.Decide.{decLe}
+use native.Mathlib.Numerals.{add-one, towards-suc}
+use native.Mathlib.Omega.{arith}
+use mathlib.Core.List.{List, [], _∷_, _++_, map, append-assoc, reverse, reverseAux, reverse-reverse}
+use lib.ListN.{length, getD, take, drop, drop-of-length-le, length-append, length-drop, length-take, length-reverse, take-append-drop}
+use lib.Seq.{take-at, drop-at, drop-cons, take-append-le, drop-append-le, drop-append-add, length-take-le}
+use lib.Pow.{shr-shr, high, ones-split, ones-lt, pow-pos}
+use Rattle.format.specs.Digits.{AllBelow, number, digits}
+use Rattle.format.specs.Fields.{bytesFor, padBits}
+use Rattle.format.proofs.Digits.{spread, spread-number, digits-add, length-digits, number-low, digits-number, number-lt, number-take-suc, getD-digits, pow-pow}
+use Rattle.format.proofs.Fields.{below-take, below-drop}
+use Rattle.util.specs.Packed.{fields, bits, fieldAt, Width, lowFirst, swap}
+
+-- ---- bits
+
+spread-append : (w : ℕ) (s t : List ℕ) → spread 2 w (s ++ t) ≡ spread 2 w s ++ spread 2 w t
+spread-append w [] t = refl
+spread-append w (x ∷ s) t = rw (spread-append w s t, append-assoc)
+
+length-spread : (w : ℕ) (s : List ℕ) → length (spread 2 w s) ≡ length s * w
+length-spread w [] = omega arith
+length-spread w (x ∷ s) = rw (length-append, length-digits, length-spread w s) (omega arith)
+
+-- the bits as a quotient and a remainder
+pub bits-value : (p w : ℕ) (s : List ℕ) → AllBelow 256 s → p + w ≤ 8 * length s
+    → bits p w s ≡ number 256 s / 2 ^ (8 * length s - (p + w)) % 2 ^ w
+unfolding bits
+bits-value p w s d h =
+    let a = 8 * length s - (p + w) in
+    let x = number 256 s in
+    let e : length s * 8 ≡ p + (w + a) = omega arith in
+    let f : spread 2 8 s ≡ digits 2 p (x / 2 ^ (w + a)) ++ (digits 2 w (x / 2 ^ a) ++ digits 2 a x)
+    = sym (spread-number 2 8 s (zero-lt-suc 1) d) ∙ rw (e, digits-add 2 p (w + a), digits-add 2 w a) in
+    rw (f, drop-at (digits 2 p (x / 2 ^ (w + a))) _ p (length-digits 2 p _), take-at (digits 2 w (x / 2 ^ a)) _ w (length-digits 2 w _))
+    (number-low 2 (zero-lt-suc 1) w (x / 2 ^ a))
+
+-- the bits from p on are those of any run of bytes x that holds them
+bits-within : (h x r : List ℕ) (p w : ℕ) → 8 * length h ≤ p → p + w ≤ 8 * (length h + length x) → bits p w (h ++ (x ++ r)) ≡ bits (p - 8 * length h) w x
+unfolding bits
+bits-within h x r p w lo hi =
+    let q = p - 8 * length h in
+    let e : p ≡ length (spread 2 8 h) + q = rw length-spread (omega arith) in
+    let l : q + w ≤ length (spread 2 8 x) = rw length-spread (omega arith) in
+    ap (λ (n : ℕ). number 2 (take w (drop n (spread 2 8 (h ++ (x ++ r)))))) e
+    ∙ rw (spread-append 8 h, spread-append 8 x r, drop-append-add (spread 2 8 h), drop-append-le q (spread 2 8 x) (spread 2 8 r) (omega arith), take-append-le w (drop q (spread 2 8 x)) (spread 2 8 r) (rw length-drop (omega arith)))
+
+-- a window of m bytes at i that holds the bits
+pub window : (s : List ℕ) (i m p w : ℕ) → AllBelow 256 s → i + m ≤ length s → 8 * i ≤ p → p + w ≤ 8 * (i + m)
+    → bits p w s ≡ number 256 (take m (drop i s)) / 2 ^ (8 * (i + m) - (p + w)) % 2 ^ w
+window s i m p w d h lo hi =
+    let x = take m (drop i s) in
+    let li : length (take i s) ≡ i = length-take-le i s (omega arith) in
+    let lx : length x ≡ m = length-take-le m (drop i s) (rw length-drop (omega arith)) in
+    let c : bits p w s ≡ bits (p - 8 * i) w x
+    = rw (take-append-drop m (drop i s), take-append-drop i s, li) at (bits-within (take i s) x (drop m (drop i s)) p w (omega arith) (omega arith)) in
+    let e : 8 * m - (p - 8 * i + w) ≡ 8 * (i + m) - (p + w) = omega arith in
+    c ∙ rw (lx, e) at (bits-value (p - 8 * i) w x (below-take 256 m (drop i s) (below-drop 256 i s d)) (omega arith))
+
+-- ---- fields
+
+-- Document 01's words, for any width: field k of n is bits k·w to k·w+w-1, highest bit of each byte first.
+pub field-at : (w n k : ℕ) (s : List ℕ) → AllBelow 256 s → k < n → bytesFor (n * w) ≤ length s → getD (fields w n s) k 0 ≡ fieldAt w k s
+field-at w n k s d h l =
+    let m = bytesFor (n * w) in
+    let j = n - 1 - k in
+    let q : (k + 1 + j) * w ≡ n * w = ap (λ (y : ℕ). y * w) (omega arith) in
+    let e : padBits w n + j * w ≡ 8 * (0 + m) - (k * w + w) = omega arith in
+    getD-digits (2 ^ w) n _ k h ∙ rw (pow-pow 2 w j, shr-shr, e) (sym (window s 0 m (k * w) w d (omega arith) (omega arith) (omega arith)))
+
+pub length-fields : (w n : ℕ) (s : List ℕ) → length (fields w n s) ≡ n
+length-fields w n s = length-digits (2 ^ w) n _
+
+-- the turn of a loop over the fields: field k, and then the rest
+pub next-field : {A : Type 0} (f : ℕ → A) (w n k : ℕ) (s : List ℕ) → AllBelow 256 s → k < n → bytesFor (n * w) ≤ length s
+    → map f (drop k (fields w n s)) ≡ f (fieldAt w k s) ∷ map f (drop (k + 1) (fields w n s))
+next-field f w n k s d h l = rw (add-one, drop-cons (fields w n s) k 0 (rw length-fields h), field-at w n k s d h l)
+
+-- after the last there is none
+pub no-field : (w n : ℕ) (s : List ℕ) → drop n (fields w n s) ≡ []
+no-field w n s = drop-of-length-le (fields w n s) {i = n} (rw length-fields (le-refl n))
+
+-- a field of width w starts where eight bytes hold it
+pub aligned : (w j : ℕ) → Width w → (j * w) % 8 + w ≤ 64
+aligned w j h = by (decLe w 56)
+  where
+    by : Dec (w ≤ 56) → (j * w) % 8 + w ≤ 64
+    by (yes l) = omega arith
+    by (no n) = rw (h .2 (lt-of-not-le n)) (omega arith)
+
+-- ---- eight bytes at once
+
+eight-bytes : (s : List ℕ) (i : ℕ) → i + 8 ≤ length s
+    → take 8 (drop i s) ≡ getD s i 0 ∷ getD s (i + 1) 0 ∷ getD s (i + 2) 0 ∷ getD s (i + 3) 0 ∷ getD s (i + 4) 0 ∷ getD s (i + 5) 0 ∷ getD s (i + 6) 0 ∷ getD s (i + 7) 0 ∷ []
+eight-bytes s i h =
+    simp towards-suc
+    (rw (drop-cons s i 0 (omega arith), drop-cons s (suc i) 0 (omega arith), drop-cons s (suc (suc i)) 0 (omega arith), drop-cons s (suc (suc (suc i))) 0 (omega arith), drop-cons s (suc (suc (suc (suc i)))) 0 (omega arith), drop-cons s (suc (suc (suc (suc (suc i))))) 0 (omega arith), drop-cons s (suc (suc (suc (suc (suc (suc i)))))) 0 (omega arith), drop-cons s (suc (suc (suc (suc (suc (suc (suc i))))))) 0 (omega arith)))
+
+low-is : (s : List ℕ) (i : ℕ) → i + 8 ≤ length s → lowFirst s i ≡ number 256 (reverse (take 8 (drop i s)))
+unfolding number
+low-is s i h = rw (eight-bytes s i h) (omega arith)
+
+pub swap-is : (x : ℕ) → swap x ≡ number 256 (reverse (digits 256 8 x))
+unfolding number digits
+swap-is x = omega arith
+
+below-reverse : (b : ℕ) (l r : List ℕ) → AllBelow b l → AllBelow b r → AllBelow b (reverseAux l r)
+below-reverse b [] r h g = g
+below-reverse b (x ∷ l) r h g = below-reverse b l (x ∷ r) (h .1) (h .0, g)
+
+-- eight bytes that are read the lowest first and turned round
+pub word-is : (s : List ℕ) (i : ℕ) → i + 8 ≤ length s → AllBelow 256 s → swap (lowFirst s i) ≡ number 256 (take 8 (drop i s))
+word-is s i h d =
+    let l = take 8 (drop i s) in
+    let n : length (reverse l) ≡ 8 = length-reverse l ∙ length-take-le 8 (drop i s) (rw length-drop (omega arith)) in
+    let t : AllBelow 256 (reverse l) = below-reverse 256 l [] (below-take 256 8 (drop i s) (below-drop 256 i s d)) tt in
+    swap-is (lowFirst s i) ∙ rw (low-is s i h, rw n at (digits-number 256 (reverse l) t), reverse-reverse)
+
+-- the w lowest of 64 set bits
+pub mask : (w : ℕ) → w ≤ 64 → (2 ^ 64 - 1) / 2 ^ (64 - w) ≡ 2 ^ w - 1
+mask w h =
+    let e : w + (64 - w) ≡ 64 = omega arith in
+    ap (λ (x : ℕ). (2 ^ x - 1) / 2 ^ (64 - w)) (sym e) ∙ rw (ones-split w (64 - w)) (high (2 ^ w - 1) (64 - w) (ones-lt (64 - w)))
+
+-- seven bytes make a number of 56 bits
+pub seven : (s : List ℕ) (i : ℕ) → AllBelow 256 s → i < 8 → number 256 (take i s) < 2 ^ 56
+seven s i d h =
+    lt-of-lt-of-le (number-lt 256 (take i s) (below-take 256 i s d))
+    (pow-le-pow-right {n = 256} (pow-pos 8) {j = 7} (rw length-take (le-trans (min-le-left i (length s)) (omega arith))))
+
+-- field k of n lies within their bytes
+pub field-there : (w n k : ℕ) (s : List ℕ) → k < n → bytesFor (n * w) ≤ length s → w * (k + 1) ≤ 8 * length s
+field-there w n k s h l = omega (arith, mul-le-mul-right w h)

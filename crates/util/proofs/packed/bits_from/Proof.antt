@@ -1,0 +1,79 @@
+-- `util::packed::bits_from` meets its contract: the whole of a short slice holds the bits, or the window does. Assumes nothing.
+use mathlib.Core.Path.{_≡_, sym, _∙_}
+use Rattle.format.proofs.Fields.{below-all}
+use Rattle.util.proofs.Window.{bits-value, window}
+use borrow.Author.Needs.{needs}
+use Rattle.util.proofs.packed.bits_from.Statement.{statement}
+use Rattle.util.proofs.packed.bits_from.Tie as tie
+
+short-requires : tie.Need-short-requires
+short-requires c κs = search needs
+
+mul-cut : tie.Need-mul-cut
+mul-cut c = search needs
+
+add-cut : tie.Need-add-cut
+add-cut c = search needs
+
+sub-cut : tie.Need-sub-cut
+sub-cut c = search needs
+
+cut-requires : tie.Need-cut-requires
+cut-requires c κs = search needs
+
+returns : tie.Need-returns
+returns c =
+    let at-known = c .before .before .before in
+    let a = at-known .before .args in
+    let s = a .s .now in
+    c .cut .ensures ∙ rw (c .before .short .ensures) (sym (bits-value (a .p) (a .w) s (below-all 256 s (λ k. at-known .shared-slice-known .given k .fits)) (at-known .before .pre .2)))
+
+window-requires : tie.Need-window-requires
+window-requires c κs = search needs
+
+word-requires : tie.Need-word-requires
+word-requires c κs = search needs
+
+add-cut-2 : tie.Need-add-cut-2
+add-cut-2 c = search needs
+
+mul-cut-2 : tie.Need-mul-cut-2
+mul-cut-2 c = search needs
+
+add-cut-3 : tie.Need-add-cut-3
+add-cut-3 c = search needs
+
+sub-cut-2 : tie.Need-sub-cut-2
+sub-cut-2 c = search needs
+
+cut-requires-2 : tie.Need-cut-requires-2
+cut-requires-2 c κs = search needs
+
+returns-2 : tie.Need-returns-2
+returns-2 c =
+    let at-known = c .before .before .before .before in
+    let a = at-known .before .args in
+    let s = a .s .now in
+    let i = c .before .before .window .result in
+    let h = c .before .before .window .ensures in
+    c .cut2 .ensures
+    ∙ rw (c .before .word .ensures) (sym (window s i 8 (a .p) (a .w) (below-all 256 s (λ k. at-known .shared-slice-known .given k .fits)) (h .2) (h .0) (h .1)))
+
+pub bits-from-spec : {M : Type 1} → statement M
+bits-from-spec =
+    tie.close
+    (tie.spec
+    short-requires
+    mul-cut
+    add-cut
+    sub-cut
+    cut-requires
+    returns
+    window-requires
+    word-requires
+    add-cut-2
+    mul-cut-2
+    add-cut-3
+    sub-cut-2
+    cut-requires-2
+    returns-2)

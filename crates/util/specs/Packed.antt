@@ -1,0 +1,39 @@
+-- Packed fields, as they are read out of bytes (document 01, "Packed fields"). Assumes nothing.
+use mathlib.Core.Path.{_≡_}
+use Prim.Native.Nat.{ℕ, _+_, _*_, _/_, _%_, _≤_, _<_}
+use mathlib.Core.List.{List, [], _∷_, _++_}
+use lib.ListN.{getD, take, drop}
+use Rattle.format.specs.Digits.{number, digits}
+use Rattle.format.specs.Fields.{bytesFor}
+use Rattle.format.specs.Parse.{unpack}
+use Rattle.format.proofs.Digits.{spread}
+
+-- the n fields of width w that s begins with
+abbrev pub fields : ℕ → ℕ → List ℕ → List ℕ
+fields w n s = unpack w n (number 256 (take (bytesFor (n * w)) s)) .values
+
+-- the w bits of s from bit p on, highest bit of each byte first, as a number
+unfoldable pub bits : ℕ → ℕ → List ℕ → ℕ
+bits p w s = number 2 (take w (drop p (spread 2 8 s)))
+
+-- field k of width w is bits k·w to k·w+w-1
+abbrev pub fieldAt : ℕ → ℕ → List ℕ → ℕ
+fieldAt w k s = bits (k * w) w s
+
+-- a width of the table is such that eight bytes hold a field wherever it starts: above 56 bits only 64 will do
+abbrev pub Width : ℕ → Type 0
+Width w = (0 < w) × (w ≤ 64) × (56 < w → w ≡ 64)
+
+-- ---- eight bytes, as a machine's word has them
+
+-- the eight bytes at i as a number, the lowest first
+abbrev pub lowFirst : List ℕ → ℕ → ℕ
+lowFirst s i =
+    getD s i 0 + getD s (i + 1) 0 * 256 + getD s (i + 2) 0 * 65536 + getD s (i + 3) 0 * 16777216 + getD s (i + 4) 0 * 4294967296
+    + getD s (i + 5) 0 * 1099511627776 + getD s (i + 6) 0 * 281474976710656 + getD s (i + 7) 0 * 72057594037927936
+
+-- the eight bytes of x in the other order
+abbrev pub swap : ℕ → ℕ
+swap x =
+    x % 256 * 72057594037927936 + x / 256 % 256 * 281474976710656 + x / 65536 % 256 * 1099511627776 + x / 16777216 % 256 * 4294967296
+    + x / 4294967296 % 256 * 16777216 + x / 1099511627776 % 256 * 65536 + x / 281474976710656 % 256 * 256 + x / 72057594037927936 % 256

@@ -1,0 +1,153 @@
+// Packed fields: a block of n fields of width w, highest bit of each byte first, both ways.
+ghost use mathlib.Core.Path.{_≡_};
+ghost use mathlib.Core.List.{_++_, map};
+ghost use Prim.Native.Nat.{_+_, _-_, _*_, _/_, _%_, _^_, _≤_, _<_};
+ghost use lib.ListN.{length, take, drop};
+ghost use Rattle.format.specs.Digits.{AllBelow, number, digits};
+ghost use Rattle.format.specs.Fields.{bytesFor, blockBytes};
+ghost use Rattle.format.specs.Rows.{asI64};
+ghost use Rattle.util.specs.Packed.{fields, bits, fieldAt, Width, lowFirst, swap};
+use crate::pattern;
+
+fn wide(x: u8) -> u64
+    ensures { λ r. ⌜ (r ≡ x) × (r < 256) ⌝ }
+{
+    x as u64
+}
+
+// Eight bytes, the lowest first: one load. It stands apart from `swapped`, or the optimiser makes eight loads of the two.
+fn low_first(s: &[u8], i: usize) -> u64
+    requires { ⌜ i + 8 ≤ length (now s) ⌝ }
+    ensures { λ r. ⌜ r ≡ lowFirst (now (s .entry)) i ⌝ }
+{
+    wide(s[i])
+        + wide(s[i + 1]) * 256
+        + wide(s[i + 2]) * 65536
+        + wide(s[i + 3]) * 16777216
+        + wide(s[i + 4]) * 4294967296
+        + wide(s[i + 5]) * 1099511627776
+        + wide(s[i + 6]) * 281474976710656
+        + wide(s[i + 7]) * 72057594037927936
+}
+
+// The bytes of x in the other order: one instruction.
+fn swapped(x: u64) -> u64
+    ensures { λ r. ⌜ r ≡ swap x ⌝ }
+{
+    x % 256 * 72057594037927936
+        + x / 256 % 256 * 281474976710656
+        + x / 65536 % 256 * 1099511627776
+        + x / 16777216 % 256 * 4294967296
+        + x / 4294967296 % 256 * 16777216
+        + x / 1099511627776 % 256 * 65536
+        + x / 281474976710656 % 256 * 256
+        + x / 72057594037927936 % 256
+}
+
+// The eight bytes at i as a number.
+fn word(s: &[u8], i: usize) -> u64
+    requires { ⌜ i + 8 ≤ length (now s) ⌝ }
+    ensures { λ r. ⌜ r ≡ number 256 (take 8 (drop i (now (s .entry)))) ⌝ }
+{
+    swapped(low_first(s, i))
+}
+
+// The number that fewer than eight bytes make.
+fn short(s: &[u8]) -> u64
+    requires { ⌜ length (now s) < 8 ⌝ }
+    ensures { λ r. ⌜ r ≡ number 256 (now (s .entry)) ⌝ }
+{
+    let mut x = 0;
+    let mut i = 0;
+    while i < s.len() {
+        x = x * 256 + wide(s[i]);
+        i += 1;
+    }
+    x
+}
+
+// The w bits of x above its lowest `low`.
+fn cut(x: u64, low: usize, w: usize) -> u64
+    requires { ⌜ (0 < w) × (w + low ≤ 64) ⌝ }
+    ensures { λ r. ⌜ r ≡ x / 2 ^ low % 2 ^ w ⌝ }
+{
+    (x >> low) & (u64::MAX >> (64 - w))
+}
+
+// Where the eight of len bytes begin that hold the w bits from bit p on: with their first byte or, near the end, eight bytes before it.
+fn window(len: usize, p: usize, w: usize) -> usize
+    requires { ⌜ (8 ≤ len) × (p % 8 + w ≤ 64) × (p + w ≤ 8 * len) ⌝ }
+    ensures { λ r. ⌜ (8 * r ≤ p) × (p + w ≤ 8 * (r + 8)) × (r + 8 ≤ len) ⌝ }
+{
+    if p / 8 < len - 8 { p / 8 } else { len - 8 }
+}
+
+// The w bits from bit p on, wherever they stand.
+fn bits_from(s: &[u8], p: usize, w: usize) -> u64
+    requires { ⌜ (0 < w) × (p % 8 + w ≤ 64) × (p + w ≤ 8 * length (now s)) × (p < 2 ^ 32) ⌝ }
+    ensures { λ r. ⌜ r ≡ bits p w (now (s .entry)) ⌝ }
+{
+    let len = s.len();
+    if len < 8 {
+        return cut(short(s), 8 * len - (p + w), w);
+    }
+    let i = window(len, p, w);
+    cut(word(s, i), 8 * (i + 8) - (p + w), w)
+}
+
+// Field k of those that s begins with.
+pub fn field(s: &[u8], w: usize, k: usize) -> u64
+    requires { ⌜ Width w ⌝ }
+    requires { ⌜ (k < 65536) × (w * (k + 1) ≤ 8 * length (now s)) ⌝ }
+    ensures { λ r. ⌜ r ≡ fieldAt w k (now (s .entry)) ⌝ }
+{
+    bits_from(s, k * w, w)
+}
+
+// How many bytes n fields of width w take.
+pub fn block_size(w: usize, n: usize) -> usize
+    requires { ⌜ (w ≤ 64) × (n ≤ 65536) ⌝ }
+    ensures { λ r. ⌜ r ≡ bytesFor (n * w) ⌝ }
+{
+    (n * w + 7) / 8
+}
+
+// The n fields that s begins with, put into the first n places as rows with the same bits.
+pub fn unpack(s: &[u8], w: usize, n: usize, out: &mut [i64])
+    requires { ⌜ Width w ⌝ }
+    requires { ⌜ (n ≤ 65536) × (n ≤ length (now out)) × (bytesFor (n * w) ≤ length (now s)) ⌝ }
+    ensures { λ _. ⌜ now (out .exit) ≡ map asI64 (fields w n (now (s .entry))) ++ drop n (now (out .entry)) ⌝ }
+{
+    let mut k = 0;
+    while k < n {
+        let row = pattern::to_i64(field(s, w, k));
+        out[k] = row;
+        k += 1;
+    }
+}
+
+fn byte(x: u64) -> u8
+    ensures { λ r. ⌜ r ≡ x % 256 ⌝ }
+{
+    (x % 256) as u8
+}
+
+// x moved up by c bits. Two shifts, since c can be 64.
+fn raised(x: u64, c: usize) -> u64
+    requires { ⌜ c ≤ 64 ⌝ }
+    ensures { λ r. ⌜ r ≡ x * 2 ^ c % 2 ^ 64 ⌝ }
+{
+    (x << (c / 2)) << (c - c / 2)
+}
+
+// The q highest bytes of x, written at i.
+fn put(out: &mut [u8], i: usize, x: u64, q: usize)
+    requires { ⌜ (q ≤ 8) × (i + q ≤ length (now out)) ⌝ }
+    ensures { λ _. ⌜ now (out .exit) ≡ (take i (now (out .entry)) ++ digits 256 q (x / 256 ^ (8 - q))) ++ drop (i + q) (now (out .entry)) ⌝ }
+{
+    let mut j = 0;
+    while j < q {
+        out[i + j] = byte(x >> (56 - 8 * j));
+        j += 1;
+    }
+}
