@@ -1,2 +1,4 @@
 pub mod PatchList
 pub mod Pass
+pub mod Blocks
+pub mod DirectRun

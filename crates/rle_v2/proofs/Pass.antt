@@ -8,7 +8,7 @@ use native.Mathlib.Omega.{arith}
 use mathlib.Core.Bool.{Bool, true, false}
 use mathlib.Core.List.{List, [], _∷_, _++_, map, append-nil}
 use lib.ListN.{length, take, drop, getD, set, length-set, length-map, length-append}
-use lib.Seq.{drop-cons, take-nil, getD-drop}
+use lib.Seq.{drop-cons, getD-drop, take-at, drop-at}
 use lib.IntN.{ℤ, pos}
 use Rattle.format.specs.Digits.{AllBelow}
 use Rattle.format.specs.Fields.{two64, zigzag, row}
@@ -89,3 +89,8 @@ pub summed-is : (falling : Bool) (x : ℕ) (ms : List ℕ) → AllBelow two64 ms
 unfolding pass Rows.walk
 summed-is falling x [] h = refl
 summed-is falling x (m ∷ ms) h = rw (as-back m (h .0)) (ap (λ (l : List ℤ). asI64 (moved falling x m) ∷ l) (summed-is falling (moved falling x m) ms (h .1)))
+
+-- a pass over what was just laid down in the first n places
+pub then-pass : {A : Type 0} (f : List A → List A) (vs out one two : List A) (n : ℕ) → length vs ≡ n → one ≡ vs ++ drop n out → two ≡ f (take n one) ++ drop n one
+    → two ≡ f vs ++ drop n out
+then-pass f vs out one two n l e g = g ∙ rw (e, take-at vs (drop n out) n l, drop-at vs (drop n out) n l)

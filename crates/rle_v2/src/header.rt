@@ -1,6 +1,6 @@
 // The header that direct, delta and patched base runs begin with: 2 bits kind, 5 bits width code, 9 bits rows-1.
 ghost use mathlib.Core.Path.{_≡_};
-ghost use Prim.Native.Nat.{_+_};
+ghost use Prim.Native.Nat.{_+_, _≤_};
 ghost use Rattle.format.specs.Parse.{codeOf, rowsLess};
 
 pub(crate) struct Head {
@@ -9,7 +9,7 @@ pub(crate) struct Head {
 }
 
 pub(crate) fn two_bytes(first: u8, second: u8) -> Head
-    ensures { λ r. ⌜ (r .code ≡ codeOf first) × (r .rows ≡ rowsLess first second + 1) ⌝ }
+    ensures { λ r. ⌜ (r .code ≡ codeOf first) × (r .rows ≡ rowsLess first second + 1) × (r .rows ≤ 512) ⌝ }
 {
     Head {
         code: first % 64 / 2,

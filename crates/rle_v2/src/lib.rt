@@ -1,3 +1,4 @@
 // RLE version 2: the run reader, a module for each kind of run, and the stream reader.
+mod direct;
 mod header;
 mod rows;
