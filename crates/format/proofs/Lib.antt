@@ -5,6 +5,7 @@ pub mod Runs
 pub mod Streams
 pub mod Widths
 pub mod Patterns
+pub mod Varints
 pub mod Examples
 pub mod Rows
 pub mod Cut

@@ -1,4 +1,5 @@
 -- The laws that the readers and the writer cite.
+pub mod BigEndian
 pub mod Grow
 pub mod Widths
 pub mod Window

@@ -1,4 +1,5 @@
 // What the readers and the writer share: each module is a kind of field of document 01's layouts.
+pub mod big_endian;
 pub mod packed;
 pub mod pattern;
 pub mod width;

@@ -1,0 +1,42 @@
+-- `big_endian::base_value` meets its contract: below the sign's bit the number itself, and else minus the magnitude. Assumes nothing.
+use mathlib.Core.Path.{_∙_}
+use native.Mathlib.Omega.{arith}
+use denote.Ref.{now}
+use borrow.Author.Needs.{needs}
+use Rattle.util.proofs.BigEndian.{sign-bit, base-plus, base-minus, number-bits}
+use Rattle.util.proofs.big_endian.base_value.Statement.{statement}
+use Rattle.util.proofs.big_endian.base_value.Tie as tie
+
+read-requires : tie.Need-read-requires
+read-requires c κs = search needs
+
+mul-sign : tie.Need-mul-sign
+mul-sign c = search needs
+
+sub-sign : tie.Need-sub-sign
+sub-sign c = search needs
+
+shl-sign : tie.Need-shl-sign
+shl-sign c = search needs
+
+sub-requires : tie.Need-sub-requires
+sub-requires c κs = search needs
+
+returns : tie.Need-returns
+returns c =
+    let a = c .before .before .before .args in
+    let e = c .before .read .ensures in
+    e ∙ base-plus (a .n) (omega arith) (omega arith) (now (a .s)) (a .at) (omega arith) (rw (e, sign-bit (a .n) (omega arith) (omega arith)) at (c .if1 .taken))
+
+returns-2 : tie.Need-returns-2
+returns-2 c =
+    let r = c .before .before in
+    let k = r .before in
+    let a = k .before .args in
+    let e = r .read .ensures in
+    let b = sign-bit (a .n) (omega arith) (omega arith) in
+    rw b at (c .sub .ensures) ∙ base-minus (a .n) (omega arith) (omega arith) (now (a .s)) (a .at) (omega arith) (r .read .result) e (rw b at (c .before .if1 .left)) (rw e (number-bits (now (a .s)) (a .at) (λ j. k .shared-slice-known .given j .fits) (a .n) (omega arith)))
+
+pub base-value-spec : {M : Type 1} → statement M
+base-value-spec =
+    tie.close (tie.spec read-requires mul-sign sub-sign shl-sign sub-requires returns returns-2)

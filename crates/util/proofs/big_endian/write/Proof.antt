@@ -1,0 +1,70 @@
+-- `big_endian::write` meets its contract. The loop's invariant: what stands so far, then the digits that are left, is the whole. Assumes nothing.
+use mathlib.Core.List.{_++_}
+use mathlib.Core.Path.{_≡_, refl}
+use Prim.Native.Nat.{suc, _+_, _-_, _≤_}
+use native.Mathlib.Omega.{arith}
+use lib.ListN.{length, take, drop, length-set}
+use denote.Ref.{now}
+use Rattle.format.specs.Digits.{digits}
+use Rattle.util.proofs.Grow.{grow, kept, filled}
+use Rattle.util.proofs.big_endian.write.Statement.{statement}
+use Rattle.util.proofs.big_endian.write.Tie as tie
+
+abbrev Inv-loop : tie.InvT-loop
+Inv-loop x n out₀ at place₀ left₀ out place left = (place + left ≡ at + n) × (left ≤ n) × (length out ≡ length out₀) × (take place out ++ digits 256 left x ≡ take at out₀ ++ digits 256 n x) × (drop place out ≡ drop place out₀)
+
+abbrev μ-loop : tie.MeasureT-loop
+μ-loop x n out₀ at place₀ left₀ out place left = left
+
+loop-holds : tie.Need-loop-holds Inv-loop μ-loop
+loop-holds c = (refl, omega arith, refl, refl, refl)
+
+sub-left : tie.Need-sub-left Inv-loop μ-loop
+sub-left c = omega arith
+
+byte-of-requires : tie.Need-byte-of-requires Inv-loop μ-loop
+byte-of-requires c κs = omega arith
+
+slice-write-out : tie.Need-slice-write-out Inv-loop μ-loop
+slice-write-out c = omega arith
+
+add-place : tie.Need-add-place Inv-loop μ-loop
+add-place c = omega arith
+
+loop-less : tie.Need-loop-less Inv-loop μ-loop
+loop-less c = omega arith
+
+loop-again : tie.Need-loop-again Inv-loop μ-loop
+unfolding digits
+loop-again c =
+    let l = c .before .before in
+    let e : l .loop .left ≡ suc (l .loop .left - 1) = omega arith in
+    (omega arith, omega arith, simp length-set (l .loop .inv .2), rw (c .byte-of .ensures) (grow (l .loop .out) (l .loop .place) _ _ _ (omega arith) (rw e at (l .loop .inv .3))), kept (l .loop .out) _ (l .loop .place) _ (l .loop .inv .4))
+
+same-length : tie.Need-same-length Inv-loop μ-loop
+same-length c = c .before .loop .inv .2
+
+returns : tie.Need-returns Inv-loop μ-loop
+unfolding digits
+returns c =
+    let l = c .before .loop in
+    let a = c .before .before .before .args in
+    let z : l .left ≡ 0 = omega arith in
+    let d : l .place ≡ a .at + a .n = omega arith in
+    filled (l .out) (now (a .out)) _ (a .at + a .n) (rw d at (rw z at (l .inv .3))) (rw d at (l .inv .4))
+
+pub write-spec : {M : Type 1} → statement M
+write-spec =
+    tie.close
+    (tie.spec
+    Inv-loop
+    μ-loop
+    loop-holds
+    sub-left
+    byte-of-requires
+    slice-write-out
+    add-place
+    loop-less
+    loop-again
+    same-length
+    returns)
