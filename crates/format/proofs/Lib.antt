@@ -6,4 +6,5 @@ pub mod Streams
 pub mod Table
 pub mod Rows
 pub mod Cut
+pub mod Booleans
 pub mod Reading
