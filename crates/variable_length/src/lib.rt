@@ -1,0 +1,44 @@
+// Byte values: a value of length n is the first n bytes of the rest, handed back as a part of it.
+ghost use mathlib.Core.Path.{_≡_};
+ghost use Prim.Native.Nat.{_-_};
+ghost use lib.ListN.{length};
+ghost use Rattle.format.specs.ByteValues.{ValueRead, ValueGiven};
+use format::Answer;
+use format::ByteOffset;
+use format::Kind;
+
+// How many bytes stand from a position on: none past the end.
+fn left(input: &[u8], at: usize) -> usize
+    ensures { λ r. ⌜ r ≡ length (now (input .entry)) - at ⌝ }
+{
+    if at <= input.len() {
+        input.len() - at
+    } else {
+        0
+    }
+}
+
+// The value's counts, or refusal 6 where the input ends before the value does.
+pub fn read_value(input: &[u8], at: ByteOffset, n: usize) -> Answer
+    ensures { λ r. ⌜ ValueRead (now (input .entry)) (at .bytes) n r ⌝ }
+{
+    let start = at.bytes;
+    if n <= left(input, start) {
+        Answer::run(Kind::ByteValues, n, n)
+    } else {
+        Answer::refused(6, start)
+    }
+}
+
+// The value itself, a part of the input: empty if `read_value` refuses.
+pub fn value(input: &[u8], at: ByteOffset, n: usize) -> &[u8]
+    ensures { λ r. ⌜ ValueGiven (now (input .entry)) (at .bytes) n (now r) ⌝ }
+{
+    let start = at.bytes;
+    if n <= left(input, start) {
+        if start <= input.len() {
+            return &input[start..start + n];
+        }
+    }
+    &input[..0]
+}
