@@ -1,32 +1,29 @@
 // Byte values: a value of length n is the first n bytes of the rest, handed back as a part of it.
 ghost use mathlib.Core.Path.{_≡_};
-ghost use Prim.Native.Nat.{_-_};
-ghost use lib.ListN.{length};
+ghost use Prim.Native.Nat.{_≤_};
+ghost use lib.ListN.{length, drop};
 ghost use Rattle.format.specs.ByteValues.{ValueRead, ValueGiven};
 use format::Answer;
 use format::ByteOffset;
 use format::Kind;
 
-// How many bytes stand from a position on: none past the end.
-fn left(input: &[u8], at: usize) -> usize
-    ensures { λ r. ⌜ r ≡ length (now (input .entry)) - at ⌝ }
+// Where the rest begins: a position past the end is empty input.
+fn rest(input: &[u8], at: usize) -> usize
+    ensures { λ r. ⌜ (r ≤ length (now (input .entry))) × (drop r (now (input .entry)) ≡ drop at (now (input .entry))) ⌝ }
 {
-    if at <= input.len() {
-        input.len() - at
-    } else {
-        0
-    }
+    if at <= input.len() { at } else { input.len() }
 }
 
 // The value's counts, or refusal 6 where the input ends before the value does.
 pub fn read_value(input: &[u8], at: ByteOffset, n: usize) -> Answer
     ensures { λ r. ⌜ ValueRead (now (input .entry)) (at .bytes) n r ⌝ }
 {
-    let start = at.bytes;
-    if n <= left(input, start) {
+    let position = at.bytes;
+    let start = rest(input, position);
+    if n <= input.len() - start {
         Answer::run(Kind::ByteValues, n, n)
     } else {
-        Answer::refused(6, start)
+        Answer::refused(6, position)
     }
 }
 
@@ -34,11 +31,10 @@ pub fn read_value(input: &[u8], at: ByteOffset, n: usize) -> Answer
 pub fn value(input: &[u8], at: ByteOffset, n: usize) -> &[u8]
     ensures { λ r. ⌜ ValueGiven (now (input .entry)) (at .bytes) n (now r) ⌝ }
 {
-    let start = at.bytes;
-    if n <= left(input, start) {
-        if start <= input.len() {
-            return &input[start..start + n];
-        }
+    let position = at.bytes;
+    let start = rest(input, position);
+    if n <= input.len() - start {
+        return &input[start..start + n];
     }
     &input[..0]
 }
