@@ -9,4 +9,5 @@ pub mod Varints
 pub mod Examples
 pub mod Rows
 pub mod Cut
+pub mod Booleans
 pub mod Reading

@@ -137,7 +137,7 @@ taken-apart kind a b ha hb e = omega arith
 head-forth : (kind code rows a b : ℕ) → a < 256 → b < 256 → a / 64 ≡ kind → codeOf a ≡ code → rowsLess a b + 1 ≡ rows → Headed kind code rows a b
 head-forth kind code rows a b ha hb e₀ e₁ e₂ = rw (← e₁, ← e₂) (taken-apart kind a b ha hb e₀)
 
-append-empty : (s t : List ℕ) → s ++ t ≡ [] → t ≡ []
+pub append-empty : (s t : List ℕ) → s ++ t ≡ [] → t ≡ []
 append-empty [] t e = e
 append-empty (x ∷ s) t e = absurd (cons≢nil e)
 

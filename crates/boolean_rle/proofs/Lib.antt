@@ -1,0 +1,2 @@
+-- The laws that the proofs of the boolean reader cite.
+pub mod Laws

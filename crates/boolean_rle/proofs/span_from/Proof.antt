@@ -1,0 +1,96 @@
+use mathlib.Core.Path.{_≡_, refl, sym, ap, _∙_}
+use Prim.Native.Nat.{ℕ, _+_, _-_, _≤_, _<_}
+use native.Mathlib.Nat.{le-refl, add-zero}
+use native.Mathlib.Omega.{arith}
+use borrow.Author.Needs.{needs}
+use denote.Ref.{now}
+use lib.ListN.{length, drop, length-drop}
+use Rattle.format.specs.Booleans.{ByteRun, joinedRuns, byteRuns}
+use Rattle.format.proofs.Fields.{below-all}
+use Rattle.format.proofs.Booleans.{runs-none}
+use Rattle.boolean_rle.specs.Found.{foundIn, spanOf}
+use Rattle.boolean_rle.proofs.Laws.{Here, here, further, further-zero, span-cut, Passed, pass}
+use Rattle.boolean_rle.proofs.span_from.Statement.{statement}
+use Rattle.boolean_rle.proofs.span_from.Tie as tie
+
+abbrev Inv-loop : tie.InvT-loop
+Inv-loop input at needed end₀ left₀ end left = Passed input at (spanOf (byteRuns (length (drop at input)) needed (drop at input))) end left
+
+abbrev μ-loop : tie.MeasureT-loop
+μ-loop input at needed end₀ left₀ end left = left
+
+-- the run that was found
+run-here : (c : tie.After-struct-known Inv-loop μ-loop)
+    → (d : ByteRun) × Here (now (c .before .before .before .before .before .before .before .before .args .input))
+    (c .before .before .before .before .before .before .loop .end) (c .before .before .run .given .0 .0) d
+run-here c =
+    let r = c .before .before in
+    let l = r .before .before .before .before in
+    here (now (l .before .before .args .input)) (l .loop .end) (r .run .given .0 .0)
+    (below-all 256 (now (l .before .before .args .input)) (λ i. l .before .shared-slice-known .given i .fits))
+    (sym (r .before .before .run-at .ensures) ∙ r .run .given .1)
+
+loop-holds : tie.Need-loop-holds Inv-loop μ-loop
+loop-holds c =
+    let a = c .before .args in
+    (le-refl _, (length (drop (a .at) (now (a .input))), omega (arith, length-drop (a .at) (now (a .input))), further-zero (a .at) _))
+
+run-at-requires : tie.Need-run-at-requires Inv-loop μ-loop
+run-at-requires c κs = tt
+
+enum-known-run : tie.Need-enum-known-run Inv-loop μ-loop
+enum-known-run c = search needs
+
+enum-told : tie.Need-enum-told Inv-loop μ-loop
+enum-told c = search needs
+
+returns : tie.Need-returns Inv-loop μ-loop
+returns c =
+    let r = c .before .before in
+    let l = r .before .before .loop in
+    let i = l .inv .1 in
+    sym (i .2 ∙ rw (span-cut (i .0) (l .left) (drop (l .end) _) (r .before .loop-test .taken) (sym (r .run-at .ensures) ∙ c .enum-told .given .1)))
+
+add-end : tie.Need-add-end Inv-loop μ-loop
+add-end c = let h = run-here c in omega (arith, h .1 .inside)
+
+less-requires : tie.Need-less-requires Inv-loop μ-loop
+less-requires c κs = tt
+
+loop-less : tie.Need-loop-less Inv-loop μ-loop
+loop-less c = let h = run-here (c .before) in omega (arith, h .1 .some)
+
+loop-again : tie.Need-loop-again Inv-loop μ-loop
+loop-again c =
+    let h = run-here (c .before) in
+    let l = c .before .before .before .before .before .before .before in
+    rw (c .less .ensures) (pass (now (l .before .before .args .input)) _ _ (l .loop .end) (l .loop .left) _ (h .0) (h .1) (omega arith) (l .loop .inv))
+
+sub-t9 : tie.Need-sub-t9 Inv-loop μ-loop
+sub-t9 c = c .before .loop .inv .0
+
+returns-2 : tie.Need-returns-2 Inv-loop μ-loop
+unfolding joinedRuns
+returns-2 c =
+    let l = c .before .loop in
+    let i = l .inv .1 in
+    let z : l .left ≡ 0 = omega arith in
+    sym (i .2 ∙ rw (z, runs-none, add-zero))
+
+pub span-from-spec : {M : Type 1} → statement M
+span-from-spec =
+    tie.close
+    (tie.spec
+    Inv-loop
+    μ-loop
+    loop-holds
+    run-at-requires
+    enum-known-run
+    enum-told
+    returns
+    add-end
+    less-requires
+    loop-less
+    loop-again
+    sub-t9
+    returns-2)

@@ -1,0 +1,35 @@
+-- What the reader's own functions answer, by what reading at a place gives. Assumes nothing.
+use mathlib.Core.Path.{_≡_}
+use Prim.Native.Nat.{ℕ, _+_}
+use mathlib.Core.List.{List, [], _++_}
+use lib.ListN.{length, take, drop}
+use Rattle.format.specs.Parse.{Parsed, end, got, refused}
+use Rattle.format.specs.Booleans.{ByteRun, runLayout, runBytes, byteCount, joinedRuns}
+use Rattle.boolean_rle.specs.declared.Found.{Found}
+use Rattle.boolean_rle.specs.declared.Found.the-variants as found
+use Rattle.boolean_rle.specs.declared.Span.{Span}
+use Rattle.boolean_rle.specs.declared.Span.the-variants as span
+
+-- a run: the bytes of its layout, and how many bytes it stands for
+abbrev pub foundIn : Parsed ByteRun → Found
+foundIn end = found.Cut
+foundIn (got d rest) = found.Run (record { size = length (runLayout d); count = byteCount d })
+foundIn (refused r) = found.Cut
+
+-- the bytes that it stands for
+abbrev pub bytesIn : Parsed ByteRun → List ℕ
+bytesIn end = []
+bytesIn (got d rest) = runBytes d
+bytesIn (refused r) = []
+
+-- several runs: the bytes of their layouts
+abbrev pub spanOf : Parsed (List ByteRun) → Span
+spanOf end = span.Cut
+spanOf (got ds rest) = span.Whole (length (joinedRuns ds))
+spanOf (refused r) = span.Cut
+
+-- ys, as far as they are wanted, stand in the places from k up to k′: whatever list all has ys at k, a list that begins as all does up to k
+-- and goes on as d does, begins as all does up to k′ and goes on as d does
+abbrev pub Wrote : ℕ → ℕ → List ℕ → List ℕ → List ℕ → Type 0
+Wrote k k′ ys out out′ =
+    (all d more : List ℕ) → drop k all ≡ ys ++ more → out ≡ take k all ++ drop k d → out′ ≡ take k′ all ++ drop k′ d

@@ -1,0 +1,2 @@
+-- The definitions that the contracts of the reader's own functions cite.
+pub mod Found

@@ -1,0 +1,276 @@
+-- Byte runs and booleans: a valid run's layout reads as that run, nothing else reads, a run that is cut is refused with 6, and no second list of
+-- runs has the same bytes. Reading n booleans takes exactly the runs that n needs. The starred line of document 01. Any two outcomes that a
+-- promise allows are equal. Assumes nothing.
+use mathlib.Core.Path.{_≡_, refl, sym, ap, _∙_}
+use mathlib.Core.Logic.{_≢_, _↔_}
+use Prim.Native.Nat.{ℕ, zero, suc, _+_, _-_, _*_, _/_, _%_, _^_, _<_, _≤_}
+use native.Mathlib.Omega.{arith}
+use native.Mathlib.Nat.{le-refl, zero-lt-suc}
+use lib.Seq.{length-take-le}
+use mathlib.Core.Bool.{Bool, true, false, not}
+use mathlib.Core.List.{List, [], _∷_, _++_, append-assoc, append-nil, cons≢nil}
+use lib.ListN.{length, take, drop, replicate, length-append, length-replicate, length-take}
+use lib.Dec.{T, leb, ltb, eqb, ltb→lt, nltb→le, eqb→eq}
+use borrow.Author.Tests.{lt-ltb, le-ltb, eq-eqb, ne-eqb}
+use mir.Facts.{eqb-no}
+use Rattle.format.specs.declared.Kind.the-variants.{Booleans}
+use Rattle.format.specs.declared.Answer.{Answer}
+use Rattle.format.specs.Digits.{AllBelow, digits}
+use Rattle.format.specs.Fields.{pick, bytesFor}
+use Rattle.format.specs.Parse.{Reason, plain, cutIn, Parsed, end, got, refused, then, unless, bytes}
+use Rattle.format.specs.Answers.{ran, refusedAt}
+use Rattle.format.specs.Booleans.{ByteRun, repeat, literals, ValidRun, AllValidRuns, Needed, runLayout, runBytes, byteCount, joinedRuns, joinedBytes, bits, booleansOf, repeatRun, byteRun, byteRuns, booleans, booleansInto, booleansAnswer, booleansPlaces, BooleansRead}
+use Rattle.format.specs.ByteValues.{ValueRead, ValueGiven}
+use Rattle.format.proofs.Digits.{length-digits, digits-below}
+use Rattle.format.proofs.Fields.{Post, at-got, at-refused, of-got, then-post, pick-post, Took, IsBytes, bytes-complete, bytes-sound, append-below, below-append, below-take}
+use Rattle.format.proofs.Runs.{append-empty, got-inj}
+
+-- ---- one run
+
+pub run-complete : (d : ByteRun) (rest : List ℕ) → ValidRun d → byteRun (runLayout d ++ rest) ≡ got d rest
+unfolding byteRun repeatRun runLayout
+run-complete (repeat count byte) rest v =
+    let e : count - 3 + 3 ≡ count = omega (arith, v) in
+    rw (lt-ltb (count - 3) 128 (omega (arith, v)), e)
+run-complete (literals bs) rest v =
+    let e : 256 - (256 - length bs) ≡ length bs = omega (arith, v) in
+    rw (le-ltb (256 - length bs) 128 (omega (arith, v)), e, bytes-complete _ (length bs) bs rest refl)
+
+repeat-sound : (c : ℕ) (bs : List ℕ) → c < 128 → AllBelow 256 bs → Post (Took (c ∷ bs) runLayout ValidRun) (repeatRun c bs)
+unfolding repeatRun runLayout
+repeat-sound c [] l h = at-refused
+repeat-sound c (b ∷ bs) l h =
+    let e : c ≡ c + 3 - 3 = omega arith in
+    at-got {a = repeat (c + 3) b} (record {
+      ok = record { few = omega arith; many = omega arith; fits = h .0 };
+      split = ap (λ (x : ℕ). x ∷ b ∷ bs) e;
+      rest-bytes = h .1;
+    })
+
+-- what is read is a valid run whose layout stood in front
+pub run-sound : (bs : List ℕ) → AllBelow 256 bs → Post (Took bs runLayout ValidRun) (byteRun bs)
+unfolding byteRun runLayout
+run-sound [] h = at-refused
+run-sound (c ∷ bs) h =
+    pick-post (ltb c 128) (λ t. repeat-sound c bs (ltb→lt c 128 t) (h .1)) λ t.
+    then-post (bytes-sound _ (256 - c) bs (h .1)) λ v s k.
+    let l : 128 ≤ c = nltb→le c 128 t in
+    let e : c ≡ 256 - length v = omega (arith, k .ok .count, h .0) in
+    at-got {a = literals v} (record {
+      ok = record { some = omega (arith, k .ok .count, h .0); many = omega (arith, k .ok .count); fits = k .ok .below };
+      split = rw (← e) (ap (λ (x : List ℕ). c ∷ x) (k .split));
+      rest-bytes = k .rest-bytes;
+    })
+
+-- reading byte runs refuses with 6 and nothing else, and never says "end"
+abbrev pub is6 : Reason → Bool
+is6 (plain n) = eqb n 6
+
+pub data Only6 {A : Type 0} : Parsed A → Type 0 where
+  any-got : {a : A} {s : List ℕ} → Only6 (got a s)
+  six : {r : Reason} → T (is6 r) → Only6 (refused r)
+
+then-6 : {A B : Type 0} {m : Parsed A} {f : A → List ℕ → Parsed B} → Only6 m → ((a : A) (s : List ℕ) → Only6 (f a s)) → Only6 (then m f)
+then-6 (any-got {a} {s}) h = h a s
+then-6 (six t) h = six t
+
+pick-6 : {A : Type 0} {m m′ : Parsed A} (b : Bool) → Only6 m → Only6 m′ → Only6 (pick b m m′)
+pick-6 true h h′ = h
+pick-6 false h h′ = h′
+
+pub run-6 : (bs : List ℕ) → Only6 (byteRun bs)
+unfolding byteRun repeatRun bytes
+run-6 [] = six tt
+run-6 (c ∷ []) = pick-6 (ltb c 128) (six tt) (then-6 (pick-6 (leb (256 - c) 0) any-got (six tt)) λ v s. any-got)
+run-6 (c ∷ b ∷ bs) = pick-6 (ltb c 128) any-got (then-6 (pick-6 (leb (256 - c) (length (b ∷ bs))) any-got (six tt)) λ v s. any-got)
+
+pub runs-6 : (f m : ℕ) (bs : List ℕ) → Only6 (byteRuns f m bs)
+unfolding byteRuns
+runs-6 zero m bs = pick-6 (eqb m 0) any-got (six tt)
+runs-6 (suc f) m bs = pick-6 (eqb m 0) any-got (then-6 (run-6 bs) λ d s. then-6 (runs-6 f (m - byteCount d) s) λ ds rest. any-got)
+
+-- ---- the runs that m bytes need
+
+layout-pos : (d : ByteRun) → 1 ≤ length (runLayout d)
+unfolding runLayout
+layout-pos (repeat count byte) = omega arith
+layout-pos (literals bs) = omega arith
+
+-- no need: no run
+pub runs-none : (f : ℕ) (bs : List ℕ) → byteRuns f 0 bs ≡ got [] bs
+unfolding byteRuns
+runs-none zero bs = refl
+runs-none (suc f) bs = refl
+
+pub runs-complete : (f m : ℕ) (ds : List ByteRun) (rest : List ℕ) → AllValidRuns ds → Needed m ds → length (joinedRuns ds ++ rest) ≤ f
+    → byteRuns f m (joinedRuns ds ++ rest) ≡ got ds rest
+unfolding byteRuns joinedRuns
+runs-complete f m [] rest v e l = rw e (runs-none f rest)
+runs-complete zero m (d ∷ ds) rest v e l =
+    absurd (omega (arith, l, layout-pos d, length-append (runLayout d ++ joinedRuns ds) rest, length-append (runLayout d) (joinedRuns ds)))
+runs-complete (suc f) m (d ∷ ds) rest v e l =
+    let h : length (joinedRuns ds ++ rest) ≤ f =
+    omega (arith, l, layout-pos d, length-append (runLayout d) (joinedRuns ds ++ rest), ap length (append-assoc (runLayout d) (joinedRuns ds) rest)) in
+    rw (
+      ne-eqb m 0 (omega (arith, e .0)),
+      append-assoc (runLayout d) (joinedRuns ds) rest,
+      run-complete d (joinedRuns ds ++ rest) (v .0),
+      runs-complete f (m - byteCount d) ds rest (v .1) (e .1) h,
+    )
+
+-- what is taken: valid runs, and only those that m bytes need
+abbrev pub ValidNeeded : ℕ → List ByteRun → Type 0
+ValidNeeded m ds = AllValidRuns ds × Needed m ds
+
+none-sound : (m : ℕ) (bs : List ℕ) → AllBelow 256 bs → T (eqb m 0) → Post (Took bs joinedRuns (ValidNeeded m)) (got [] bs)
+unfolding joinedRuns
+none-sound m bs h t = at-got {a = []} (record { ok = (tt, eqb→eq m 0 t); split = refl; rest-bytes = h })
+
+pub runs-sound : (f m : ℕ) (bs : List ℕ) → AllBelow 256 bs → Post (Took bs joinedRuns (ValidNeeded m)) (byteRuns f m bs)
+unfolding byteRuns joinedRuns
+runs-sound zero m bs h = pick-post (eqb m 0) (none-sound m bs h) λ t. at-refused
+runs-sound (suc f) m bs h =
+    pick-post (eqb m 0) (none-sound m bs h) λ t.
+    then-post (run-sound bs h) λ d s p.
+    then-post (runs-sound f (m - byteCount d) s (p .rest-bytes)) λ ds rest q.
+    at-got {a = d ∷ ds} (record {
+      ok = ((p .ok, q .ok .0), (omega (arith, eqb-no {a = m} {b = 0} t), q .ok .1));
+      split = p .split ∙ ap (λ (x : List ℕ). runLayout d ++ x) (q .split) ∙ sym (append-assoc (runLayout d) (joinedRuns ds) rest);
+      rest-bytes = q .rest-bytes;
+    })
+
+-- ---- THE LAW OF BOOLEANS: what n booleans take is exactly the layouts of the valid runs that n needs, each whole
+
+pub booleans-complete : (n : ℕ) (ds : List ByteRun) (rest : List ℕ) → AllValidRuns ds → Needed (bytesFor n) ds → booleans n (joinedRuns ds ++ rest) ≡ got ds rest
+unfolding booleans
+booleans-complete n ds rest v e = runs-complete (length (joinedRuns ds ++ rest)) (bytesFor n) ds rest v e (le-refl _)
+
+pub booleans-sound : (n : ℕ) (bs : List ℕ) → AllBelow 256 bs → Post (Took bs joinedRuns (ValidNeeded (bytesFor n))) (booleans n bs)
+unfolding booleans
+booleans-sound n bs h = runs-sound (length bs) (bytesFor n) bs h
+
+pub booleans-exactly : (n : ℕ) (bs : List ℕ) (ds : List ByteRun) (rest : List ℕ) → AllBelow 256 bs
+    → (booleans n bs ≡ got ds rest) ↔ (AllValidRuns ds × Needed (bytesFor n) ds × (bs ≡ joinedRuns ds ++ rest))
+booleans-exactly n bs ds rest h = (
+  (λ e. let t : Took bs joinedRuns (ValidNeeded (bytesFor n)) ds rest = of-got (rw e at (booleans-sound n bs h)) in (t .ok .0, t .ok .1, t .split)),
+  (λ p. ap (booleans n) (p .2) ∙ booleans-complete n ds rest (p .0) (p .1)),
+)
+
+-- no second list of valid runs has the same bytes
+pub runs-unique : (ds ds′ : List ByteRun) → AllValidRuns ds → AllValidRuns ds′ → joinedRuns ds ≡ joinedRuns ds′ → ds ≡ ds′
+unfolding joinedRuns
+runs-unique [] [] v v′ e = refl
+runs-unique [] (d ∷ ds) v v′ e = absurd (omega (arith, layout-pos d, length-append (runLayout d) (joinedRuns ds), ap length e))
+runs-unique (d ∷ ds) [] v v′ e = absurd (omega (arith, layout-pos d, length-append (runLayout d) (joinedRuns ds), ap length e))
+runs-unique (d ∷ ds) (d′ ∷ ds′) v v′ e =
+    let p : (d ≡ d′) × (joinedRuns ds ≡ joinedRuns ds′) =
+    got-inj (sym (run-complete d (joinedRuns ds) (v .0)) ∙ ap byteRun e ∙ run-complete d′ (joinedRuns ds′) (v′ .0)) in
+    let q : ds ≡ ds′ = runs-unique ds ds′ (v .1) (v′ .1) (p .1) in
+    let r : d ≡ d′ = p .0 in
+    cc
+
+-- ---- a cut run is refused with 6: a proper part, from the start, of what is to be read
+
+-- `read` reads back every layout in front of anything, takes nothing else, and refuses with 6 only
+module _ {A : Type 0} (lay : A → List ℕ) (Ok : A → Type 0) (read : List ℕ → Parsed A)
+    (back : (a : A) (rest : List ℕ) → Ok a → read (lay a ++ rest) ≡ got a rest)
+    (sound : (bs : List ℕ) → AllBelow 256 bs → Post (Took bs lay Ok) (read bs))
+    (only : (bs : List ℕ) → Only6 (read bs)) where
+  cut-6 : (a : A) (p q : List ℕ) → Ok a → AllBelow 256 p → lay a ≡ p ++ q → q ≢ [] → (r : Reason) × (read p ≡ refused r) × T (is6 r)
+  cut-6 a p q v h e qe = go (read p) refl (sound p h) (only p)
+    where
+      go : (m : Parsed A) → read p ≡ m → Post (Took p lay Ok) m → Only6 m → (r : Reason) × (read p ≡ refused r) × T (is6 r)
+      go m g (at-got {a = a′} {s = rest} t) o =
+          let same : lay a ++ [] ≡ lay a′ ++ (rest ++ q) = append-nil (lay a) ∙ e ∙ ap (λ (x : List ℕ). x ++ q) (t .split) ∙ append-assoc (lay a′) rest q in
+          absurd (qe (append-empty rest q (sym (got-inj (sym (back a [] v) ∙ ap read same ∙ back a′ (rest ++ q) (t .ok)) .1))))
+      go m g at-refused (six {r} t) = (r, g, t)
+
+layout-below : (d : ByteRun) → ValidRun d → AllBelow 256 (runLayout d)
+unfolding runLayout
+layout-below (repeat count byte) v = (omega (arith, v), (v .fits, tt))
+layout-below (literals bs) v = (omega (arith, v), v .fits)
+
+joined-below : (ds : List ByteRun) → AllValidRuns ds → AllBelow 256 (joinedRuns ds)
+unfolding joinedRuns
+joined-below [] v = tt
+joined-below (d ∷ ds) v = below-append 256 (runLayout d) (joinedRuns ds) (layout-below d (v .0)) (joined-below ds (v .1))
+
+pub run-cut : (d : ByteRun) (p q : List ℕ) → ValidRun d → runLayout d ≡ p ++ q → q ≢ [] → (r : Reason) × (byteRun p ≡ refused r) × T (is6 r)
+run-cut d p q v e qe =
+    cut-6 runLayout ValidRun byteRun run-complete run-sound run-6 d p q v (append-below 256 p q (rw e at (layout-below d v))) e qe
+
+-- even if the needed bytes are there
+pub booleans-cut : (n : ℕ) (ds : List ByteRun) (p q : List ℕ) → AllValidRuns ds → Needed (bytesFor n) ds → joinedRuns ds ≡ p ++ q → q ≢ []
+    → (r : Reason) × (booleans n p ≡ refused r) × T (is6 r)
+unfolding booleans
+booleans-cut n ds p q v k e qe =
+    cut-6 joinedRuns (ValidNeeded (bytesFor n)) (booleans n)
+    (λ ds rest v. booleans-complete n ds rest (v .0) (v .1))
+    (booleans-sound n)
+    (λ bs. runs-6 (length bs) (bytesFor n) bs)
+    ds p q (v, k) (append-below 256 p q (rw e at (joined-below ds v))) e qe
+
+-- ---- the booleans: n of them, each 0 or 1
+
+pub length-run : (d : ByteRun) → length (runBytes d) ≡ byteCount d
+unfolding runBytes byteCount
+length-run (repeat count byte) = length-replicate count byte
+length-run (literals bs) = refl
+
+pub length-bits : (bs : List ℕ) → length (bits bs) ≡ 8 * length bs
+unfolding bits
+length-bits [] = refl
+length-bits (b ∷ bs) = rw (length-append, length-digits, length-bits bs) (omega arith)
+
+pub bits-append : (s t : List ℕ) → bits (s ++ t) ≡ bits s ++ bits t
+unfolding bits
+bits-append [] t = refl
+bits-append (b ∷ s) t = rw (append-assoc (digits 2 8 b) (bits s) (bits t)) (ap (λ (x : List ℕ). digits 2 8 b ++ x) (bits-append s t))
+
+-- the runs that m bytes need have m bytes at least
+pub needed-enough : (m : ℕ) (ds : List ByteRun) → Needed m ds → m ≤ length (joinedBytes ds)
+unfolding joinedBytes
+needed-enough m [] e = omega (arith, e)
+needed-enough m (d ∷ ds) e = omega (arith, needed-enough (m - byteCount d) ds (e .1), length-append (runBytes d) (joinedBytes ds), length-run d)
+
+pub length-booleans : (n : ℕ) (ds : List ByteRun) → Needed (bytesFor n) ds → length (booleansOf n ds) ≡ n
+unfolding booleansOf
+length-booleans n ds e = length-take-le n (bits (joinedBytes ds)) (omega (arith, needed-enough (bytesFor n) ds e, length-bits (joinedBytes ds)))
+
+bits-below : (bs : List ℕ) → AllBelow 2 (bits bs)
+unfolding bits
+bits-below [] = tt
+bits-below (b ∷ bs) = below-append 2 (digits 2 8 b) (bits bs) (digits-below 2 (zero-lt-suc 1) 8 b) (bits-below bs)
+
+pub booleans-below : (n : ℕ) (ds : List ByteRun) → AllBelow 2 (booleansOf n ds)
+unfolding booleansOf
+booleans-below n ds = below-take 2 n (bits (joinedBytes ds)) (bits-below (joinedBytes ds))
+
+-- ---- document 01's starred line: 32 booleans of `00 FF FF 00` are 24 true, 8 false, in 4 bytes; with 33 refusal 6
+
+abbrev starred : List ℕ
+starred = 0x00 ∷ 0xFF ∷ 0xFF ∷ 0x00 ∷ []
+
+pub starred-32 : booleansAnswer 0 32 (booleansInto 32 32 starred) ≡ ran Booleans 32 4
+unfolding booleansInto booleans byteRuns byteRun repeatRun bytes byteCount joinedRuns runLayout
+starred-32 = refl
+
+pub starred-rows : booleansPlaces 32 (replicate 32 7) (booleansInto 32 32 starred) ≡ replicate 24 1 ++ replicate 8 0
+unfolding booleansInto booleans byteRuns byteRun repeatRun bytes byteCount booleansOf joinedBytes runBytes bits digits
+starred-rows = refl
+
+pub starred-33 : booleansAnswer 0 33 (booleansInto 33 33 starred) ≡ refusedAt 6 0
+unfolding booleansInto booleans byteRuns byteRun repeatRun bytes byteCount
+starred-33 = refl
+
+-- ---- any two outcomes that a promise allows are equal
+
+module _ {input : List ℕ} {at n : ℕ} where
+  pub booleans-outcome-unique : {out o o′ : List ℕ} {r r′ : Answer} → BooleansRead input at n out o r → BooleansRead input at n out o′ r′ → (r ≡ r′) × (o ≡ o′)
+  booleans-outcome-unique p q = (p .answer ∙ sym (q .answer), p .places ∙ sym (q .places))
+
+  pub value-outcome-unique : {r r′ : Answer} → ValueRead input at n r → ValueRead input at n r′ → r ≡ r′
+  value-outcome-unique p q = p .answer ∙ sym (q .answer)
+
+  pub part-outcome-unique : {v v′ : List ℕ} → ValueGiven input at n v → ValueGiven input at n v′ → v ≡ v′
+  part-outcome-unique p q = p .part-is ∙ sym (q .part-is)

@@ -1,0 +1,28 @@
+-- `variable_length::read_value` meets its contract: the test for room is the definition's. Assumes nothing.
+use Rattle.format.proofs.Reading.{bytes-here, bytes-cut}
+use denote.Ref.{now}
+use borrow.Author.Needs.{needs}
+use Rattle.variable_length.proofs.read_value.Statement.{statement}
+use Rattle.variable_length.proofs.read_value.Tie as tie
+
+rest-requires : tie.Need-rest-requires
+rest-requires c κs = search needs
+
+sub-if1 : tie.Need-sub-if1
+sub-if1 c = search needs
+
+run-requires : tie.Need-run-requires
+run-requires c κs = search needs
+
+refused-requires : tie.Need-refused-requires
+refused-requires c κs = search needs
+
+returns : tie.Need-returns
+returns c = let f = c .before .before in let a = f .before .before .args in record { answer = rw (← (f .rest .ensures .1), bytes-here (now (a .input)) (f .rest .result) 6 (a .n) (c .before .if1 .taken)) (c .run .ensures) }
+
+returns-2 : tie.Need-returns-2
+returns-2 c = let f = c .before .before in let a = f .before .before .args in record { answer = rw (← (f .rest .ensures .1), bytes-cut (now (a .input)) (f .rest .result) 6 (a .n) (c .before .if1 .left)) (c .refused .ensures) }
+
+pub read-value-spec : {M : Type 1} → statement M
+read-value-spec =
+    tie.close (tie.spec rest-requires sub-if1 run-requires refused-requires returns returns-2)
