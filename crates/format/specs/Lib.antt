@@ -9,4 +9,3 @@ pub mod Answers
 pub mod Promises
 pub mod Booleans
 pub mod ByteValues
-pub mod Table
