@@ -2,3 +2,4 @@ pub mod PatchList
 pub mod Pass
 pub mod Blocks
 pub mod DirectRun
+pub mod ShortRun

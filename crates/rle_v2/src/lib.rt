@@ -2,3 +2,4 @@
 mod direct;
 mod header;
 mod rows;
+mod short_repeat;

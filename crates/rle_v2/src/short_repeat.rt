@@ -1,0 +1,30 @@
+// Short repeat: 2 bits kind, 3 bits size-1, 3 bits count-3; then the value's bytes.
+ghost use Prim.Native.Nat.{_+_, _<_};
+ghost use lib.ListN.{length, getD, drop};
+ghost use Rattle.format.specs.Parse.{shortRun};
+ghost use Rattle.format.specs.Promises.{Gives};
+use crate::rows;
+use format::Answer;
+use format::Kind;
+use util::big_endian;
+use util::pattern;
+
+pub(crate) fn read(input: &[u8], at: usize, signed: bool, out: &mut [i64]) -> Answer
+    requires { ⌜ (at < length (now input)) × (getD (now input) at 0 < 64) ⌝ }
+    ensures { λ r. ⌜ Gives at signed (shortRun (getD (now (input .entry)) at 0) (drop (at + 1) (now (input .entry)))) (now (out .entry)) (now (out .exit)) r ⌝ }
+{
+    let header = input[at] as usize;
+    let size = header / 8 + 1;
+    let count = header % 8 + Kind::MIN_REPEAT;
+    let body = at + 1;
+    if input.len() - body < size {
+        return Answer::refused(6, at);
+    }
+    if out.len() < count {
+        return Answer::refused(8, at);
+    }
+    let value = pattern::row(signed, big_endian::read(input, body, size));
+    // a repeat is steps of 0
+    rows::steps(value, 0, count, out);
+    Answer::run(Kind::ShortRepeat, count, 1 + size)
+}
