@@ -3,3 +3,4 @@ pub mod Pass
 pub mod Blocks
 pub mod DirectRun
 pub mod ShortRun
+pub mod PatchWalk

@@ -3,13 +3,13 @@ use mathlib.Core.Path.{_≡_, refl, sym, ap, _∙_}
 use Prim.Native.Nat.{ℕ, zero, suc, _+_, _-_, _*_, _/_, _%_, _^_, _<_, _≤_}
 use native.Mathlib.Omega.{arith}
 use native.Mathlib.Decide.{decLt, ℕ-discrete}
-use mathlib.Core.Bool.{Bool, true, false, _||_}
+use mathlib.Core.Bool.{Bool, true, false, _&&_, _||_}
 use mathlib.Core.List.{List, [], _∷_, _++_, map}
 use lib.ListN.{length, getD, set, length-set, length-map, length-append, List·getD-map, List·getD-append}
 use lib.Seq.{getD-set-same, getD-set-other, getD-append-add, ext-getD}
 use lib.IntN.{ℤ, pos}
-use lib.Pow.{pow-pos}
-use native.Mathlib.Nat.{mod-lt, mod-eq-of-lt, mod-add-mod, zero-mul, add-zero, add-assoc, suc-add, add-suc}
+use lib.Pow.{pow-pos, pow-mono}
+use native.Mathlib.Nat.{mod-lt, mod-eq-of-lt, mod-add-mod, zero-mul, add-zero, add-assoc, suc-add, add-suc, pow-zero, div-one, div-lt-iff-lt-mul}
 use lib.Dec.{T, leb, ltb, eqb}
 use borrow.Author.Tests.{le-ltb, lt-ltb, eq-eqb, ne-eqb, ltb-false, leb-false}
 use Rattle.format.specs.Fields.{pick, two64}
@@ -18,7 +18,7 @@ use Rattle.format.specs.Rows.{plus, asI64, asU64}
 use Rattle.format.proofs.Patterns.{as-back}
 use Rattle.format.proofs.Rows.{length-patchedRows}
 use Rattle.format.specs.Runs.{Patch, isSkip, gapOf, patchOf, patchesFrom, patches, lastIsSkip, taken, shared, outside, outOfPlace}
-use Rattle.rle_v2.specs.PatchList.{misplaced, patchedRow, patchAll}
+use Rattle.rle_v2.specs.PatchList.{IsEntry, misplaced, patchedRow, patchAll}
 
 -- ---- refusal 7
 
@@ -141,7 +141,7 @@ not-taken p (q ∷ qs) h = go (eqb p (q .place)) h (not-taken p qs)
         absurd (omega arith)
     go false z ih = ih z
 
-or-false : (a b : Bool) → (a || b) ≡ false → (a ≡ false) × (b ≡ false)
+pub or-false : (a b : Bool) → (a || b) ≡ false → (a ≡ false) × (b ≡ false)
 or-false true b e =
     let w : _≡_ {A = ℕ} 0 1 = cc in
     absurd (omega arith)
@@ -279,3 +279,17 @@ module _ (w pw base : ℕ) (vs es : List ℕ) (t : List ℤ) (h : outOfPlace pw 
           ∙ getD-append-add (map asI64 before-rows) t (i - length vs) (pos 0)
           ∙ sym (getD-append-add (map asI64 after-rows) t (i - length vs) (pos 0))
           ∙ ap (λ (k : ℕ). getD (map asI64 after-rows ++ t) k (pos 0)) (sym f)
+
+-- ---- an entry taken apart, as the reader does it
+
+pub entry-is : (pw e f g : ℕ) (skip : Bool) → f ≡ e → g ≡ f / 2 ^ 0 % 2 ^ pw → 0 < pw → f < 2 ^ 64 → skip ≡ (eqb (f / 2 ^ pw) 255 && eqb g 0)
+    → IsEntry pw e (f / 2 ^ pw) g skip
+entry-is pw e f g skip ef eg hp hf es =
+    let d : f / 2 ^ 0 ≡ f = rw pow-zero (div-one f) in
+    let p : g ≡ f % 2 ^ pw = rw d at eg in
+    record {
+      gap-is = rw ef;
+      patch-is = rw ef at p;
+      skip-is = rw (ef, rw ef at p) at es;
+      gap-lt = div-lt-iff-lt-mul (pow-pos pw) .1 (omega (arith, hf, pow-mono {i = 1} {j = pw} hp));
+    }

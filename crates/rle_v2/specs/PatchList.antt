@@ -1,14 +1,32 @@
 -- A patch list, entry by entry, as the reader walks it: the test of its places, and the patches put into rows that are already laid down.
 -- Assumes nothing.
-use Prim.Native.Nat.{ℕ, _+_, _*_, _^_}
+use mathlib.Core.Path.{_≡_}
+use Prim.Native.Nat.{ℕ, _+_, _*_, _^_, _<_, _≤_}
 use mathlib.Core.Bool.{Bool, true, false, _||_}
 use mathlib.Core.List.{List, [], _∷_}
-use lib.ListN.{getD, set}
+use lib.ListN.{length, getD, set}
 use lib.IntN.{ℤ, pos}
 use lib.Dec.{leb, ltb}
-use Rattle.format.specs.Fields.{pick}
+use Rattle.format.specs.Fields.{pick, bytesFor}
+use Rattle.util.specs.Packed.{Width}
 use Rattle.format.specs.Runs.{isSkip, gapOf, patchOf}
 use Rattle.format.specs.Rows.{plus, asI64, asU64}
+
+-- a list of n entries of some bits, whose patches have the width pw, for so many rows
+pub record Listed (bits pw n rows : ℕ) (list : List ℕ) : Type 0 where
+  pub wide : Width bits
+  pub some : 0 < pw
+  pub few : pw < 64
+  pub entries : n ≤ 31
+  pub most : rows ≤ 512
+  pub there : bytesFor (n * bits) ≤ length list
+
+-- an entry e, taken apart
+pub record IsEntry (pw e gap patch : ℕ) (skip : Bool) : Type 0 where
+  pub gap-is : gap ≡ gapOf pw e
+  pub patch-is : patch ≡ patchOf pw e
+  pub skip-is : skip ≡ isSkip pw e
+  pub gap-lt : gap < 2 ^ 63
 
 -- Some entry is out of place. `before` is the sum of the gaps so far, `free` the least place that no entry may name any more below it, and
 -- `skip` whether the entry before was a skip. Places never fall, so two entries share one only if the later names a place below `free`.

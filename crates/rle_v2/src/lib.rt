@@ -1,5 +1,6 @@
 // RLE version 2: the run reader, a module for each kind of run, and the stream reader.
 mod direct;
 mod header;
+mod patch_list;
 mod rows;
 mod short_repeat;

@@ -67,7 +67,7 @@ fn short(s: &[u8]) -> u64
 }
 
 // The w bits of x above its lowest `low`.
-fn cut(x: u64, low: usize, w: usize) -> u64
+pub fn cut(x: u64, low: usize, w: usize) -> u64
     requires { ⌜ (0 < w) × (w + low ≤ 64) ⌝ }
     ensures { λ r. ⌜ r ≡ x / 2 ^ low % 2 ^ w ⌝ }
 {

@@ -1,6 +1,5 @@
-use denote.Ref.{now}
 use mir.Facts.{toZ-ofZ}
-use mathlib.Core.Path.{_≡_, refl, sym, _∙_, ap}
+use mathlib.Core.Path.{refl, _∙_}
 use lib.IntN.{pos}
 use Prim.Native.Nat.{ℕ, _-_}
 use Rattle.format.specs.Rows.{plus, asI64, asU64}
@@ -9,11 +8,6 @@ use borrow.Author.Needs.{needs, sfits-of}
 use native.Mathlib.Omega.{arith}
 use Rattle.rle_v2.proofs.rows.add_base.Statement.{statement}
 use Rattle.rle_v2.proofs.rows.add_base.Tie as tie
-use Rattle.rle_v2.proofs.rows.add_base.Reads as reads
-use Rattle.rle_v2.proofs.rows.add_base.Lts as lts
-use Rattle.util.proofs.pattern.add.Reads as add-reads
-use Rattle.util.proofs.pattern.to_i64.Reads as to-i64-reads
-use Rattle.util.proofs.pattern.to_u64.Reads as to-u64-reads
 
 abbrev Inv-loop : tie.InvT-loop
 Inv-loop base n out₀ i₀ out i = Turn (λ (x : ℕ) z. asI64 (plus x (asU64 z))) (λ x z. x) base n out₀ out i base

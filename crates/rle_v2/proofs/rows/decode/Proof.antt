@@ -4,9 +4,6 @@ use denote.Ref.{now}
 use borrow.Author.Needs.{needs}
 use Rattle.rle_v2.proofs.rows.decode.Statement.{statement}
 use Rattle.rle_v2.proofs.rows.decode.Tie as tie
-use Rattle.rle_v2.proofs.rows.decode.Reads as reads
-use Rattle.rle_v2.proofs.rows.decode.Lts as lts
-use Rattle.rle_v2.proofs.rows.unzigzag.Reads as unzigzag-reads
 
 unzigzag-requires : tie.Need-unzigzag-requires
 unzigzag-requires c κs = search needs

@@ -1,14 +1,9 @@
 use Rattle.format.specs.Fields.{negative}
-use mathlib.Core.Path.{_≡_, sym, _∙_}
+use mathlib.Core.Path.{sym, _∙_}
 use native.Mathlib.Nat.{add-mod-mod}
-use borrow.Author.Needs.{needs, sfits-of}
-use native.Mathlib.Omega.{arith}
+use borrow.Author.Needs.{needs}
 use Rattle.rle_v2.proofs.rows.moved_by.Statement.{statement}
 use Rattle.rle_v2.proofs.rows.moved_by.Tie as tie
-use Rattle.rle_v2.proofs.rows.moved_by.Reads as reads
-use Rattle.rle_v2.proofs.rows.moved_by.Lts as lts
-use Rattle.util.proofs.pattern.add.Reads as add-reads
-use Rattle.util.proofs.pattern.sub.Reads as sub-reads
 
 sub-requires : tie.Need-sub-requires
 sub-requires c κs = search needs

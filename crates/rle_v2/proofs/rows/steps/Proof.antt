@@ -1,19 +1,13 @@
 use Rattle.rle_v2.proofs.Pass.{Turn, turn-first, turn-next, turn-last}
-use Rattle.format.specs.Rows.{plus, asI64, asU64}
-use Rattle.format.specs.Fields.{zigzag}
-use Rattle.rle_v2.specs.Pass.{moved}
-use Prim.Native.Nat.{ℕ, _-_}
+use Rattle.format.specs.Rows.{plus, asI64}
+use Prim.Native.Nat.{_-_}
 use lib.IntN.{pos}
-use mathlib.Core.Path.{_≡_, refl, sym, _∙_, ap}
+use mathlib.Core.Path.{_∙_}
 use mir.Facts.{toZ-ofZ}
 use borrow.Author.Needs.{needs, sfits-of}
 use native.Mathlib.Omega.{arith}
 use Rattle.rle_v2.proofs.rows.steps.Statement.{statement}
 use Rattle.rle_v2.proofs.rows.steps.Tie as tie
-use Rattle.rle_v2.proofs.rows.steps.Reads as reads
-use Rattle.rle_v2.proofs.rows.steps.Lts as lts
-use Rattle.util.proofs.pattern.add.Reads as add-reads
-use Rattle.util.proofs.pattern.to_i64.Reads as to-i64-reads
 
 abbrev Inv-loop : tie.InvT-loop
 Inv-loop first step n out₀ x₀ i₀ out x i = Turn (λ x z. asI64 x) (λ x z. plus x step) first n out₀ out i x

@@ -1,20 +1,14 @@
 use Rattle.rle_v2.proofs.Pass.{Turn, turn-first, turn-next, turn-last}
-use Rattle.format.specs.Rows.{plus, asI64, asU64}
-use Rattle.format.specs.Fields.{zigzag}
+use Rattle.format.specs.Rows.{asI64, asU64}
 use Rattle.rle_v2.specs.Pass.{moved}
-use Prim.Native.Nat.{ℕ, _-_}
+use Prim.Native.Nat.{_-_}
 use lib.IntN.{pos}
-use mathlib.Core.Path.{_≡_, refl, sym, _∙_, ap}
+use mathlib.Core.Path.{_∙_}
 use mir.Facts.{toZ-ofZ}
 use borrow.Author.Needs.{needs, sfits-of}
 use native.Mathlib.Omega.{arith}
 use Rattle.rle_v2.proofs.rows.sum.Statement.{statement}
 use Rattle.rle_v2.proofs.rows.sum.Tie as tie
-use Rattle.rle_v2.proofs.rows.sum.Reads as reads
-use Rattle.rle_v2.proofs.rows.sum.Lts as lts
-use Rattle.rle_v2.proofs.rows.moved_by.Reads as moved-by-reads
-use Rattle.util.proofs.pattern.to_i64.Reads as to-i64-reads
-use Rattle.util.proofs.pattern.to_u64.Reads as to-u64-reads
 
 abbrev Inv-loop : tie.InvT-loop
 Inv-loop falling before n out₀ x₀ i₀ out x i = Turn (λ y z. asI64 (moved falling y (asU64 z))) (λ y z. moved falling y (asU64 z)) before n out₀ out i x

@@ -1,20 +1,14 @@
 use Rattle.rle_v2.proofs.Pass.{Turn, turn-first, turn-next, turn-last}
-use Rattle.format.specs.Rows.{plus, asI64, asU64}
+use Rattle.format.specs.Rows.{asI64, asU64}
 use Rattle.format.specs.Fields.{zigzag}
-use Rattle.rle_v2.specs.Pass.{moved}
 use Prim.Native.Nat.{ℕ, _-_}
 use lib.IntN.{pos}
-use mathlib.Core.Path.{_≡_, refl, sym, _∙_, ap}
+use mathlib.Core.Path.{refl, _∙_}
 use mir.Facts.{toZ-ofZ}
 use borrow.Author.Needs.{needs, sfits-of}
 use native.Mathlib.Omega.{arith}
 use Rattle.rle_v2.proofs.rows.unzigzag.Statement.{statement}
 use Rattle.rle_v2.proofs.rows.unzigzag.Tie as tie
-use Rattle.rle_v2.proofs.rows.unzigzag.Reads as reads
-use Rattle.rle_v2.proofs.rows.unzigzag.Lts as lts
-use Rattle.util.proofs.pattern.to_i64.Reads as to-i64-reads
-use Rattle.util.proofs.pattern.to_u64.Reads as to-u64-reads
-use Rattle.util.proofs.pattern.unzigzag.Reads as unzigzag-reads
 
 abbrev Inv-loop : tie.InvT-loop
 Inv-loop n out₀ i₀ out i = Turn (λ (x : ℕ) z. asI64 (zigzag (asU64 z))) (λ x z. x) 0 n out₀ out i 0

@@ -1,0 +1,88 @@
+// The patch list of a patched base run: gaps from one entry to the next, and patches that stand above the values' bits.
+ghost use mathlib.Core.Path.{_≡_};
+ghost use mathlib.Core.Bool.{false};
+ghost use Prim.Native.Nat.{_+_, _*_, _≤_, _<_};
+ghost use lib.ListN.{length};
+ghost use Rattle.format.specs.Runs.{outOfPlace};
+ghost use Rattle.util.specs.Packed.{fields, fieldAt, Width};
+ghost use Rattle.rle_v2.specs.PatchList.{IsEntry, Listed, patchAll};
+use util::packed;
+use util::pattern;
+
+struct Entry {
+    gap: usize,
+    patch: u64,
+    // an entry with gap 255 and patch 0 only moves on
+    skip: bool,
+}
+
+// Entry k of the list: the patch is the low patch-width bits, and the gap is all bits above.
+fn entry_at(list: &[u8], bits: usize, pw: usize, k: usize) -> Entry
+    requires { ⌜ Width bits ⌝ }
+    requires { ⌜ (0 < pw) × (pw < 64) × (k < 65536) × (bits * (k + 1) ≤ 8 * length (now list)) ⌝ }
+    ensures { λ r. ⌜ IsEntry pw (fieldAt bits k (now (list .entry))) (r .gap) (r .patch) (r .skip) ⌝ }
+{
+    let e = packed::field(list, bits, k);
+    let gap = e >> pw;
+    let patch = packed::cut(e, 0, pw);
+    Entry {
+        gap: gap as usize,
+        patch,
+        skip: gap == 255 && patch == 0,
+    }
+}
+
+// Refusal 7: the last entry is a skip, two entries share a place, or a place is past the rows. Places never fall from one entry to the
+// next, so it is enough to hold each against the one before it.
+pub(crate) fn out_of_place(list: &[u8], bits: usize, pw: usize, n: usize, rows: usize) -> bool
+    requires { ⌜ Listed bits pw n rows (now list) ⌝ }
+    ensures { λ r. ⌜ r ≡ outOfPlace pw rows (fields bits n (now (list .entry))) ⌝ }
+{
+    let mut place: usize = 0;
+    let mut free: usize = 0;
+    let mut skip = false;
+    let mut k: usize = 0;
+    while k < n {
+        let e = entry_at(list, bits, pw, k);
+        place += e.gap;
+        skip = e.skip;
+        if !skip {
+            if place < free {
+                return true;
+            }
+            if rows <= place {
+                return true;
+            }
+            free = place + 1;
+        }
+        k += 1;
+    }
+    skip
+}
+
+// The patches, into rows that stand in their places.
+pub(crate) fn put(
+    list: &[u8],
+    bits: usize,
+    pw: usize,
+    n: usize,
+    width: usize,
+    rows: usize,
+    out: &mut [i64],
+)
+    requires { ⌜ Listed bits pw n rows (now list) ⌝ }
+    requires { ⌜ (width < 64) × (rows ≤ length (now out)) × (outOfPlace pw rows (fields bits n (now list)) ≡ false) ⌝ }
+    ensures { λ _. ⌜ now (out .exit) ≡ patchAll width pw 0 (now (out .entry)) (fields bits n (now (list .entry))) ⌝ }
+{
+    let mut place: usize = 0;
+    let mut k: usize = 0;
+    while k < n {
+        let e = entry_at(list, bits, pw, k);
+        place += e.gap;
+        if !e.skip {
+            let r = pattern::to_i64(pattern::add(pattern::to_u64(out[place]), e.patch << width));
+            out[place] = r;
+        }
+        k += 1;
+    }
+}
