@@ -1,4 +1,4 @@
--- What a turn of the varint reader does to the definition's answer.
+-- What a turn of the varint reader does to the definition's answer, and what a caller learns from the answer.
 -- Assumes nothing.
 use mathlib.Core.Path.{_≡_, refl, sym, _∙_, ap}
 use Prim.Native.Nat.{ℕ, zero, suc, _+_, _-_, _*_, _%_, _^_, _<_, _≤_}
@@ -7,17 +7,19 @@ use native.Mathlib.Omega.{arith}
 use native.Mathlib.Nat.{mul-add, mul-assoc, mul-comm, add-assoc, mod-add-mod, add-mod-mod, one-mul, zero-add}
 use native.Mathlib.Numerals.{add-one}
 use lib.Pow.{pow-add}
-use lib.ListN.{length, drop, getD, drop-of-length-le}
-use lib.Seq.{drop-cons}
+use lib.ListN.{length, drop, getD, drop-of-length-le, length-drop, length-append}
+use lib.Seq.{drop-cons, drop-drop, drop-at}
 use borrow.Author.Tests.{lt-ltb, le-ltb}
-use Rattle.format.specs.Fields.{groups, varintValue}
-use Rattle.format.specs.Parse.{Reason, Parsed, end, got, refused, plain, then, varint}
-use Rattle.util.specs.declared.varint.Varint.{Varint}
+use Rattle.format.specs.Fields.{Varint, groups, varintValue}
+use Rattle.format.specs.Parse.{Reason, Parsed, end, got, refused, plain, cutIn, then, varint}
+use Rattle.format.proofs.Fields.{Post, at-got, at-refused, Took, varint-sound, below-all, below-drop}
+use Rattle.format.proofs.Varints.{varint-length}
+use Rattle.util.specs.declared.varint.Varint as Answer
 use Rattle.util.specs.declared.varint.Varint.the-variants.{Value, Refused}
-use Rattle.util.specs.Varint.{told}
+use Rattle.util.specs.Varint.{told, varintAt}
 
 -- v is the value of the groups that came before, p the next group's weight and i the place: what is told then
-abbrev pub toldFrom : ℕ → ℕ → ℕ → Parsed (List ℕ) → Varint
+abbrev pub toldFrom : ℕ → ℕ → ℕ → Parsed (List ℕ) → Answer.Varint
 toldFrom i v p (got u rest) = Value ((v + p * groups u) % 2 ^ 64) (i + length u)
 toldFrom i v p (refused (plain n)) = Refused n
 toldFrom i v p end = Refused 6
@@ -66,3 +68,49 @@ pub weight : (k : ℕ) → 2 ^ (7 * (k + 1)) ≡ 2 ^ (7 * k) * 128
 weight k =
     let e : 7 * (k + 1) ≡ 7 * k + 7 = omega arith in
     rw (e, pow-add)
+
+-- ---- what a caller learns from the answer
+
+-- a varint stands at a place, with the bits as its value, and ends at the next place
+pub record Stood (s : List ℕ) (at bits next : ℕ) : Type 0 where
+  pub bytes : List ℕ
+  pub ok : Varint 10 bytes
+  pub value : varintValue bytes ≡ bits
+  pub end : next ≡ at + length bytes
+  pub within : next ≤ length s
+  pub parsed : varint (cutIn 6 (drop at s)) 10 (drop at s) ≡ got bytes (drop next s)
+
+module _ (s : List ℕ) (at : ℕ) (below : (i : ℕ) → getD s i 0 < 256) where
+  abbrev Here : Parsed (List ℕ) → Type 0
+  Here = Post (Took (drop at s) (λ v. v) (Varint 10))
+
+  here : Here (varint (cutIn 6 (drop at s)) 10 (drop at s))
+  here = varint-sound (cutIn 6 (drop at s)) 10 (drop at s) (below-drop 256 at s (below-all 256 s below))
+
+  pub value-is : (bits next : ℕ) → varintAt s at ≡ Value bits next → Stood s at bits next
+  unfolding varintAt
+  value-is bits next q = by here refl q
+    where
+      by : {m : Parsed (List ℕ)} → Here m → varint (cutIn 6 (drop at s)) 10 (drop at s) ≡ m → told at m ≡ Value bits next → Stood s at bits next
+      by (at-got {a = v} {s = rest} t) e q =
+          let n : at + length v ≡ next = cc in
+          let b : varintValue v ≡ bits = cc in
+          let l : length s - at ≡ length v + length rest = rw (← (length-drop at s), t .split) (length-append v rest) in
+          let d : rest ≡ drop next s = sym (rw (← n, ← (drop-drop (length v) at s), t .split) (drop-at v rest (length v) refl)) in
+          record {
+            bytes = v;
+            ok = t .ok;
+            value = b;
+            end = sym n;
+            within = omega (arith, varint-length 10 v (t .ok));
+            parsed = e ∙ ap (got v) d;
+          }
+      by (at-refused {r = plain n}) e q = let z : _≡_ {A = ℕ} 0 1 = cc in absurd (omega arith)
+
+  pub refused-is : (n : ℕ) → varintAt s at ≡ Refused n → varint (cutIn 6 (drop at s)) 10 (drop at s) ≡ refused (plain n)
+  unfolding varintAt
+  refused-is n q = by here refl q
+    where
+      by : {m : Parsed (List ℕ)} → Here m → varint (cutIn 6 (drop at s)) 10 (drop at s) ≡ m → told at m ≡ Refused n → varint (cutIn 6 (drop at s)) 10 (drop at s) ≡ refused (plain n)
+      by (at-got {a = v} {s = rest} t) e q = let z : _≡_ {A = ℕ} 0 1 = cc in absurd (omega arith)
+      by (at-refused {r = plain m}) e q = cc
