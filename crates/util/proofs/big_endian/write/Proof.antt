@@ -43,8 +43,13 @@ loop-again : tie.Need-loop-again Inv-loop μ-loop
 unfolding digits
 loop-again c =
     let l = c .before .before in
-    let e : l .loop .left ≡ suc (l .loop .left - 1) = omega arith in
-    (omega arith, omega arith, simp length-set (l .loop .inv .2), rw (c .byte-of .ensures) (grow (l .loop .out) (l .loop .place) _ _ _ (omega arith) (rw e at (l .loop .inv .3))), kept (l .loop .out) _ (l .loop .place) _ (l .loop .inv .4))
+    let e : l .loop .left ≡ suc (l .loop .left - 1) = omega arith in (
+      omega arith,
+      omega arith,
+      simp length-set (l .loop .inv .2),
+      rw (c .byte-of .ensures) (grow (l .loop .out) (l .loop .place) _ _ _ (omega arith) (rw e at (l .loop .inv .3))),
+      kept (l .loop .out) _ (l .loop .place) _ (l .loop .inv .4),
+    )
 
 same-length : tie.Need-same-length Inv-loop μ-loop
 same-length c = c .before .loop .inv .2

@@ -49,7 +49,8 @@ returns-2 c =
     let a = m .before .before .args in
     let b = getD (now (a .s)) (l .i) 0 in
     let e = rw (g .group .ensures) at (w .add .ensures) in
-    ap (λ (x : ℕ). Value x (l .i + 1)) (e ∙ sum-is (l .v) (b % 128) (l .k)) ∙ sym (l .inv .1 ∙ at-last (now (a .s)) (l .i) (l .v) (2 ^ (7 * l .k)) (l .k) (omega arith) (omega arith) (c .if2 .taken))
+    ap (λ (x : ℕ). Value x (l .i + 1)) (e ∙ sum-is (l .v) (b % 128) (l .k))
+    ∙ sym (l .inv .1 ∙ at-last (now (a .s)) (l .i) (l .v) (2 ^ (7 * l .k)) (l .k) (omega arith) (omega arith) (c .if2 .taken))
 
 add-k : tie.Need-add-k Inv-loop μ-loop
 add-k c = omega arith
@@ -65,10 +66,9 @@ loop-again c =
     let l = m .loop in
     let a = m .before .before .args in
     let b = getD (now (a .s)) (l .i) 0 in
-    let e = rw (g .group .ensures) at (w .add .ensures) in (
-      omega arith,
-      rw (weight (l .k), e ∙ sum-is (l .v) (b % 128) (l .k)) (l .inv .1 ∙ at-next (now (a .s)) (l .i) (l .v) (2 ^ (7 * l .k)) (l .k) (omega arith) (omega arith) (c .if2 .left)),
-    )
+    let e = rw (g .group .ensures) at (w .add .ensures) in
+    let n = at-next (now (a .s)) (l .i) (l .v) (2 ^ (7 * l .k)) (l .k) (omega arith) (omega arith) (c .if2 .left) in
+    (omega arith, rw (weight (l .k), e ∙ sum-is (l .v) (b % 128) (l .k)) (l .inv .1 ∙ n))
 
 returns-3 : tie.Need-returns-3 Inv-loop μ-loop
 unfolding varint

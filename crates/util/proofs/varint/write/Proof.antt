@@ -75,10 +75,9 @@ returns c =
     let e = shortest-last k (l .rest) (l .inv .1) (omega arith) in
     let n : l .place + 1 ≡ a .at + length (shortest (a .x)) = omega (arith, ap length e) in
     let h : l .place < length (l .out) = omega (arith, l .inv .4) in
-    record {
-      next = n;
-      places = rw (← n) (filled (set (l .out) (l .place) (l .rest)) (now (a .out)) _ (l .place + 1) (grow (l .out) (l .place) (l .rest) [] _ h (rw e at (l .inv .5))) (kept (l .out) (now (a .out)) (l .place) (l .rest) (l .inv .6)));
-    }
+    let g = grow (l .out) (l .place) (l .rest) [] _ h (rw e at (l .inv .5)) in
+    let d = kept (l .out) (now (a .out)) (l .place) (l .rest) (l .inv .6) in
+    record { next = n; places = rw (← n) (filled (set (l .out) (l .place) (l .rest)) (now (a .out)) _ (l .place + 1) g d) }
 
 pub write-spec : {M : Type 1} → statement M
 write-spec =
