@@ -1,3 +1,4 @@
 -- The definitions that the contracts cite, beside those of `format`.
 pub mod Width
 pub mod Packed
+pub mod Varint

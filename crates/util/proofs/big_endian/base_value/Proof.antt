@@ -26,7 +26,8 @@ returns : tie.Need-returns
 returns c =
     let a = c .before .before .before .args in
     let e = c .before .read .ensures in
-    e ∙ base-plus (a .n) (omega arith) (omega arith) (now (a .s)) (a .at) (omega arith) (rw (e, sign-bit (a .n) (omega arith) (omega arith)) at (c .if1 .taken))
+    let b = sign-bit (a .n) (omega arith) (omega arith) in
+    e ∙ base-plus (a .n) (omega arith) (omega arith) (now (a .s)) (a .at) (omega arith) (rw (e, b) at (c .if1 .taken))
 
 returns-2 : tie.Need-returns-2
 returns-2 c =
@@ -35,7 +36,9 @@ returns-2 c =
     let a = k .before .args in
     let e = r .read .ensures in
     let b = sign-bit (a .n) (omega arith) (omega arith) in
-    rw b at (c .sub .ensures) ∙ base-minus (a .n) (omega arith) (omega arith) (now (a .s)) (a .at) (omega arith) (r .read .result) e (rw b at (c .before .if1 .left)) (rw e (number-bits (now (a .s)) (a .at) (λ j. k .shared-slice-known .given j .fits) (a .n) (omega arith)))
+    let l = number-bits (now (a .s)) (a .at) (λ j. k .shared-slice-known .given j .fits) (a .n) (omega arith) in
+    rw b at (c .sub .ensures)
+    ∙ base-minus (a .n) (omega arith) (omega arith) (now (a .s)) (a .at) (omega arith) (r .read .result) e (rw b at (c .before .if1 .left)) (rw e l)
 
 pub base-value-spec : {M : Type 1} → statement M
 base-value-spec =

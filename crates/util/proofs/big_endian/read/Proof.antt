@@ -39,7 +39,9 @@ wide-requires : tie.Need-wide-requires Inv-loop μ-loop
 wide-requires c κs = search needs
 
 add-x : tie.Need-add-x Inv-loop μ-loop
-add-x c = omega (arith, bound (c .before .before), c .before .shared-slice-known2 .given (c .before .before .before .before .before .args .at + c .before .before .before .loop .i))
+add-x c =
+    let l = c .before .before .before in
+    omega (arith, bound (c .before .before), c .before .shared-slice-known2 .given (l .before .before .args .at + l .loop .i))
 
 add-i : tie.Need-add-i Inv-loop μ-loop
 add-i c = omega arith

@@ -11,7 +11,12 @@ use Rattle.util.proofs.big_endian.write.Statement.{statement}
 use Rattle.util.proofs.big_endian.write.Tie as tie
 
 abbrev Inv-loop : tie.InvT-loop
-Inv-loop x n out₀ at place₀ left₀ out place left = (place + left ≡ at + n) × (left ≤ n) × (length out ≡ length out₀) × (take place out ++ digits 256 left x ≡ take at out₀ ++ digits 256 n x) × (drop place out ≡ drop place out₀)
+Inv-loop x n out₀ at place₀ left₀ out place left =
+    (place + left ≡ at + n)
+    × (left ≤ n)
+    × (length out ≡ length out₀)
+    × (take place out ++ digits 256 left x ≡ take at out₀ ++ digits 256 n x)
+    × (drop place out ≡ drop place out₀)
 
 abbrev μ-loop : tie.MeasureT-loop
 μ-loop x n out₀ at place₀ left₀ out place left = left
@@ -38,8 +43,13 @@ loop-again : tie.Need-loop-again Inv-loop μ-loop
 unfolding digits
 loop-again c =
     let l = c .before .before in
-    let e : l .loop .left ≡ suc (l .loop .left - 1) = omega arith in
-    (omega arith, omega arith, simp length-set (l .loop .inv .2), rw (c .byte-of .ensures) (grow (l .loop .out) (l .loop .place) _ _ _ (omega arith) (rw e at (l .loop .inv .3))), kept (l .loop .out) _ (l .loop .place) _ (l .loop .inv .4))
+    let e : l .loop .left ≡ suc (l .loop .left - 1) = omega arith in (
+      omega arith,
+      omega arith,
+      simp length-set (l .loop .inv .2),
+      rw (c .byte-of .ensures) (grow (l .loop .out) (l .loop .place) _ _ _ (omega arith) (rw e at (l .loop .inv .3))),
+      kept (l .loop .out) _ (l .loop .place) _ (l .loop .inv .4),
+    )
 
 same-length : tie.Need-same-length Inv-loop μ-loop
 same-length c = c .before .loop .inv .2
