@@ -2,3 +2,4 @@
 pub mod Table
 pub mod Outcomes
 pub mod Demand3
+pub mod CutFile
