@@ -3,3 +3,4 @@ pub mod Table
 pub mod Outcomes
 pub mod Demand3
 pub mod CutFile
+pub mod EachWidth

@@ -4,3 +4,4 @@ pub mod Table
 pub mod Outcomes
 pub mod Demand3
 pub mod CutFile
+pub mod EachWidth
