@@ -5,3 +5,4 @@ pub mod Demand3
 pub mod CutFile
 pub mod EachWidth
 pub mod Sums
+pub mod PatchLists
