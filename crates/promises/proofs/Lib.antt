@@ -6,3 +6,4 @@ pub mod CutFile
 pub mod EachWidth
 pub mod Sums
 pub mod PatchLists
+pub mod Refusals

@@ -7,3 +7,4 @@ pub mod CutFile
 pub mod EachWidth
 pub mod Sums
 pub mod PatchLists
+pub mod Refusals
