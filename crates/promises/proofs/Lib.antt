@@ -1,6 +1,7 @@
 -- The theorems.
 pub mod Table
 pub mod Outcomes
+pub mod Demand2
 pub mod Demand3
 pub mod CutFile
 pub mod EachWidth

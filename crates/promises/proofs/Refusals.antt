@@ -9,18 +9,21 @@ use mathlib.Core.List.{List, [], _∷_, _++_}
 use lib.ListN.{length, getD, take, drop}
 use lib.Dec.{T, ltb, eqb}
 use borrow.Author.Tests.{lt-ltb, le-ltb, ltb-true, ltb-false, ne-eqb, eq-eqb}
+use Rattle.format.specs.declared.Answer.{Answer}
+use Rattle.format.specs.Answers.{refusedAt, answerNumber}
 use Rattle.format.specs.Digits.{AllBelow, number}
 use Rattle.format.specs.Fields.{pick, width, bytesFor, Block, Varint, last, more}
 use Rattle.format.specs.Runs.{Description, short, direct, fixed, delta, patched, rowCount, Valid, layout, outOfPlace, entryWidth}
 use Rattle.format.specs.Parse
 use Rattle.format.specs.Parse.{plain, Parsed, end, got, refused, then, unless, bytes, block, varint, unpack, codeOf, rowsLess, parse, into}
-use Rattle.format.proofs.Fields.{Took, varint-complete}
+use Rattle.format.specs.Promises.{answerOf}
+use Rattle.format.proofs.Fields.{Took, varint-complete, below-drop}
 use Rattle.format.proofs.Runs.{parse-complete, parse-sound}
 use Rattle.format.proofs.Streams.{into-refused}
 use Rattle.format.proofs.Reading.{bytes-here, bytes-cut, blockAt, block-here, block-cut}
 use Rattle.promises.specs.PatchLists.{OutOfPlace}
 use Rattle.promises.specs.Refusals
-use Rattle.promises.specs.Refusals.{Table, refusal-1, refusal-2, refusal-3, refusal-4, refusal-5, refusal-6, refusal-7, refusal-8, RefusalsHold}
+use Rattle.promises.specs.Refusals.{Table, refusal-1, refusal-2, refusal-3, refusal-4, refusal-5, refusal-6, refusal-7, refusal-8, RefusalsHold, AnswersHold}
 use Rattle.promises.specs.Refusals.{kind, headerOf, AllTop, TenTop, Unended, Headed, PatchedRun, DeltaRun, magnitudeBytes, listFrom, listTo, entries, valueBytes, baseBytes}
 use Rattle.promises.proofs.PatchLists.{out-of-place}
 
@@ -397,3 +400,24 @@ refusals places bs h n = (λ e. to (fate places bs h) refl e, λ t. line places 
     to (by-line {n = m} t) f e =
         let k : m ≡ n = cc in
         subst (λ (x : ℕ). Table places bs x) k t
+
+-- ---- the same of the answer
+
+answer-refused : (at n : ℕ) (m : Parsed Description) → answerOf at m ≡ refusedAt n at → m ≡ refused (plain n)
+answer-refused at n end e =
+    let z : _≡_ {A = ℕ} 0 1 = cc in
+    absurd (omega arith)
+answer-refused at n (got d rest) e =
+    let z : _≡_ {A = ℕ} 0 1 = cc in
+    absurd (omega arith)
+answer-refused at n (refused (plain k)) e =
+    let z : k ≡ n = ap (λ (x : Answer). answerNumber x) e in
+    rw z
+
+pub answers : AnswersHold
+answers input h at signed out out′ r p n =
+    let law : (into (length out) (parse (drop at input)) ≡ refused (plain n)) ↔ Table (length out) (drop at input) n =
+    refusals (length out) (drop at input) (below-drop 256 at input h) n in (
+      λ e. law .0 (answer-refused at n _ (sym (p .answer) ∙ e)),
+      λ t. p .answer ∙ rw (law .1 t),
+    )

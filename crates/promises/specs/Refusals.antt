@@ -4,12 +4,17 @@
 use mathlib.Core.Path.{_≡_}
 use mathlib.Core.Logic.{_↔_, _⊎_}
 use Prim.Native.Nat.{ℕ, zero, suc, _+_, _-_, _*_, _/_, _%_, _<_, _≤_}
+use mathlib.Core.Bool.{Bool}
 use mathlib.Core.List.{List, [], _∷_, _++_}
 use lib.ListN.{length, getD, take, drop}
+use lib.IntN.{ℤ}
+use Rattle.format.specs.declared.Answer.{Answer}
+use Rattle.format.specs.Answers.{refusedAt}
 use Rattle.format.specs.Digits.{AllBelow, number}
 use Rattle.format.specs.Fields.{width, bytesFor, Varint}
 use Rattle.format.specs.Runs.{Description, rowCount, Valid, layout, entryWidth}
 use Rattle.format.specs.Parse.{plain, refused, parse, into, unpack}
+use Rattle.format.specs.Promises.{RunRead}
 use Rattle.promises.specs.PatchLists.{OutOfPlace}
 
 -- ---- the header's fields
@@ -156,6 +161,12 @@ pub data Table (places : ℕ) (bs : List ℕ) : ℕ → Type 0 where
   refusal-7 : Line7 bs → Table places bs 7
   refusal-8 : Line8 places bs → Table places bs 8
 
--- for every list of bytes and number of places: a number is given exactly when its line of the table holds
+-- for every list of bytes and number of places: a number is given exactly when its line of the table holds ..
 abbrev pub RefusalsHold : Type 0
 RefusalsHold = (places : ℕ) (bs : List ℕ) → AllBelow 256 bs → (n : ℕ) → (into places (parse bs) ≡ refused (plain n)) ↔ Table places bs n
+
+-- .. and so says the run reader's promise, of every input, position, flag and lent places, with the byte where the refused run begins
+abbrev pub AnswersHold : Type 0
+AnswersHold =
+    (input : List ℕ) → AllBelow 256 input → (at : ℕ) (signed : Bool) (out out′ : List ℤ) (r : Answer) → RunRead input at signed out out′ r
+    → (n : ℕ) → (r ≡ refusedAt n at) ↔ Table (length out) (drop at input) n
