@@ -5,11 +5,13 @@ use mathlib.Core.Path.{_≡_, refl}
 use Prim.Native.Nat.{ℕ, _+_, _*_}
 use mathlib.Core.Bool.{Bool, true, false}
 use mathlib.Core.List.{List, [], _∷_, _++_}
+use lib.ListN.{length, drop, replicate}
 use lib.IntN.{ℤ, pos, negsuc}
+use Rattle.format.specs.declared.Kind.{Kind}
 use Rattle.format.specs.declared.Kind.the-variants.{ShortRepeat, Direct, PatchedBase, Delta}
 use Rattle.format.specs.declared.Answer.{Answer}
 use Rattle.format.specs.declared.Stream.{Stream}
-use Rattle.format.specs.Answers.{ran, refusedAt, readWhole}
+use Rattle.format.specs.Answers.{ran, refusedAt, readWhole, brokeAt}
 use Rattle.format.specs.Digits
 use Rattle.format.specs.Fields
 use Rattle.format.specs.Runs
@@ -21,7 +23,18 @@ use Rattle.format.specs.Streams
 use Rattle.format.specs.Streams.{readAll, runsOf, joinedRows}
 use Rattle.format.specs.Promises.{answerOf, placesOf, streamAnswer}
 
--- the answer and the rows of one run in ten places
+-- six places, each with 7 in it
+abbrev lent : List ℤ
+lent = replicate 6 (pos 7)
+
+-- a run with its rows in the first places; a refusal at the position, which changes no place
+abbrev run : Kind → List ℤ → ℕ → Answer × List ℤ
+run kind rows bytes = (ran kind (length rows) bytes, rows ++ drop (length rows) lent)
+
+abbrev refusal : ℕ → Answer × List ℤ
+refusal n = (refusedAt n 5, lent)
+
+-- the answer and the places at exit, for a run at byte 5
 -- (the `unfolding` line opens all that computes: whoever says `unfolding told` computes with it)
 unfoldable pub told : Bool → List ℕ → Answer × List ℤ
 unfolding Digits.number Digits.digits Fields.widths Fields.width Fields.leastOf Fields.leastWidth Fields.negative Fields.zigzag Fields.row Fields.blockBytes Fields.varintValue
@@ -29,25 +42,25 @@ unfolding Digits.number Digits.digits Fields.widths Fields.width Fields.leastOf 
     Rows.steps Rows.walk Rows.baseValue Rows.patchAt Rows.patchedRows Rows.rowsOf Rows.asI64 Rows.i64Rows
     Parse.bytes Parse.block Parse.varint Parse.shortRun Parse.directRun Parse.fixedBody Parse.deltaBody Parse.deltaRun Parse.patchedBody Parse.patchedRun Parse.byKind Parse.parse Parse.into
     Streams.runsFrom Streams.readAll Streams.totalRows Streams.joinedRows
-told signed bs = (answerOf 0 (into 10 (parse bs)), placesOf signed [] (into 10 (parse bs)))
+told signed bs = (answerOf 5 (into 6 (parse bs)), placesOf signed lent (into 6 (parse bs)))
 
 -- a repeat of 3 yields 3
-repeat-of-three : told true (0x00 ∷ 0x01 ∷ []) ≡ (ran ShortRepeat 3 2, negsuc 0 ∷ negsuc 0 ∷ negsuc 0 ∷ [])
+repeat-of-three : told true (0x00 ∷ 0x01 ∷ []) ≡ run ShortRepeat (negsuc 0 ∷ negsuc 0 ∷ negsuc 0 ∷ []) 2
 unfolding told
 repeat-of-three = refl
 
 -- the highest bits of a byte come first
-highest-first : told false (0x46 ∷ 0x02 ∷ 0x12 ∷ 0x30 ∷ []) ≡ (ran Direct 3 4, pos 1 ∷ pos 2 ∷ pos 3 ∷ [])
+highest-first : told false (0x46 ∷ 0x02 ∷ 0x12 ∷ 0x30 ∷ []) ≡ run Direct (pos 1 ∷ pos 2 ∷ pos 3 ∷ []) 4
 unfolding told
 highest-first = refl
 
 -- no zigzag on patched rows when the flag says signed
-patched-plain : told true (0x86 ∷ 0x03 ∷ 0x03 ∷ 0x20 ∷ 0xE4 ∷ 0x12 ∷ 0x34 ∷ []) ≡ (ran PatchedBase 4 7, negsuc 98 ∷ negsuc 97 ∷ negsuc 96 ∷ negsuc 95 ∷ [])
+patched-plain : told true (0x86 ∷ 0x03 ∷ 0x03 ∷ 0x20 ∷ 0xE4 ∷ 0x12 ∷ 0x34 ∷ []) ≡ run PatchedBase (negsuc 98 ∷ negsuc 97 ∷ negsuc 96 ∷ negsuc 95 ∷ []) 7
 unfolding told
 patched-plain = refl
 
 -- the gap of the second patch is counted from the first, and of a patch after a skip from the skip
-gaps-from-previous : told true (0x86 ∷ 0x03 ∷ 0x03 ∷ 0x22 ∷ 0x64 ∷ 0x12 ∷ 0x34 ∷ 0x46 ∷ 0x20 ∷ []) ≡ (ran PatchedBase 4 9, pos 101 ∷ pos 118 ∷ pos 103 ∷ pos 136 ∷ [])
+gaps-from-previous : told true (0x86 ∷ 0x03 ∷ 0x03 ∷ 0x22 ∷ 0x64 ∷ 0x12 ∷ 0x34 ∷ 0x46 ∷ 0x20 ∷ []) ≡ run PatchedBase (pos 101 ∷ pos 118 ∷ pos 103 ∷ pos 136 ∷ []) 9
 unfolding told
 gaps-from-previous = refl
 
@@ -56,27 +69,38 @@ unfolding told
 after-a-skip = refl
 
 -- place 4 of 4 rows
-place-at-rows : told false (0x86 ∷ 0x03 ∷ 0x03 ∷ 0x41 ∷ 0x64 ∷ 0x12 ∷ 0x34 ∷ 0x8A ∷ []) ≡ (refusedAt 7 0, [])
+place-at-rows : told false (0x86 ∷ 0x03 ∷ 0x03 ∷ 0x41 ∷ 0x64 ∷ 0x12 ∷ 0x34 ∷ 0x8A ∷ []) ≡ refusal 7
 unfolding told
 place-at-rows = refl
 
 -- the magnitudes of a falling delta run are taken away
-falling : told false (0xC6 ∷ 0x03 ∷ 0x64 ∷ 0x05 ∷ 0x14 ∷ []) ≡ (ran Delta 4 5, pos 100 ∷ pos 97 ∷ pos 96 ∷ pos 92 ∷ [])
+falling : told false (0xC6 ∷ 0x03 ∷ 0x64 ∷ 0x05 ∷ 0x14 ∷ []) ≡ run Delta (pos 100 ∷ pos 97 ∷ pos 96 ∷ pos 92 ∷ []) 5
 unfolding told
 falling = refl
 
 -- code 0 of a delta header is a fixed delta, and not one bit
-fixed-delta : told false (0xC0 ∷ 0x04 ∷ 0x0A ∷ 0x04 ∷ []) ≡ (ran Delta 5 4, pos 10 ∷ pos 12 ∷ pos 14 ∷ pos 16 ∷ pos 18 ∷ [])
+fixed-delta : told false (0xC0 ∷ 0x04 ∷ 0x0A ∷ 0x04 ∷ []) ≡ run Delta (pos 10 ∷ pos 12 ∷ pos 14 ∷ pos 16 ∷ pos 18 ∷ []) 4
 unfolding told
 fixed-delta = refl
 
 -- ten bytes with the top bit set are refused, whatever follows
-eleven-bytes : told false (0xC0 ∷ 0x04 ∷ 0x80 ∷ 0x80 ∷ 0x80 ∷ 0x80 ∷ 0x80 ∷ 0x80 ∷ 0x80 ∷ 0x80 ∷ 0x80 ∷ 0x80 ∷ 0x00 ∷ 0x00 ∷ []) ≡ (refusedAt 5 0, [])
+eleven-bytes : told false (0xC0 ∷ 0x04 ∷ 0x80 ∷ 0x80 ∷ 0x80 ∷ 0x80 ∷ 0x80 ∷ 0x80 ∷ 0x80 ∷ 0x80 ∷ 0x80 ∷ 0x80 ∷ 0x00 ∷ 0x00 ∷ []) ≡ refusal 5
 unfolding told
 eleven-bytes = refl
 
--- a stream goes on after its first run
-two-runs : (let m = readAll 10 (0x00 ∷ 0x01 ∷ 0x00 ∷ 0x02 ∷ []) in _≡_ {A = Stream × List ℤ} (streamAnswer 0 m, joinedRows false (runsOf m))
-    (readWhole 6 4, pos 1 ∷ pos 1 ∷ pos 1 ∷ pos 2 ∷ pos 2 ∷ pos 2 ∷ []))
+-- one row with a width code is refused, and no row is handed out
+one-row : told false (0xC2 ∷ 0x00 ∷ 0x07 ∷ 0x00 ∷ []) ≡ refusal 4
+unfolding told
+one-row = refl
+
+-- a stream goes on after its first run, and stops at the first refusal, where the refused run begins
+abbrev streamed : List ℕ → Stream × List ℤ
+streamed bs = (streamAnswer 5 (readAll 6 bs), joinedRows false (runsOf (readAll 6 bs)))
+
+two-runs : streamed (0x00 ∷ 0x01 ∷ 0x00 ∷ 0x02 ∷ []) ≡ (readWhole 6 4, pos 1 ∷ pos 1 ∷ pos 1 ∷ pos 2 ∷ pos 2 ∷ pos 2 ∷ [])
 unfolding told
 two-runs = refl
+
+cut-run : streamed (0x00 ∷ 0x01 ∷ 0x46 ∷ []) ≡ (brokeAt 1 7 3 2, pos 1 ∷ pos 1 ∷ pos 1 ∷ [])
+unfolding told
+cut-run = refl

@@ -153,13 +153,19 @@ module _ (w n x : ℕ) (h : x < 256 ^ bytesFor (n * w)) where
   unpack-number : number (2 ^ w) (unpack w n x .values) * 2 ^ padBits w n + unpack w n x .pad ≡ x
   unpack-number = rw (number-digits (2 ^ w) (pow-pos w) n _ quotient-lt) (div-add-mod' x (2 ^ padBits w n))
 
+-- any bytes of a block's size are a block
+pub any-block : (w n : ℕ) (s : List ℕ) → AllBelow 256 s → length s ≡ bytesFor (n * w) → IsBlock w n (unpack w n (number 256 s)) × (blockBytes w n (unpack w n (number 256 s)) ≡ s)
+unfolding blockBytes
+any-block w n s h e =
+    let l : number 256 s < 256 ^ bytesFor (n * w) = rw e at (number-lt 256 s h) in
+    (unpack-ok w n (number 256 s) l, rw (unpack-number w n (number 256 s) l, ← e) (digits-number 256 s h))
+
 pub block-sound : (cut w n : ℕ) (bs : List ℕ) → AllBelow 256 bs → Post (Took bs (blockBytes w n) (IsBlock w n)) (block cut w n bs)
-unfolding block blockBytes
+unfolding block
 block-sound cut w n bs h =
     then-post (bytes-sound cut (bytesFor (n * w)) bs h) λ v s t.
-    let l : number 256 v < 256 ^ bytesFor (n * w) = rw (t .ok .count) at (number-lt 256 v (t .ok .below)) in
-    let e : blockBytes w n (unpack w n (number 256 v)) ≡ v = rw (unpack-number w n (number 256 v) l, ← (t .ok .count)) (digits-number 256 v (t .ok .below)) in
-    at-got (record { ok = unpack-ok w n (number 256 v) l; split = rw e (t .split); rest-bytes = t .rest-bytes })
+    let (k, e) = any-block w n v (t .ok .below) (t .ok .count) in
+    at-got (record { ok = k; split = rw e (t .split); rest-bytes = t .rest-bytes })
 
 -- ---- a varint
 

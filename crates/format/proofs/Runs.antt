@@ -6,6 +6,7 @@ use native.Mathlib.Omega.{arith}
 use mathlib.Core.Bool.{Bool, true, false, not}
 use mathlib.Core.List.{List, [], _∷_, _++_, append-assoc, append-nil, cons≢nil}
 use lib.ListN.{length}
+use lib.Pow.{pow-pos}
 use lib.Dec.{T, leb, ltb, eqb}
 use borrow.Author.Tests.{le-ltb, ne-eqb}
 use lib.Dec.{eqb→eq, nltb→le}
@@ -30,8 +31,64 @@ record Head (kind code rows : ℕ) : Type 0 where
 head-back : (kind code rows : ℕ) → ValidHead code rows → Head kind code rows
 head-back kind code rows v = omega (arith, v)
 
+-- A patched run that is valid with no list, and any list of up to 31 entries behind it: refusal 7, or the run.
+abbrev pub noList : Block
+noList = record { values = []; pad = 0 }
+
+pub patched-read : (code : ℕ) (base : List ℕ) (pc gw : ℕ) (k l : Block) (rest : List ℕ) → Valid (patched code base pc gw k noList)
+    → length (l .values) < 32 → IsBlock (entryWidth pc gw) (length (l .values)) l
+    → parse (layout (patched code base pc gw k l) ++ rest) ≡ unless (outOfPlace (width pc) (length (k .values)) (l .values)) 7 (got (patched code base pc gw k l) rest)
+unfolding parse Parse.byKind layout Parse.patchedRun Parse.patchedBody
+patched-read code base pc gw k l rest v few list =
+    let n : ℕ = length (k .values) in
+    let m : ℕ = length (l .values) in
+    let h : Head 2 code n = head-back 2 code n (v .head) in
+    let c : ℕ = (length base - 1) * 32 + pc in
+    let e : ℕ = (gw - 1) * 32 + m in
+    let c₀ : c / 32 + 1 ≡ length base = omega (arith, v) in
+    let c₁ : c % 32 ≡ pc = omega (arith, v) in
+    let e₀ : e / 32 + 1 ≡ gw = omega (arith, v) in
+    let e₁ : e % 32 ≡ m = omega (arith, v) in
+    let rest₁ : List ℕ = blockBytes (entryWidth pc gw) m l ++ rest in
+    let rest₀ : List ℕ = blockBytes (width code) n k ++ rest₁ in
+    rw (
+      h .is-kind,
+      h .is-code,
+      h .is-rows,
+      c₀,
+      c₁,
+      e₀,
+      e₁,
+      le-ltb 64 (width pc + gw) (v .not-2),
+      le-ltb 64 (width code + width pc) (v .not-3),
+      append-assoc base (blockBytes (width code) n k ++ blockBytes (entryWidth pc gw) m l) rest,
+      append-assoc (blockBytes (width code) n k) (blockBytes (entryWidth pc gw) m l) rest,
+      Fields.bytes-complete _ (length base) base rest₀ refl,
+      Fields.block-complete (width code) n k (v .block) _ rest₁,
+      Fields.block-complete (entryWidth pc gw) m l list _ rest,
+    )
+
+-- a valid run is valid without its list
+without-list : (code : ℕ) (base : List ℕ) (pc gw : ℕ) (k l : Block) → Valid (patched code base pc gw k l) → Valid (patched code base pc gw k noList)
+unfolding outOfPlace Runs.lastIsSkip Runs.patches Runs.patchesFrom Runs.shared Runs.outside
+without-list code base pc gw k l v = record {
+  head = v .head;
+  some-bytes = v .some-bytes;
+  eight = v .eight;
+  bytes = v .bytes;
+  patch-code = v .patch-code;
+  gap-low = v .gap-low;
+  gap-high = v .gap-high;
+  entries-fit = omega arith;
+  not-2 = v .not-2;
+  not-3 = v .not-3;
+  block = v .block;
+  list = record { count = refl; fits = tt; padFits = pow-pos _ };
+  not-7 = tt;
+}
+
 pub parse-complete : (d : Description) (rest : List ℕ) → Valid d → parse (layout d ++ rest) ≡ got d rest
-unfolding parse Parse.byKind layout Parse.shortRun Parse.directRun Parse.deltaRun Parse.fixedBody Parse.deltaBody Parse.patchedRun Parse.patchedBody
+unfolding parse Parse.byKind layout Parse.shortRun Parse.directRun Parse.deltaRun Parse.fixedBody Parse.deltaBody
 parse-complete (short count value) rest v =
     let a : ℕ = (length value - 1) * 8 + (count - 3) in
     let e₀ : a / 64 ≡ 0 = omega (arith, v) in
@@ -71,34 +128,8 @@ parse-complete (delta code first base k) rest v =
       Fields.block-complete (width code) n k (v .block) _ rest,
     )
 parse-complete (patched code base pc gw k l) rest v =
-    let n : ℕ = length (k .values) in
-    let m : ℕ = length (l .values) in
-    let h : Head 2 code n = head-back 2 code n (v .head) in
-    let c : ℕ = (length base - 1) * 32 + pc in
-    let e : ℕ = (gw - 1) * 32 + m in
-    let c₀ : c / 32 + 1 ≡ length base = omega (arith, v) in
-    let c₁ : c % 32 ≡ pc = omega (arith, v) in
-    let e₀ : e / 32 + 1 ≡ gw = omega (arith, v) in
-    let e₁ : e % 32 ≡ m = omega (arith, v) in
-    let rest₁ : List ℕ = blockBytes (entryWidth pc gw) m l ++ rest in
-    let rest₀ : List ℕ = blockBytes (width code) n k ++ rest₁ in
-    rw (
-      h .is-kind,
-      h .is-code,
-      h .is-rows,
-      c₀,
-      c₁,
-      e₀,
-      e₁,
-      le-ltb 64 (width pc + gw) (v .not-2),
-      le-ltb 64 (width code + width pc) (v .not-3),
-      append-assoc base (blockBytes (width code) n k ++ blockBytes (entryWidth pc gw) m l) rest,
-      append-assoc (blockBytes (width code) n k) (blockBytes (entryWidth pc gw) m l) rest,
-      Fields.bytes-complete _ (length base) base rest₀ refl,
-      Fields.block-complete (width code) n k (v .block) _ rest₁,
-      Fields.block-complete (entryWidth pc gw) m l (v .list) _ rest,
-      Fields.unless-no (outOfPlace (width pc) n (l .values)) 7 (v .not-7),
-    )
+    patched-read code base pc gw k l rest (without-list code base pc gw k l v) (v .entries-fit) (v .list)
+    ∙ Fields.unless-no (outOfPlace (width pc) (length (k .values)) (l .values)) 7 (v .not-7)
 
 -- ---- soundness: what parses is a valid description's layout
 

@@ -1,4 +1,10 @@
 -- The theorems.
 pub mod Table
 pub mod Outcomes
+pub mod Demand2
 pub mod Demand3
+pub mod CutFile
+pub mod EachWidth
+pub mod Sums
+pub mod PatchLists
+pub mod Refusals

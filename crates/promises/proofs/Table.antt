@@ -8,33 +8,48 @@ use lib.IntN.{ℤ}
 use Rattle.format.specs.declared.Answer.{Answer}
 use Rattle.format.specs.Parse.{parse, into}
 use Rattle.format.specs.Promises.{answerOf, placesOf}
+use Rattle.format.specs.Booleans as b
+use Rattle.format.specs.Booleans.{booleansInto, booleansAnswer, booleansPlaces}
 use Rattle.format.proofs.Examples.{told}
-use Rattle.promises.specs.Table.{Line, places, answerSaid, placesSaid, starred, others, specification, Holds}
+use Rattle.promises.specs.Table.{Line, integers, booleans, integerPlaces, bytePlaces, answerSaid, placesSaid, LineHolds, Holds, starred, others, specification}
 
--- the answer and the places at exit, as the reader gives them and as the line says
-abbrev given : Line → Answer × List ℤ
-given l =
-    let m = into (length (places (l .room))) (parse (drop (l .at) (l .input))) in
-    (answerOf (l .at) m, placesOf (l .signed?) (places (l .room)) m)
+-- the answer and the places at exit, of either kind, as the reader gives them and as the line says
+abbrev Seen : Type 0
+Seen = Answer × List ℤ × List ℕ
 
-abbrev told-by : Line → Answer × List ℤ
-told-by l = (answerSaid (l .at) (l .said), placesSaid (places (l .room)) (l .said))
+abbrev given : Line → Seen
+given (integers room at flag input said) =
+    let m = into (length (integerPlaces room)) (parse (drop at input)) in
+    (answerOf at m, placesOf flag (integerPlaces room) m, [])
+given (booleans room at n input said) =
+    let m = booleansInto (length (bytePlaces room)) n (drop at input) in
+    (booleansAnswer at n m, [], booleansPlaces n (bytePlaces room) m)
 
-all-hold : (ls : List Line) → map given ls ≡ map told-by ls → Holds ls
+abbrev expected : Line → Seen
+expected (integers room at flag input said) = (answerSaid at said, placesSaid (integerPlaces room) said, [])
+expected (booleans room at n input said) = (answerSaid at said, [], placesSaid (bytePlaces room) said)
+
+line-holds : (l : Line) → given l ≡ expected l → LineHolds l
+line-holds (integers room at flag input said) e = record { answer = sym (ap (λ (x : Seen). x .0) e); places = sym (ap (λ (x : Seen). x .1) e) }
+line-holds (booleans room at n input said) e = record { answer = sym (ap (λ (x : Seen). x .0) e); places = sym (ap (λ (x : Seen). x .2) e) }
+
+all-hold : (ls : List Line) → map given ls ≡ map expected ls → Holds ls
 all-hold [] e = tt
-all-hold (l ∷ ls) e =
-    let h : given l ≡ told-by l = cc in
-    let t : map given ls ≡ map told-by ls = cc in
-    (record { answer = sym (ap (λ (x : Answer × List ℤ). x .0) h); places = sym (ap (λ (x : Answer × List ℤ). x .1) h) }, all-hold ls t)
+all-hold (l ∷ ls) e = (line-holds l (cc), all-hold ls (cc))
+
+-- (the `unfolding` line opens all that computes: whoever says `unfolding computed` computes with it)
+unfoldable computed : ℕ
+unfolding told b.runLayout b.runBytes b.byteCount b.joinedRuns b.joinedBytes b.bits b.booleansOf b.repeatRun b.byteRun b.byteRuns b.booleans b.booleansInto
+computed = 0
 
 pub starred-holds : Holds starred
-unfolding told
+unfolding computed
 starred-holds = all-hold starred refl
 
 pub others-hold : Holds others
-unfolding told
+unfolding computed
 others-hold = all-hold others refl
 
 pub specification-holds : Holds specification
-unfolding told
+unfolding computed
 specification-holds = all-hold specification refl

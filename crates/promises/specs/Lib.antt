@@ -2,4 +2,10 @@
 -- of them is checked against.
 pub mod Table
 pub mod Outcomes
+pub mod Demand2
 pub mod Demand3
+pub mod CutFile
+pub mod EachWidth
+pub mod Sums
+pub mod PatchLists
+pub mod Refusals

@@ -8,6 +8,8 @@ use lib.IntN.{ℤ}
 use Rattle.format.specs.declared.Answer.{Answer}
 use Rattle.format.specs.declared.Stream.{Stream}
 use Rattle.format.specs.Promises.{RunRead, StreamRead}
+use Rattle.format.specs.Booleans.{BooleansRead}
+use Rattle.format.specs.ByteValues.{ValueRead, ValueGiven}
 
 -- A promise, as a relation of the places at exit and the answer: some outcome is allowed, and any two that are allowed are equal.
 pub record Determines (P A : Type 0) (Allows : P → A → Type 0) : Type 0 where
@@ -21,3 +23,11 @@ RunDetermined = (input : List ℕ) (at : ℕ) (signed : Bool) (out : List ℤ) �
 
 abbrev pub StreamDetermined : Type 0
 StreamDetermined = (input : List ℕ) (at : ℕ) (signed : Bool) (out : List ℤ) → Determines (List ℤ) Stream (λ p r. StreamRead input at signed out p r)
+
+-- for every input, position, number of booleans and lent places
+abbrev pub BooleansDetermined : Type 0
+BooleansDetermined = (input : List ℕ) (at n : ℕ) (out : List ℕ) → Determines (List ℕ) Answer (λ p r. BooleansRead input at n out p r)
+
+-- the part that is handed back, and the answer: for every input, position and length
+abbrev pub ValueDetermined : Type 0
+ValueDetermined = (input : List ℕ) (at n : ℕ) → Determines (List ℕ) Answer (λ p r. ValueGiven input at n p × ValueRead input at n r)

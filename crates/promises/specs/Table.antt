@@ -1,5 +1,5 @@
 -- The starred runs of document 01 ("Runs on each side of the line") as one table; beside it the lines that they leave open, and the public
--- specification's own examples. Each line is stated by the run reader's promise: this answer, and these places at exit, are what it allows.
+-- specification's own examples. Each line is stated by the reader's promise: this answer, and these places at exit, are what it allows.
 -- Assumes nothing.
 use mathlib.Core.Path.{_≡_}
 use Prim.Native.Nat.{ℕ, _-_}
@@ -8,46 +8,38 @@ use mathlib.Core.List.{List, [], _∷_, _++_}
 use lib.ListN.{length, drop, replicate}
 use lib.IntN.{ℤ, pos, negsuc}
 use Rattle.format.specs.declared.Kind.{Kind}
-use Rattle.format.specs.declared.Kind.the-variants.{ShortRepeat, Direct, PatchedBase, Delta}
+use Rattle.format.specs.declared.Kind.the-variants.{ShortRepeat, Direct, PatchedBase, Delta, Booleans}
 use Rattle.format.specs.declared.Answer.{Answer}
 use Rattle.format.specs.declared.Answer.the-variants.{End}
 use Rattle.format.specs.Answers.{ran, refusedAt}
 use Rattle.format.specs.Promises.{RunRead}
+use Rattle.format.specs.Booleans.{BooleansRead}
 
 -- what a line says: the run's kind, its rows and the bytes consumed; or the number of a refusal; or "end"
-pub data Said : Type 0 where
-  run : Kind → List ℤ → ℕ → Said
-  refusal : ℕ → Said
-  nothing : Said
+pub data Said (R : Type 0) : Type 0 where
+  run : Kind → List R → ℕ → Said R
+  refusal : ℕ → Said R
+  nothing : Said R
 
--- a line: the position, the flag, the bytes, how many places are lent, and what is said of them
-pub record Line : Type 0 where
-  pub at : ℕ
-  pub signed? : Bool
-  pub input : List ℕ
-  pub room : ℕ
-  pub said : Said
+-- a line: how many places are lent, the position, the flag or how many booleans are read, the bytes, and what is said of them
+pub data Line : Type 0 where
+  integers : ℕ → ℕ → Bool → List ℕ → Said ℤ → Line
+  booleans : ℕ → ℕ → ℕ → List ℕ → Said ℕ → Line
 
--- the places lent, each with 7777 in it
-abbrev pub places : ℕ → List ℤ
-places n = replicate n (pos 7777)
+-- an integer line that names no position begins at byte 0, and has twenty places
+abbrev pub unsigned : List ℕ → Said ℤ → List Line
+unsigned i s = integers 20 0 false i s ∷ []
 
-abbrev pub lent : ℕ → ℕ → Bool → List ℕ → Said → Line
-lent n p f i s = record { at = p; signed? = f; input = i; room = n; said = s }
-
--- a line that names no position begins at byte 0, and has twenty places
-abbrev line : Bool → List ℕ → Said → Line
-line = lent 20 0
-
-abbrev pub unsigned : List ℕ → Said → List Line
-unsigned i s = line false i s ∷ []
-
-abbrev pub signed : List ℕ → Said → List Line
-signed i s = line true i s ∷ []
+abbrev pub signed : List ℕ → Said ℤ → List Line
+signed i s = integers 20 0 true i s ∷ []
 
 -- a line that names no flag holds under both
-abbrev pub either : List ℕ → Said → List Line
-either i s = line false i s ∷ line true i s ∷ []
+abbrev pub either : List ℕ → Said ℤ → List Line
+either i s = unsigned i s ++ signed i s
+
+-- n booleans, in as many places
+abbrev pub bools : ℕ → List ℕ → Said ℕ → List Line
+bools n i s = booleans n 0 n i s ∷ []
 
 -- a row below 0
 abbrev pub minus : ℕ → ℤ
@@ -55,21 +47,31 @@ minus n = negsuc (n - 1)
 
 -- ---- what a line promises
 
-abbrev pub answerSaid : ℕ → Said → Answer
+abbrev pub answerSaid : {R : Type 0} → ℕ → Said R → Answer
 answerSaid at (run kind rows bytes) = ran kind (length rows) bytes
 answerSaid at (refusal n) = refusedAt n at
 answerSaid at nothing = End
 
 -- the rows in the first places; the others, and all where the run is refused, keep their content
-abbrev pub placesSaid : List ℤ → Said → List ℤ
+abbrev pub placesSaid : {R : Type 0} → List R → Said R → List R
 placesSaid out (run kind rows bytes) = rows ++ drop (length rows) out
 placesSaid out (refusal n) = out
 placesSaid out nothing = out
 
+-- the places lent, each with 7777 in it, or 77 in a byte
+abbrev pub integerPlaces : ℕ → List ℤ
+integerPlaces n = replicate n (pos 7777)
+
+abbrev pub bytePlaces : ℕ → List ℕ
+bytePlaces n = replicate n 77
+
+abbrev pub LineHolds : Line → Type 0
+LineHolds (integers room at flag input said) = RunRead input at flag (integerPlaces room) (placesSaid (integerPlaces room) said) (answerSaid at said)
+LineHolds (booleans room at n input said) = BooleansRead input at n (bytePlaces room) (placesSaid (bytePlaces room) said) (answerSaid at said)
+
 abbrev pub Holds : List Line → Type 0
 Holds [] = Unit {0}
-Holds (l ∷ ls) =
-    RunRead (l .input) (l .at) (l .signed?) (places (l .room)) (placesSaid (places (l .room)) (l .said)) (answerSaid (l .at) (l .said)) × Holds ls
+Holds (l ∷ ls) = LineHolds l × Holds ls
 
 -- ---- THE STARRED LINES
 
@@ -87,6 +89,7 @@ starred =
     ++ either (0x86 ∷ 0x03 ∷ 0x03 ∷ 0x21 ∷ 0x64 ∷ 0x12 ∷ 0x34 ∷ 0x94 ∷ []) (run PatchedBase (pos 101 ∷ pos 102 ∷ pos 183 ∷ pos 104 ∷ []) 8)
     ++ either (0x86 ∷ 0x03 ∷ 0x03 ∷ 0x20 ∷ 0xE4 ∷ 0x12 ∷ 0x34 ∷ []) (run PatchedBase (minus 99 ∷ minus 98 ∷ minus 97 ∷ minus 96 ∷ []) 7)
     ++ either (0x86 ∷ 0x03 ∷ 0x03 ∷ 0x41 ∷ 0x64 ∷ 0x12 ∷ 0x34 ∷ 0x8A ∷ []) (refusal 7)
+    ++ bools 32 (0x00 ∷ 0xFF ∷ 0xFF ∷ 0x00 ∷ []) (run Booleans (replicate 24 1 ++ replicate 8 0) 4)
 
 -- ---- LINES BESIDE THEM
 
@@ -128,21 +131,29 @@ others =
     ++ either (0x84 ∷ 0x00 ∷ 0xE0 ∷ 0x20 ∷ 0x7F ∷ 0xFF ∷ 0xFF ∷ 0xFF ∷ 0xFF ∷ 0xFF ∷ 0xFF ∷ 0xFF ∷ 0xA0 ∷ []) (run PatchedBase (minus 9223372036854775804 ∷ []) 13)
     ++ either (0x84 ∷ 0x00 ∷ 0xE0 ∷ 0x20 ∷ 0x80 ∷ 0x00 ∷ 0x00 ∷ 0x00 ∷ 0x00 ∷ 0x00 ∷ 0x00 ∷ 0x01 ∷ 0xA0 ∷ []) (run PatchedBase (pos 4 ∷ []) 13)
     -- a skip, and then a gap of 10: the patch is at row 265 of 300
-    ++ (lent 300 0 true
+    ++ (integers 300 0 true
     (0x81 ∷ 0x2B ∷ 0x00 ∷ 0xE2 ∷ 0x05 ∷ (replicate 38 0 ++ (0xFF ∷ 0x05 ∷ 0x40 ∷ [])))
     (run PatchedBase (replicate 265 (pos 5) ++ (pos 7 ∷ replicate 34 (pos 5))) 46)
     -- four places for five rows; five are enough
-    ∷ lent 4 0 false (0x0A ∷ 0x01 ∷ 0x2C ∷ []) (refusal 8)
-    ∷ lent 5 0 false (0x0A ∷ 0x01 ∷ 0x2C ∷ []) (run ShortRepeat (replicate 5 (pos 300)) 3)
+    ∷ integers 4 0 false (0x0A ∷ 0x01 ∷ 0x2C ∷ []) (refusal 8)
+    ∷ integers 5 0 false (0x0A ∷ 0x01 ∷ 0x2C ∷ []) (run ShortRepeat (replicate 5 (pos 300)) 3)
     -- the bytes after a run are not read; a run that begins at byte 2, and one that is refused there; and nothing from byte 4 on
-    ∷ lent 5 0 true (0x00 ∷ 0x01 ∷ 0x00 ∷ 0x02 ∷ []) (run ShortRepeat (minus 1 ∷ minus 1 ∷ minus 1 ∷ []) 2)
-    ∷ lent 5 2 true (0x00 ∷ 0x01 ∷ 0x00 ∷ 0x02 ∷ []) (run ShortRepeat (pos 1 ∷ pos 1 ∷ pos 1 ∷ []) 2)
-    ∷ lent 5 2 true (0x00 ∷ 0x01 ∷ 0x46 ∷ 0x02 ∷ []) (refusal 6)
-    ∷ lent 5 4 true (0x00 ∷ 0x01 ∷ 0x46 ∷ 0x02 ∷ []) nothing
-    ∷ lent 5 9 true (0x00 ∷ 0x01 ∷ 0x46 ∷ 0x02 ∷ []) nothing
+    ∷ integers 5 0 true (0x00 ∷ 0x01 ∷ 0x00 ∷ 0x02 ∷ []) (run ShortRepeat (minus 1 ∷ minus 1 ∷ minus 1 ∷ []) 2)
+    ∷ integers 5 2 true (0x00 ∷ 0x01 ∷ 0x00 ∷ 0x02 ∷ []) (run ShortRepeat (pos 1 ∷ pos 1 ∷ pos 1 ∷ []) 2)
+    ∷ integers 5 2 true (0x00 ∷ 0x01 ∷ 0x46 ∷ 0x02 ∷ []) (refusal 6)
+    ∷ integers 5 4 true (0x00 ∷ 0x01 ∷ 0x46 ∷ 0x02 ∷ []) nothing
+    ∷ integers 5 9 true (0x00 ∷ 0x01 ∷ 0x46 ∷ 0x02 ∷ []) nothing
     ∷ [])
+    -- booleans: one more than the runs hold; a run is consumed whole where fewer are asked for; none, at any position
+    ++ bools 33 (0x00 ∷ 0xFF ∷ 0xFF ∷ 0x00 ∷ []) (refusal 6)
+    ++ bools 3 (0x00 ∷ 0xFF ∷ 0xFF ∷ 0x00 ∷ []) (run Booleans (replicate 3 1) 2)
+    ++ (booleans 0 9 0 (0x00 ∷ 0xFF ∷ []) (run Booleans [] 0) ∷ [])
+    -- control 128 is 128 literal bytes; a literal run that is cut is refused even if the byte that is needed is there; seven places for eight
+    ++ bools 1024 (0x80 ∷ replicate 128 0xFF) (run Booleans (replicate 1024 1) 129)
+    ++ bools 8 (0xFE ∷ 0xFF ∷ []) (refusal 6)
+    ++ (booleans 7 0 8 (0xFF ∷ 0xFF ∷ []) (refusal 8) ∷ [])
 
--- ---- THE SPECIFICATION'S OWN EXAMPLES: its four runs; its varints, each as the first row of a run of one row; and its zigzags, as five fields of 3 bits
+-- ---- THE SPECIFICATION'S OWN EXAMPLES: its four runs; its varints, each as the first row of a run of one row; and its zigzags, as five fields of 3 bits; and its byte runs, as booleans
 
 abbrev pub specification : List Line
 specification =
@@ -159,3 +170,6 @@ specification =
     ++ unsigned (0xC0 ∷ 0x00 ∷ 0x80 ∷ 0x80 ∷ 0x01 ∷ 0x00 ∷ []) (run Delta (pos 16384 ∷ []) 6)
     ++ unsigned (0xC0 ∷ 0x00 ∷ 0x81 ∷ 0x80 ∷ 0x01 ∷ 0x00 ∷ []) (run Delta (pos 16385 ∷ []) 6)
     ++ signed (0x44 ∷ 0x04 ∷ 0x05 ∷ 0x38 ∷ []) (run Direct (pos 0 ∷ minus 1 ∷ pos 1 ∷ minus 2 ∷ pos 2 ∷ []) 4)
+    ++ bools 800 (0x61 ∷ 0x00 ∷ []) (run Booleans (replicate 800 0) 2)
+    ++ bools 16 (0xFE ∷ 0x44 ∷ 0x45 ∷ []) (run Booleans (0 ∷ 1 ∷ 0 ∷ 0 ∷ 0 ∷ 1 ∷ 0 ∷ 0 ∷ 0 ∷ 1 ∷ 0 ∷ 0 ∷ 0 ∷ 1 ∷ 0 ∷ 1 ∷ []) 3)
+    ++ bools 8 (0xFF ∷ 0x80 ∷ []) (run Booleans (1 ∷ replicate 7 0) 2)

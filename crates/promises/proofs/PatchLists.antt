@@ -1,0 +1,318 @@
+-- Every patch list: refusal 7 in one of its three cases, or exactly the places named are patched. Assumes nothing.
+use mathlib.Core.Path.{_≡_, refl, sym, ap, _∙_, subst}
+use mathlib.Core.Logic.{_≢_, _⊎_, inl, inr, _↔_}
+use Prim.Native.Nat.{ℕ, zero, suc, _+_, _-_, _*_, _%_, _^_, _<_, _≤_}
+use native.Mathlib.Nat.{zero-mul, add-zero}
+use native.Mathlib.Decide.{ℕ-discrete}
+use native.Mathlib.Omega.{arith}
+use mathlib.Core.Bool.{Bool, true, false, not, _||_}
+use mathlib.Core.List.{List, [], _∷_, _++_}
+use lib.ListN.{length, getD, drop, List·getD-append, List·getD-map, length-map}
+use lib.Seq.{drop-at}
+use lib.Dec.{T, leb, eqb, eqb→eq, leb→le, le→leb}
+use lib.IntN.{ℤ, pos}
+use borrow.Author.Tests.{eq-eqb, ne-eqb, le-leb}
+use Rattle.format.specs.declared.Answer.{Answer}
+use Rattle.format.specs.Fields.{pick, two64, width, Block, IsBlock}
+use Rattle.format.specs.Runs.{patched, Valid, layout, Patch, patchOf, gapOf, isSkip, patchesFrom, patches, lastIsSkip, taken, shared, outside, outOfPlace, entryWidth}
+use Rattle.format.specs.Rows.{baseValue, patchAt, rowsOf, asI64, i64Rows}
+use Rattle.format.specs.Promises.{RunRead}
+use Rattle.format.proofs.Fields.{any-block}
+use Rattle.format.proofs.Runs.{noList, patched-read}
+use Rattle.format.proofs.Rows.{rows-count}
+use Rattle.format.proofs.Streams.{into-got, into-refused}
+use Rattle.promises.specs.PatchLists
+use Rattle.promises.specs.PatchLists.{placeOf, Names, LastIsSkip, TwoShare, OneBeyond, OutOfPlace, Patched, PatchLists}
+use Rattle.promises.proofs.Sums.{sums}
+
+-- ---- tests
+
+or-cases : (a b : Bool) → T (a || b) → T a ⊎ T b
+or-cases true b h = inl tt
+or-cases false b h = inr h
+
+or-left : (a b : Bool) → T a → T (a || b)
+or-left true b h = tt
+or-left false b h = absurd h
+
+or-right : (a b : Bool) → T b → T (a || b)
+or-right true b h = tt
+or-right false b h = h
+
+not-left : (a b : Bool) → T (not (a || b)) → T (not a)
+not-left true b h = h
+not-left false b h = tt
+
+not-right : (a b : Bool) → T (not (a || b)) → T (not b)
+not-right true b h = absurd h
+not-right false b h = h
+
+either : (b : Bool) → T b ⊎ T (not b)
+either true = inl tt
+either false = inr tt
+
+never-both : (b : Bool) → T b → T (not b) → ⊥
+never-both true h k = k
+never-both false h k = h
+
+same : (a b : ℕ) → a ≡ b → T (eqb a b)
+same a b e = rw (eq-eqb a b e) tt
+
+-- ---- the patches of a list, and the entries that name them; `before` is the sum of the gaps before the list
+
+module _ (pw : ℕ) where
+  record From (before : ℕ) (es : List ℕ) (j p : ℕ) : Type 0 where
+    there : j < length es
+    no-skip : T (not (isSkip pw (getD es j 0)))
+    here : before + placeOf pw es j ≡ p
+
+  from-here : (before e : ℕ) (es : List ℕ) → T (not (isSkip pw e)) → From before (e ∷ es) 0 (before + gapOf pw e)
+  from-here before e es h = record { there = omega arith; no-skip = h; here = omega arith }
+
+  from-there : (before e : ℕ) (es : List ℕ) (j p : ℕ) → From (before + gapOf pw e) es j p → From before (e ∷ es) (suc j) p
+  from-there before e es j p f = record { there = omega (arith, f .there); no-skip = f .no-skip; here = omega (arith, f .here) }
+
+  from-back : (before e : ℕ) (es : List ℕ) (j p : ℕ) → From before (e ∷ es) (suc j) p → From (before + gapOf pw e) es j p
+  from-back before e es j p f = record { there = omega (arith, f .there); no-skip = f .no-skip; here = omega (arith, f .here) }
+
+  from-zero : (before e : ℕ) (es : List ℕ) (p : ℕ) → From before (e ∷ es) 0 p → p ≡ before + gapOf pw e
+  from-zero before e es p f = omega (arith, f .here)
+
+  abbrev named : ℕ → ℕ → Patch
+  named before e = record { place = before + gapOf pw e; patch = patchOf pw e }
+
+  of-skip : (before e : ℕ) (es : List ℕ) → T (isSkip pw e) → patchesFrom pw before (e ∷ es) ≡ patchesFrom pw (before + gapOf pw e) es
+  unfolding patchesFrom
+  of-skip before e es h = go (isSkip pw e) h
+    where
+      go : (t : Bool) → T t → pick t (patchesFrom pw (before + gapOf pw e) es) (named before e ∷ patchesFrom pw (before + gapOf pw e) es) ≡ patchesFrom pw (before + gapOf pw e) es
+      go true h = refl
+      go false h = absurd h
+
+  of-entry : (before e : ℕ) (es : List ℕ) → T (not (isSkip pw e)) → patchesFrom pw before (e ∷ es) ≡ named before e ∷ patchesFrom pw (before + gapOf pw e) es
+  unfolding patchesFrom
+  of-entry before e es h = go (isSkip pw e) h
+    where
+      go : (t : Bool) → T (not t) → pick t (patchesFrom pw (before + gapOf pw e) es) (named before e ∷ patchesFrom pw (before + gapOf pw e) es) ≡ named before e ∷ patchesFrom pw (before + gapOf pw e) es
+      go true h = absurd h
+      go false h = refl
+
+  -- some entry names a place for which the test of the patches holds, both ways: `taken` and `outside` are such tests
+  module _ (test : List Patch → Bool) (of : ℕ → Bool) (none : test [] ≡ false)
+      (one : (q : Patch) (qs : List Patch) → test (q ∷ qs) ≡ (of (q .place) || test qs)) where
+    some-names : (before : ℕ) (es : List ℕ) → T (test (patchesFrom pw before es)) → (j p : ℕ) × From before es j p × T (of p)
+    unfolding patchesFrom
+    some-names before [] h = absurd (rw none at h)
+    some-names before (e ∷ es) h = go (either (isSkip pw e)) (some-names (before + gapOf pw e) es)
+      where
+        later : (j p : ℕ) × From (before + gapOf pw e) es j p × T (of p) → (j p : ℕ) × From before (e ∷ es) j p × T (of p)
+        later (j, p, f, t) = (suc j, p, from-there before e es j p f, t)
+
+        go : T (isSkip pw e) ⊎ T (not (isSkip pw e)) → (T (test (patchesFrom pw (before + gapOf pw e) es)) → (j p : ℕ) × From (before + gapOf pw e) es j p × T (of p))
+            → (j p : ℕ) × From before (e ∷ es) j p × T (of p)
+        go (inl s) ih = later (ih (rw (of-skip before e es s) at h))
+        go (inr s) ih = by (or-cases (of (before + gapOf pw e)) (test (patchesFrom pw (before + gapOf pw e) es)) (rw (of-entry before e es s, one) at h))
+          where
+            by : T (of (before + gapOf pw e)) ⊎ T (test (patchesFrom pw (before + gapOf pw e) es)) → (j p : ℕ) × From before (e ∷ es) j p × T (of p)
+            by (inl t) = (0, before + gapOf pw e, from-here before e es s, t)
+            by (inr t) = later (ih t)
+
+    names-some : (before : ℕ) (es : List ℕ) (j p : ℕ) → From before es j p → T (of p) → T (test (patchesFrom pw before es))
+    names-some before [] j p f t = absurd (omega (arith, f .there))
+    names-some before (e ∷ es) j p f t = go j f (either (isSkip pw e)) (names-some (before + gapOf pw e) es)
+      where
+        go : (j : ℕ) → From before (e ∷ es) j p → T (isSkip pw e) ⊎ T (not (isSkip pw e))
+            → ((j p : ℕ) → From (before + gapOf pw e) es j p → T (of p) → T (test (patchesFrom pw (before + gapOf pw e) es)))
+            → T (test (patchesFrom pw before (e ∷ es)))
+        go zero f (inl s) ih = absurd (never-both (isSkip pw e) s (f .no-skip))
+        go zero f (inr s) ih = rw (of-entry before e es s, one) (or-left (of (before + gapOf pw e)) (test (patchesFrom pw (before + gapOf pw e) es)) (rw (from-zero before e es p f) at t))
+        go (suc j) f (inl s) ih = rw (of-skip before e es s) (ih j p (from-back before e es j p f) t)
+        go (suc j) f (inr s) ih = rw (of-entry before e es s, one) (or-right (of (before + gapOf pw e)) (test (patchesFrom pw (before + gapOf pw e) es)) (ih j p (from-back before e es j p f) t))
+
+  -- a place is taken: an entry names it
+  taken-names : (p before : ℕ) (es : List ℕ) → T (taken p (patchesFrom pw before es)) → (j : ℕ) × From before es j p
+  unfolding taken
+  taken-names p before es h =
+      let (j, p′, f, t) = some-names (taken p) (eqb p) refl (λ q qs. refl) before es h in
+      (j, subst (λ (x : ℕ). From before es j x) (sym (eqb→eq p p′ t)) f)
+
+  names-taken : (p before : ℕ) (es : List ℕ) (j : ℕ) → From before es j p → T (taken p (patchesFrom pw before es))
+  unfolding taken
+  names-taken p before es j f = names-some (taken p) (eqb p) refl (λ q qs. refl) before es j p f (same p p refl)
+
+  -- two patches share a place: two entries name it
+  abbrev Two : ℕ → List ℕ → Type 0
+  Two before es = (i j p : ℕ) × (i < j) × From before es i p × From before es j p
+
+  shared-names : (before : ℕ) (es : List ℕ) → T (shared (patchesFrom pw before es)) → Two before es
+  unfolding shared patchesFrom
+  shared-names before [] h = absurd h
+  shared-names before (e ∷ es) h = go (either (isSkip pw e)) (shared-names (before + gapOf pw e) es)
+    where
+      later : Two (before + gapOf pw e) es → Two before (e ∷ es)
+      later (i, j, p, l, f, g) = (suc i, suc j, p, omega arith, from-there before e es i p f, from-there before e es j p g)
+
+      go : T (isSkip pw e) ⊎ T (not (isSkip pw e)) → (T (shared (patchesFrom pw (before + gapOf pw e) es)) → Two (before + gapOf pw e) es) → Two before (e ∷ es)
+      go (inl s) ih = later (ih (rw (of-skip before e es s) at h))
+      go (inr s) ih =
+          by (or-cases (taken (before + gapOf pw e) (patchesFrom pw (before + gapOf pw e) es)) (shared (patchesFrom pw (before + gapOf pw e) es)) (rw (of-entry before e es s) at h))
+        where
+          by : T (taken (before + gapOf pw e) (patchesFrom pw (before + gapOf pw e) es)) ⊎ T (shared (patchesFrom pw (before + gapOf pw e) es)) → Two before (e ∷ es)
+          by (inl t) =
+              let (j, f) = taken-names (before + gapOf pw e) (before + gapOf pw e) es t in
+              (0, suc j, before + gapOf pw e, omega arith, from-here before e es s, from-there before e es j (before + gapOf pw e) f)
+          by (inr t) = later (ih t)
+
+  names-shared : (before : ℕ) (es : List ℕ) (i j p : ℕ) → i < j → From before es i p → From before es j p → T (shared (patchesFrom pw before es))
+  unfolding shared
+  names-shared before [] i j p l f g = absurd (omega (arith, f .there))
+  names-shared before (e ∷ es) i j p l f g = go i j l f g (either (isSkip pw e)) (names-shared (before + gapOf pw e) es)
+    where
+      go : (i j : ℕ) → i < j → From before (e ∷ es) i p → From before (e ∷ es) j p → T (isSkip pw e) ⊎ T (not (isSkip pw e))
+          → ((i j p : ℕ) → i < j → From (before + gapOf pw e) es i p → From (before + gapOf pw e) es j p → T (shared (patchesFrom pw (before + gapOf pw e) es)))
+          → T (shared (patchesFrom pw before (e ∷ es)))
+      go i zero l f g s ih = absurd (omega (arith, l))
+      go zero (suc j) l f g (inl s) ih = absurd (never-both (isSkip pw e) s (f .no-skip))
+      go zero (suc j) l f g (inr s) ih =
+          rw (of-entry before e es s)
+          (or-left (taken (before + gapOf pw e) (patchesFrom pw (before + gapOf pw e) es)) (shared (patchesFrom pw (before + gapOf pw e) es)) (names-taken (before + gapOf pw e) (before + gapOf pw e) es j (rw (from-zero before e es p f) at (from-back before e es j p g))))
+      go (suc i) (suc j) l f g (inl s) ih = rw (of-skip before e es s) (ih i j p (omega (arith, l)) (from-back before e es i p f) (from-back before e es j p g))
+      go (suc i) (suc j) l f g (inr s) ih =
+          rw (of-entry before e es s)
+          (or-right (taken (before + gapOf pw e) (patchesFrom pw (before + gapOf pw e) es)) (shared (patchesFrom pw (before + gapOf pw e) es)) (ih i j p (omega (arith, l)) (from-back before e es i p f) (from-back before e es j p g)))
+
+  last-names : (es : List ℕ) → T (lastIsSkip pw es) → LastIsSkip pw es
+  unfolding lastIsSkip
+  last-names [] h = absurd h
+  last-names (e ∷ []) h = (omega arith, h)
+  last-names (e ∷ f ∷ es) h =
+      let i : suc (suc (length es)) - 1 ≡ suc (suc (length es) - 1) = omega arith in
+      (omega arith, rw i (last-names (f ∷ es) h .1))
+
+  names-last : (es : List ℕ) → LastIsSkip pw es → T (lastIsSkip pw es)
+  unfolding lastIsSkip
+  names-last [] (l, h) = absurd (omega arith)
+  names-last (e ∷ []) (l, h) = h
+  names-last (e ∷ f ∷ es) (l, h) =
+      let i : suc (suc (length es)) - 1 ≡ suc (suc (length es) - 1) = omega arith in
+      names-last (f ∷ es) (omega arith, rw i at h)
+
+  -- ---- the patch at a place
+
+  patch-there : (before : ℕ) (es : List ℕ) (j p : ℕ) → From before es j p → T (not (shared (patchesFrom pw before es)))
+      → patchAt p (patchesFrom pw before es) ≡ patchOf pw (getD es j 0)
+  unfolding patchAt shared
+  patch-there before [] j p f n = absurd (omega (arith, f .there))
+  patch-there before (e ∷ es) j p f n = go j f (either (isSkip pw e)) (patch-there (before + gapOf pw e) es)
+    where
+      go : (j : ℕ) → From before (e ∷ es) j p → T (isSkip pw e) ⊎ T (not (isSkip pw e))
+          → ((j p : ℕ) → From (before + gapOf pw e) es j p → T (not (shared (patchesFrom pw (before + gapOf pw e) es))) → patchAt p (patchesFrom pw (before + gapOf pw e) es) ≡ patchOf pw (getD es j 0))
+          → patchAt p (patchesFrom pw before (e ∷ es)) ≡ patchOf pw (getD (e ∷ es) j 0)
+      go zero f (inl s) ih = absurd (never-both (isSkip pw e) s (f .no-skip))
+      go zero f (inr s) ih = rw (of-entry before e es s, eq-eqb p (before + gapOf pw e) (from-zero before e es p f))
+      go (suc j) f (inl s) ih = rw (of-skip before e es s) (ih j p (from-back before e es j p f) (rw (of-skip before e es s) at n))
+      go (suc j) f (inr s) ih =
+          let m : T (not (taken (before + gapOf pw e) (patchesFrom pw (before + gapOf pw e) es) || shared (patchesFrom pw (before + gapOf pw e) es))) = rw (of-entry before e es s) at n in
+          let ne : p ≢ before + gapOf pw e =
+          λ z. never-both (taken (before + gapOf pw e) (patchesFrom pw (before + gapOf pw e) es)) (names-taken (before + gapOf pw e) (before + gapOf pw e) es j (rw z at (from-back before e es j p f)))
+          (not-left (taken (before + gapOf pw e) (patchesFrom pw (before + gapOf pw e) es)) (shared (patchesFrom pw (before + gapOf pw e) es)) m) in
+          rw (of-entry before e es s, ne-eqb p (before + gapOf pw e) ne)
+          (ih j p (from-back before e es j p f) (not-right (taken (before + gapOf pw e) (patchesFrom pw (before + gapOf pw e) es)) (shared (patchesFrom pw (before + gapOf pw e) es)) m))
+
+  patch-none : (before : ℕ) (es : List ℕ) (p : ℕ) → ((j : ℕ) → From before es j p → ⊥) → patchAt p (patchesFrom pw before es) ≡ 0
+  unfolding patchAt patchesFrom
+  patch-none before [] p n = refl
+  patch-none before (e ∷ es) p n =
+      go (either (isSkip pw e)) (patch-none (before + gapOf pw e) es p (λ j f. n (suc j) (from-there before e es j p f)))
+    where
+      go : T (isSkip pw e) ⊎ T (not (isSkip pw e)) → patchAt p (patchesFrom pw (before + gapOf pw e) es) ≡ 0 → patchAt p (patchesFrom pw before (e ∷ es)) ≡ 0
+      go (inl s) ih = rw (of-skip before e es s) ih
+      go (inr s) ih = rw (of-entry before e es s, ne-eqb p (before + gapOf pw e) (λ z. n 0 (rw z (from-here before e es s)))) ih
+
+  -- ---- refusal 7, in its three cases
+
+  named-from : (es : List ℕ) (j p : ℕ) → From 0 es j p → Names pw es j p
+  named-from es j p f = record { there = f .there; no-skip = f .no-skip; here = omega (arith, f .here) }
+
+  from-named : (es : List ℕ) (j p : ℕ) → Names pw es j p → From 0 es j p
+  from-named es j p f = record { there = f .there; no-skip = f .no-skip; here = omega (arith, f .here) }
+
+  pub out-of-place : (rows : ℕ) (es : List ℕ) → T (outOfPlace pw rows es) ↔ OutOfPlace pw rows es
+  unfolding outOfPlace patches outside
+  out-of-place rows es = (λ h. to (or-cases (lastIsSkip pw es) _ h), of)
+    where
+      to-rest : T (shared (patchesFrom pw 0 es)) ⊎ T (outside rows (patchesFrom pw 0 es)) → OutOfPlace pw rows es
+      to-rest (inl h) =
+          let (i, j, p, l, f, g) = shared-names 0 es h in
+          inr (inl (i, j, p, l, named-from es i p f, named-from es j p g))
+      to-rest (inr h) =
+          let (j, p, f, t) = some-names (outside rows) (leb rows) refl (λ q qs. refl) 0 es h in
+          inr (inr (j, p, named-from es j p f, leb→le rows p t))
+
+      to : T (lastIsSkip pw es) ⊎ T (shared (patchesFrom pw 0 es) || outside rows (patchesFrom pw 0 es)) → OutOfPlace pw rows es
+      to (inl h) = inl (last-names es h)
+      to (inr h) = to-rest (or-cases (shared (patchesFrom pw 0 es)) (outside rows (patchesFrom pw 0 es)) h)
+
+      of : OutOfPlace pw rows es → T (lastIsSkip pw es || (shared (patchesFrom pw 0 es) || outside rows (patchesFrom pw 0 es)))
+      of (inl h) = or-left (lastIsSkip pw es) (shared (patchesFrom pw 0 es) || outside rows (patchesFrom pw 0 es)) (names-last es h)
+      of (inr (inl (i, j, p, l, f, g))) =
+          or-right (lastIsSkip pw es) (shared (patchesFrom pw 0 es) || outside rows (patchesFrom pw 0 es))
+          (or-left (shared (patchesFrom pw 0 es)) (outside rows (patchesFrom pw 0 es)) (names-shared 0 es i j p l (from-named es i p f) (from-named es j p g)))
+      of (inr (inr (j, p, f, l))) =
+          or-right (lastIsSkip pw es) (shared (patchesFrom pw 0 es) || outside rows (patchesFrom pw 0 es))
+          (or-right (shared (patchesFrom pw 0 es)) (outside rows (patchesFrom pw 0 es))
+          (names-some (outside rows) (leb rows) refl (λ q qs. refl) 0 es j p (from-named es j p f) (le→leb rows p l)))
+
+-- ---- the rows of a list that is in place
+
+module _ (code : ℕ) (base : List ℕ) (pc gw : ℕ) (k l : Block) (out out′ : List ℤ) (signed : Bool)
+    (places : out′ ≡ i64Rows signed (patched code base pc gw k l) ++ drop (length (k .values)) out) where
+  rows-length : length (i64Rows signed (patched code base pc gw k l)) ≡ length (k .values)
+  unfolding i64Rows
+  rows-length = length-map (rowsOf signed (patched code base pc gw k l)) asI64 ∙ rows-count signed (patched code base pc gw k l)
+
+  row-at : (p : ℕ) → p < length (k .values)
+      → getD out′ p (pos 0) ≡ asI64 ((baseValue base + (getD (k .values) p 0 + patchAt p (patches (width pc) (l .values)) * 2 ^ width code)) % two64)
+  unfolding i64Rows asI64
+  row-at p h =
+      rw (places, List·getD-append (i64Rows signed (patched code base pc gw k l)) (drop (length (k .values)) out) (pos 0) p (omega (arith, rows-length)))
+      (List·getD-map asI64 (rowsOf signed (patched code base pc gw k l)) p 0 ∙ ap asI64 (sums .patched-row signed code base pc gw k l p h))
+
+  rows-patched : T (not (outOfPlace (width pc) (length (k .values)) (l .values))) → (p : ℕ) → p < length (k .values) → Patched code base pc k l out′ p
+  unfolding outOfPlace patches
+  rows-patched n p h =
+      let es : List ℕ = l .values in
+      let m : T (not (shared (patchesFrom (width pc) 0 es))) = not-left (shared (patchesFrom (width pc) 0 es)) (outside (length (k .values)) (patchesFrom (width pc) 0 es)) (not-right (lastIsSkip (width pc) es) _ n) in
+      record {
+        named = λ j f. row-at p h ∙ rw (patch-there (width pc) 0 es j p (from-named (width pc) es j p f) m);
+        other = λ f. row-at p h ∙ rw (patch-none (width pc) 0 es p (λ j g. f j (named-from (width pc) es j p g)), zero-mul, add-zero);
+      }
+
+pub patch-lists : PatchLists
+patch-lists = record {
+  any-bytes = λ w n bs h e. (_, any-block w n bs h e .0, any-block w n bs h e .1);
+  either-way = λ code base pc gw k l v few list input at signed out out′ r h rest e room.
+      go code base pc gw k l v few list input at signed out out′ r h rest e room (outOfPlace (width pc) (length (k .values)) (l .values)) refl;
+}
+  where
+    go : (code : ℕ) (base : List ℕ) (pc gw : ℕ) (k l : Block) → Valid (patched code base pc gw k noList)
+        → length (l .values) < 32 → IsBlock (entryWidth pc gw) (length (l .values)) l
+        → (input : List ℕ) (at : ℕ) (signed : Bool) (out out′ : List ℤ) (r : Answer) → RunRead input at signed out out′ r
+        → (rest : List ℕ) → drop at input ≡ layout (patched code base pc gw k l) ++ rest → length (k .values) ≤ length out
+        → (t : Bool) → outOfPlace (width pc) (length (k .values)) (l .values) ≡ t
+        → PatchLists.Refused pc k l at out out′ r ⊎ PatchLists.Rows code base pc gw k l out out′ r
+    go code base pc gw k l v few list input at signed out out′ r h rest e room true t =
+        inl (record {
+          out-of-place = out-of-place (width pc) (length (k .values)) (l .values) .0 (rw t tt);
+          answer = rw (e, patched-read code base pc gw k l rest v few list, t, into-refused (length out)) at (h .answer);
+          places = rw (e, patched-read code base pc gw k l rest v few list, t, into-refused (length out)) at (h .places);
+        })
+    go code base pc gw k l v few list input at signed out out′ r h rest e room false t =
+        let places : out′ ≡ i64Rows signed (patched code base pc gw k l) ++ drop (length (k .values)) out =
+        rw (e, patched-read code base pc gw k l rest v few list, t, into-got (length out) (patched code base pc gw k l) rest room) at (h .places) in
+        inr (record {
+          in-place = λ o. never-both (outOfPlace (width pc) (length (k .values)) (l .values)) (out-of-place (width pc) (length (k .values)) (l .values) .1 o) (rw t tt);
+          answer = rw (e, patched-read code base pc gw k l rest v few list, t, into-got (length out) (patched code base pc gw k l) rest room) at (h .answer);
+          rows = rows-patched code base pc gw k l out out′ signed places (rw t tt);
+          others = ap (drop (length (k .values))) places ∙ drop-at (i64Rows signed (patched code base pc gw k l)) (drop (length (k .values)) out) (length (k .values)) (rows-length code base pc gw k l out out′ signed places);
+        })
