@@ -1,4 +1,3 @@
 -- What the contracts of the shared fields cite beyond the definitions of `format`.
 pub mod Width
--- The definitions that the contracts cite, beside those of `format`.
 pub mod Packed
