@@ -43,18 +43,6 @@ digits-low q z =
     let e : z ≡ z / 2 ^ (8 * q) * 256 ^ q + z % 2 ^ (8 * q) = rw bytes-pow (sym (split z (8 * q))) in
     sym (ap (digits 256 q) e ∙ digits-high 256 (pow-pos 8) q (z / 2 ^ (8 * q)) (z % 2 ^ (8 * q)))
 
--- one more of a word's highest bytes
-top-more : (x j : ℕ) → j < 8 → digits 256 (j + 1) (x / 256 ^ (8 - (j + 1))) ≡ digits 256 j (x / 256 ^ (8 - j)) ++ (x / 2 ^ (56 - 8 * j) % 256 ∷ [])
-top-more x j h =
-    let e : 8 * (8 - suc j) ≡ 56 - 8 * j = omega arith in
-    let f : 56 - 8 * j + 8 ≡ 8 * (8 - j) = omega arith in
-    rw (add-one, digits-snoc, bytes-pow (8 - suc j), e, shr-shr x (56 - 8 * j) 8, f, bytes-pow (8 - j))
-
--- and one more of them written
-pub put-more : (x i j v : ℕ) (out₀ out : List ℕ) → j < 8 → i + j < length out → v ≡ x / 2 ^ (56 - 8 * j) % 256
-    → take (i + j) out ≡ take i out₀ ++ digits 256 j (x / 256 ^ (8 - j)) → take (i + (j + 1)) (set out (i + j) v) ≡ take i out₀ ++ digits 256 (j + 1) (x / 256 ^ (8 - (j + 1)))
-put-more x i j v out₀ out h l f e = rw (top-more x j h, ← add-assoc, add-one (i + j), take-suc-set out (i + j) v l, e, f, append-assoc)
-
 -- ---- a field v after the number N, of which the t lowest bits are at the top of a word
 
 module _ (N v w t : ℕ) (hv : v < 2 ^ w) (ht : t < 64) (hw : w ≤ 64) where
@@ -95,15 +83,15 @@ module _ (N v w t : ℕ) (hv : v < 2 ^ w) (ht : t < 64) (hw : w ≤ 64) where
         rw (full, digits-low 8, digits-add 256 b 8, shr-shr _ (t + w - 64) 64, e, passed)
 
 -- the last bytes, with zeros for padding
-last-bytes : (N b t q pad : ℕ) → t < 64 → q ≤ 8 → 8 * q ≡ pad + t → digits 256 (b + q) (N * 2 ^ pad) ≡ digits 256 b (N / 2 ^ t) ++ digits 256 q (N * 2 ^ (64 - t) % 2 ^ 64 / 256 ^ (8 - q))
+last-bytes : (N b t q pad : ℕ) → t < 64 → q ≤ 8 → 8 * q ≡ pad + t → digits 256 (b + q) (N * 2 ^ pad) ≡ digits 256 b (N / 2 ^ t) ++ digits 256 q (N * 2 ^ (64 - t) % 2 ^ 64 / 2 ^ (64 - 8 * q))
 last-bytes N b t q pad ht hq e =
-    let c = 8 * (8 - q) in
+    let c = 64 - 8 * q in
     let f : 8 * q + c ≡ 64 = omega arith in
     let g : 64 - t ≡ pad + c = omega arith in
     let y : N * 2 ^ (64 - t) % 2 ^ 64 / 2 ^ c ≡ N * 2 ^ pad % 2 ^ (8 * q)
     = ap (λ (z : ℕ). N * 2 ^ (64 - t) % 2 ^ z / 2 ^ c) (sym f) ∙ rw (field, g, pow-add 2 pad c, ← mul-assoc, shl-shr) in
     let z : N * 2 ^ pad / 2 ^ (8 * q) ≡ N / 2 ^ t = rw (e, ← shr-shr, shl-shr) in
-    rw (digits-add 256 b q, bytes-pow q, z, bytes-pow (8 - q), y, digits-low)
+    rw (digits-add 256 b q, bytes-pow q, z, y, digits-low)
 
 -- ---- the values before k are packed at `at`: b bytes are written, and t bits stand at the top of x
 
@@ -143,18 +131,18 @@ module _ (w at : ℕ) (vals out₀ out : List ℕ) (x t b k : ℕ) (hw : w ≤ 6
   full-fits h = rw (i .top, full N (getD vals k 0) w t hv (i .few) hw h) (mod-lt _ (pow-pos 64))
 
   pub holds-full : 64 ≤ t + w → (out′ : List ℕ) → at + b + 8 ≤ length out
-      → out′ ≡ (take (at + b) out ++ digits 256 8 ((x + getD vals k 0 / 2 ^ (t + w - 64)) / 256 ^ (8 - 8))) ++ drop (at + b + 8) out
+      → out′ ≡ (take (at + b) out ++ digits 256 8 (x + getD vals k 0 / 2 ^ (t + w - 64))) ++ drop (at + b + 8) out
       → Holds w at vals out₀ out′ (getD vals k 0 * 2 ^ (64 - (t + w - 64)) % 2 ^ 64) (t + w - 64) (b + 8) (k + 1)
   holds-full h out′ l e =
       let v = getD vals k 0 in
-      let piece = digits 256 8 ((x + v / 2 ^ (t + w - 64)) / 256 ^ (8 - 8)) in
+      let piece = digits 256 8 (x + v / 2 ^ (t + w - 64)) in
       let s : at + b ≤ length out = omega arith in
       let n : length piece ≡ 8 = length-digits 256 8 _ in record {
         place = omega (arith, i .place);
         few = omega (arith, i .few);
         top = rw one-more (left N v w t hv (i .few) hw h);
         long = long-by out out′ piece (at + b) 8 s n e l ∙ i .long;
-        front = rw (← (add-assoc at b 8), front-is out out′ piece (at + b) 8 s n e, i .front, i .top, div-one, append-assoc, one-more, eight-more N v w t hv (i .few) hw h b);
+        front = rw (← (add-assoc at b 8), front-is out out′ piece (at + b) 8 s n e, i .front, i .top, append-assoc, one-more, eight-more N v w t hv (i .few) hw h b);
         back = rw (← (add-assoc at b 8)) (kept-by out out′ piece (at + b) 8 s n e out₀ (i .back));
       }
 
@@ -163,14 +151,15 @@ pub full-room : (w n k b t : ℕ) → k < n → 8 * b + t ≡ k * w → 64 ≤ t
 full-room w n k b t h e f = omega (arith, mul-le-mul-right w h)
 
 -- all n values, and the last bytes
-pub whole : (w at n : ℕ) (vals out₀ out out′ : List ℕ) (x t b : ℕ) → Holds w at vals out₀ out x t b n → at + b + (t + 7) / 8 ≤ length out
-    → out′ ≡ (take (at + b) out ++ digits 256 ((t + 7) / 8) (x / 256 ^ (8 - (t + 7) / 8))) ++ drop (at + b + (t + 7) / 8) out
+pub whole : (w at n : ℕ) (vals out₀ out out′ : List ℕ) (x t b k : ℕ) → k ≡ n → Holds w at vals out₀ out x t b k → at + b + (t + 7) / 8 ≤ length out
+    → out′ ≡ (take (at + b) out ++ digits 256 ((t + 7) / 8) (x / 2 ^ (64 - 8 * ((t + 7) / 8)))) ++ drop (at + b + (t + 7) / 8) out
     → out′ ≡ take at out₀ ++ blockBytes w n (record { values = take n vals; pad = 0 }) ++ drop (at + bytesFor (n * w)) out₀
 unfolding blockBytes
-whole w at n vals out₀ out out′ x t b i l e =
+whole w at n vals out₀ out out′ x t b k r i′ l e =
+    let i : Holds w at vals out₀ out x t b n = rw r at i′ in
     let q = (t + 7) / 8 in
     let N = number (2 ^ w) (take n vals) in
-    let piece = digits 256 q (x / 256 ^ (8 - q)) in
+    let piece = digits 256 q (x / 2 ^ (64 - 8 * q)) in
     let s : at + b ≤ length out = omega arith in
     let c : length piece ≡ q = length-digits 256 q _ in
     let m : bytesFor (n * w) ≡ b + q = omega (arith, i .place) in

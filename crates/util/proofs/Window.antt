@@ -14,6 +14,7 @@ use Rattle.format.specs.Digits.{AllBelow, number, digits}
 use Rattle.format.specs.Fields.{bytesFor, padBits}
 use Rattle.format.proofs.Digits.{spread, spread-number, digits-add, length-digits, number-low, digits-number, number-lt, number-take-suc, getD-digits, pow-pow}
 use Rattle.format.proofs.Fields.{below-take, below-drop}
+use Rattle.format.proofs.Widths.{IsWidth}
 use Rattle.util.specs.Packed.{fields, bits, fieldAt, Width, lowFirst, swap}
 
 -- ---- bits
@@ -27,7 +28,7 @@ length-spread w [] = omega arith
 length-spread w (x ∷ s) = rw (length-append, length-digits, length-spread w s) (omega arith)
 
 -- the bits as a quotient and a remainder
-pub bits-value : (p w : ℕ) (s : List ℕ) → AllBelow 256 s → p + w ≤ 8 * length s
+bits-value : (p w : ℕ) (s : List ℕ) → AllBelow 256 s → p + w ≤ 8 * length s
     → bits p w s ≡ number 256 s / 2 ^ (8 * length s - (p + w)) % 2 ^ w
 unfolding bits
 bits-value p w s d h =
@@ -126,12 +127,10 @@ mask w h =
     let e : w + (64 - w) ≡ 64 = omega arith in
     ap (λ (x : ℕ). (2 ^ x - 1) / 2 ^ (64 - w)) (sym e) ∙ rw (ones-split w (64 - w)) (high (2 ^ w - 1) (64 - w) (ones-lt (64 - w)))
 
--- seven bytes make a number of 56 bits
-pub seven : (s : List ℕ) (i : ℕ) → AllBelow 256 s → i < 8 → number 256 (take i s) < 2 ^ 56
-seven s i d h =
-    lt-of-lt-of-le (number-lt 256 (take i s) (below-take 256 i s d))
-    (pow-le-pow-right {n = 256} (pow-pos 8) {j = 7} (rw length-take (le-trans (min-le-left i (length s)) (omega arith))))
-
 -- field k of n lies within their bytes
 pub field-there : (w n k : ℕ) (s : List ℕ) → k < n → bytesFor (n * w) ≤ length s → w * (k + 1) ≤ 8 * length s
 field-there w n k s h l = omega (arith, mul-le-mul-right w h)
+
+-- each width of the table is one that the window can take
+pub table-width : (w : ℕ) → IsWidth w → Width w
+table-width w h = (h .pos, h .le, h .window)

@@ -6,7 +6,7 @@ use mathlib.Core.List.{append-nil}
 use Prim.Native.Nat.{ℕ, _+_, _-_, _*_, _/_, _%_, _^_, _≤_, _<_}
 use native.Mathlib.Nat.{add-zero}
 use native.Mathlib.Omega.{arith}
-use lib.ListN.{length, getD, take}
+use lib.ListN.{length, getD, take, take-append-drop}
 use lib.Seq.{getD-take}
 use lib.Pow.{pow-pos}
 use borrow.Author.Needs.{needs}
@@ -66,22 +66,22 @@ add-x c =
     let l = at-in .before .loop in
     record { fits = joined-fits (a .w) (a .at) (a .vals .now) (a .out .now) (l .out) (l .x) (l .t) (l .b) (l .k) (at-start .pre .0 .1) (omega arith) (value at-in) (l .inv .1) (c .if1 .taken) }
 
-add-put : tie.Need-add-put Inv-loop μ-loop
-add-put c = omega (arith, room (c .before .before .before) (c .before .if1 .left))
+shr-write : tie.Need-shr-write Inv-loop μ-loop
+shr-write c = omega arith
 
-shr-put : tie.Need-shr-put Inv-loop μ-loop
-shr-put c = omega arith
-
-add-put-2 : tie.Need-add-put-2 Inv-loop μ-loop
-add-put-2 c =
-    let at-in = c .before .before .before in
+add-write : tie.Need-add-write Inv-loop μ-loop
+add-write c =
+    let at-in = c .before .before in
     let at-start = at-in .before .before .before .before in
     let a = at-start .args in
     let l = at-in .before .loop in
-    record { fits = full-fits (a .w) (a .at) (a .vals .now) (a .out .now) (l .out) (l .x) (l .t) (l .b) (l .k) (at-start .pre .0 .1) (omega arith) (value at-in) (l .inv .1) (c .before .if1 .left) }
+    record { fits = full-fits (a .w) (a .at) (a .vals .now) (a .out .now) (l .out) (l .x) (l .t) (l .b) (l .k) (at-start .pre .0 .1) (omega arith) (value at-in) (l .inv .1) (c .if1 .left) }
 
-put-requires : tie.Need-put-requires Inv-loop μ-loop
-put-requires c κs = (omega arith, room (c .before .before .before) (c .before .if1 .left))
+add-write-2 : tie.Need-add-write-2 Inv-loop μ-loop
+add-write-2 c = omega (arith, room (c .before .before .before) (c .before .if1 .left))
+
+write-requires : tie.Need-write-requires Inv-loop μ-loop
+write-requires c κs = (omega arith, omega arith, room (c .before .before .before) (c .before .if1 .left))
 
 add-b : tie.Need-add-b Inv-loop μ-loop
 add-b c =
@@ -122,26 +122,45 @@ last-room c =
     let e : c .before .loop .k ≡ a .n = omega arith in
     omega (arith, ap (λ (y : ℕ). y * a .w) e, c .before .before .before .before .pre .1 .0 .2)
 
-add-put-3 : tie.Need-add-put-3 Inv-loop μ-loop
-add-put-3 c = omega (arith, last-room (c .before))
+add-q : tie.Need-add-q Inv-loop μ-loop
+add-q c = omega arith
 
-add-put-4 : tie.Need-add-put-4 Inv-loop μ-loop
-add-put-4 c = omega arith
+mul-write : tie.Need-mul-write Inv-loop μ-loop
+mul-write c = omega arith
 
-put-requires-2 : tie.Need-put-requires-2 Inv-loop μ-loop
-put-requires-2 c κs = (omega arith, last-room (c .before))
+sub-write : tie.Need-sub-write Inv-loop μ-loop
+sub-write c = omega arith
+
+shr-write-2 : tie.Need-shr-write-2 Inv-loop μ-loop
+shr-write-2 c = omega arith
+
+add-write-3 : tie.Need-add-write-3 Inv-loop μ-loop
+add-write-3 c = omega (arith, last-room (c .before .before))
+
+write-requires-2 : tie.Need-write-requires-2 Inv-loop μ-loop
+write-requires-2 c κs = (omega arith, omega arith, last-room (c .before .before))
 
 same-length : tie.Need-same-length Inv-loop μ-loop
-same-length c = c .before .before .put2 .kept .0 ∙ c .before .before .before .before .before .loop .inv .1 .long
+same-length c = c .before .before .write2 .kept .1 .1 .0 ∙ c .before .before .before .before .before .before .loop .inv .1 .long
 
 returns : tie.Need-returns Inv-loop μ-loop
 returns c =
-    let at-put = c .before .before in
-    let at-after = at-put .before .before in
+    let at-after = c .before .before .before .before .before in
     let a = at-after .before .before .before .before .args in
     let l = at-after .before .loop in
-    let e : l .k ≡ a .n = omega arith in
-    whole (a .w) (a .at) (a .n) (a .vals .now) (a .out .now) (l .out) _ (l .x) (l .t) (l .b) (rw e at (l .inv .1)) (last-room at-after) (at-put .put2 .ensures)
+    whole (a .w) (a .at) (a .n) (a .vals .now) (a .out .now) (l .out) _ (l .x) (l .t) (l .b) (l .k) (omega arith) (l .inv .1) (last-room at-after) (c .before .before .write2 .ensures)
+
+same-length-2 : tie.Need-same-length-2 Inv-loop μ-loop
+same-length-2 c = c .before .before .loop .inv .1 .long
+
+returns-2 : tie.Need-returns-2 Inv-loop μ-loop
+unfolding digits
+returns-2 c =
+    let a = c .before .before .before .before .before .args in
+    let l = c .before .before .loop in
+    let z : l .t ≡ 0 = omega arith in
+    whole (a .w) (a .at) (a .n) (a .vals .now) (a .out .now) (l .out) (l .out) (l .x) (l .t) (l .b) (l .k) (omega arith) (l .inv .1) (last-room (c .before))
+    (rw (z, append-nil, add-zero) (sym (take-append-drop (a .at + l .b) (l .out))))
 
 pub pack-spec : {M : Type 1} → statement M
 pack-spec =
@@ -156,18 +175,23 @@ pack-spec =
     sub-x
     shl-x
     add-x
-    add-put
-    shr-put
-    add-put-2
-    put-requires
+    shr-write
+    add-write
+    add-write-2
+    write-requires
     add-b
     sub-raised
     raised-requires
     add-k
     loop-less
     loop-again
-    add-put-3
-    add-put-4
-    put-requires-2
+    add-q
+    mul-write
+    sub-write
+    shr-write-2
+    add-write-3
+    write-requires-2
     same-length
-    returns)
+    returns
+    same-length-2
+    returns-2)
