@@ -1,5 +1,5 @@
 -- `util::packed::bits_from` meets its contract: all of a short slice holds the bits, or eight bytes do. Assumes nothing.
-use mathlib.Core.Path.{_≡_, sym, _∙_}
+use mathlib.Core.Path.{sym, _∙_}
 use native.Mathlib.Nat.{zero-add}
 use native.Mathlib.Omega.{arith}
 use lib.ListN.{length}
