@@ -1,19 +1,22 @@
 -- What reading packed fields rests on: bits are those of any window of bytes that holds them, and field k of a block is bits k·w to k·w+w-1.
 -- Assumes nothing.
 use mathlib.Core.Path.{_≡_, refl, sym, ap, _∙_}
-use Prim.Native.Nat.{ℕ, zero, suc, _+_, _-_, _*_, _/_, _%_, _^_, _≤_, _<_}
-use native.Mathlib.Nat.{le-refl, lt-of-not-le, lt-of-lt-of-le, le-trans, min-le-left, pow-le-pow-right, mul-le-mul-right, zero-lt-suc}
+use Prim.Native.Nat.{ℕ, suc, _+_, _-_, _*_, _/_, _%_, _^_, _≤_, _<_}
+use native.Mathlib.Nat.{le-refl, le-of-eq, lt-of-not-le, mul-le-mul-right, zero-lt-suc}
 use native.Mathlib.Decide.{decLe}
 use native.Mathlib.Numerals.{add-one, towards-suc}
 use native.Mathlib.Omega.{arith}
-use mathlib.Core.List.{List, [], _∷_, _++_, map, append-assoc, reverse, reverseAux, reverse-reverse}
-use lib.ListN.{length, getD, take, drop, drop-of-length-le, length-append, length-drop, length-take, length-reverse, take-append-drop}
+use mathlib.Core.List.{List, [], _∷_, _++_, map, append-assoc, append-nil, reverse, reverseAux, reverse-reverse}
+use lib.ListN.{length, getD, take, drop, drop-of-length-le, length-append, length-drop, length-reverse, take-append-drop}
 use lib.Seq.{take-at, drop-at, drop-cons, take-append-le, drop-append-le, drop-append-add, length-take-le}
-use lib.Pow.{shr-shr, high, ones-split, ones-lt, pow-pos}
+use lib.Pow.{shr-shr, high, ones-split, ones-lt}
 use Rattle.format.specs.Digits.{AllBelow, number, digits}
-use Rattle.format.specs.Fields.{bytesFor, padBits}
-use Rattle.format.proofs.Digits.{spread, spread-number, digits-add, length-digits, number-low, digits-number, number-lt, number-take-suc, getD-digits, pow-pow}
-use Rattle.format.proofs.Fields.{below-take, below-drop}
+use Rattle.format.specs.Fields.{bytesFor, padBits, Block, IsBlock, blockBytes}
+use Rattle.format.specs.Parse.{got}
+use Rattle.format.proofs.Digits.{spread, spread-number, digits-add, length-digits, number-low, digits-number, getD-digits, pow-pow}
+use Rattle.format.proofs.Fields.{below-take, below-drop, length-block, block-below, block-complete}
+use Rattle.format.proofs.Reading.{blockAt, block-here}
+use Rattle.format.proofs.Widths.{IsWidth}
 use Rattle.util.specs.Packed.{fields, bits, fieldAt, Width, lowFirst, swap}
 
 -- ---- bits
@@ -27,7 +30,7 @@ length-spread w [] = omega arith
 length-spread w (x ∷ s) = rw (length-append, length-digits, length-spread w s) (omega arith)
 
 -- the bits as a quotient and a remainder
-pub bits-value : (p w : ℕ) (s : List ℕ) → AllBelow 256 s → p + w ≤ 8 * length s
+bits-value : (p w : ℕ) (s : List ℕ) → AllBelow 256 s → p + w ≤ 8 * length s
     → bits p w s ≡ number 256 s / 2 ^ (8 * length s - (p + w)) % 2 ^ w
 unfolding bits
 bits-value p w s d h =
@@ -63,7 +66,7 @@ window s i m p w d h lo hi =
 
 -- ---- fields
 
--- Document 01's words, for any width: field k of n is bits k·w to k·w+w-1, highest bit of each byte first.
+-- Document 01's words, for any width: field k of n that s begins with is bits k·w to k·w+w-1, highest bit of each byte first.
 pub field-at : (w n k : ℕ) (s : List ℕ) → AllBelow 256 s → k < n → bytesFor (n * w) ≤ length s → getD (fields w n s) k 0 ≡ fieldAt w k s
 field-at w n k s d h l =
     let m = bytesFor (n * w) in
@@ -74,6 +77,21 @@ field-at w n k s d h l =
 
 pub length-fields : (w n : ℕ) (s : List ℕ) → length (fields w n s) ≡ n
 length-fields w n s = length-digits (2 ^ w) n _
+
+-- a block's own fields are read back, and so is each by its bits
+pub fields-block : (w n : ℕ) (b : Block) (rest : List ℕ) → IsBlock w n b → fields w n (blockBytes w n b ++ rest) ≡ b .values
+fields-block w n b rest v =
+    let s = blockBytes w n b ++ rest in
+    let e : got (blockAt s 0 w n) (drop (0 + bytesFor (n * w)) s) ≡ got b rest
+    = sym (block-here s 0 6 w n (omega (arith, length-append (blockBytes w n b) rest, length-block w n b))) ∙ block-complete w n b v 6 rest in
+    let u : blockAt s 0 w n ≡ b = cc in
+    ap (λ (y : Block). y .values) u
+
+pub block-field : (w n k : ℕ) (b : Block) → IsBlock w n b → k < n → getD (b .values) k 0 ≡ fieldAt w k (blockBytes w n b)
+block-field w n k b v h =
+    let s = blockBytes w n b in
+    let e : fields w n s ≡ b .values = rw append-nil at (fields-block w n b [] v) in
+    sym (ap (λ (l : List ℕ). getD l k 0) e) ∙ field-at w n k s (block-below w n b v) h (le-of-eq (sym (length-block w n b)))
 
 -- the turn of a loop over the fields: field k, and then the rest
 pub next-field : {A : Type 0} (f : ℕ → A) (w n k : ℕ) (s : List ℕ) → AllBelow 256 s → k < n → bytesFor (n * w) ≤ length s
@@ -126,12 +144,10 @@ mask w h =
     let e : w + (64 - w) ≡ 64 = omega arith in
     ap (λ (x : ℕ). (2 ^ x - 1) / 2 ^ (64 - w)) (sym e) ∙ rw (ones-split w (64 - w)) (high (2 ^ w - 1) (64 - w) (ones-lt (64 - w)))
 
--- seven bytes make a number of 56 bits
-pub seven : (s : List ℕ) (i : ℕ) → AllBelow 256 s → i < 8 → number 256 (take i s) < 2 ^ 56
-seven s i d h =
-    lt-of-lt-of-le (number-lt 256 (take i s) (below-take 256 i s d))
-    (pow-le-pow-right {n = 256} (pow-pos 8) {j = 7} (rw length-take (le-trans (min-le-left i (length s)) (omega arith))))
-
 -- field k of n lies within their bytes
 pub field-there : (w n k : ℕ) (s : List ℕ) → k < n → bytesFor (n * w) ≤ length s → w * (k + 1) ≤ 8 * length s
 field-there w n k s h l = omega (arith, mul-le-mul-right w h)
+
+-- each width of the table is one that the window can take
+pub table-width : (w : ℕ) → IsWidth w → Width w
+table-width w h = (h .pos, h .le, h .window)

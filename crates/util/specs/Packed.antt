@@ -1,9 +1,9 @@
 -- Packed fields, as they are read out of bytes (document 01, "Packed fields"). Assumes nothing.
 use mathlib.Core.Path.{_≡_}
 use Prim.Native.Nat.{ℕ, _+_, _*_, _/_, _%_, _≤_, _<_}
-use mathlib.Core.List.{List, [], _∷_, _++_}
+use mathlib.Core.List.{List}
 use lib.ListN.{getD, take, drop}
-use Rattle.format.specs.Digits.{number, digits}
+use Rattle.format.specs.Digits.{number}
 use Rattle.format.specs.Fields.{bytesFor}
 use Rattle.format.specs.Parse.{unpack}
 use Rattle.format.proofs.Digits.{spread}

@@ -3,10 +3,11 @@ ghost use mathlib.Core.Path.{_≡_};
 ghost use mathlib.Core.List.{_++_, map};
 ghost use Prim.Native.Nat.{_+_, _-_, _*_, _/_, _%_, _^_, _≤_, _<_};
 ghost use lib.ListN.{length, take, drop};
-ghost use Rattle.format.specs.Digits.{AllBelow, number, digits};
+ghost use Rattle.format.specs.Digits.{AllBelow, number};
 ghost use Rattle.format.specs.Fields.{bytesFor, blockBytes};
 ghost use Rattle.format.specs.Rows.{asI64};
 ghost use Rattle.util.specs.Packed.{fields, bits, fieldAt, Width, lowFirst, swap};
+use crate::big_endian;
 use crate::pattern;
 
 fn wide(x: u8) -> u64
@@ -52,20 +53,6 @@ fn word(s: &[u8], i: usize) -> u64
     swapped(low_first(s, i))
 }
 
-// The number that fewer than eight bytes make.
-fn short(s: &[u8]) -> u64
-    requires { ⌜ length (now s) < 8 ⌝ }
-    ensures { λ r. ⌜ r ≡ number 256 (now (s .entry)) ⌝ }
-{
-    let mut x = 0;
-    let mut i = 0;
-    while i < s.len() {
-        x = x * 256 + wide(s[i]);
-        i += 1;
-    }
-    x
-}
-
 // The w bits of x above its lowest `low`.
 pub fn cut(x: u64, low: usize, w: usize) -> u64
     requires { ⌜ (0 < w) × (w + low ≤ 64) ⌝ }
@@ -89,7 +76,7 @@ fn bits_from(s: &[u8], p: usize, w: usize) -> u64
 {
     let len = s.len();
     if len < 8 {
-        return cut(short(s), 8 * len - (p + w), w);
+        return cut(big_endian::read(s, 0, len), 8 * len - (p + w), w);
     }
     let i = window(len, p, w);
     cut(word(s, i), 8 * (i + 8) - (p + w), w)
@@ -126,12 +113,6 @@ pub fn unpack(s: &[u8], w: usize, n: usize, out: &mut [i64])
     }
 }
 
-fn byte(x: u64) -> u8
-    ensures { λ r. ⌜ r ≡ x % 256 ⌝ }
-{
-    (x % 256) as u8
-}
-
 // x moved up by c bits. Two shifts, since c can be 64.
 fn raised(x: u64, c: usize) -> u64
     requires { ⌜ c ≤ 64 ⌝ }
@@ -140,14 +121,33 @@ fn raised(x: u64, c: usize) -> u64
     (x << (c / 2)) << (c - c / 2)
 }
 
-// The q highest bytes of x, written at i.
-fn put(out: &mut [u8], i: usize, x: u64, q: usize)
-    requires { ⌜ (q ≤ 8) × (i + q ≤ length (now out)) ⌝ }
-    ensures { λ _. ⌜ now (out .exit) ≡ (take i (now (out .entry)) ++ digits 256 q (x / 256 ^ (8 - q))) ++ drop (i + q) (now (out .entry)) ⌝ }
+// The first n of vals as fields, written at `at` with zeros for padding. Of the values before k, b bytes are written, and the t bits after
+// those stand at the top of x.
+pub fn pack(vals: &[u64], n: usize, w: usize, out: &mut [u8], at: usize)
+    requires { ⌜ Width w ⌝ }
+    requires { ⌜ (n ≤ 65536) × (n ≤ length (now vals)) × (at + bytesFor (n * w) ≤ length (now out)) ⌝ }
+    requires { ⌜ AllBelow (2 ^ w) (take n (now vals)) ⌝ }
+    ensures { λ _. ⌜ now (out .exit) ≡ take at (now (out .entry)) ++ blockBytes w n (record { values = take n (now (vals .entry)); pad = 0 }) ++ drop (at + bytesFor (n * w)) (now (out .entry)) ⌝ }
 {
-    let mut j = 0;
-    while j < q {
-        out[i + j] = byte(x >> (56 - 8 * j));
-        j += 1;
+    let mut x = 0;
+    let mut t = 0;
+    let mut b = 0;
+    let mut k = 0;
+    while k < n {
+        let v = vals[k];
+        t += w;
+        if t < 64 {
+            x += v << (64 - t);
+        } else {
+            t -= 64;
+            big_endian::write(x + (v >> t), 8, out, at + b);
+            b += 8;
+            x = raised(v, 64 - t);
+        }
+        k += 1;
+    }
+    if 0 < t {
+        let q = (t + 7) / 8;
+        big_endian::write(x >> (64 - 8 * q), q, out, at + b);
     }
 }

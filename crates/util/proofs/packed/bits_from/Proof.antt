@@ -1,13 +1,16 @@
--- `util::packed::bits_from` meets its contract: the whole of a short slice holds the bits, or the window does. Assumes nothing.
-use mathlib.Core.Path.{_≡_, sym, _∙_}
+-- `util::packed::bits_from` meets its contract: all of a short slice holds the bits, or eight bytes do. Assumes nothing.
+use mathlib.Core.Path.{sym, _∙_}
+use native.Mathlib.Nat.{zero-add}
+use native.Mathlib.Omega.{arith}
+use lib.ListN.{length}
 use Rattle.format.proofs.Fields.{below-all}
-use Rattle.util.proofs.Window.{bits-value, window}
+use Rattle.util.proofs.Window.{window}
 use borrow.Author.Needs.{needs}
 use Rattle.util.proofs.packed.bits_from.Statement.{statement}
 use Rattle.util.proofs.packed.bits_from.Tie as tie
 
-short-requires : tie.Need-short-requires
-short-requires c κs = search needs
+read-requires : tie.Need-read-requires
+read-requires c κs = search needs
 
 mul-cut : tie.Need-mul-cut
 mul-cut c = search needs
@@ -26,7 +29,8 @@ returns c =
     let at-known = c .before .before .before in
     let a = at-known .before .args in
     let s = a .s .now in
-    c .cut .ensures ∙ rw (c .before .short .ensures) (sym (bits-value (a .p) (a .w) s (below-all 256 s (λ k. at-known .shared-slice-known .given k .fits)) (at-known .before .pre .2)))
+    c .cut .ensures
+    ∙ rw (c .before .read .ensures) (sym (rw zero-add at (window s 0 (length s) (a .p) (a .w) (below-all 256 s (λ k. at-known .shared-slice-known .given k .fits)) (omega arith) (omega arith) (omega arith))))
 
 window-requires : tie.Need-window-requires
 window-requires c κs = search needs
@@ -63,7 +67,7 @@ pub bits-from-spec : {M : Type 1} → statement M
 bits-from-spec =
     tie.close
     (tie.spec
-    short-requires
+    read-requires
     mul-cut
     add-cut
     sub-cut

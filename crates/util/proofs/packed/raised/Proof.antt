@@ -1,6 +1,6 @@
 -- `util::packed::raised` meets its contract: bits that are shifted out do not matter. Assumes nothing.
-use mathlib.Core.Path.{_≡_, ap, _∙_}
-use Prim.Native.Nat.{ℕ, _+_, _-_, _*_, _/_, _%_, _^_}
+use mathlib.Core.Path.{ap, _∙_}
+use Prim.Native.Nat.{ℕ, _-_, _*_, _/_, _%_, _^_}
 use native.Mathlib.Omega.{arith}
 use Rattle.util.proofs.Packing.{raised-is}
 use borrow.Author.Needs.{needs}

@@ -1,6 +1,5 @@
 -- `util::packed::word` meets its contract: the bytes are turned round twice. Assumes nothing.
 use mathlib.Core.Path.{_∙_, ap}
-use native.Mathlib.Omega.{arith}
 use borrow.Author.Needs.{needs}
 use Rattle.format.proofs.Fields.{below-all}
 use Rattle.util.specs.Packed.{swap}
