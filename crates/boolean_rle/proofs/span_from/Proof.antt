@@ -6,7 +6,6 @@ use borrow.Author.Needs.{needs}
 use denote.Ref.{now}
 use lib.ListN.{length, drop, length-drop}
 use Rattle.format.specs.Booleans.{ByteRun, joinedRuns, byteRuns}
-use Rattle.format.proofs.Fields.{below-all}
 use Rattle.format.proofs.Booleans.{runs-none}
 use Rattle.boolean_rle.specs.Found.{foundIn, spanOf}
 use Rattle.boolean_rle.proofs.Laws.{Here, here, further, further-zero, span-cut, Passed, pass}
@@ -27,7 +26,7 @@ run-here c =
     let r = c .before .before in
     let l = r .before .before .before .before in
     here (now (l .before .before .args .input)) (l .loop .end) (r .run .given .0 .0)
-    (below-all 256 (now (l .before .before .args .input)) (λ i. l .before .shared-slice-known .given i .fits))
+    (λ i. l .before .shared-slice-known .given i .fits)
     (sym (r .before .before .run-at .ensures) ∙ r .run .given .1)
 
 loop-holds : tie.Need-loop-holds Inv-loop μ-loop
