@@ -185,6 +185,12 @@ byte-at s p e (literals bs) h i l =
 pub bytes-are : (s : List ℕ) (p : ℕ) (e : code.ByteRun) (d : ByteRun) → Here s p e d → bytesIn (byteRun (drop p s)) ≡ runBytes d
 bytes-are s p e d h = ap bytesIn (h .is-run)
 
+pub length-bytes : (m : Parsed ByteRun) (e : code.ByteRun) → foundIn m ≡ found.Run e → length (bytesIn m) ≡ e .count
+unfolding countIn
+length-bytes end e f = ap countIn f
+length-bytes (got d rest) e f = length-run d ∙ ap countIn f
+length-bytes (refused r) e f = ap countIn f
+
 -- ---- bits in places
 
 -- one place more of what is to stand there
