@@ -233,3 +233,70 @@ byte-more bs k i m o out out′ h w v all d more e f =
     ∙ drop-append-le (8 * i) (bits bs) more (rw length-bits (omega arith))
     ∙ ap (λ (x : List ℕ). x ++ more) (bits-from bs i h) ∙ append-assoc (digits 2 8 (getD bs i 0)) (bits (drop (suc i) bs)) more in
     v all d (bits (drop (suc i) bs) ++ more) q (w all d more e f)
+
+-- ---- the second pass: the runs after the one at hand
+
+-- the runs that were read begin with the one at hand
+runs-first : (g m : ℕ) (bs : List ℕ) (ds : List ByteRun) (rest : List ℕ) (d : ByteRun) (s : List ℕ) → 0 < m → byteRun bs ≡ got d s → byteRuns g m bs ≡ got ds rest
+    → (f : ℕ) × ((es : List ByteRun) × (byteRuns f (m - byteCount d) s ≡ got es rest) × (ds ≡ d ∷ es))
+unfolding byteRuns
+runs-first zero m bs ds rest d s h e q =
+    let z : _≡_ {A = ℕ} 0 1 = cc (rw (ne-eqb m 0 (omega arith)) at q) in
+    absurd (omega arith)
+runs-first (suc g) m bs ds rest d s h e q = go (byteRuns g (m - byteCount d) s) refl (rw (ne-eqb m 0 (omega arith), e) at q)
+  where
+    go : (r : Parsed (List ByteRun)) → byteRuns g (m - byteCount d) s ≡ r → (then r λ es t. got (d ∷ es) t) ≡ got ds rest
+        → (f : ℕ) × ((es : List ByteRun) × (byteRuns f (m - byteCount d) s ≡ got es rest) × (ds ≡ d ∷ es))
+    go end f q =
+        let z : _≡_ {A = ℕ} 0 1 = cc in
+        absurd (omega arith)
+    go (got es t) f q = (g, (es, cc, cc))
+    go (refused r) f q =
+        let z : _≡_ {A = ℕ} 0 1 = cc in
+        absurd (omega arith)
+
+-- what the second pass knows at a place p of the input, with k places filled: ds are the runs that n booleans need, and `left` those from p on
+pub record Going (s : List ℕ) (n : ℕ) (ds : List ByteRun) (rest out₀ : List ℕ) (p k : ℕ) (out : List ℕ) : Type 0 where
+  pub fuel : ℕ
+  pub left : List ByteRun
+  pub reading : byteRuns fuel (bytesFor (n - k)) (drop p s) ≡ got left rest
+  pub ahead : k < n → drop k (bits (joinedBytes ds)) ≡ bits (joinedBytes left)
+  pub filled : out ≡ take k (bits (joinedBytes ds)) ++ drop k out₀
+
+module _ (s : List ℕ) (n : ℕ) (ds : List ByteRun) (rest out₀ : List ℕ) where
+  pub going-from : (at : ℕ) → booleans n (drop at s) ≡ got ds rest → Going s n ds rest out₀ at 0 out₀
+  unfolding booleans
+  going-from at e = record { fuel = length (drop at s); left = ds; reading = rw sub-zero e; ahead = λ h. refl; filled = refl }
+
+  -- a turn: the run at p is laid down
+  pub going-on : (p k : ℕ) (out out′ : List ℕ) (k′ : ℕ) (e : code.ByteRun) (d : ByteRun) → Here s p e d → k < n → k′ ≡ min n (k + 8 * e .count)
+      → Wrote k k′ (bits (runBytes d)) out out′ → Going s n ds rest out₀ p k out → Going s n ds rest out₀ (p + e .size) k′ out′
+  unfolding joinedBytes
+  going-on p k out out′ k′ e d h l z w g =
+      let (f, (es, r, q)) = runs-first (g .fuel) (bytesFor (n - k)) (drop p s) (g .left) rest d (drop (p + e .size) s) (omega arith) (h .is-run) (g .reading) in
+      let m : bytesFor (n - k) - byteCount d ≡ bytesFor (n - k′) = omega (arith, h .count-is) in
+      let a : drop k (bits (joinedBytes ds)) ≡ bits (runBytes d) ++ bits (joinedBytes es) =
+      g .ahead l ∙ ap (λ (x : List ByteRun). bits (joinedBytes x)) q ∙ bits-append (runBytes d) (joinedBytes es) in
+      let b : length (bits (runBytes d)) ≡ 8 * e .count = length-bits (runBytes d) ∙ ap (λ (x : ℕ). 8 * x) (length-run d ∙ h .count-is) in
+      record {
+        fuel = f;
+        left = es;
+        reading = rw m at r;
+        ahead = λ u.
+            let v : k′ ≡ k + 8 * e .count = omega arith in
+            ap (λ (x : ℕ). drop x (bits (joinedBytes ds))) v ∙ sym (drop-drop (8 * e .count) k (bits (joinedBytes ds)))
+            ∙ ap (λ (x : List ℕ). drop (8 * e .count) x) a ∙ drop-at (bits (runBytes d)) (bits (joinedBytes es)) (8 * e .count) b;
+        filled = w (bits (joinedBytes ds)) out₀ (bits (joinedBytes es)) a (g .filled);
+      }
+
+  -- no run that n booleans need is cut
+  pub going-whole : (p k : ℕ) (out : List ℕ) → k < n → Going s n ds rest out₀ p k out → foundIn (byteRun (drop p s)) ≡ found.Cut → ⊥
+  going-whole p k out l g f =
+      let c : spanOf (byteRuns (g .fuel) (bytesFor (n - k)) (drop p s)) ≡ span.Cut = span-cut (g .fuel) (bytesFor (n - k)) (drop p s) (omega arith) f in
+      let w : span.Whole (length (joinedRuns (g .left))) ≡ span.Cut = rw (g .reading) at c in
+      let z : _≡_ {A = ℕ} 0 1 = cc in
+      omega arith
+
+  pub going-done : (p k : ℕ) (out : List ℕ) → k ≡ n → Going s n ds rest out₀ p k out → out ≡ booleansOf n ds ++ drop n out₀
+  unfolding booleansOf
+  going-done p k out e g = rw e at (g .filled)
