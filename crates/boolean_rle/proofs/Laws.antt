@@ -7,21 +7,24 @@ use native.Mathlib.Numerals.{add-one}
 use mathlib.Core.List.{List, [], _∷_, _++_, append-assoc, append-nil}
 use lib.ListN.{length, getD, take, drop, set, getD-replicate, length-append, length-drop, drop-of-length-le, List·getD-append}
 use lib.Seq.{drop-drop, drop-at, drop-cons, drop-append-le, drop-append-add, set-at, take-suc, append-snoc, length-take-le, getD-drop}
+use lib.Dec.{eqb→eq}
 use borrow.Author.Tests.{lt-ltb, le-ltb, ne-eqb}
 use Rattle.format.specs.Digits.{digits}
 use Rattle.format.specs.Fields.{bytesFor}
-use Rattle.format.specs.Parse.{Parsed, end, got, refused, cutIn, then}
-use Rattle.format.specs.Booleans.{ByteRun, repeat, literals, ValidRun, runLayout, runBytes, byteCount, joinedRuns, joinedBytes, bits, booleansOf, repeatRun, byteRun, byteRuns, booleans}
+use Rattle.format.specs.Parse.{Parsed, end, got, refused, plain, cutIn, then}
+use Rattle.format.specs.Answers.{ran, refusedAt}
+use Rattle.format.specs.declared.Kind.the-variants.{Booleans}
+use Rattle.format.specs.Booleans.{ByteRun, repeat, literals, ValidRun, runLayout, runBytes, byteCount, joinedRuns, joinedBytes, bits, booleansOf, repeatRun, byteRun, byteRuns, booleans, booleansInto, BooleansRead}
 use Rattle.format.proofs.Digits.{length-digits, getD-digits}
 use Rattle.format.proofs.Fields.{Post, at-got, at-refused, Took, below-all, below-drop}
-use Rattle.format.proofs.Booleans.{run-sound, runs-none, length-run, length-bits, bits-append}
+use Rattle.format.proofs.Booleans.{Only6, six, run-sound, runs-6, length-run, length-bits, bits-append}
 use Rattle.format.proofs.Reading.{byte-here, bytes-here, bytes-cut}
 use Rattle.boolean_rle.specs.declared.ByteRun as code
 use Rattle.boolean_rle.specs.declared.Found.{Found}
 use Rattle.boolean_rle.specs.declared.Found.the-variants as found
 use Rattle.boolean_rle.specs.declared.Span.{Span}
 use Rattle.boolean_rle.specs.declared.Span.the-variants as span
-use Rattle.boolean_rle.specs.Found.{foundIn, bytesIn, spanOf, Wrote}
+use Rattle.boolean_rle.specs.Found.{foundIn, bytesIn, spanOf, Wrote, Filled}
 
 -- ---- a run at the place p of s, by the tests that the reader makes
 
@@ -300,3 +303,43 @@ module _ (s : List ℕ) (n : ℕ) (ds : List ByteRun) (rest out₀ : List ℕ) w
   pub going-done : (p k : ℕ) (out : List ℕ) → k ≡ n → Going s n ds rest out₀ p k out → out ≡ booleansOf n ds ++ drop n out₀
   unfolding booleansOf
   going-done p k out e g = rw e at (g .filled)
+
+-- ---- what the call gives, by what the first pass finds
+
+module _ (input : List ℕ) (at n : ℕ) (out : List ℕ) where
+  pub reads-cut : spanOf (booleans n (drop at input)) ≡ span.Cut → BooleansRead input at n out out (refusedAt 6 at)
+  unfolding booleansInto booleans
+  reads-cut e = go (booleans n (drop at input)) refl (runs-6 (length (drop at input)) (bytesFor n) (drop at input)) e
+    where
+      go : (m : Parsed (List ByteRun)) → booleans n (drop at input) ≡ m → Only6 m → spanOf m ≡ span.Cut → BooleansRead input at n out out (refusedAt 6 at)
+      go (got ds rest) f o e =
+          let z : _≡_ {A = ℕ} 0 1 = cc in
+          absurd (omega arith)
+      go (refused (plain k)) f (six t) e = record { answer = rw f (ap (λ (x : ℕ). refusedAt x at) (sym (eqb→eq k 6 t))); places = rw f }
+
+  module _ (k : ℕ) (e : spanOf (booleans n (drop at input)) ≡ span.Whole k) where
+    -- the runs that were found
+    whole : (ds : List ByteRun) × ((rest : List ℕ) × (booleans n (drop at input) ≡ got ds rest) × (length (joinedRuns ds) ≡ k))
+    whole = go (booleans n (drop at input)) refl e
+      where
+        go : (m : Parsed (List ByteRun)) → booleans n (drop at input) ≡ m → spanOf m ≡ span.Whole k
+            → (ds : List ByteRun) × ((rest : List ℕ) × (booleans n (drop at input) ≡ got ds rest) × (length (joinedRuns ds) ≡ k))
+        go end f e =
+            let z : _≡_ {A = ℕ} 0 1 = cc in
+            absurd (omega arith)
+        go (got ds rest) f e = (ds, (rest, f, cc))
+        go (refused r) f e =
+            let z : _≡_ {A = ℕ} 0 1 = cc in
+            absurd (omega arith)
+
+    pub reads-8 : length out < n → BooleansRead input at n out out (refusedAt 8 at)
+    unfolding booleansInto
+    reads-8 h =
+        let (ds, (rest, f, l)) = whole in
+        record { answer = rw (f, lt-ltb (length out) n h); places = rw (f, lt-ltb (length out) n h) }
+
+    pub reads-all : (out′ : List ℕ) → n ≤ length out → Filled n (booleans n (drop at input)) out out′ → BooleansRead input at n out out′ (ran Booleans n k)
+    unfolding booleansInto
+    reads-all out′ h w =
+        let (ds, (rest, f, l)) = whole in
+        record { answer = rw (f, le-ltb (length out) n h, l); places = rw (f, le-ltb (length out) n h) (w ds rest f) }

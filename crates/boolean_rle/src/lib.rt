@@ -5,7 +5,7 @@ ghost use Prim.Native.Nat.{_+_, _-_, _*_, _≤_, _<_, min};
 ghost use lib.ListN.{length, drop, getD};
 ghost use Rattle.format.specs.Digits.{digits};
 ghost use Rattle.format.specs.Fields.{bytesFor};
-ghost use Rattle.format.specs.Booleans.{byteRun, byteRuns, booleans, bits, BooleansRead};
+ghost use Rattle.format.specs.Booleans.{byteRun, booleans, bits, BooleansRead};
 ghost use Rattle.boolean_rle.specs.Found.{foundIn, bytesIn, spanOf, Wrote, Filled};
 use format::Answer;
 use format::ByteOffset;
@@ -58,6 +58,13 @@ fn run_at(input: &[u8], at: usize) -> Found
     })
 }
 
+// How many bytes hold n booleans.
+fn bytes_for(n: usize) -> usize
+    ensures { λ r. ⌜ r ≡ bytesFor n ⌝ }
+{
+    if n % 8 == 0 { n / 8 } else { n / 8 + 1 }
+}
+
 // a - b, or 0.
 fn less(a: usize, b: usize) -> usize
     ensures { λ r. ⌜ r ≡ a - b ⌝ }
@@ -65,12 +72,12 @@ fn less(a: usize, b: usize) -> usize
     if b <= a { a - b } else { 0 }
 }
 
-// How many bytes the runs take that `needed` bytes need, from a position on.
-fn span_from(input: &[u8], at: usize, needed: usize) -> Span
-    ensures { λ r. ⌜ r ≡ spanOf (byteRuns (length (drop at (now (input .entry)))) needed (drop at (now (input .entry)))) ⌝ }
+// The first pass: how many bytes the runs take that n booleans need, from a position on.
+fn span_from(input: &[u8], at: usize, n: usize) -> Span
+    ensures { λ r. ⌜ r ≡ spanOf (booleans n (drop at (now (input .entry)))) ⌝ }
 {
     let mut end = at;
-    let mut left = needed;
+    let mut left = bytes_for(n);
     while 0 < left {
         let Found::Run(run) = run_at(input, end) else {
             return Span::Cut;
@@ -153,20 +160,13 @@ fn put_booleans(input: &[u8], at: usize, n: usize, out: &mut [u8])
     }
 }
 
-// How many bytes hold n booleans.
-fn bytes_for(n: usize) -> usize
-    ensures { λ r. ⌜ r ≡ bytesFor n ⌝ }
-{
-    if n % 8 == 0 { n / 8 } else { n / 8 + 1 }
-}
-
 // n booleans from a position on, as bytes of 0 or 1 in the first n places.
 pub fn read_booleans(input: &[u8], at: ByteOffset, n: RowNumber, out: &mut [u8]) -> Answer
     ensures { λ r. ⌜ BooleansRead (now (input .entry)) (at .bytes) (n .rows) (now (out .entry)) (now (out .exit)) r ⌝ }
 {
     let position = at.bytes;
     let rows = n.rows;
-    let Span::Whole(consumed) = span_from(input, position, bytes_for(rows)) else {
+    let Span::Whole(consumed) = span_from(input, position, rows) else {
         return Answer::refused(6, position);
     };
     if out.len() < rows {
