@@ -4,7 +4,7 @@ use Prim.Native.Nat.{ℕ, _+_}
 use mathlib.Core.List.{List, [], _++_}
 use lib.ListN.{length, take, drop}
 use Rattle.format.specs.Parse.{Parsed, end, got, refused}
-use Rattle.format.specs.Booleans.{ByteRun, runLayout, runBytes, byteCount, joinedRuns}
+use Rattle.format.specs.Booleans.{ByteRun, runLayout, runBytes, byteCount, joinedRuns, booleansOf}
 use Rattle.boolean_rle.specs.declared.Found.{Found}
 use Rattle.boolean_rle.specs.declared.Found.the-variants as found
 use Rattle.boolean_rle.specs.declared.Span.{Span}
@@ -33,3 +33,7 @@ spanOf (refused r) = span.Cut
 abbrev pub Wrote : ℕ → ℕ → List ℕ → List ℕ → List ℕ → Type 0
 Wrote k k′ ys out out′ =
     (all d more : List ℕ) → drop k all ≡ ys ++ more → out ≡ take k all ++ drop k d → out′ ≡ take k′ all ++ drop k′ d
+
+-- the first n places hold the booleans of the runs that were read
+abbrev pub Filled : ℕ → Parsed (List ByteRun) → List ℕ → List ℕ → Type 0
+Filled n m out out′ = (ds : List ByteRun) (rest : List ℕ) → m ≡ got ds rest → out′ ≡ booleansOf n ds ++ drop n out

@@ -1,14 +1,12 @@
 // Booleans: eight to a byte, highest bit first, in byte runs. A first pass over the controls finds what the booleans take, or the refusal;
 // only then is a place written.
 ghost use mathlib.Core.Path.{_≡_};
-ghost use mathlib.Core.List.{List, _++_};
 ghost use Prim.Native.Nat.{_+_, _-_, _*_, _≤_, _<_, min};
-ghost use lib.ListN.{length, drop, getD, take};
+ghost use lib.ListN.{length, drop, getD};
 ghost use Rattle.format.specs.Digits.{digits};
 ghost use Rattle.format.specs.Fields.{bytesFor};
-ghost use Rattle.format.specs.Parse.{got};
-ghost use Rattle.format.specs.Booleans.{ByteRun, byteRun, byteRuns, booleans, booleansOf, bits, BooleansRead};
-ghost use Rattle.boolean_rle.specs.Found.{foundIn, bytesIn, spanOf, Wrote};
+ghost use Rattle.format.specs.Booleans.{byteRun, booleans, bits, BooleansRead};
+ghost use Rattle.boolean_rle.specs.Found.{foundIn, bytesIn, spanOf, Wrote, Filled};
 use format::Answer;
 use format::ByteOffset;
 use format::Kind;
@@ -60,12 +58,26 @@ fn run_at(input: &[u8], at: usize) -> Found
     })
 }
 
-// How many bytes the runs take that `needed` bytes need, from a position on.
-fn span_from(input: &[u8], at: usize, needed: usize) -> Span
-    ensures { λ r. ⌜ r ≡ spanOf (byteRuns (length (drop at (now (input .entry)))) needed (drop at (now (input .entry)))) ⌝ }
+// How many bytes hold n booleans.
+fn bytes_for(n: usize) -> usize
+    ensures { λ r. ⌜ r ≡ bytesFor n ⌝ }
+{
+    if n % 8 == 0 { n / 8 } else { n / 8 + 1 }
+}
+
+// a - b, or 0.
+fn less(a: usize, b: usize) -> usize
+    ensures { λ r. ⌜ r ≡ a - b ⌝ }
+{
+    if b <= a { a - b } else { 0 }
+}
+
+// The first pass: how many bytes the runs take that n booleans need, from a position on.
+fn span_from(input: &[u8], at: usize, n: usize) -> Span
+    ensures { λ r. ⌜ r ≡ spanOf (booleans n (drop at (now (input .entry)))) ⌝ }
 {
     let mut end = at;
-    let mut left = needed;
+    let mut left = bytes_for(n);
     while 0 < left {
         let Found::Run(run) = run_at(input, end) else {
             return Span::Cut;
@@ -76,9 +88,90 @@ fn span_from(input: &[u8], at: usize, needed: usize) -> Span
     Span::Whole(end - at)
 }
 
-// a - b, or 0.
-fn less(a: usize, b: usize) -> usize
-    ensures { λ r. ⌜ r ≡ a - b ⌝ }
+// Byte i of the run at a place.
+fn run_byte(input: &[u8], at: usize, run: ByteRun, i: usize) -> u8
+    requires { ⌜ (foundIn (byteRun (drop at (now input))) ≡ Found.Run run) × (i < run .count) ⌝ }
+    ensures { λ r. ⌜ r ≡ getD (bytesIn (byteRun (drop at (now (input .entry))))) i 0 ⌝ }
 {
-    if b <= a { a - b } else { 0 }
+    if input[at] < 128 {
+        return input[at + 1];
+    }
+    input[at + 1 + i]
+}
+
+// The first m bits of a byte, highest first, in the places from k on.
+fn put_bits(byte: u8, m: usize, out: &mut [u8], k: usize)
+    requires { ⌜ (m ≤ 8) × (k + m ≤ length (now out)) ⌝ }
+    ensures { λ _. ⌜ Wrote k (k + m) (digits 2 8 byte) (now (out .entry)) (now (out .exit)) ⌝ }
+{
+    let mut j = 0;
+    while j < m {
+        out[k + j] = (byte >> (7 - j)) % 2;
+        j += 1;
+    }
+}
+
+// The first bytes of the run at a place, in eight places each, from k on.
+fn put_bytes(input: &[u8], at: usize, run: ByteRun, count: usize, out: &mut [u8], k: usize)
+    requires { ⌜ (foundIn (byteRun (drop at (now input))) ≡ Found.Run run) × (count ≤ run .count) × (k + 8 * count ≤ length (now out)) ⌝ }
+    ensures { λ _. ⌜ Wrote k (k + 8 * count) (bits (bytesIn (byteRun (drop at (now (input .entry)))))) (now (out .entry)) (now (out .exit)) ⌝ }
+{
+    let mut i = 0;
+    while i < count {
+        put_bits(run_byte(input, at, run, i), 8, out, k + 8 * i);
+        i += 1;
+    }
+}
+
+// The booleans of the run at a place, from place k on and up to place n: the place after them.
+fn put_run(input: &[u8], at: usize, run: ByteRun, n: usize, out: &mut [u8], k: usize) -> usize
+    requires { ⌜ (foundIn (byteRun (drop at (now input))) ≡ Found.Run run) × (k ≤ n) × (n ≤ length (now out)) ⌝ }
+    ensures { λ r. ⌜ (r ≡ min n (k + 8 * run .count)) × Wrote k r (bits (bytesIn (byteRun (drop at (now (input .entry)))))) (now (out .entry)) (now (out .exit)) ⌝ }
+{
+    let whole = (n - k) / 8;
+    let count = run.count;
+    if count <= whole {
+        put_bytes(input, at, run, count, out, k);
+        return k + 8 * count;
+    }
+    put_bytes(input, at, run, whole, out, k);
+    put_bits(
+        run_byte(input, at, run, whole),
+        (n - k) % 8,
+        out,
+        k + 8 * whole,
+    );
+    n
+}
+
+// The second pass: the first n booleans from a position on, whose runs are all there, in the first n places.
+fn put_booleans(input: &[u8], at: usize, n: usize, out: &mut [u8])
+    requires { ⌜ n ≤ length (now out) ⌝ }
+    ensures { λ _. ⌜ Filled n (booleans n (drop at (now (input .entry)))) (now (out .entry)) (now (out .exit)) ⌝ }
+{
+    let mut place = at;
+    let mut k = 0;
+    while k < n {
+        let Found::Run(run) = run_at(input, place) else {
+            return;
+        };
+        k = put_run(input, place, run, n, out, k);
+        place = place + run.size;
+    }
+}
+
+// n booleans from a position on, as bytes of 0 or 1 in the first n places.
+pub fn read_booleans(input: &[u8], at: ByteOffset, n: RowNumber, out: &mut [u8]) -> Answer
+    ensures { λ r. ⌜ BooleansRead (now (input .entry)) (at .bytes) (n .rows) (now (out .entry)) (now (out .exit)) r ⌝ }
+{
+    let position = at.bytes;
+    let rows = n.rows;
+    let Span::Whole(consumed) = span_from(input, position, rows) else {
+        return Answer::refused(6, position);
+    };
+    if out.len() < rows {
+        return Answer::refused(8, position);
+    }
+    put_booleans(input, position, rows, out);
+    Answer::run(Kind::Booleans, rows, consumed)
 }

@@ -1,39 +1,48 @@
-use mathlib.Core.Path.{_≡_, refl, sym, ap, _∙_}
+-- `boolean_rle::span_from` meets its contract. The loop's invariant: the runs up to `end` are passed, and `left` bytes are still needed. Assumes nothing.
+use mathlib.Core.Path.{_≡_, sym, _∙_}
 use Prim.Native.Nat.{ℕ, _+_, _-_, _≤_, _<_}
 use native.Mathlib.Nat.{le-refl, add-zero}
 use native.Mathlib.Omega.{arith}
 use borrow.Author.Needs.{needs}
 use denote.Ref.{now}
 use lib.ListN.{length, drop, length-drop}
-use Rattle.format.specs.Booleans.{ByteRun, joinedRuns, byteRuns}
-use Rattle.format.proofs.Fields.{below-all}
+use Rattle.format.specs.Booleans.{ByteRun, joinedRuns, booleans}
 use Rattle.format.proofs.Booleans.{runs-none}
-use Rattle.boolean_rle.specs.Found.{foundIn, spanOf}
-use Rattle.boolean_rle.proofs.Laws.{Here, here, further, further-zero, span-cut, Passed, pass}
+use Rattle.boolean_rle.specs.Found.{spanOf}
+use Rattle.boolean_rle.proofs.Laws.{Here, here, further-zero, span-cut, Passed, pass}
 use Rattle.boolean_rle.proofs.span_from.Statement.{statement}
 use Rattle.boolean_rle.proofs.span_from.Tie as tie
 
 abbrev Inv-loop : tie.InvT-loop
-Inv-loop input at needed end₀ left₀ end left = Passed input at (spanOf (byteRuns (length (drop at input)) needed (drop at input))) end left
+Inv-loop input at n end₀ left₀ end left = Passed input at (spanOf (booleans n (drop at input))) end left
 
 abbrev μ-loop : tie.MeasureT-loop
-μ-loop input at needed end₀ left₀ end left = left
+μ-loop input at n end₀ left₀ end left = left
 
 -- the run that was found
 run-here : (c : tie.After-struct-known Inv-loop μ-loop)
-    → (d : ByteRun) × Here (now (c .before .before .before .before .before .before .before .before .args .input))
+    → (d : ByteRun) × Here (now (c .before .before .before .before .before .before .before .before .before .args .input))
     (c .before .before .before .before .before .before .loop .end) (c .before .before .run .given .0 .0) d
 run-here c =
     let r = c .before .before in
     let l = r .before .before .before .before in
-    here (now (l .before .before .args .input)) (l .loop .end) (r .run .given .0 .0)
-    (below-all 256 (now (l .before .before .args .input)) (λ i. l .before .shared-slice-known .given i .fits))
+    here (now (l .before .before .before .args .input)) (l .loop .end) (r .run .given .0 .0) (λ i. l .before .before .shared-slice-known .given i .fits)
     (sym (r .before .before .run-at .ensures) ∙ r .run .given .1)
 
+bytes-for-requires : tie.Need-bytes-for-requires Inv-loop μ-loop
+bytes-for-requires c κs = tt
+
 loop-holds : tie.Need-loop-holds Inv-loop μ-loop
+unfolding booleans
 loop-holds c =
-    let a = c .before .args in
-    (le-refl _, (length (drop (a .at) (now (a .input))), omega (arith, length-drop (a .at) (now (a .input))), further-zero (a .at) _))
+    let a = c .before .before .args in (
+      le-refl _,
+      (
+        length (drop (a .at) (now (a .input))),
+        omega (arith, length-drop (a .at) (now (a .input))),
+        rw (c .bytes-for .ensures) (further-zero (a .at) _),
+      ),
+    )
 
 run-at-requires : tie.Need-run-at-requires Inv-loop μ-loop
 run-at-requires c κs = tt
@@ -52,19 +61,20 @@ returns c =
     sym (i .2 ∙ rw (span-cut (i .0) (l .left) (drop (l .end) _) (r .before .loop-test .taken) (sym (r .run-at .ensures) ∙ c .enum-told .given .1)))
 
 add-end : tie.Need-add-end Inv-loop μ-loop
-add-end c = let h = run-here c in omega (arith, h .1 .inside)
+add-end c = omega (arith, run-here c .1 .inside)
 
 less-requires : tie.Need-less-requires Inv-loop μ-loop
 less-requires c κs = tt
 
 loop-less : tie.Need-loop-less Inv-loop μ-loop
-loop-less c = let h = run-here (c .before) in omega (arith, h .1 .some)
+loop-less c = omega (arith, run-here (c .before) .1 .some)
 
 loop-again : tie.Need-loop-again Inv-loop μ-loop
 loop-again c =
     let h = run-here (c .before) in
     let l = c .before .before .before .before .before .before .before in
-    rw (c .less .ensures) (pass (now (l .before .before .args .input)) _ _ (l .loop .end) (l .loop .left) _ (h .0) (h .1) (omega arith) (l .loop .inv))
+    rw (c .less .ensures)
+    (pass (now (l .before .before .before .args .input)) _ _ (l .loop .end) (l .loop .left) _ (h .0) (h .1) (omega arith) (l .loop .inv))
 
 sub-t9 : tie.Need-sub-t9 Inv-loop μ-loop
 sub-t9 c = c .before .loop .inv .0
@@ -83,6 +93,7 @@ span-from-spec =
     (tie.spec
     Inv-loop
     μ-loop
+    bytes-for-requires
     loop-holds
     run-at-requires
     enum-known-run

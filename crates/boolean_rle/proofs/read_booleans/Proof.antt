@@ -1,0 +1,71 @@
+-- `boolean_rle::read_booleans` meets its promise, for refused inputs too: by what the first pass finds. Assumes nothing.
+use mathlib.Core.Path.{_≡_, sym, _∙_}
+use denote.Ref.{now}
+use Rattle.boolean_rle.proofs.Laws.{reads-cut, reads-8, reads-all}
+use borrow.Author.Needs.{needs}
+use Rattle.boolean_rle.proofs.read_booleans.Statement.{statement}
+use Rattle.boolean_rle.proofs.read_booleans.Tie as tie
+
+span-from-requires : tie.Need-span-from-requires
+span-from-requires c κs = search needs
+
+enum-known-consumed : tie.Need-enum-known-consumed
+enum-known-consumed c = search needs
+
+enum-told : tie.Need-enum-told
+enum-told c = search needs
+
+refused-requires : tie.Need-refused-requires
+refused-requires c κs = search needs
+
+returns : tie.Need-returns
+returns c =
+    let f = c .before .before .before in
+    let a = f .before .before .before .args in
+    rw (c .refused .ensures) (reads-cut (now (a .input)) (a .at .bytes) (a .n .rows) (now (a .out)) (sym (f .span-from .ensures) ∙ c .before .enum-told .given .1))
+
+refused-requires-2 : tie.Need-refused-requires-2
+refused-requires-2 c κs = search needs
+
+returns-2 : tie.Need-returns-2
+returns-2 c =
+    let w = c .before .before .before in
+    let f = w .before .before in
+    let a = f .before .before .before .args in
+    rw (c .refused2 .ensures)
+    (reads-8 (now (a .input)) (a .at .bytes) (a .n .rows) (now (a .out)) _ (sym (f .span-from .ensures) ∙ w .consumed .given .1) (c .before .if1 .taken))
+
+put-booleans-requires : tie.Need-put-booleans-requires
+put-booleans-requires c κs = search needs
+
+run-requires : tie.Need-run-requires
+run-requires c κs = search needs
+
+same-length : tie.Need-same-length
+same-length c = search needs
+
+returns-3 : tie.Need-returns-3
+returns-3 c =
+    let p = c .before .before .before in
+    let e = p .before .before in
+    let w = e .before .before in
+    let f = w .before .before in
+    let a = f .before .before .before .args in
+    rw (c .run .ensures)
+    (reads-all (now (a .input)) (a .at .bytes) (a .n .rows) (now (a .out)) _ (sym (f .span-from .ensures) ∙ w .consumed .given .1) _ (e .if1 .left) (p .put-booleans .ensures))
+
+pub read-booleans-spec : {M : Type 1} → statement M
+read-booleans-spec =
+    tie.close
+    (tie.spec
+    span-from-requires
+    enum-known-consumed
+    enum-told
+    refused-requires
+    returns
+    refused-requires-2
+    returns-2
+    put-booleans-requires
+    run-requires
+    same-length
+    returns-3)
