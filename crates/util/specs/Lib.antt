@@ -1,5 +1,4 @@
 -- The definitions that the contracts cite, beside those of `format`.
--- What the contracts of the shared fields cite beyond the definitions of `format`.
 pub mod Width
 pub mod Packed
 pub mod Varint
