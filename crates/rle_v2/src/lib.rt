@@ -1,4 +1,5 @@
 // RLE version 2: the run reader, a module for each kind of run, and the stream reader.
+mod delta;
 mod direct;
 mod header;
 mod patch_list;
