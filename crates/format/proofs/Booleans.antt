@@ -251,17 +251,36 @@ booleans-below n ds = below-take 2 n (bits (joinedBytes ds)) (bits-below (joined
 abbrev starred : List ℕ
 starred = 0x00 ∷ 0xFF ∷ 0xFF ∷ 0x00 ∷ []
 
-pub starred-32 : booleansAnswer 0 32 (booleansInto 32 32 starred) ≡ ran Booleans 32 4
-unfolding booleansInto booleans byteRuns byteRun repeatRun bytes byteCount joinedRuns runLayout
+-- what a call gives of some bytes, at their start: the answer, and the places, which held 7
+pub told : ℕ → List ℕ → Answer × List ℕ
+unfolding booleansInto booleans byteRuns byteRun repeatRun bytes byteCount joinedRuns runLayout booleansOf joinedBytes runBytes bits digits
+told n bs = (booleansAnswer 0 n (booleansInto n n bs), booleansPlaces n (replicate n 7) (booleansInto n n bs))
+
+pub starred-32 : told 32 starred ≡ (ran Booleans 32 4, replicate 24 1 ++ replicate 8 0)
+unfolding told
 starred-32 = refl
 
-pub starred-rows : booleansPlaces 32 (replicate 32 7) (booleansInto 32 32 starred) ≡ replicate 24 1 ++ replicate 8 0
-unfolding booleansInto booleans byteRuns byteRun repeatRun bytes byteCount booleansOf joinedBytes runBytes bits digits
-starred-rows = refl
-
-pub starred-33 : booleansAnswer 0 33 (booleansInto 33 33 starred) ≡ refusedAt 6 0
-unfolding booleansInto booleans byteRuns byteRun repeatRun bytes byteCount
+pub starred-33 : told 33 starred ≡ (refusedAt 6 0, replicate 33 7)
+unfolding told
 starred-33 = refl
+
+-- the specification's own: one true and seven false; and the literal bytes 44 45, highest bit first
+pub one-true : told 8 (0xFF ∷ 0x80 ∷ []) ≡ (ran Booleans 8 2, 1 ∷ replicate 7 0)
+unfolding told
+one-true = refl
+
+pub two-literals : told 16 (0xFE ∷ 0x44 ∷ 0x45 ∷ []) ≡ (ran Booleans 16 3, 0 ∷ 1 ∷ 0 ∷ 0 ∷ 0 ∷ 1 ∷ 0 ∷ 0 ∷ 0 ∷ 1 ∷ 0 ∷ 0 ∷ 0 ∷ 1 ∷ 0 ∷ 1 ∷ [])
+unfolding told
+two-literals = refl
+
+-- a last run that is cut, though its needed byte is there; and none asked for, of nothing
+pub cut-literals : told 8 (0xFE ∷ 0x44 ∷ []) ≡ (refusedAt 6 0, replicate 8 7)
+unfolding told
+cut-literals = refl
+
+pub none-asked : told 0 [] ≡ (ran Booleans 0 0, [])
+unfolding told
+none-asked = refl
 
 -- ---- any two outcomes that a promise allows are equal
 
