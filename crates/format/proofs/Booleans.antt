@@ -251,16 +251,16 @@ booleans-below n ds = below-take 2 n (bits (joinedBytes ds)) (bits-below (joined
 abbrev starred : List ℕ
 starred = 0x00 ∷ 0xFF ∷ 0xFF ∷ 0x00 ∷ []
 
--- what a call gives of some bytes, at their start: the answer, and the places, which held 7
+-- what a call gives of some bytes, which stand at position 1: the answer, and the n places, which held 7
 pub told : ℕ → List ℕ → Answer × List ℕ
 unfolding booleansInto booleans byteRuns byteRun repeatRun bytes byteCount joinedRuns runLayout booleansOf joinedBytes runBytes bits digits
-told n bs = (booleansAnswer 0 n (booleansInto n n bs), booleansPlaces n (replicate n 7) (booleansInto n n bs))
+told n bs = (booleansAnswer 1 n (booleansInto n n bs), booleansPlaces n (replicate n 7) (booleansInto n n bs))
 
 pub starred-32 : told 32 starred ≡ (ran Booleans 32 4, replicate 24 1 ++ replicate 8 0)
 unfolding told
 starred-32 = refl
 
-pub starred-33 : told 33 starred ≡ (refusedAt 6 0, replicate 33 7)
+pub starred-33 : told 33 starred ≡ (refusedAt 6 1, replicate 33 7)
 unfolding told
 starred-33 = refl
 
@@ -274,7 +274,7 @@ unfolding told
 two-literals = refl
 
 -- a last run that is cut, though its needed byte is there; and none asked for, of nothing
-pub cut-literals : told 8 (0xFE ∷ 0x44 ∷ []) ≡ (refusedAt 6 0, replicate 8 7)
+pub cut-literals : told 8 (0xFE ∷ 0x44 ∷ []) ≡ (refusedAt 6 1, replicate 8 7)
 unfolding told
 cut-literals = refl
 
