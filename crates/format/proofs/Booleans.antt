@@ -3,26 +3,26 @@
 -- promise allows are equal. Assumes nothing.
 use mathlib.Core.Path.{_≡_, refl, sym, ap, _∙_}
 use mathlib.Core.Logic.{_≢_, _↔_}
-use Prim.Native.Nat.{ℕ, zero, suc, _+_, _-_, _*_, _/_, _%_, _^_, _<_, _≤_}
+use Prim.Native.Nat.{ℕ, zero, suc, _+_, _-_, _*_, _<_, _≤_}
 use native.Mathlib.Omega.{arith}
 use native.Mathlib.Nat.{le-refl, zero-lt-suc}
 use lib.Seq.{length-take-le}
-use mathlib.Core.Bool.{Bool, true, false, not}
-use mathlib.Core.List.{List, [], _∷_, _++_, append-assoc, append-nil, cons≢nil}
-use lib.ListN.{length, take, drop, replicate, length-append, length-replicate, length-take}
+use mathlib.Core.Bool.{Bool, true, false}
+use mathlib.Core.List.{List, [], _∷_, _++_, append-assoc, append-nil}
+use lib.ListN.{length, replicate, length-append, length-replicate}
 use lib.Dec.{T, leb, ltb, eqb, ltb→lt, nltb→le, eqb→eq}
-use borrow.Author.Tests.{lt-ltb, le-ltb, eq-eqb, ne-eqb}
+use borrow.Author.Tests.{lt-ltb, le-ltb, ne-eqb}
 use mir.Facts.{eqb-no}
 use Rattle.format.specs.declared.Kind.the-variants.{Booleans}
 use Rattle.format.specs.declared.Answer.{Answer}
 use Rattle.format.specs.Digits.{AllBelow, digits}
 use Rattle.format.specs.Fields.{pick, bytesFor}
-use Rattle.format.specs.Parse.{Reason, plain, cutIn, Parsed, end, got, refused, then, unless, bytes}
+use Rattle.format.specs.Parse.{Reason, plain, Parsed, got, refused, then, bytes}
 use Rattle.format.specs.Answers.{ran, refusedAt}
 use Rattle.format.specs.Booleans.{ByteRun, repeat, literals, ValidRun, AllValidRuns, Needed, runLayout, runBytes, byteCount, joinedRuns, joinedBytes, bits, booleansOf, repeatRun, byteRun, byteRuns, booleans, booleansInto, booleansAnswer, booleansPlaces, BooleansRead}
 use Rattle.format.specs.ByteValues.{ValueRead, ValueGiven}
 use Rattle.format.proofs.Digits.{length-digits, digits-below}
-use Rattle.format.proofs.Fields.{Post, at-got, at-refused, of-got, then-post, pick-post, Took, IsBytes, bytes-complete, bytes-sound, append-below, below-append, below-take}
+use Rattle.format.proofs.Fields.{Post, at-got, at-refused, of-got, then-post, pick-post, Took, bytes-complete, bytes-sound, append-below, below-append, below-take}
 use Rattle.format.proofs.Runs.{append-empty, got-inj}
 
 -- ---- one run
