@@ -75,24 +75,11 @@ impl Plot {
         for (_, colour, time) in timed {
             for signed in [false, true] {
                 let dash = if signed { r#" stroke-dasharray="5 4""# } else { "" };
-                // A width that was not timed leaves a hole in the line.
-                let mut path = String::new();
-                let mut pen = 'M';
-                for row in rows.iter().filter(|row| row.case.signed == signed) {
-                    let Group::Direct(bits) = row.case.group else { continue };
-                    let k = model::WIDTHS.iter().position(|width| *width == bits).expect("a table width");
-                    match time(&row.times) {
-                        None => pen = 'M',
-                        Some(time) => {
-                            write!(path, "{pen}{:.1} {:.1} ", LEFT + step * k as f64, y(time))
-                                .expect("a string takes it");
-                            pen = 'L';
-                        }
-                    }
-                }
+                let rows = rows.iter().filter(|row| row.case.signed == signed);
+                let path =
+                    path(rows.map(|row| time(&row.times)), |k, time| (LEFT + step * k as f64, y(time)));
                 self.put(format_args!(
-                    r#"<path d="{}" fill="none" stroke="{colour}" stroke-width="2"{dash}/>"#,
-                    path.trim_end()
+                    r#"<path d="{path}" fill="none" stroke="{colour}" stroke-width="2"{dash}/>"#
                 ));
             }
         }
@@ -125,6 +112,22 @@ impl Plot {
         }
         bottom + 50.0
     }
+}
+
+/// A line through the times, in the order of the widths. A width that was not timed is a hole in it.
+fn path(times: impl Iterator<Item = Option<f64>>, point: impl Fn(usize, f64) -> (f64, f64)) -> String {
+    let mut path = String::new();
+    let mut pen = 'M';
+    for (k, time) in times.enumerate() {
+        let Some(time) = time else {
+            pen = 'M';
+            continue;
+        };
+        let (x, y) = point(k, time);
+        write!(path, "{pen}{x:.1} {y:.1} ").expect("a string takes it");
+        pen = 'L';
+    }
+    path.trim_end().into()
 }
 
 fn highest(rows: &[&Row], timed: &[Candidate]) -> f64 {

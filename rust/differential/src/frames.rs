@@ -1,5 +1,5 @@
 //! Inputs: laid out field by field, random ones, and what is made of them by cutting and damaging.
-use model::WIDTHS;
+use model::{Answer, Form, WIDTHS};
 
 use crate::random::Random;
 
@@ -233,4 +233,70 @@ pub fn any_booleans(random: &mut Random) -> Vec<u8> {
         bytes.truncate(random.below(bytes.len() + 1));
     }
     bytes
+}
+
+/// A position: mostly the start, sometimes further on, or past the end.
+pub fn any_position(length: usize, random: &mut Random) -> u64 {
+    match random.below(16) {
+        0 => random.any(),
+        1..=3 => random.below(length + 2) as u64,
+        _ => 0,
+    }
+}
+
+/// A few runs one after another, and now and then a frame of any sort as the last.
+pub fn any_stream(random: &mut Random) -> Vec<u8> {
+    let mut stream = Vec::new();
+    for _ in 0..random.below(5) {
+        let run = any_run(random);
+        // Mostly runs that both read, so that the streams go on.
+        let read = matches!(model::read_run(&run, 0, false, 512), Answer::Run(_));
+        if read || random.once_in(8) {
+            stream.extend(run);
+        }
+    }
+    if random.once_in(3) {
+        stream.extend(any_frame(random));
+    }
+    stream
+}
+
+/// Rows that mostly have the form, at a width that mostly holds them.
+pub fn any_rows(random: &mut Random) -> (Vec<i64>, Form, u8) {
+    let form = random.pick(&[Form::ShortRepeat, Form::Direct, Form::FixedDelta, Form::PackedDelta]);
+    let count = match random.below(32) {
+        0 => random.below(515),
+        1 => random.pick(&[0, 1, 2, 3, 10, 11, 512, 513]),
+        _ => random.from(1, 12),
+    };
+    let shift = random.below(64);
+    let first = random.any() as i64 >> shift;
+    let step = random.any() as i64 >> random.from(shift.min(62), 63);
+    let mut rows: Vec<i64> = match form {
+        Form::ShortRepeat => vec![first; count],
+        Form::Direct => (0..count).map(|_| random.any() as i64 >> shift & i64::MAX >> shift).collect(),
+        Form::FixedDelta => (0..count as i64).map(|k| first.wrapping_add(step.wrapping_mul(k))).collect(),
+        Form::PackedDelta => {
+            let mut row = first;
+            let mut next = || {
+                let magnitude = (random.any() >> 1 >> shift) as i64;
+                let before = row;
+                row = if step < 0 { row.wrapping_sub(magnitude) } else { row.wrapping_add(magnitude) };
+                before
+            };
+            (0..count).map(|_| next()).collect()
+        }
+    };
+    if random.once_in(16) {
+        if let Some(row) = rows.last_mut() {
+            *row = random.any() as i64;
+        }
+    }
+    let width = match form {
+        _ if random.once_in(16) => random.below(40) as u8,
+        Form::ShortRepeat => random.from(1, 8) as u8,
+        Form::FixedDelta => 0,
+        Form::Direct | Form::PackedDelta => random.below(32) as u8,
+    };
+    (rows, form, width)
 }

@@ -1,12 +1,20 @@
 //! The proved run reader, linked: held to the model's answer, every place included.
-use menakovitsy::{read_run_bytes, Refusal, Sign};
-use model::Answer;
+use menakovitsy::{read_run_bytes, Column, Refusal, Sign};
+use model::{Answer, Stream};
 
 /// What lent bytes hold before a call.
 const BEFORE: u8 = 0xEE;
 
 /// The lent bytes: 512 places and a trailing part that is none.
 const LENT: usize = 8 * 512 + 5;
+
+fn sign(signed: bool) -> Sign {
+    if signed {
+        Sign::Signed
+    } else {
+        Sign::Unsigned
+    }
+}
 
 /// The library with the bytes that it is lent.
 pub struct Ours {
@@ -34,9 +42,35 @@ impl Ours {
         Ok(3)
     }
 
+    /// Holds the wrapper's walk over a column to the model's stream.
+    pub fn check_column(bytes: &[u8], signed: bool, paper: &Stream) -> Result<(), String> {
+        let mut column = Column::new(bytes, sign(signed));
+        let (mut rows, mut refused) = (Vec::new(), None);
+        for run in &mut column {
+            match run {
+                Ok(run) => rows.extend(run.rows),
+                Err(refusal) => refused = Some(refusal),
+            }
+        }
+        let right = match paper {
+            Stream::Whole { rows: all, consumed } => {
+                rows == *all && column.position().0 == *consumed && refused.is_none()
+            }
+            Stream::Refused { refusal, rows: before, consumed } => refused.is_some_and(|refused| {
+                rows == *before
+                    && (refused.refusal.number(), refused.at.0) == (refusal.number, refusal.place)
+                    && (column.position().0, refused.rows.0) == (*consumed, before.len())
+            }),
+        };
+        if right {
+            Ok(())
+        } else {
+            Err(format!("rows {rows:?}, {refused:?}, to {}", column.position()))
+        }
+    }
+
     fn call(&mut self, bytes: &[u8], signed: bool, paper: &Answer, lent: usize) -> Result<(), String> {
-        let sign = if signed { Sign::Signed } else { Sign::Unsigned };
-        let answer = read_run_bytes(bytes, sign, &mut self.out[..lent]);
+        let answer = read_run_bytes(bytes, sign(signed), &mut self.out[..lent]);
         let (right, rows) = match (&answer, paper) {
             (menakovitsy::Answer::End, Answer::End) => (true, &[][..]),
             (menakovitsy::Answer::Refused(refusal), Answer::Refused(paper)) => {

@@ -1,5 +1,5 @@
 //! What is compared, stage by stage.
-use model::{Answer, Form, Written, WIDTHS};
+use model::{Form, Written, WIDTHS};
 use oracle::Run;
 
 use crate::frames::{self, Patched};
@@ -199,7 +199,7 @@ impl Session {
     fn streams(&mut self) {
         self.tally.stage("streams");
         for _ in 0..self.size.pick(5_000, 200_000, 2_000_000) {
-            let stream = any_stream(&mut self.random);
+            let stream = frames::any_stream(&mut self.random);
             let signed = self.random.once_in(2);
             self.stream(&stream, signed);
         }
@@ -212,6 +212,22 @@ impl Session {
         self.tally.record(sort, bytes, Call::Stream { signed }, || {
             [format!("{:?}", model::read_stream(bytes, 0, signed, 100_000)), format!("{rust:?}")]
         });
+        #[cfg(feature = "ours")]
+        if self.ours.is_some() {
+            let paper = model::read_stream(bytes, 0, signed, usize::MAX);
+            match Ours::check_column(bytes, signed, &paper) {
+                Ok(()) => self.tally.ours(1),
+                Err(answer) => {
+                    self.tally.differs(
+                        bytes,
+                        Call::Stream { signed },
+                        &format!("{paper:?}"),
+                        "ours",
+                        &answer,
+                    );
+                }
+            }
+        }
     }
 
     fn booleans(&mut self) {
@@ -266,7 +282,7 @@ impl Session {
     fn written(&mut self) {
         self.tally.stage("written runs read back");
         for _ in 0..self.size.pick(5_000, 200_000, 2_000_000) {
-            let (rows, form, width) = any_rows(&mut self.random);
+            let (rows, form, width) = frames::any_rows(&mut self.random);
             let signed = self.random.once_in(2);
             let Written::Run { bytes, .. } = model::write_run(&rows, signed, form, width, usize::MAX) else {
                 continue;
@@ -317,18 +333,18 @@ fn probe_line(probe: &mut Probe, random: &mut Random) {
     match random.below(16) {
         0..=3 => {
             let frame = frames::any_frame(random);
-            probe.run(&frame, any_position(frame.len(), random), signed, places);
+            probe.run(&frame, frames::any_position(frame.len(), random), signed, places);
         }
         4..=6 => {
-            let stream = any_stream(random);
-            probe.stream(&stream, any_position(stream.len(), random), signed, places);
+            let stream = frames::any_stream(random);
+            probe.stream(&stream, frames::any_position(stream.len(), random), signed, places);
         }
         7..=9 => {
             let bytes = frames::any_booleans(random);
             let n = if random.once_in(32) { random.any() } else { random.below(8 * bytes.len() + 40) as u64 };
             probe.booleans(
                 &bytes,
-                any_position(bytes.len(), random),
+                frames::any_position(bytes.len(), random),
                 n,
                 random.pick(&[0, 8, 64, 2000, 8192]),
             );
@@ -336,10 +352,10 @@ fn probe_line(probe: &mut Probe, random: &mut Random) {
         10 => {
             let bytes = frames::any_frame(random);
             let n = if random.once_in(8) { random.any() } else { random.below(bytes.len() + 3) as u64 };
-            probe.value(&bytes, any_position(bytes.len(), random), n);
+            probe.value(&bytes, frames::any_position(bytes.len(), random), n);
         }
         11..=14 => {
-            let (rows, form, width) = any_rows(random);
+            let (rows, form, width) = frames::any_rows(random);
             let places = random.pick(&[0, 2, 9, 40, 4200, 8192]);
             probe.write(&rows, signed, form, width, places);
         }
@@ -349,70 +365,4 @@ fn probe_line(probe: &mut Probe, random: &mut Random) {
             probe.narrowest(number);
         }
     }
-}
-
-/// A position: mostly the start, sometimes further on, or past the end.
-fn any_position(length: usize, random: &mut Random) -> u64 {
-    match random.below(16) {
-        0 => random.any(),
-        1..=3 => random.below(length + 2) as u64,
-        _ => 0,
-    }
-}
-
-/// A few runs one after another, and now and then a frame of any sort as the last.
-fn any_stream(random: &mut Random) -> Vec<u8> {
-    let mut stream = Vec::new();
-    for _ in 0..random.below(5) {
-        let run = frames::any_run(random);
-        // Mostly runs that both read, so that the streams go on.
-        let read = matches!(model::read_run(&run, 0, false, 512), Answer::Run(_));
-        if read || random.once_in(8) {
-            stream.extend(run);
-        }
-    }
-    if random.once_in(3) {
-        stream.extend(frames::any_frame(random));
-    }
-    stream
-}
-
-/// Rows that mostly have the form, at a width that mostly holds them.
-fn any_rows(random: &mut Random) -> (Vec<i64>, Form, u8) {
-    let form = random.pick(&[Form::ShortRepeat, Form::Direct, Form::FixedDelta, Form::PackedDelta]);
-    let count = match random.below(32) {
-        0 => random.below(515),
-        1 => random.pick(&[0, 1, 2, 3, 10, 11, 512, 513]),
-        _ => random.from(1, 12),
-    };
-    let shift = random.below(64);
-    let first = random.any() as i64 >> shift;
-    let step = random.any() as i64 >> random.from(shift.min(62), 63);
-    let mut rows: Vec<i64> = match form {
-        Form::ShortRepeat => vec![first; count],
-        Form::Direct => (0..count).map(|_| random.any() as i64 >> shift & i64::MAX >> shift).collect(),
-        Form::FixedDelta => (0..count as i64).map(|k| first.wrapping_add(step.wrapping_mul(k))).collect(),
-        Form::PackedDelta => {
-            let mut row = first;
-            let mut next = || {
-                let magnitude = (random.any() >> 1 >> shift) as i64;
-                let before = row;
-                row = if step < 0 { row.wrapping_sub(magnitude) } else { row.wrapping_add(magnitude) };
-                before
-            };
-            (0..count).map(|_| next()).collect()
-        }
-    };
-    if random.once_in(16) {
-        if let Some(row) = rows.last_mut() {
-            *row = random.any() as i64;
-        }
-    }
-    let width = match form {
-        _ if random.once_in(16) => random.below(40) as u8,
-        Form::ShortRepeat => random.from(1, 8) as u8,
-        Form::FixedDelta => 0,
-        Form::Direct | Form::PackedDelta => random.below(32) as u8,
-    };
-    (rows, form, width)
 }

@@ -28,24 +28,9 @@ pub fn write_run(rows: &[i64], signed: bool, form: Form, width: u8, places: usiz
     }
 }
 
+/// The run's kind and bytes, or the refusal's number.
 fn layout(rows: &[i64], signed: bool, form: Form, width: usize) -> Result<(Kind, Vec<u8>), u8> {
-    let (counts, widths) = match form {
-        Form::ShortRepeat => (3..=10, 1..=8),
-        Form::Direct => (1..=512, 0..=31),
-        Form::FixedDelta => (1..=512, 0..=0),
-        Form::PackedDelta => (2..=512, 1..=31),
-    };
-    if !counts.contains(&rows.len()) {
-        return Err(9);
-    }
-    let has_form = match form {
-        Form::ShortRepeat => rows.windows(2).all(|two| two[0] == two[1]),
-        Form::FixedDelta => steps(rows).windows(2).all(|two| two[0] == two[1]),
-        Form::Direct | Form::PackedDelta => true,
-    };
-    if !has_form || !widths.contains(&width) {
-        return Err(10);
-    }
+    allowed(rows, form, width)?;
     let mut put = Put::default();
     let kind = match form {
         Form::ShortRepeat => {
@@ -76,6 +61,29 @@ fn layout(rows: &[i64], signed: bool, form: Form, width: usize) -> Result<(Kind,
         }
     };
     Ok((kind, put.bytes()))
+}
+
+/// Refusal 9 for a row count that the form does not allow, then 10 for rows that do not have the form
+/// or a width that is not one of the form's.
+fn allowed(rows: &[i64], form: Form, width: usize) -> Result<(), u8> {
+    let (counts, widths) = match form {
+        Form::ShortRepeat => (3..=10, 1..=8),
+        Form::Direct => (1..=512, 0..=31),
+        Form::FixedDelta => (1..=512, 0..=0),
+        Form::PackedDelta => (2..=512, 1..=31),
+    };
+    let has_form = match form {
+        Form::ShortRepeat => rows.windows(2).all(|two| two[0] == two[1]),
+        Form::FixedDelta => steps(rows).windows(2).all(|two| two[0] == two[1]),
+        Form::Direct | Form::PackedDelta => true,
+    };
+    if !counts.contains(&rows.len()) {
+        return Err(9);
+    }
+    if !has_form || !widths.contains(&width) {
+        return Err(10);
+    }
+    Ok(())
 }
 
 /// From each row to the next, modulo 2^64.
