@@ -152,6 +152,19 @@ pub fn of_kind(kind: usize, code: usize, rows: usize, random: &mut Random) -> Ve
     }
 }
 
+/// The same, and one that document 01 reads, where the kind, code and rows allow any.
+pub fn readable(kind: usize, code: usize, rows: usize, random: &mut Random) -> Vec<u8> {
+    let reads = |run: &Vec<u8>| matches!(model::read_run(run, 0, false, 512), Answer::Run(_));
+    let mut run = of_kind(kind, code, rows, random);
+    for _ in 0..20 {
+        if reads(&run) {
+            break;
+        }
+        run = of_kind(kind, code, rows, random);
+    }
+    run
+}
+
 /// Any run: mostly short.
 pub fn any_run(random: &mut Random) -> Vec<u8> {
     let rows = match random.below(64) {

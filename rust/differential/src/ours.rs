@@ -31,10 +31,14 @@ impl Ours {
     pub fn check(&mut self, bytes: &[u8], signed: bool, paper: &Answer) -> Result<u64, String> {
         self.calls += 1;
         self.call(bytes, signed, paper, LENT)?;
-        let Answer::Run(run) = paper else { return Ok(1) };
         if !self.calls.is_multiple_of(4) {
             return Ok(1);
         }
+        // Any other refusal comes before the want of places.
+        let Answer::Run(run) = paper else {
+            self.call(bytes, signed, paper, 0)?;
+            return Ok(2);
+        };
         // Just enough places, and one too few with all but one byte of another.
         let refusal = model::Refusal { number: 8, place: 0 };
         self.call(bytes, signed, paper, 8 * run.rows.len())?;

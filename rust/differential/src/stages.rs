@@ -115,7 +115,7 @@ impl Session {
         for rows in (1..=512).step_by(self.size.pick(37, 1, 1)) {
             for code in 0..32 {
                 for kind in 1..4 {
-                    let frame = frames::of_kind(kind, code, rows, &mut self.random);
+                    let frame = frames::readable(kind, code, rows, &mut self.random);
                     self.run_both(&frame);
                 }
             }
@@ -144,8 +144,13 @@ impl Session {
     /// All lists of up to three entries from small sets of gaps and patches, at every gap width.
     fn patch_lists(&mut self) {
         self.tally.stage("patch lists of up to three entries");
-        let shapes: &[(usize, usize)] =
-            self.size.pick(&[(1, 4)], &[(1, 4), (22, 300)], &[(1, 1), (1, 4), (22, 300)]);
+        // The patch width's code, and the rows. At 32 bits of patch every entry is padded to 40, so that
+        // a gap of 255 fits at every gap width.
+        let shapes: &[(usize, usize)] = self.size.pick(
+            &[(1, 4), (27, 300)],
+            &[(1, 4), (27, 300)],
+            &[(1, 1), (1, 4), (22, 300), (27, 300)],
+        );
         for gap_width in 1..=8 {
             for (patch_code, rows) in shapes {
                 let patch_width = WIDTHS[*patch_code];

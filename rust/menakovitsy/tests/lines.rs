@@ -47,6 +47,17 @@ fn lines_of_document_01() {
 }
 
 #[test]
+fn examples_of_the_specification() {
+    use Sign::*;
+    rows("0A2710", Unsigned, &[10_000; 5]);
+    rows("5E035CA1AB1EDEADBEEF", Unsigned, &[23_713, 43_806, 57_005, 48_879]);
+    rows("C609020222424246", Unsigned, &[2, 3, 5, 7, 11, 13, 17, 19, 23, 29]);
+    let mut patched = vec![2030, 2000, 2020, 1_000_000];
+    patched.extend((2040..=2190).step_by(10));
+    rows("8E132B2107D01E00147028323C46505A646E78828C96A0AAB4BEFCE8", Unsigned, &patched);
+}
+
+#[test]
 fn a_trailing_part_is_no_place() {
     let run = bytes("0001");
     for places in 0..40 {

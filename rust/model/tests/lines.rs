@@ -47,9 +47,8 @@ fn examples_of_the_specification() {
     rows("0A2710", false, &[10000; 5], 3);
     rows("5E035CA1AB1EDEADBEEF", false, &[23713, 43806, 57005, 48879], 10);
     rows("C609020222424246", false, &[2, 3, 5, 7, 11, 13, 17, 19, 23, 29], 8);
-    let mut patched: Vec<i64> = (0..20).map(|k| 2000 + 10 * k).collect();
-    patched.splice(..4, [2030, 2000, 2020, 1_000_000]);
-    patched[4..].iter_mut().zip((2040..).step_by(10)).for_each(|(row, value)| *row = value);
+    let mut patched = vec![2030, 2000, 2020, 1_000_000];
+    patched.extend((2040..=2190).step_by(10));
     rows("8E132B2107D01E001470 28323C46505A646E78828C96A0AAB4BEFCE8", false, &patched, 28);
     let varints = [(0, "00"), (1, "01"), (127, "7F"), (128, "8001"), (129, "8101")];
     let more = [(16_383, "FF7F"), (16_384, "808001"), (16_385, "818001")];
