@@ -52,7 +52,7 @@ pub fn all() -> Vec<Case> {
     for signed in [false, true] {
         for (code, bits) in WIDTHS.into_iter().enumerate() {
             let runs = (0..RUNS).map(|_| frames::direct(code, LONG, &mut random)).collect();
-            cases.push(Case::new(format!("direct, {bits} bits"), Group::Direct(bits), signed, runs));
+            cases.push(Case::new(format!("direct, width {bits}"), Group::Direct(bits), signed, runs));
         }
     }
     for signed in [false, true] {
@@ -63,22 +63,22 @@ pub fn all() -> Vec<Case> {
         long("delta, fixed", RUNS, &mut |random| fixed(LONG, signed, random));
         for (bits, code) in [(8, 7), (16, 15)] {
             for (order, falling) in [("rising", false), ("falling", true)] {
-                let name = format!("delta, {bits} bits, {order}");
+                let name = format!("delta, width {bits}, {order}");
                 long(&name, RUNS, &mut |random| packed(LONG, code, falling, signed, random));
             }
         }
-        long("patched, 8 bits, 20 patches", RUNS, &mut |random| patched(LONG, 20, random));
+        long("patched, width 8, 20 patches", RUNS, &mut |random| patched(LONG, 20, random));
         long("short repeat, 4 bytes", REPEATS, &mut |random| frames::short_repeat(4, 10, random));
     }
     for signed in [false, true] {
         let mut single =
             |name: &str, run: Vec<u8>| cases.push(Case::new(name, Group::Single, signed, vec![run]));
         single("short repeat, 5 rows", frames::short_repeat(2, 5, &mut random));
-        single("direct, 8 bits, 8 rows", frames::direct(7, 8, &mut random));
-        single("direct, 17 bits, 8 rows", frames::direct(16, 8, &mut random));
+        single("direct, width 8, 8 rows", frames::direct(7, 8, &mut random));
+        single("direct, width 17, 8 rows", frames::direct(16, 8, &mut random));
         single("delta, fixed, 8 rows", fixed(8, signed, &mut random));
-        single("delta, 8 bits, 8 rows", packed(8, 7, false, signed, &mut random));
-        single("patched, 8 bits, 8 rows, 1 patch", patched(8, 1, &mut random));
+        single("delta, width 8, 8 rows", packed(8, 7, false, signed, &mut random));
+        single("patched, width 8, 8 rows, 1 patch", patched(8, 1, &mut random));
     }
     cases
 }
