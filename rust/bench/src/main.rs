@@ -66,11 +66,14 @@ fn main() -> ExitCode {
     }
 }
 
-/// What the times were taken on, and whether ours were.
+/// What the times were taken on, how busy it was, and whether ours were taken.
 fn machine() -> String {
     let cpu = fs::read_to_string("/proc/cpuinfo").unwrap_or_default();
-    let name =
-        cpu.lines().find_map(|line| line.strip_prefix("model name")?.split_once(": ")).map(|(_, name)| name);
+    let name = cpu.lines().find_map(|line| Some(line.strip_prefix("model name")?.split_once(": ")?.1));
+    let load = fs::read_to_string("/proc/loadavg").unwrap_or_default();
+    let load = load.split(' ').next().filter(|load| !load.is_empty()).unwrap_or("unknown");
+    let cores = std::thread::available_parallelism().map_or(1, usize::from);
     let ours = if cfg!(feature = "ours") { "" } else { "\nOurs was not linked into this run.\n" };
-    format!("\nTaken on: {}.\n{ours}", name.unwrap_or("a machine that does not say"))
+    let name = name.unwrap_or("a machine that does not say");
+    format!("\nTaken on: {name}, {cores} cores, load average {load} (over {cores}, other programs took part of it).\n{ours}")
 }
