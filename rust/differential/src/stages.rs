@@ -317,6 +317,15 @@ impl Session {
         // 8,193 places are too many; a line of 65,538 characters is too long.
         probe.bad("0100000000000000000020010001");
         probe.bad(&"06".repeat(32_769));
+        for entry in &LIST {
+            let bytes = entry.bytes();
+            match entry.call {
+                Call::Run { signed } | Call::ReadBack { signed } => probe.run(&bytes, 0, signed, 512),
+                Call::Stream { signed } => probe.stream(&bytes, 0, signed, 512),
+                Call::Booleans { n } => probe.booleans(&bytes, 0, n as u64, 512),
+                Call::Value { n } => probe.value(&bytes, 0, n as u64),
+            }
+        }
         for bit in 0..64 {
             for number in [1u64 << bit, (1 << bit) - 1, (1 << bit) + 1, u64::MAX >> bit] {
                 probe.narrowest(number);
