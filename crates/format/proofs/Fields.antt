@@ -12,10 +12,10 @@ use lib.Arith.{digits-lt, digits-div, digits-mod}
 use lib.Pow.{pow-add, pow-pos}
 use lib.Dec.{T, leb, ltb, leb→le, ltb→lt, nltb→le}
 use borrow.Author.Tests.{le-leb, lt-ltb, le-ltb}
-use Rattle.format.specs.Digits.{AllBelow, number, digits}
+use Rattle.format.specs.Digits.{AllBelow, number, digits, spread}
 use Rattle.format.specs.Fields.{pick, Block, IsBlock, blockBytes, bytesFor, padBits, Varint, last, more}
 use Rattle.format.specs.Parse.{Reason, plain, cutIn, Parsed, end, got, refused, then, unless, bytes, unpack, block, varint}
-use Rattle.format.proofs.Digits.{spread, spread-number, digits-split, length-digits, number-lt, digits-below, number-digits, digits-number, pow-pow}
+use Rattle.format.proofs.Digits.{spread-number, digits-split, length-digits, number-lt, digits-below, number-digits, digits-number, pow-pow}
 
 -- ---- what holds of what was got, and that there was something
 

@@ -100,7 +100,7 @@ pub record Holds (w at : ℕ) (vals out₀ out : List ℕ) (x t b k : ℕ) : Typ
   pub front : take (at + b) out ≡ take at out₀ ++ digits 256 b (number (2 ^ w) (take k vals) / 2 ^ t)
   pub back : drop (at + b) out ≡ drop (at + b) out₀
 
-module _ (w at : ℕ) (vals out₀ out : List ℕ) (x t b k : ℕ) (hw : w ≤ 64) (hk : k < length vals) (hv : getD vals k 0 < 2 ^ w) (i : Holds w at vals out₀ out x t b k) where
+module _ {w at : ℕ} {vals out₀ out : List ℕ} {x t b k : ℕ} (i : Holds w at vals out₀ out x t b k) (hw : w ≤ 64) (hk : k < length vals) (hv : getD vals k 0 < 2 ^ w) where
   abbrev N : ℕ
   N = number (2 ^ w) (take k vals)
 
@@ -148,11 +148,11 @@ pub full-room : (w n k b t : ℕ) → k < n → 8 * b + t ≡ k * w → 64 ≤ t
 full-room w n k b t h e f = omega (arith, mul-le-mul-right w h)
 
 -- all n values, and the last bytes
-pub whole : (w at n : ℕ) (vals out₀ out out′ : List ℕ) (x t b k : ℕ) → k ≡ n → Holds w at vals out₀ out x t b k → at + b + (t + 7) / 8 ≤ length out
+pub whole : {w at n : ℕ} {vals out₀ out : List ℕ} (out′ : List ℕ) {x t b k : ℕ} → Holds w at vals out₀ out x t b k → k ≡ n → at + b + (t + 7) / 8 ≤ length out
     → out′ ≡ (take (at + b) out ++ digits 256 ((t + 7) / 8) (x / 2 ^ (64 - 8 * ((t + 7) / 8)))) ++ drop (at + b + (t + 7) / 8) out
     → out′ ≡ take at out₀ ++ blockBytes w n (record { values = take n vals; pad = 0 }) ++ drop (at + bytesFor (n * w)) out₀
 unfolding blockBytes
-whole w at n vals out₀ out out′ x t b k r i′ l e =
+whole {w} {at} {n} {vals} {out₀} {out} out′ {x} {t} {b} i′ r l e =
     let i : Holds w at vals out₀ out x t b n = rw r at i′ in
     let q = (t + 7) / 8 in
     let N = number (2 ^ w) (take n vals) in
