@@ -7,7 +7,7 @@ use native.Mathlib.Decide.{ℕ-discrete}
 use native.Mathlib.Omega.{arith}
 use mathlib.Core.Bool.{Bool, true, false, not, _||_}
 use mathlib.Core.List.{List, [], _∷_, _++_}
-use lib.ListN.{length, getD, drop, List·getD-append, List·getD-map, length-map}
+use lib.ListN.{length, getD, drop, List·getD-append, List·getD-map}
 use lib.Seq.{drop-at}
 use lib.Dec.{T, leb, eqb, eqb→eq, leb→le, le→leb}
 use lib.IntN.{ℤ, pos}
@@ -19,7 +19,7 @@ use Rattle.format.specs.Rows.{baseValue, patchAt, rowsOf, asI64, i64Rows}
 use Rattle.format.specs.Promises.{RunRead}
 use Rattle.format.proofs.Fields.{any-block}
 use Rattle.format.proofs.Runs.{noList, patched-read}
-use Rattle.format.proofs.Rows.{rows-count}
+use Rattle.format.proofs.Rows.{i64-count}
 use Rattle.format.proofs.Streams.{into-got, into-refused}
 use Rattle.promises.specs.PatchLists
 use Rattle.promises.specs.PatchLists.{placeOf, Names, LastIsSkip, TwoShare, OneBeyond, OutOfPlace, Patched, PatchLists}
@@ -274,15 +274,11 @@ module _ (pw : ℕ) where
 
 module _ (code : ℕ) (base : List ℕ) (pc gw : ℕ) (k l : Block) (out out′ : List ℤ) (signed : Bool)
     (places : out′ ≡ i64Rows signed (patched code base pc gw k l) ++ drop (length (k .values)) out) where
-  rows-length : length (i64Rows signed (patched code base pc gw k l)) ≡ length (k .values)
-  unfolding i64Rows
-  rows-length = length-map (rowsOf signed (patched code base pc gw k l)) asI64 ∙ rows-count signed (patched code base pc gw k l)
-
   row-at : (p : ℕ) → p < length (k .values)
       → getD out′ p (pos 0) ≡ asI64 ((baseValue base + (getD (k .values) p 0 + patchAt p (patches (width pc) (l .values)) * 2 ^ width code)) % two64)
   unfolding i64Rows asI64
   row-at p h =
-      rw (places, List·getD-append (i64Rows signed (patched code base pc gw k l)) (drop (length (k .values)) out) (pos 0) p (omega (arith, rows-length)))
+      rw (places, List·getD-append (i64Rows signed (patched code base pc gw k l)) (drop (length (k .values)) out) (pos 0) p (omega (arith, i64-count signed (patched code base pc gw k l))))
       (List·getD-map asI64 (rowsOf signed (patched code base pc gw k l)) p 0 ∙ ap asI64 (sums .patched-row signed code base pc gw k l p h))
 
   rows-patched : T (not (outOfPlace (width pc) (length (k .values)) (l .values))) → (p : ℕ) → p < length (k .values) → Patched code base pc k l out′ p
@@ -321,5 +317,5 @@ patch-lists = record {
           in-place = λ o. never-both (outOfPlace (width pc) (length (k .values)) (l .values)) (out-of-place (width pc) (length (k .values)) (l .values) .1 o) (rw t tt);
           answer = rw (e, patched-read code base pc gw k l rest v few list, t, into-got (length out) (patched code base pc gw k l) rest room) at (h .answer);
           rows = rows-patched code base pc gw k l out out′ signed places (rw t tt);
-          others = ap (drop (length (k .values))) places ∙ drop-at (i64Rows signed (patched code base pc gw k l)) (drop (length (k .values)) out) (length (k .values)) (rows-length code base pc gw k l out out′ signed places);
+          others = ap (drop (length (k .values))) places ∙ drop-at (i64Rows signed (patched code base pc gw k l)) (drop (length (k .values)) out) (length (k .values)) (i64-count signed (patched code base pc gw k l));
         })
