@@ -8,3 +8,4 @@ pub mod EachWidth
 pub mod Sums
 pub mod PatchLists
 pub mod Refusals
+pub mod BooleansAndValues

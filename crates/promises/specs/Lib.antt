@@ -9,3 +9,4 @@ pub mod EachWidth
 pub mod Sums
 pub mod PatchLists
 pub mod Refusals
+pub mod BooleansAndValues
