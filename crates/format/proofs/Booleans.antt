@@ -1,6 +1,5 @@
 -- Byte runs and booleans: a valid run's layout reads as that run, nothing else reads, a run that is cut is refused with 6, and no second list of
--- runs has the same bytes. Reading n booleans takes exactly the runs that n needs. The starred line of document 01. Any two outcomes that a
--- promise allows are equal. Assumes nothing.
+-- runs has the same bytes. Reading n booleans takes exactly the runs that n needs. The starred line of document 01. Assumes nothing.
 use mathlib.Core.Path.{_≡_, refl, sym, ap, _∙_}
 use mathlib.Core.Logic.{_≢_, _↔_}
 use Prim.Native.Nat.{ℕ, zero, suc, _+_, _-_, _*_, _<_, _≤_}
@@ -19,8 +18,7 @@ use Rattle.format.specs.Digits.{AllBelow, digits}
 use Rattle.format.specs.Fields.{pick, bytesFor}
 use Rattle.format.specs.Parse.{Reason, plain, Parsed, got, refused, then, bytes}
 use Rattle.format.specs.Answers.{ran, refusedAt}
-use Rattle.format.specs.Booleans.{ByteRun, repeat, literals, ValidRun, AllValidRuns, Needed, runLayout, runBytes, byteCount, joinedRuns, joinedBytes, bits, booleansOf, repeatRun, byteRun, byteRuns, booleans, booleansInto, booleansAnswer, booleansPlaces, BooleansRead}
-use Rattle.format.specs.ByteValues.{ValueRead, ValueGiven}
+use Rattle.format.specs.Booleans.{ByteRun, repeat, literals, ValidRun, AllValidRuns, Needed, runLayout, runBytes, byteCount, joinedRuns, joinedBytes, bits, booleansOf, repeatRun, byteRun, byteRuns, booleans, booleansInto, booleansAnswer, booleansPlaces}
 use Rattle.format.proofs.Digits.{length-digits, digits-below}
 use Rattle.format.proofs.Fields.{Post, at-got, at-refused, of-got, then-post, pick-post, Took, bytes-complete, bytes-sound, append-below, below-append, below-take}
 use Rattle.format.proofs.Runs.{append-empty, got-inj}
@@ -281,15 +279,3 @@ cut-literals = refl
 pub none-asked : told 0 [] ≡ (ran Booleans 0 0, [])
 unfolding told
 none-asked = refl
-
--- ---- any two outcomes that a promise allows are equal
-
-module _ {input : List ℕ} {at n : ℕ} where
-  pub booleans-outcome-unique : {out o o′ : List ℕ} {r r′ : Answer} → BooleansRead input at n out o r → BooleansRead input at n out o′ r′ → (r ≡ r′) × (o ≡ o′)
-  booleans-outcome-unique p q = (p .answer ∙ sym (q .answer), p .places ∙ sym (q .places))
-
-  pub value-outcome-unique : {r r′ : Answer} → ValueRead input at n r → ValueRead input at n r′ → r ≡ r′
-  value-outcome-unique p q = p .answer ∙ sym (q .answer)
-
-  pub part-outcome-unique : {v v′ : List ℕ} → ValueGiven input at n v → ValueGiven input at n v′ → v ≡ v′
-  part-outcome-unique p q = p .part-is ∙ sym (q .part-is)

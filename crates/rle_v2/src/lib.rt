@@ -3,5 +3,6 @@ mod delta;
 mod direct;
 mod header;
 mod patch_list;
+mod patched_base;
 mod rows;
 mod short_repeat;
