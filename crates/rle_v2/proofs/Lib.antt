@@ -6,3 +6,4 @@ pub mod DirectRun
 pub mod ShortRun
 pub mod PatchWalk
 pub mod DeltaRun
+pub mod PatchedRun
