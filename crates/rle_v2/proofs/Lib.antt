@@ -7,3 +7,4 @@ pub mod ShortRun
 pub mod PatchWalk
 pub mod DeltaRun
 pub mod PatchedRun
+pub mod ByKind
