@@ -66,6 +66,9 @@ shortestIn-stands (suc j) x h l = by (decLt x 128) (shortestIn-stands j (x / 128
         let e : suc j - 1 ≡ j = omega arith in
         rw (m .bytesOf, e) (stands-more j x (shortestIn j (x / 128)) g (r (omega (arith, m .bytes)) (rw e at (m .below))))
 
+pub shortestIn-pos : (k x : ℕ) → 1 ≤ k → x < 128 ^ k → 1 ≤ length (shortestIn k x)
+shortestIn-pos k x h l = varint-length k (shortestIn k x) (shortestIn-stands k x h l .varint) .0
+
 module _ (x : ℕ) (h : x < two64) where
   pub shortest-stands : Stands 10 x (shortest x)
   unfolding shortest

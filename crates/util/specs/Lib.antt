@@ -1,4 +1,4 @@
 -- What the contracts of the shared fields cite beyond the definitions of `format`.
 pub mod Width
--- The definitions that the contracts cite, beside those of `format`.
 pub mod Packed
+pub mod Varint

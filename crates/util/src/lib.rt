@@ -2,4 +2,5 @@
 pub mod big_endian;
 pub mod packed;
 pub mod pattern;
+pub mod varint;
 pub mod width;

@@ -11,7 +11,12 @@ use Rattle.util.proofs.big_endian.write.Statement.{statement}
 use Rattle.util.proofs.big_endian.write.Tie as tie
 
 abbrev Inv-loop : tie.InvT-loop
-Inv-loop x n out₀ at place₀ left₀ out place left = (place + left ≡ at + n) × (left ≤ n) × (length out ≡ length out₀) × (take place out ++ digits 256 left x ≡ take at out₀ ++ digits 256 n x) × (drop place out ≡ drop place out₀)
+Inv-loop x n out₀ at place₀ left₀ out place left =
+    (place + left ≡ at + n)
+    × (left ≤ n)
+    × (length out ≡ length out₀)
+    × (take place out ++ digits 256 left x ≡ take at out₀ ++ digits 256 n x)
+    × (drop place out ≡ drop place out₀)
 
 abbrev μ-loop : tie.MeasureT-loop
 μ-loop x n out₀ at place₀ left₀ out place left = left

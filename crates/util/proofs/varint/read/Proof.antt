@@ -1,0 +1,93 @@
+-- `varint::read` meets its contract. The loop's invariant: the groups before group k are in v, and the definition goes on from place i. Assumes nothing.
+use mathlib.Core.Path.{_≡_, sym, _∙_, ap}
+use Prim.Native.Nat.{ℕ, _≤_, _-_, _+_, _*_, _^_, _%_}
+use native.Mathlib.Omega.{arith}
+use lib.ListN.{drop, getD}
+use denote.Ref.{now}
+use borrow.Author.Needs.{needs}
+use Rattle.format.specs.Parse.{plain, varint}
+use Rattle.util.proofs.Varints.{toldFrom, told-from, at-end, at-last, at-next, sum-is, weight}
+use Rattle.util.specs.Varint.{varintAt}
+use Rattle.util.specs.declared.varint.Varint.the-variants.{Value}
+use Rattle.util.proofs.varint.read.Statement.{statement}
+use Rattle.util.proofs.varint.read.Tie as tie
+
+abbrev Inv-loop : tie.InvT-loop
+Inv-loop s at i₀ v₀ k₀ i v k = (k ≤ 10) × (varintAt s at ≡ toldFrom i v (2 ^ (7 * k)) (varint (plain 6) (10 - k) (drop i s)))
+
+abbrev μ-loop : tie.MeasureT-loop
+μ-loop s at i₀ v₀ k₀ i v k = 10 - k
+
+loop-holds : tie.Need-loop-holds Inv-loop μ-loop
+unfolding varintAt
+loop-holds c = let a = c .before .args in (omega arith, told-from (a .at) (varint (plain 6) 10 (drop (a .at) (a .s .now))))
+
+returns : tie.Need-returns Inv-loop μ-loop
+returns c =
+    let l = c .before .before .loop in
+    let a = c .before .before .before .before .args in
+    sym (l .inv .1 ∙ at-end (now (a .s)) (l .i) (l .v) (2 ^ (7 * l .k)) (l .k) (omega arith) (omega arith))
+
+shared-slice-read-b : tie.Need-shared-slice-read-b Inv-loop μ-loop
+shared-slice-read-b c = omega arith
+
+group-requires : tie.Need-group-requires Inv-loop μ-loop
+group-requires c κs = omega arith
+
+add-requires : tie.Need-add-requires Inv-loop μ-loop
+add-requires c κs = search needs
+
+add-i : tie.Need-add-i Inv-loop μ-loop
+add-i c = omega arith
+
+returns-2 : tie.Need-returns-2 Inv-loop μ-loop
+returns-2 c =
+    let w = c .before in
+    let g = w .before in
+    let m = g .before .before .before .before in
+    let l = m .loop in
+    let a = m .before .before .args in
+    let b = getD (now (a .s)) (l .i) 0 in
+    let e = rw (g .group .ensures) at (w .add .ensures) in
+    ap (λ (x : ℕ). Value x (l .i + 1)) (e ∙ sum-is (l .v) (b % 128) (l .k)) ∙ sym (l .inv .1 ∙ at-last (now (a .s)) (l .i) (l .v) (2 ^ (7 * l .k)) (l .k) (omega arith) (omega arith) (c .if2 .taken))
+
+add-k : tie.Need-add-k Inv-loop μ-loop
+add-k c = omega arith
+
+loop-less : tie.Need-loop-less Inv-loop μ-loop
+loop-less c = omega arith
+
+loop-again : tie.Need-loop-again Inv-loop μ-loop
+loop-again c =
+    let w = c .before in
+    let g = w .before in
+    let m = g .before .before .before .before in
+    let l = m .loop in
+    let a = m .before .before .args in
+    let b = getD (now (a .s)) (l .i) 0 in
+    let e = rw (g .group .ensures) at (w .add .ensures) in (
+      omega arith,
+      rw (weight (l .k), e ∙ sum-is (l .v) (b % 128) (l .k)) (l .inv .1 ∙ at-next (now (a .s)) (l .i) (l .v) (2 ^ (7 * l .k)) (l .k) (omega arith) (omega arith) (c .if2 .left)),
+    )
+
+returns-3 : tie.Need-returns-3 Inv-loop μ-loop
+unfolding varint
+returns-3 c = let l = c .before .loop in let z : 10 - l .k ≡ 0 = omega arith in sym (l .inv .1 ∙ rw z)
+
+pub read-spec : {M : Type 1} → statement M
+read-spec =
+    tie.close
+    (tie.spec
+    Inv-loop
+    μ-loop
+    loop-holds
+    returns
+    shared-slice-read-b
+    group-requires
+    add-requires
+    add-i
+    returns-2
+    add-k
+    loop-less
+    loop-again
+    returns-3)
