@@ -56,6 +56,12 @@ pub below-all : (b : ℕ) (s : List ℕ) → ((i : ℕ) → getD s i 0 < b) → 
 below-all b [] h = tt
 below-all b (x ∷ s) h = (h 0, below-all b s (λ i. h (suc i)))
 
+-- and back: any of them, or what stands for one that is not there
+pub below-getD : (b : ℕ) (l : List ℕ) (i d : ℕ) → AllBelow b l → d < b → getD l i d < b
+below-getD b [] i d h hd = hd
+below-getD b (x ∷ l) zero d h hd = h .0
+below-getD b (x ∷ l) (suc i) d h hd = below-getD b l i d (h .1) hd
+
 pub below-append : (b : ℕ) (s t : List ℕ) → AllBelow b s → AllBelow b t → AllBelow b (s ++ t)
 below-append b [] t p q = q
 below-append b (x ∷ s) t p q = (p .0, below-append b s t (p .1) q)

@@ -151,3 +151,31 @@ fn put(out: &mut [u8], i: usize, x: u64, q: usize)
         j += 1;
     }
 }
+
+// The first n of vals as fields, written at `at` with zeros for padding. Of the values before k, b bytes are written, and the t bits after
+// those stand at the top of x.
+pub fn pack(vals: &[u64], n: usize, w: usize, out: &mut [u8], at: usize)
+    requires { ⌜ Width w ⌝ }
+    requires { ⌜ (n ≤ 65536) × (n ≤ length (now vals)) × (at + bytesFor (n * w) ≤ length (now out)) ⌝ }
+    requires { ⌜ AllBelow (2 ^ w) (take n (now vals)) ⌝ }
+    ensures { λ _. ⌜ now (out .exit) ≡ take at (now (out .entry)) ++ blockBytes w n (record { values = take n (now (vals .entry)); pad = 0 }) ++ drop (at + bytesFor (n * w)) (now (out .entry)) ⌝ }
+{
+    let mut x = 0;
+    let mut t = 0;
+    let mut b = 0;
+    let mut k = 0;
+    while k < n {
+        let v = vals[k];
+        t += w;
+        if t < 64 {
+            x += v << (64 - t);
+        } else {
+            t -= 64;
+            put(out, at + b, x + (v >> t), 8);
+            b += 8;
+            x = raised(v, 64 - t);
+        }
+        k += 1;
+    }
+    put(out, at + b, x, (t + 7) / 8);
+}
