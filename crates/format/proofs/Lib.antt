@@ -10,3 +10,4 @@ pub mod Examples
 pub mod Rows
 pub mod Cut
 pub mod Reading
+pub mod Writing

@@ -7,3 +7,5 @@ pub mod Parse
 pub mod Streams
 pub mod Answers
 pub mod Promises
+pub mod Writing
+pub mod Table

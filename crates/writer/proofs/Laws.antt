@@ -1,0 +1,81 @@
+-- The laws that the writer's loops and tests cite. Assumes nothing.
+use mathlib.Core.Path.{_≡_, refl, sym, ap, _∙_}
+use Prim.Native.Nat.{ℕ, zero, suc, _+_, _-_, _*_, _/_, _^_, _<_, _≤_}
+use native.Mathlib.Nat.{div-lt-iff-lt-mul, zero-lt-suc, one-mul}
+use native.Mathlib.Numerals.{add-one}
+use native.Mathlib.Decide.{decLt}
+use native.Mathlib.Omega.{arith}
+use mathlib.Core.Bool.{Bool, true, false, _&&_}
+use mathlib.Core.List.{List, [], _∷_, _++_, map}
+use mathlib.Core.Logic.{_↔_}
+use lib.Dec.{leb, ltb, eqb}
+use lib.IntN.{ℤ, pos}
+use lib.ListN.{length, getD, drop, take, length-map, List·getD-map, drop-of-length-le}
+use lib.Seq.{slice, slice-cons, slice-empty, drop-cons}
+use lib.Pow.{pow-pos}
+use borrow.Author.Tests.{lt-ltb, le-ltb, eq-eqb, ne-eqb}
+use Rattle.format.specs.Rows.{asU64}
+use Rattle.format.specs.Writing.{stepTo, stepsOf, every}
+
+-- ---- a loop that tests n numbers: the whole passes exactly if what is left of it passes
+
+abbrev pub Left : (ℕ → Bool) → List ℕ → ℕ → ℕ → Type 0
+Left test l n i = every test (take n l) ≡ every test (slice i n l)
+
+module _ (test : ℕ → Bool) (l : List ℕ) (n i : ℕ) (left : Left test l n i) where
+  next : i < n → n ≤ length l → every test (take n l) ≡ test (getD l i 0) && every test (slice (i + 1) n l)
+  unfolding every
+  next h k = left ∙ rw (add-one, slice-cons i n l 0 h k)
+
+  pub stops : i < n → n ≤ length l → test (getD l i 0) ≡ false → false ≡ every test (take n l)
+  stops h k e = sym (next h k ∙ rw e)
+
+  pub goes : i < n → n ≤ length l → test (getD l i 0) ≡ true → Left test l n (i + 1)
+  goes h k e = next h k ∙ rw e
+
+  pub done : i ≤ n → n ≤ i → true ≡ every test (take n l)
+  unfolding every
+  done h k =
+      let e : i ≡ n = omega arith in
+      sym (left ∙ rw (e, slice-empty n l))
+
+-- ---- bits that a shift leaves
+
+pub shifted-out : (x bits : ℕ) → eqb (x / 2 ^ bits) 0 ≡ ltb x (2 ^ bits)
+shifted-out x bits = by (decLt x (2 ^ bits))
+  where
+    iff : (x / 2 ^ bits < 1) ↔ (x < 1 * 2 ^ bits)
+    iff = div-lt-iff-lt-mul (pow-pos bits)
+
+    by : Dec (x < 2 ^ bits) → eqb (x / 2 ^ bits) 0 ≡ ltb x (2 ^ bits)
+    by (yes h) = rw (lt-ltb x (2 ^ bits) h) (eq-eqb (x / 2 ^ bits) 0 (omega (arith, iff .1 (omega arith))))
+    by (no h) = rw (le-ltb x (2 ^ bits) (omega arith)) (ne-eqb (x / 2 ^ bits) 0 (λ e. h (omega (arith, iff .0 (omega arith)))))
+
+-- ---- a loop over rows: what is stored of them, and the steps between them
+
+pub pattern-at : (rows : List ℤ) (i : ℕ) → getD (map asU64 rows) i 0 ≡ asU64 (getD rows i (pos 0))
+pattern-at rows i = List·getD-map asU64 rows i (pos 0)
+
+pub map-next : (f : ℕ → ℕ) (l : List ℕ) (i : ℕ) → i < length l → map f (drop i l) ≡ f (getD l i 0) ∷ map f (drop (i + 1) l)
+map-next f l i h = rw (add-one, drop-cons l i 0 h)
+
+pub map-end : (f : ℕ → ℕ) (l : List ℕ) (i : ℕ) → length l ≤ i → map f (drop i l) ≡ []
+map-end f l i h = rw (drop-of-length-le l h)
+
+pub steps-next : (falling : Bool) (l : List ℕ) (i : ℕ) → i + 1 < length l
+    → stepsOf falling (drop i l) ≡ stepTo falling (getD l i 0) (getD l (i + 1) 0) ∷ stepsOf falling (drop (i + 1) l)
+unfolding stepsOf
+steps-next falling [] i h = absurd (omega arith)
+steps-next falling (x ∷ []) i h = absurd (omega arith)
+steps-next falling (x ∷ y ∷ l) zero h = refl
+steps-next falling (x ∷ y ∷ l) (suc i) h =
+    let e : suc i + 1 ≡ suc (i + 1) = omega arith in
+    rw e (steps-next falling (y ∷ l) i (omega arith))
+
+pub steps-end : (falling : Bool) (l : List ℕ) (i : ℕ) → length l ≤ i + 1 → stepsOf falling (drop i l) ≡ []
+unfolding stepsOf
+steps-end falling [] zero h = refl
+steps-end falling [] (suc i) h = refl
+steps-end falling (x ∷ []) zero h = refl
+steps-end falling (x ∷ y ∷ l) zero h = absurd (omega arith)
+steps-end falling (x ∷ l) (suc i) h = steps-end falling l i (omega arith)
