@@ -3,15 +3,14 @@
 -- Assumes nothing.
 use mathlib.Core.Path.{_≡_, refl, sym, ap, _∙_, subst}
 use Prim.Native.Nat.{ℕ, zero, suc, _+_, _-_, _*_, _/_, _%_, _^_, _<_, _≤_}
-use native.Mathlib.Nat.{mod-lt, zero-lt-suc, lt-of-lt-of-le, mul-comm, div-lt-iff-lt-mul, pow-suc, mod-eq-of-lt}
+use native.Mathlib.Nat.{mod-lt, zero-lt-suc, lt-of-lt-of-le, mul-comm}
 use native.Mathlib.Omega.{arith}
 use native.Mathlib.Numerals.{add-two}
 use mathlib.Core.Bool.{Bool, true, false, not, _&&_}
 use mathlib.Core.List.{List, [], _∷_, _++_, map}
 use mathlib.Core.Logic.{_↔_}
 use lib.Dec.{T, leb, ltb, eqb, leb→le, le→leb, ltb→lt, lt→ltb, eqb→eq, eqb-refl, nltb→le, not-T}
-use borrow.Author.Tests.{le-ltb, lt-ltb}
-use native.Mathlib.Decide.{decLt}
+use borrow.Author.Tests.{le-ltb}
 use lib.IntN.{ℤ}
 use lib.ListN.{length, getD, drop, replicate, length-map, length-replicate, getD-replicate}
 use lib.Pow.{pow-pos, pow-mono}
@@ -21,7 +20,7 @@ use Rattle.format.specs.declared.Form.{Form}
 use Rattle.format.specs.declared.Form.the-variants.{ShortRepeat, Direct, FixedDelta, PackedDelta}
 use Rattle.format.specs.declared.Answer.{Answer}
 use Rattle.format.specs.Digits.{AllBelow, number, digits}
-use Rattle.format.specs.Fields.{pick, width, two64, negative, zigzag, zigzagged, row, Block, IsBlock, padBits, Varint, last, more, varintValue, groups}
+use Rattle.format.specs.Fields.{pick, width, two64, negative, zigzag, zigzagged, row, Block, IsBlock, padBits, Varint, varintValue, groups, shortest}
 use Rattle.format.specs.Runs.{Description, short, direct, fixed, delta, Valid, layout, rowCount}
 use Rattle.format.specs.Rows
 use Rattle.format.specs.Rows.{rowsOf, i64Rows, asI64, asU64, plus, walk}
@@ -29,34 +28,12 @@ use Rattle.format.specs.Parse.{Reason, plain, Parsed, end, got, refused,
 use Rattle.format.specs.Promises.{answerOf, kindOf, RunRead}
 use Rattle.format.specs.Answers.{ran, answerNumber}
 use Rattle.format.specs.Writing
-use Rattle.format.specs.Writing.{shortest, stored, minus, stepTo, stepsOf, baseDelta, falls, valuesOf, padded, firstOf, described, every, between, countAllowed, haveForm, widthAllowed, bitsOf, fitWidth, writing, AllI64, bytesIn, Written, Short, AsWritten, short-repeat, direct-run, fixed-delta, packed-delta}
+use Rattle.format.specs.Writing.{stored, minus, stepTo, stepsOf, baseDelta, falls, valuesOf, padded, firstOf, described, every, between, countAllowed, haveForm, widthAllowed, bitsOf, fitWidth, writing, AllI64, bytesIn, Written, Short, AsWritten, short-repeat, direct-run, fixed-delta, packed-delta}
 use Rattle.format.proofs.Digits.{number-lt, digits-number, length-digits, digits-below, number-digits, pow-pow}
 use Rattle.format.proofs.Patterns.{zigzag-zigzagged, zigzagged-zigzag, zigzagged-lt, zigzag-lt, as-back, as-forth, as-lt}
+use Rattle.format.proofs.Varints.{shortest-varint, shortest-value, shortest-unique}
 use Rattle.format.proofs.Rows.{width-le, below-replicate, row-lt, varint-lt, rows-below, rows-count}
 use Rattle.format.proofs.Runs.{parse-complete, got-inj}
-
--- STUBS
-abbrev Written-out : ℕ → ℕ → Type 0
-Written-out k x = Varint k (Writing.shortestFrom k x) × (groups (Writing.shortestFrom k x) ≡ x)
-
-shortest-from : (k x : ℕ) → x < 128 ^ suc k → Written-out (suc k) x
-unfolding Writing.shortestFrom
-shortest-from zero x h =
-    let l : x < 128 = omega arith in
-    rw (lt-ltb x 128 l) (last l, omega arith)
-shortest-from (suc k) x h = by (decLt x 128) (shortest-from k (x / 128) (div-lt-iff-lt-mul {k = 128} (omega arith) .1 (rw (pow-suc 128 (suc k)) at h)))
-  where
-    by : Dec (x < 128) → Written-out (suc k) (x / 128) → Written-out (suc (suc k)) x
-    by (yes l) r = rw (lt-ltb x 128 l) (last l, omega arith)
-    by (no l) r = rw (le-ltb x 128 (omega arith)) (more {b = x % 128 + 128} (omega arith) (omega arith) (r .0), rw (r .1) (omega arith))
-
-shortest-varint : (x : ℕ) → x < two64 → Varint 10 (shortest x)
-unfolding shortest
-shortest-varint x h = shortest-from 9 x (omega arith) .0
-
-shortest-value : (x : ℕ) → x < two64 → varintValue (shortest x) ≡ x
-unfolding shortest varintValue
-shortest-value x h = rw (shortest-from 9 x (omega arith) .1) (mod-eq-of-lt h)
 
 -- ---- tests
 
@@ -329,6 +306,9 @@ base-even m x s hx hs none = rw (steps-even m x s, steps-walk false x (replicate
     go zero none = sym (none refl)
     go (suc m) none = refl
 
+as-shortest : (v : List ℕ) → Short v → Varint 10 v → v ≡ shortest (varintValue v)
+as-shortest v p h = shortest-unique v h (p .0) (p .1)
+
 still : (base : List ℕ) → groups base ≡ 0 → zigzag (varintValue base) ≡ 0
 unfolding varintValue zigzag
 still base e = rw e
@@ -353,7 +333,7 @@ fixed-again signed (suc m) first base p q one v =
         size = tt;
         fits = tt;
       };
-      same = rw (l, f, b, stored-row signed (varintValue first) (varint-lt first), zigzagged-zigzag (varintValue base) (varint-lt base), ← p, ← q);
+      same = rw (l, f, b, stored-row signed (varintValue first) (varint-lt first), zigzagged-zigzag (varintValue base) (varint-lt base), ← (as-shortest first p (v .first-varint)), ← (as-shortest base q (v .base-varint)));
     }
 
 delta-again : (signed : Bool) (w : ℕ) (first base vs : List ℕ) → Short first → Short base → Valid (delta w first base (padded vs))
@@ -375,7 +355,7 @@ delta-again signed w first base vs p q v =
         size = le-between 1 31 w (v .not-fixed) (omega (arith, v .head .code-fits));
         fits = rw (b, e) (below-every (2 ^ width w) vs (v .block .fits));
       };
-      same = rw (b, e, stored-row signed (varintValue first) (varint-lt first), zigzagged-zigzag (varintValue base) (varint-lt base), ← p, ← q);
+      same = rw (b, e, stored-row signed (varintValue first) (varint-lt first), zigzagged-zigzag (varintValue base) (varint-lt base), ← (as-shortest first p (v .first-varint)), ← (as-shortest base q (v .base-varint)));
     }
 
 again : (signed : Bool) (f : Form) (w : ℕ) (d : Description) → AsWritten f w d → Valid d → Again signed f w d

@@ -8,4 +8,3 @@ pub mod Streams
 pub mod Answers
 pub mod Promises
 pub mod Writing
-pub mod Table

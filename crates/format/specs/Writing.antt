@@ -14,18 +14,11 @@ use Rattle.format.specs.declared.Form.{Form}
 use Rattle.format.specs.declared.Form.the-variants.{ShortRepeat, Direct, FixedDelta, PackedDelta}
 use Rattle.format.specs.declared.Answer.{Answer}
 use Rattle.format.specs.Digits.{digits}
-use Rattle.format.specs.Fields.{pick, width, two64, zigzagged, Block, groups, varintValue}
+use Rattle.format.specs.Fields.{pick, width, two64, zigzagged, Block, groups, shortest, Shortest}
 use Rattle.format.specs.Runs.{Description, short, direct, fixed, delta, layout}
 use Rattle.format.specs.Rows.{asU64}
 use Rattle.format.specs.Parse.{Reason, Parsed, end, got, refused, unless}
 use Rattle.format.specs.Promises.{answerOf}
-
-unfoldable pub shortestFrom : ℕ → ℕ → List ℕ
-shortestFrom zero x = []
-shortestFrom (suc k) x = pick (ltb x 128) (x ∷ []) ((x % 128 + 128) ∷ shortestFrom k (x / 128))
-
-unfoldable pub shortest : ℕ → List ℕ
-shortest x = shortestFrom 10 x
 
 -- ---- VALUES
 
@@ -149,7 +142,7 @@ pub record Written (rows : List ℤ) (signed : Bool) (f : Form) (w : ℕ) (out o
 -- ---- A run as the writer lays it down, by its form and width: zero padding, shortest varints with no bits dropped, and delta 0 where there is one row.
 
 abbrev pub Short : List ℕ → Type 0
-Short v = v ≡ shortest (varintValue v)
+Short v = Shortest v × (groups v < two64)
 
 pub data AsWritten : Form → ℕ → Description → Type 0 where
   short-repeat : {w count : ℕ} {value : List ℕ} → length value ≡ w → AsWritten ShortRepeat w (short count value)
