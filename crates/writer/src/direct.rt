@@ -1,0 +1,30 @@
+// Direct: the header, then every row, zigzagged if signed, in a packed block.
+ghost use mathlib.Core.Path.{_≡_};
+ghost use mathlib.Core.Bool.{true};
+ghost use lib.ListN.{length};
+ghost use Rattle.format.specs.Writing.{countAllowed, widthAllowed, Written};
+
+use format::{Answer, Form, Kind};
+use util::{packed, width};
+use crate::{head, values};
+
+pub(crate) fn write(rows: &[i64], signed: bool, code: u8, out: &mut [u8]) -> Answer
+    requires { ⌜ countAllowed Form.Direct (length (now rows)) ≡ true ⌝ }
+    requires { ⌜ widthAllowed Form.Direct code ≡ true ⌝ }
+    ensures { λ r. ⌜ Written (now (rows .entry)) signed Form.Direct code (now (out .entry)) (now (out .exit)) r ⌝ }
+{
+    let n = rows.len();
+    let bits = width::bits_of(code);
+    let mut stored = values::scratch();
+    values::store(rows, signed, &mut stored);
+    if !values::all_fit(&stored, n, bits) {
+        return Answer::refused(11, 0);
+    }
+    let size = 2 + packed::block_size(bits, n);
+    if out.len() < size {
+        return Answer::refused(8, 0);
+    }
+    head::write(1, code, n, out);
+    packed::pack(&stored, n, bits, out, 2);
+    Answer::run(Kind::Direct, n, size)
+}

@@ -1,0 +1,39 @@
+// Short repeat: 2 bits kind, 3 bits size less 1, 3 bits count less 3; then the one value, highest byte first.
+ghost use mathlib.Core.Path.{_≡_};
+ghost use mathlib.Core.Bool.{true};
+ghost use lib.ListN.{length};
+ghost use Rattle.format.specs.Writing.{countAllowed, widthAllowed, Written};
+
+use format::{Answer, Form, Kind};
+use util::big_endian;
+use crate::values;
+
+// Room for a short repeat's rows.
+fn scratch() -> [u64; 10] {
+    [0u64; 10]
+}
+
+pub(crate) fn write(rows: &[i64], signed: bool, size: u8, out: &mut [u8]) -> Answer
+    requires { ⌜ countAllowed Form.ShortRepeat (length (now rows)) ≡ true ⌝ }
+    requires { ⌜ widthAllowed Form.ShortRepeat size ≡ true ⌝ }
+    ensures { λ r. ⌜ Written (now (rows .entry)) signed Form.ShortRepeat size (now (out .entry)) (now (out .exit)) r ⌝ }
+{
+    let n = rows.len();
+    let first = values::pattern_of(rows, 0);
+    let mut patterns = scratch();
+    values::store(rows, false, &mut patterns);
+    if !values::all_are(&patterns, n, first) {
+        return Answer::refused(10, 0);
+    }
+    let bytes = size as usize;
+    let value = values::stored(signed, first);
+    if !values::fits(value, 8 * bytes) {
+        return Answer::refused(11, 0);
+    }
+    if out.len() < 1 + bytes {
+        return Answer::refused(8, 0);
+    }
+    out[0] = ((bytes - 1) * 8 + (n - Kind::MIN_REPEAT)) as u8;
+    big_endian::write(value, bytes, out, 1);
+    Answer::run(Kind::ShortRepeat, n, 1 + bytes)
+}
