@@ -10,12 +10,12 @@ use mathlib.Core.List.{List, [], _∷_, _++_, map}
 use mathlib.Core.Logic.{_↔_}
 use lib.Dec.{leb, ltb, eqb}
 use lib.IntN.{ℤ, pos}
-use lib.ListN.{length, getD, drop, take, length-map, List·getD-map, drop-of-length-le}
-use lib.Seq.{slice, slice-cons, slice-empty, drop-cons}
+use lib.ListN.{length, getD, drop, take, length-map, List·getD-map, drop-of-length-le, set, length-append}
+use lib.Seq.{slice, slice-cons, slice-empty, drop-cons, take-at, drop-append-add, drop-drop}
 use lib.Pow.{pow-pos}
 use borrow.Author.Tests.{lt-ltb, le-ltb, eq-eqb, ne-eqb}
 use Rattle.format.specs.Rows.{asU64}
-use Rattle.format.specs.Writing.{stepTo, stepsOf, every}
+use Rattle.format.specs.Writing.{minus, stepTo, stepsOf, baseDelta, every}
 
 -- ---- a loop that tests n numbers: the whole passes exactly if what is left of it passes
 
@@ -79,3 +79,31 @@ steps-end falling [] (suc i) h = refl
 steps-end falling (x ∷ []) zero h = refl
 steps-end falling (x ∷ y ∷ l) zero h = absurd (omega arith)
 steps-end falling (x ∷ l) (suc i) h = steps-end falling l i (omega arith)
+
+pub base-none : (l : List ℕ) → length l < 2 → 0 ≡ baseDelta l
+unfolding baseDelta stepsOf
+base-none [] h = refl
+base-none (x ∷ []) h = refl
+base-none (x ∷ y ∷ l) h = absurd (omega arith)
+
+pub base-some : (l : List ℕ) → 2 ≤ length l → minus (getD l 1 0) (getD l 0 0) ≡ baseDelta l
+unfolding baseDelta stepsOf
+base-some [] h = absurd (omega arith)
+base-some (x ∷ []) h = absurd (omega arith)
+base-some (x ∷ y ∷ l) h = refl
+
+-- ---- bytes written one piece after another
+
+pub two-set : (l : List ℕ) (a b : ℕ) → 2 ≤ length l → set (set l 0 a) 1 b ≡ a ∷ b ∷ drop 2 l
+two-set [] a b h = absurd (omega arith)
+two-set (x ∷ []) a b h = absurd (omega arith)
+two-set (x ∷ y ∷ l) a b h = refl
+
+-- a piece of k bytes, written behind what stands in front
+pub behind : (p q before out out′ : List ℕ) (at k : ℕ) → at ≡ length p → length q ≡ k → out ≡ p ++ drop (length p) before
+    → out′ ≡ take at out ++ q ++ drop (at + k) out → out′ ≡ (p ++ q) ++ drop (length (p ++ q)) before
+behind p q before out out′ at k n l e f =
+    let front : take at out ≡ p = rw e (take-at p (drop (length p) before) at (sym n)) in
+    let back : drop (at + k) out ≡ drop (length (p ++ q)) before =
+        rw (e, n, drop-append-add p (drop (length p) before) k, drop-drop k (length p) before, length-append p q, l) in
+    f ∙ rw (front, back)

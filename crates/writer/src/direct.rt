@@ -1,16 +1,14 @@
 // Direct: the header, then every row, zigzagged if signed, in a packed block.
-ghost use mathlib.Core.Path.{_≡_};
-ghost use mathlib.Core.Bool.{true};
+ghost use Prim.Native.Nat.{_≤_};
 ghost use lib.ListN.{length};
-ghost use Rattle.format.specs.Writing.{countAllowed, widthAllowed, Written};
+ghost use Rattle.format.specs.Writing.{Written};
 
 use format::{Answer, Form, Kind};
 use util::{packed, width};
 use crate::{head, values};
 
 pub(crate) fn write(rows: &[i64], signed: bool, code: u8, out: &mut [u8]) -> Answer
-    requires { ⌜ countAllowed Form.Direct (length (now rows)) ≡ true ⌝ }
-    requires { ⌜ widthAllowed Form.Direct code ≡ true ⌝ }
+    requires { ⌜ (1 ≤ length (now rows)) × (length (now rows) ≤ 512) × (code ≤ 31) ⌝ }
     ensures { λ r. ⌜ Written (now (rows .entry)) signed Form.Direct code (now (out .entry)) (now (out .exit)) r ⌝ }
 {
     let n = rows.len();

@@ -1,8 +1,7 @@
 // Short repeat: 2 bits kind, 3 bits size less 1, 3 bits count less 3; then the one value, highest byte first.
-ghost use mathlib.Core.Path.{_≡_};
-ghost use mathlib.Core.Bool.{true};
+ghost use Prim.Native.Nat.{_≤_};
 ghost use lib.ListN.{length};
-ghost use Rattle.format.specs.Writing.{countAllowed, widthAllowed, Written};
+ghost use Rattle.format.specs.Writing.{Written};
 
 use format::{Answer, Form, Kind};
 use util::big_endian;
@@ -14,8 +13,7 @@ fn scratch() -> [u64; 10] {
 }
 
 pub(crate) fn write(rows: &[i64], signed: bool, size: u8, out: &mut [u8]) -> Answer
-    requires { ⌜ countAllowed Form.ShortRepeat (length (now rows)) ≡ true ⌝ }
-    requires { ⌜ widthAllowed Form.ShortRepeat size ≡ true ⌝ }
+    requires { ⌜ (3 ≤ length (now rows)) × (length (now rows) ≤ 10) × (1 ≤ size) × (size ≤ 8) ⌝ }
     ensures { λ r. ⌜ Written (now (rows .entry)) signed Form.ShortRepeat size (now (out .entry)) (now (out .exit)) r ⌝ }
 {
     let n = rows.len();
