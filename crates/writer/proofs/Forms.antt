@@ -6,18 +6,25 @@ use mathlib.Core.Bool.{Bool, true, false, not, _&&_}
 use mathlib.Core.List.{List, [], _++_, map}
 use lib.Dec.{T, ltb}
 use lib.IntN.{ℤ}
-use lib.ListN.{length, drop, take, length-map}
+use lib.ListN.{length, drop, take, length-map, length-append}
 use lib.Seq.{take-at}
-use borrow.Author.Tests.{lt-ltb, le-ltb}
+use borrow.Author.Tests.{lt-ltb, le-ltb, le-leb, not-true, not-false}
 use Rattle.format.specs.declared.Form.{Form}
 use Rattle.format.specs.declared.Form.the-variants.{ShortRepeat, Direct, FixedDelta, PackedDelta}
+use Rattle.format.specs.declared.Kind.{Kind}
+use Rattle.format.specs.declared.Kind.the-variants as kind
 use Rattle.format.specs.declared.Answer.{Answer}
 use Rattle.format.specs.Answers.{ran, refusedAt}
-use Rattle.format.specs.Runs.{Description, layout, rowCount}
+use Rattle.format.specs.Digits.{AllBelow}
+use Rattle.format.specs.Fields.{width, bytesFor, blockBytes}
+use Rattle.format.specs.Runs.{Description, layout, rowCount, head}
 use Rattle.format.specs.Rows.{asU64}
 use Rattle.format.specs.Parse.{Parsed, got, refused, plain}
 use Rattle.format.specs.Promises.{answerOf, kindOf}
-use Rattle.format.specs.Writing.{countAllowed, haveForm, widthAllowed, fitWidth, described, writing, bytesIn, Written}
+use Rattle.format.specs.Writing.{countAllowed, haveForm, widthAllowed, fitWidth, stored, valuesOf, padded, every, described, writing, bytesIn, Written}
+use Rattle.format.proofs.Fields.{length-block}
+use Rattle.format.proofs.Writing.{every-below}
+use Rattle.writer.proofs.Laws.{behind}
 
 and-false : (b : Bool) → b && false ≡ false
 and-false true = refl
@@ -58,3 +65,70 @@ module _ (rows : List ℤ) (signed : Bool) (f : Form) (w : ℕ) (out : List ℕ)
         → out′ ≡ layout (described signed f w rs) ++ drop (length (layout (described signed f w rs))) out → Written rows signed f w out out′ r
     unfolding writing
     laid h e out′ l p q = told out′ (got (described signed f w rs) []) (rw (c, s, h, e, le-ltb (length out) (length (layout (described signed f w rs))) l)) p q
+
+-- ---- the two forms that end in a packed block: p is what stands before it, of m values, in vals
+
+pub record Packed (rows : List ℤ) (signed : Bool) (f : Form) (kind : Kind) (code : ℕ) (p : List ℕ) (m bits : ℕ) (vals : List ℕ) (fit : Bool) : Type 0 where
+  pub count : countAllowed f (length (map asU64 rows)) ≡ true
+  pub size : widthAllowed f code ≡ true
+  pub form : haveForm f (map asU64 rows) ≡ true
+  pub tests : fitWidth signed f code (map asU64 rows) ≡ every (λ x. ltb x (2 ^ width code)) (valuesOf signed f (map asU64 rows))
+  pub lay : layout (described signed f code (map asU64 rows)) ≡ p ++ blockBytes (width code) m (padded (valuesOf signed f (map asU64 rows)))
+  pub kinded : kindOf (described signed f code (map asU64 rows)) ≡ kind
+  pub counted : rowCount (described signed f code (map asU64 rows)) ≡ length rows
+  pub bits-are : bits ≡ width code
+  pub vals-are : take m vals ≡ valuesOf signed f (map asU64 rows)
+  pub tested : fit ≡ every (λ x. ltb x (2 ^ bits)) (take m vals)
+
+module _ {rows : List ℤ} {signed : Bool} {f : Form} {kind : Kind} {code : ℕ} {p : List ℕ} {m bits : ℕ} {vals : List ℕ} {fit : Bool} (k : Packed rows signed f kind code p m bits vals fit) where
+  is-fit : fit ≡ fitWidth signed f code (map asU64 rows)
+  is-fit = k .tested ∙ rw (k .tests, k .bits-are, k .vals-are)
+
+  pub values-below : not fit ≡ false → AllBelow (2 ^ bits) (take m vals)
+  values-below t = every-below (2 ^ bits) (take m vals) (rw (sym (k .tested) ∙ not-false fit t) tt)
+
+  is-laid : layout (described signed f code (map asU64 rows)) ≡ p ++ blockBytes bits m (padded (take m vals))
+  is-laid = k .lay ∙ rw (k .bits-are, k .vals-are)
+
+  laid-length : length (layout (described signed f code (map asU64 rows))) ≡ length p + bytesFor (m * bits)
+  laid-length = ap (λ (l : List ℕ). length l) is-laid ∙ length-append p (blockBytes bits m (padded (take m vals))) ∙ ap (λ (n : ℕ). length p + n) (length-block bits m (padded (take m vals)))
+
+  pub too-wide : (out : List ℕ) (r : Answer) → not fit ≡ true → r ≡ refusedAt 11 0 → Written rows signed f code out out r
+  too-wide out r t e = bad-fit rows signed f code out r (k .count) (k .size) (k .form) (sym is-fit ∙ not-true fit t) e
+
+  pub too-few : (out : List ℕ) (r : Answer) → not fit ≡ false → length out < length p + bytesFor (m * bits) → r ≡ refusedAt 8 0 → Written rows signed f code out out r
+  too-few out r t h e = no-room rows signed f code out r (k .count) (k .size) (k .form) (sym is-fit ∙ not-false fit t) (rw laid-length h) e
+
+  pub packed : (out out₁ out₂ : List ℕ) (at : ℕ) (r : Answer) → not fit ≡ false → length p + bytesFor (m * bits) ≤ length out
+      → r ≡ ran kind (length rows) (length p + bytesFor (m * bits)) → at ≡ length p → out₁ ≡ p ++ drop (length p) out
+      → out₂ ≡ take at out₁ ++ blockBytes bits m (padded (take m vals)) ++ drop (at + bytesFor (m * bits)) out₁ → Written rows signed f code out out₂ r
+  packed out out₁ out₂ at r t h e n e₁ e₂ =
+      laid rows signed f code out r (k .count) (k .size) (k .form) (sym is-fit ∙ not-false fit t) out₂ (rw laid-length h)
+      (rw (k .kinded, k .counted, laid-length) e)
+      (rw is-laid (behind p (blockBytes bits m (padded (take m vals))) out out₁ out₂ at (bytesFor (m * bits)) n (length-block bits m (padded (take m vals))) e₁ e₂))
+
+-- ---- direct
+
+allowed-direct : (n w : ℕ) → 1 ≤ n → n ≤ 512 → w ≤ 31 → (countAllowed Direct n ≡ true) × (widthAllowed Direct w ≡ true)
+allowed-direct n w a b c = (simp (le-leb 1 n a, le-leb n 512 b), simp (le-leb 0 w (omega arith), le-leb w 31 c))
+
+pub direct-packed : (rows : List ℤ) (signed : Bool) (code bits : ℕ) (vals rest : List ℕ) (fit : Bool) → 1 ≤ length rows → length rows ≤ 512 → code ≤ 31
+    → bits ≡ width code → vals ≡ map (stored signed) (map asU64 rows) ++ rest → fit ≡ every (λ x. ltb x (2 ^ bits)) (take (length rows) vals)
+    → Packed rows signed Direct kind.Direct code (head 1 code (length rows)) (length rows) bits vals fit
+unfolding haveForm fitWidth valuesOf described layout
+direct-packed rows signed code bits vals rest fit a b c w e t =
+    let n : length (map asU64 rows) ≡ length rows = length-map rows asU64 in
+    let m : length (map (stored signed) (map asU64 rows)) ≡ length rows = length-map (map asU64 rows) (stored signed) ∙ n in
+    let ok = allowed-direct (length rows) code a b c in
+    record {
+      count = rw n (ok .0);
+      size = ok .1;
+      form = refl;
+      tests = refl;
+      lay = rw m;
+      kinded = refl;
+      counted = m;
+      bits-are = w;
+      vals-are = rw e (take-at (map (stored signed) (map asU64 rows)) rest (length rows) m);
+      tested = t;
+    }

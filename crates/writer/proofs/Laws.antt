@@ -1,7 +1,7 @@
 -- The laws that the writer's loops and tests cite. Assumes nothing.
 use mathlib.Core.Path.{_≡_, refl, sym, ap, _∙_}
 use Prim.Native.Nat.{ℕ, zero, suc, _+_, _-_, _*_, _/_, _^_, _<_, _≤_}
-use native.Mathlib.Nat.{div-lt-iff-lt-mul, zero-lt-suc, one-mul}
+use native.Mathlib.Nat.{div-lt-iff-lt-mul, mul-le-mul}
 use native.Mathlib.Numerals.{add-one}
 use native.Mathlib.Decide.{decLt}
 use native.Mathlib.Omega.{arith}
@@ -14,8 +14,10 @@ use lib.ListN.{length, getD, drop, take, length-map, List·getD-map, drop-of-len
 use lib.Seq.{slice, slice-cons, slice-empty, drop-cons, take-at, drop-append-add, drop-drop}
 use lib.Pow.{pow-pos}
 use borrow.Author.Tests.{lt-ltb, le-ltb, eq-eqb, ne-eqb}
+use Rattle.format.specs.Fields.{width, bytesFor}
 use Rattle.format.specs.Rows.{asU64}
 use Rattle.format.specs.Writing.{minus, stepTo, stepsOf, baseDelta, every}
+use Rattle.format.proofs.Widths.{IsWidth, width-is}
 
 -- ---- a loop that tests n numbers: the whole passes exactly if what is left of it passes
 
@@ -107,3 +109,11 @@ behind p q before out out′ at k n l e f =
     let back : drop (at + k) out ≡ drop (length (p ++ q)) before =
         rw (e, n, drop-append-add p (drop (length p) before) k, drop-drop k (length p) before, length-append p q, l) in
     f ∙ rw (front, back)
+
+-- ---- the size of a block
+
+pub width-known : {bits : ℕ} (code : ℕ) → bits ≡ width code → IsWidth bits
+width-known code e = rw e (width-is code)
+
+pub block-small : (n bits : ℕ) → n ≤ 512 → bits ≤ 64 → bytesFor (n * bits) ≤ 4096
+block-small n bits a b = omega (arith, mul-le-mul {n₂ = 512} {m₂ = 64} a b)

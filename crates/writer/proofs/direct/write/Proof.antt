@@ -1,3 +1,14 @@
+-- `direct::write` meets its contract. Assumes nothing.
+use mathlib.Core.Path.{_≡_, refl}
+use Prim.Native.Nat.{ℕ, _+_}
+use native.Mathlib.Omega.{arith}
+use lib.ListN.{length, drop}
+use denote.Ref.{now}
+use Rattle.format.specs.declared.Form.the-variants.{Direct}
+use Rattle.format.specs.declared.Kind.the-variants as kind
+use Rattle.format.specs.Runs.{head}
+use Rattle.writer.proofs.Laws.{width-known, block-small}
+use Rattle.writer.proofs.Forms.{Packed, direct-packed, values-below, too-wide, too-few, packed}
 use borrow.Author.Needs.{needs}
 use Rattle.writer.proofs.direct.write.Statement.{statement}
 use Rattle.writer.proofs.direct.write.Tie as tie
@@ -13,77 +24,95 @@ use Rattle.writer.proofs.values.all_fit.Reads as all-fit-reads
 use Rattle.writer.proofs.values.scratch.Reads as scratch-reads
 use Rattle.writer.proofs.values.store.Reads as store-reads
 
--- src/direct.rt:15:9
 bits-of-requires : tie.Need-bits-of-requires
 bits-of-requires c κs = search needs
 
--- src/direct.rt:16:22
 scratch-requires : tie.Need-scratch-requires
 scratch-requires c κs = search needs
 
--- src/direct.rt:17:33
 slice-aggregate-store : tie.Need-slice-aggregate-store
 slice-aggregate-store c = search needs
 
--- src/direct.rt:17:5
 store-requires : tie.Need-store-requires
 store-requires c κs = search needs
 
--- src/direct.rt:18:25
 slice-aggregate-all-fit : tie.Need-slice-aggregate-all-fit
 slice-aggregate-all-fit c = search needs
 
--- src/direct.rt:18:9
 all-fit-requires : tie.Need-all-fit-requires
-all-fit-requires c κs = ?
+all-fit-requires c κs = (search needs, width-known (c .before .before .before .before .before .before .before .args .code) (c .before .before .before .before .before .bits-of .ensures) .le)
 
--- src/direct.rt:19:9
 refused-requires : tie.Need-refused-requires
 refused-requires c κs = search needs
 
--- src/direct.rt:19:9
 returns : tie.Need-returns
-returns c = ?
+returns c =
+    let tested = c .before .before in
+    let kept = tested .before .before .before in
+    let bits = kept .before .before .before .bits-of in
+    let a = kept .before .before .before .before .before .args in
+    let k : Packed (now (a .rows)) (a .signed) Direct kind.Direct (a .code) (head 1 (a .code) (length (now (a .rows)))) (length (now (a .rows))) (bits .result) (kept .store .last .1 .1 .0) (tested .all-fit .result) =
+        direct-packed (now (a .rows)) (a .signed) (a .code) (bits .result) (kept .store .last .1 .1 .0) (drop (length (now (a .rows))) (kept .before .before .scratch .result)) (tested .all-fit .result)
+        (omega arith) (omega arith) (omega arith) (bits .ensures) (kept .store .ensures) (tested .all-fit .ensures) in
+    too-wide k (now (a .out)) (c .refused .result) (c .before .if1 .taken) (c .refused .ensures)
 
--- src/direct.rt:21:20
 block-size-requires : tie.Need-block-size-requires
-block-size-requires c κs = ?
+block-size-requires c κs = (width-known (c .before .before .before .before .before .before .before .before .before .args .code) (c .before .before .before .before .before .before .before .bits-of .ensures) .le, omega arith)
 
--- src/direct.rt:21:16
 add-size : tie.Need-add-size
-add-size c = ?
+add-size c =
+    omega (arith, c .block-size .ensures, block-small (length (now (c .before .before .before .before .before .before .before .before .before .before .args .rows))) (c .before .before .before .before .before .before .before .before .bits-of .result) (omega arith) (width-known (c .before .before .before .before .before .before .before .before .before .before .args .code) (c .before .before .before .before .before .before .before .before .bits-of .ensures) .le))
 
--- src/direct.rt:23:9
 refused-requires-2 : tie.Need-refused-requires-2
 refused-requires-2 c κs = search needs
 
--- src/direct.rt:23:9
 returns-2 : tie.Need-returns-2
-returns-2 c = ?
+returns-2 c =
+    let tested = c .before .before .before .before in
+    let kept = tested .before .before .before in
+    let bits = kept .before .before .before .bits-of in
+    let a = kept .before .before .before .before .before .args in
+    let k : Packed (now (a .rows)) (a .signed) Direct kind.Direct (a .code) (head 1 (a .code) (length (now (a .rows)))) (length (now (a .rows))) (bits .result) (kept .store .last .1 .1 .0) (tested .all-fit .result) =
+        direct-packed (now (a .rows)) (a .signed) (a .code) (bits .result) (kept .store .last .1 .1 .0) (drop (length (now (a .rows))) (kept .before .before .scratch .result)) (tested .all-fit .result)
+        (omega arith) (omega arith) (omega arith) (bits .ensures) (kept .store .ensures) (tested .all-fit .ensures) in
+    too-few k (now (a .out)) (c .refused2 .result) (c .before .before .before .if1 .left) (rw (← (c .before .before .block-size .ensures)) (c .before .if2 .taken)) (c .refused2 .ensures)
 
--- src/direct.rt:25:5
 write-requires : tie.Need-write-requires
 write-requires c κs = search needs
 
--- src/direct.rt:26:18
 slice-aggregate-pack : tie.Need-slice-aggregate-pack
 slice-aggregate-pack c = search needs
 
--- src/direct.rt:26:5
 pack-requires : tie.Need-pack-requires
-pack-requires c κs = ?
+pack-requires c κs =
+    let tested = c .before .before .before .before .before .before .before .before .before in
+    let kept = tested .before .before .before in
+    let bits = kept .before .before .before .bits-of in
+    let a = kept .before .before .before .before .before .args in
+    let k : Packed (now (a .rows)) (a .signed) Direct kind.Direct (a .code) (head 1 (a .code) (length (now (a .rows)))) (length (now (a .rows))) (bits .result) (kept .store .last .1 .1 .0) (tested .all-fit .result) =
+        direct-packed (now (a .rows)) (a .signed) (a .code) (bits .result) (kept .store .last .1 .1 .0) (drop (length (now (a .rows))) (kept .before .before .scratch .result)) (tested .all-fit .result)
+        (omega arith) (omega arith) (omega arith) (bits .ensures) (kept .store .ensures) (tested .all-fit .ensures) in
+    let w = width-known (a .code) (bits .ensures) in
+    ((w .pos, w .le, w .window), (search needs, values-below k (c .before .before .before .before .before .before .before .before .if1 .left)))
 
--- src/direct.rt:27:5
 run-requires : tie.Need-run-requires
 run-requires c κs = search needs
 
--- src/direct.rt:10:1
 same-length : tie.Need-same-length
 same-length c = search needs
 
--- src/direct.rt:10:1
 returns-3 : tie.Need-returns-3
-returns-3 c = ?
+returns-3 c =
+    let tested = c .before .before .before .before .before .before .before .before .before .before .before .before .before in
+    let kept = tested .before .before .before in
+    let bits = kept .before .before .before .bits-of in
+    let a = kept .before .before .before .before .before .args in
+    let k : Packed (now (a .rows)) (a .signed) Direct kind.Direct (a .code) (head 1 (a .code) (length (now (a .rows)))) (length (now (a .rows))) (bits .result) (kept .store .last .1 .1 .0) (tested .all-fit .result) =
+        direct-packed (now (a .rows)) (a .signed) (a .code) (bits .result) (kept .store .last .1 .1 .0) (drop (length (now (a .rows))) (kept .before .before .scratch .result)) (tested .all-fit .result)
+        (omega arith) (omega arith) (omega arith) (bits .ensures) (kept .store .ensures) (tested .all-fit .ensures) in
+    let e = c .before .before .before .before .before .before .before .before .before .before .before .block-size .ensures in
+    packed k (now (a .out)) (c .before .before .before .before .before .before .before .before .write .last .1 .1 .1 .0) (c .before .before .before .pack .last .1 .1 .1 .0) 2 (c .run .result) (c .before .before .before .before .before .before .before .before .before .before .before .before .if1 .left) (rw (← e) (c .before .before .before .before .before .before .before .before .before .before .if2 .left))
+    (rw (← e) (c .run .ensures)) refl (c .before .before .before .before .before .before .before .before .write .ensures) (c .before .before .before .pack .ensures)
 
 pub write-spec : {M : Type 1} → statement M
 write-spec =
