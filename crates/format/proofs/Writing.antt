@@ -140,12 +140,12 @@ unfolding Rows.steps walk
 steps-even zero x d = refl
 steps-even (suc n) x d = ap (λ (l : List ℕ). x ∷ l) (steps-even n (plus x d) d)
 
-length-steps : (falling : Bool) (x : ℕ) (ys : List ℕ) → length (stepsOf falling (x ∷ ys)) ≡ length ys
+pub length-steps : (falling : Bool) (x : ℕ) (ys : List ℕ) → length (stepsOf falling (x ∷ ys)) ≡ length ys
 unfolding stepsOf
 length-steps falling x [] = refl
 length-steps falling x (y ∷ ys) = ap suc (length-steps falling y ys)
 
-later-steps : (falling : Bool) (rs : List ℕ) → 2 ≤ length rs → length (stepsOf falling (drop 1 rs)) + 2 ≡ length rs
+pub later-steps : (falling : Bool) (rs : List ℕ) → 2 ≤ length rs → length (stepsOf falling (drop 1 rs)) + 2 ≡ length rs
 later-steps falling [] h = absurd (omega arith)
 later-steps falling (x ∷ []) h = absurd (omega arith)
 later-steps falling (x ∷ y ∷ rs) h = omega (arith, length-steps falling y rs)
