@@ -154,7 +154,11 @@ pack-requires c κs =
         delta-packed (now (a .rows)) (a .signed) (a .code) (bits .result) (step .result) (kept .steps .last .1 .1 .0) (drop (length (drop 1 (now (a .rows))) - 1) (kept .before .before .before .scratch .result)) (tested .all-fit .result)
         (omega arith) (omega arith) (omega arith) (omega arith) (bits .ensures) (step .ensures) (rw (rest-is (now (a .rows)) 1) at (kept .steps .ensures)) (tested .all-fit .ensures) in
     let w = width-known (a .code) (bits .ensures) in
-    ((w .pos, w .le, w .window), (?, values-below k (c .before .before .before .before .before .before .before .before .before .before .before .before .if1 .left)))
+    let p : c .before .before .before .before .before .before .before .before .before .before .stored .result ≡ firstOf (a .signed) (map asU64 (now (a .rows))) = c .before .before .before .before .before .before .before .before .before .before .stored .ensures ∙ ap (λ (x : ℕ). Writing.stored (a .signed) x) (c .before .before .before .before .before .before .before .before .before .before .before .pattern-of .ensures) in
+    let q : c .before .before .before .before .before .before .before .before .before .zigzag-of .result ≡ zigzagged (baseDelta (map asU64 (now (a .rows)))) = c .before .before .before .before .before .before .before .before .before .zigzag-of .ensures ∙ ap zigzagged (step .ensures) in
+    let z = start-sized (a .code) (length (now (a .rows))) p q (c .before .before .before .before .before .before .before .before .start-size .ensures) in
+    let b = started (a .code) (length (now (a .rows))) p q (c .before .before .before .before .write-start .ensures) in
+    ((w .pos, w .le, w .window), (omega (arith, z, b .next, c .before .before .before .before .before .before .before .block-size .ensures), values-below k (c .before .before .before .before .before .before .before .before .before .before .before .before .if1 .left)))
 
 run-requires : tie.Need-run-requires
 run-requires c κs = search needs
