@@ -260,7 +260,7 @@ below-mono : (b c : ℕ) → b ≤ c → (l : List ℕ) → AllBelow b l → All
 below-mono b c h [] p = tt
 below-mono b c h (x ∷ l) p = (lt-of-lt-of-le (p .0) h, below-mono b c h l (p .1))
 
-map-replicate : (f : ℕ → ℕ) (n x : ℕ) → map f (replicate n x) ≡ replicate n (f x)
+pub map-replicate : (f : ℕ → ℕ) (n x : ℕ) → map f (replicate n x) ≡ replicate n (f x)
 map-replicate f zero x = refl
 map-replicate f (suc n) x = ap (λ (l : List ℕ). f x ∷ l) (map-replicate f n x)
 

@@ -96,6 +96,10 @@ base-some (x ∷ y ∷ l) h = refl
 
 -- ---- bytes written one piece after another
 
+pub one-set : (l : List ℕ) (a : ℕ) → 1 ≤ length l → set l 0 a ≡ a ∷ drop 1 l
+one-set [] a h = absurd (omega arith)
+one-set (x ∷ l) a h = refl
+
 pub two-set : (l : List ℕ) (a b : ℕ) → 2 ≤ length l → set (set l 0 a) 1 b ≡ a ∷ b ∷ drop 2 l
 two-set [] a b h = absurd (omega arith)
 two-set (x ∷ []) a b h = absurd (omega arith)

@@ -1,6 +1,8 @@
 // Short repeat: 2 bits kind, 3 bits size less 1, 3 bits count less 3; then the one value, highest byte first.
-ghost use Prim.Native.Nat.{_≤_};
-ghost use lib.ListN.{length};
+ghost use mathlib.Core.Path.{_≡_};
+ghost use mathlib.Core.List.{_∷_};
+ghost use Prim.Native.Nat.{_+_, _-_, _*_, _≤_};
+ghost use lib.ListN.{length, drop};
 ghost use Rattle.format.specs.Writing.{Written};
 
 use format::{Answer, Form, Kind};
@@ -10,6 +12,13 @@ use crate::values;
 // Room for a short repeat's rows.
 fn scratch() -> [u64; 10] {
     [0u64; 10]
+}
+
+fn write_head(bytes: usize, rows: usize, out: &mut [u8])
+    requires { ⌜ (1 ≤ bytes) × (bytes ≤ 8) × (3 ≤ rows) × (rows ≤ 10) × (1 ≤ length (now out)) ⌝ }
+    ensures { λ _. ⌜ now (out .exit) ≡ ((bytes - 1) * 8 + (rows - 3)) ∷ drop 1 (now (out .entry)) ⌝ }
+{
+    out[0] = ((bytes - 1) * 8 + (rows - Kind::MIN_REPEAT)) as u8;
 }
 
 pub(crate) fn write(rows: &[i64], signed: bool, size: u8, out: &mut [u8]) -> Answer
@@ -31,7 +40,7 @@ pub(crate) fn write(rows: &[i64], signed: bool, size: u8, out: &mut [u8]) -> Ans
     if out.len() < 1 + bytes {
         return Answer::refused(8, 0);
     }
-    out[0] = ((bytes - 1) * 8 + (n - Kind::MIN_REPEAT)) as u8;
+    write_head(bytes, n, out);
     big_endian::write(value, bytes, out, 1);
     Answer::run(Kind::ShortRepeat, n, 1 + bytes)
 }

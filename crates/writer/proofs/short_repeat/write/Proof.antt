@@ -1,3 +1,15 @@
+-- `short_repeat::write` meets its contract. Assumes nothing.
+use mathlib.Core.Path.{_≡_, ap, _∙_}
+use mathlib.Core.List.{List, map}
+use Prim.Native.Nat.{ℕ, _*_, _^_}
+use native.Mathlib.Omega.{arith}
+use lib.Dec.{ltb}
+use lib.ListN.{length, drop}
+use denote.Ref.{now}
+use Rattle.format.specs.Rows.{asU64}
+use Rattle.format.specs.Writing as Writing
+use Rattle.format.specs.Writing.{firstOf}
+use Rattle.writer.proofs.Forms.{Short, short-known, unlike, too-large, too-little, repeated}
 use borrow.Author.Needs.{needs}
 use Rattle.writer.proofs.short_repeat.write.Statement.{statement}
 use Rattle.writer.proofs.short_repeat.write.Tie as tie
@@ -7,119 +19,117 @@ use Rattle.format.proofs.Answer.refused.Reads as refused-reads
 use Rattle.format.proofs.Answer.run.Reads as run-reads
 use Rattle.util.proofs.big_endian.write.Reads as write-reads
 use Rattle.writer.proofs.short_repeat.scratch.Reads as scratch-reads
+use Rattle.writer.proofs.short_repeat.write_head.Reads as write-head-reads
 use Rattle.writer.proofs.values.all_are.Reads as all-are-reads
 use Rattle.writer.proofs.values.fits.Reads as fits-reads
 use Rattle.writer.proofs.values.pattern_of.Reads as pattern-of-reads
 use Rattle.writer.proofs.values.store.Reads as store-reads
 use Rattle.writer.proofs.values.stored.Reads as stored-reads
 
--- src/short_repeat.rt:20:9
 pattern-of-requires : tie.Need-pattern-of-requires
 pattern-of-requires c κs = search needs
 
--- src/short_repeat.rt:21:24
 scratch-requires : tie.Need-scratch-requires
 scratch-requires c κs = search needs
 
--- src/short_repeat.rt:22:32
 slice-aggregate-store : tie.Need-slice-aggregate-store
 slice-aggregate-store c = search needs
 
--- src/short_repeat.rt:22:5
 store-requires : tie.Need-store-requires
 store-requires c κs = search needs
 
--- src/short_repeat.rt:23:25
 slice-aggregate-all-are : tie.Need-slice-aggregate-all-are
 slice-aggregate-all-are c = search needs
 
--- src/short_repeat.rt:23:9
 all-are-requires : tie.Need-all-are-requires
 all-are-requires c κs = search needs
 
--- src/short_repeat.rt:24:9
 refused-requires : tie.Need-refused-requires
 refused-requires c κs = search needs
 
--- src/short_repeat.rt:24:9
 returns : tie.Need-returns
-returns c = ?
+returns c =
+    let tested = c .before .before in
+    let kept = tested .before .before .before in
+    let first = kept .before .before .before .pattern-of in
+    let a = kept .before .before .before .before .before .args in
+    let k : Short (now (a .rows)) (a .signed) (a .size) (tested .all-are .result) =
+        short-known (now (a .rows)) (a .signed) (a .size) (first .result) (kept .store .last .1 .1 .0) (drop (length (now (a .rows))) (kept .before .before .scratch .result)) (tested .all-are .result)
+        (omega arith) (omega arith) (omega arith) (omega arith) (first .ensures) (kept .store .ensures) (tested .all-are .ensures) in
+    unlike k (now (a .out)) (c .refused .result) (c .before .if1 .taken) (c .refused .ensures)
 
--- src/short_repeat.rt:27:9
 stored-requires : tie.Need-stored-requires
 stored-requires c κs = search needs
 
--- src/short_repeat.rt:28:29
 mul-fits : tie.Need-mul-fits
 mul-fits c = search needs
 
--- src/short_repeat.rt:28:9
 fits-requires : tie.Need-fits-requires
 fits-requires c κs = search needs
 
--- src/short_repeat.rt:29:9
 refused-requires-2 : tie.Need-refused-requires-2
 refused-requires-2 c κs = search needs
 
--- src/short_repeat.rt:29:9
 returns-2 : tie.Need-returns-2
-returns-2 c = ?
+returns-2 c =
+    let tested = c .before .before .before .before .before in
+    let kept = tested .before .before .before in
+    let first = kept .before .before .before .pattern-of in
+    let a = kept .before .before .before .before .before .args in
+    let k : Short (now (a .rows)) (a .signed) (a .size) (tested .all-are .result) =
+        short-known (now (a .rows)) (a .signed) (a .size) (first .result) (kept .store .last .1 .1 .0) (drop (length (now (a .rows))) (kept .before .before .scratch .result)) (tested .all-are .result)
+        (omega arith) (omega arith) (omega arith) (omega arith) (first .ensures) (kept .store .ensures) (tested .all-are .ensures) in
+    let v : c .before .before .before .stored .result ≡ firstOf (a .signed) (map asU64 (now (a .rows))) = c .before .before .before .stored .ensures ∙ ap (λ (x : ℕ). Writing.stored (a .signed) x) (first .ensures) in
+    let g : c .before .before .fits2 .result ≡ ltb (firstOf (a .signed) (map asU64 (now (a .rows)))) (2 ^ (8 * a .size)) = c .before .before .fits2 .ensures ∙ ap (λ (x : ℕ). ltb x (2 ^ (8 * a .size))) v in
+    too-large k (c .before .before .before .before .if1 .left) _ g (now (a .out)) (c .refused2 .result) (c .before .if2 .taken) (c .refused2 .ensures)
 
--- src/short_repeat.rt:31:20
 add-if3 : tie.Need-add-if3
 add-if3 c = search needs
 
--- src/short_repeat.rt:32:9
 refused-requires-3 : tie.Need-refused-requires-3
 refused-requires-3 c κs = search needs
 
--- src/short_repeat.rt:32:9
 returns-3 : tie.Need-returns-3
-returns-3 c = ?
+returns-3 c =
+    let tested = c .before .before .before .before .before .before in
+    let kept = tested .before .before .before in
+    let first = kept .before .before .before .pattern-of in
+    let a = kept .before .before .before .before .before .args in
+    let k : Short (now (a .rows)) (a .signed) (a .size) (tested .all-are .result) =
+        short-known (now (a .rows)) (a .signed) (a .size) (first .result) (kept .store .last .1 .1 .0) (drop (length (now (a .rows))) (kept .before .before .scratch .result)) (tested .all-are .result)
+        (omega arith) (omega arith) (omega arith) (omega arith) (first .ensures) (kept .store .ensures) (tested .all-are .ensures) in
+    let v : c .before .before .before .before .stored .result ≡ firstOf (a .signed) (map asU64 (now (a .rows))) = c .before .before .before .before .stored .ensures ∙ ap (λ (x : ℕ). Writing.stored (a .signed) x) (first .ensures) in
+    let g : c .before .before .before .fits2 .result ≡ ltb (firstOf (a .signed) (map asU64 (now (a .rows)))) (2 ^ (8 * a .size)) = c .before .before .before .fits2 .ensures ∙ ap (λ (x : ℕ). ltb x (2 ^ (8 * a .size))) v in
+    too-little k (c .before .before .before .before .before .if1 .left) _ g (now (a .out)) (c .refused3 .result) (c .before .before .if2 .left) (c .before .if3 .taken) (c .refused3 .ensures)
 
--- src/short_repeat.rt:34:16
-sub-out : tie.Need-sub-out
-sub-out c = search needs
+write-head-requires : tie.Need-write-head-requires
+write-head-requires c κs = search needs
 
--- src/short_repeat.rt:34:15
-mul-out : tie.Need-mul-out
-mul-out c = search needs
-
--- src/short_repeat.rt:34:34
-sub-out-2 : tie.Need-sub-out-2
-sub-out-2 c = search needs
-
--- src/short_repeat.rt:34:15
-add-out : tie.Need-add-out
-add-out c = search needs
-
--- src/short_repeat.rt:34:14
-cast-out : tie.Need-cast-out
-cast-out c = search needs
-
--- src/short_repeat.rt:34:5
-slice-write-out : tie.Need-slice-write-out
-slice-write-out c = search needs
-
--- src/short_repeat.rt:35:5
 write-requires : tie.Need-write-requires
 write-requires c κs = search needs
 
--- src/short_repeat.rt:36:39
 add-run : tie.Need-add-run
 add-run c = search needs
 
--- src/short_repeat.rt:36:5
 run-requires : tie.Need-run-requires
 run-requires c κs = search needs
 
--- src/short_repeat.rt:15:1
 same-length : tie.Need-same-length
-same-length c = ?
+same-length c = search needs
 
--- src/short_repeat.rt:15:1
 returns-4 : tie.Need-returns-4
-returns-4 c = ?
+returns-4 c =
+    let tested = c .before .before .before .before .before .before .before .before .before .before .before .before .before .before in
+    let kept = tested .before .before .before in
+    let first = kept .before .before .before .pattern-of in
+    let a = kept .before .before .before .before .before .args in
+    let k : Short (now (a .rows)) (a .signed) (a .size) (tested .all-are .result) =
+        short-known (now (a .rows)) (a .signed) (a .size) (first .result) (kept .store .last .1 .1 .0) (drop (length (now (a .rows))) (kept .before .before .scratch .result)) (tested .all-are .result)
+        (omega arith) (omega arith) (omega arith) (omega arith) (first .ensures) (kept .store .ensures) (tested .all-are .ensures) in
+    let v : c .before .before .before .before .before .before .before .before .before .before .before .before .stored .result ≡ firstOf (a .signed) (map asU64 (now (a .rows))) = c .before .before .before .before .before .before .before .before .before .before .before .before .stored .ensures ∙ ap (λ (x : ℕ). Writing.stored (a .signed) x) (first .ensures) in
+    let g : c .before .before .before .before .before .before .before .before .before .before .before .fits2 .result ≡ ltb (firstOf (a .signed) (map asU64 (now (a .rows)))) (2 ^ (8 * a .size)) = c .before .before .before .before .before .before .before .before .before .before .before .fits2 .ensures ∙ ap (λ (x : ℕ). ltb x (2 ^ (8 * a .size))) v in
+    repeated k (c .before .before .before .before .before .before .before .before .before .before .before .before .before .if1 .left) _ g (now (a .out)) (c .before .before .before .before .before .before .before .write-head .last .1 .1 .0) (c .before .before .before .write .last .1 .1 .0) (c .run .result) (c .before .before .before .before .before .before .before .before .before .before .if2 .left) (c .before .before .before .before .before .before .before .before .before .if3 .left)
+    (c .run .ensures) (c .before .before .before .before .before .before .before .write-head .ensures) (rw v at (c .before .before .before .write .ensures))
 
 pub write-spec : {M : Type 1} → statement M
 write-spec =
@@ -141,12 +151,7 @@ write-spec =
     add-if3
     refused-requires-3
     returns-3
-    sub-out
-    mul-out
-    sub-out-2
-    add-out
-    cast-out
-    slice-write-out
+    write-head-requires
     write-requires
     add-run
     run-requires
