@@ -16,7 +16,8 @@ use lib.Pow.{pow-pos}
 use borrow.Author.Tests.{lt-ltb, le-ltb, eq-eqb, ne-eqb}
 use Rattle.format.specs.Fields.{width, bytesFor}
 use Rattle.format.specs.Rows.{asU64}
-use Rattle.format.specs.Writing.{minus, stepTo, stepsOf, baseDelta, every}
+use Rattle.format.specs.Writing.{minus, stepTo, stepsOf, baseDelta, every, between}
+use Rattle.format.proofs.Writing.{between-le}
 use Rattle.format.proofs.Widths.{IsWidth, width-is}
 
 -- ---- a loop that tests n numbers: the whole passes exactly if what is left of it passes
@@ -121,3 +122,8 @@ width-known code e = rw e (width-is code)
 
 pub block-small : (n bits : ℕ) → n ≤ 512 → bits ≤ 64 → bytesFor (n * bits) ≤ 4096
 block-small n bits a b = omega (arith, mul-le-mul {n₂ = 512} {m₂ = 64} a b)
+
+-- ---- what a form allows, in numbers
+
+pub within : (low high n : ℕ) → between low high n ≡ true → (low ≤ n) × (n ≤ high)
+within low high n e = between-le low high n (rw e tt)

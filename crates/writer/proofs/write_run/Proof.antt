@@ -1,3 +1,11 @@
+-- `write_run` meets its contract. Assumes nothing.
+use mathlib.Core.Path.{sym, _∙_}
+use lib.ListN.{length, length-map}
+use borrow.Author.Tests.{not-true, not-false, eqb-true}
+use denote.Ref.{now}
+use Rattle.format.specs.Rows.{asU64}
+use Rattle.writer.proofs.Laws.{within}
+use Rattle.writer.proofs.Forms.{bad-count, bad-width}
 use borrow.Author.Needs.{needs}
 use Rattle.writer.proofs.write_run.Statement.{statement}
 use Rattle.writer.proofs.write_run.Tie as tie
@@ -11,93 +19,99 @@ use Rattle.writer.proofs.delta.write_packed.Reads as write-packed-reads
 use Rattle.writer.proofs.direct.write.Reads as direct-write-reads
 use Rattle.writer.proofs.short_repeat.write.Reads as short-repeat-write-reads
 
--- src/lib.rt:18:9
 count-requires : tie.Need-count-requires
 count-requires c κs = search needs
 
--- src/lib.rt:19:9
 refused-requires : tie.Need-refused-requires
 refused-requires c κs = search needs
 
--- src/lib.rt:19:9
 returns : tie.Need-returns
-returns c = ?
+returns c =
+    let a = c .before .before .before .before .args in
+    bad-count (now (a .rows)) (a .signed) (a .form) (a .width) (now (a .out)) (c .refused .result)
+    (rw (length-map (now (a .rows)) asU64) (sym (c .before .before .count .ensures) ∙ not-true _ (c .before .if1 .taken)))
+    (c .refused .ensures)
 
--- src/lib.rt:21:9
 width-requires : tie.Need-width-requires
 width-requires c κs = search needs
 
--- src/lib.rt:22:9
 refused-requires-2 : tie.Need-refused-requires-2
 refused-requires-2 c κs = search needs
 
--- src/lib.rt:22:9
 returns-2 : tie.Need-returns-2
-returns-2 c = ?
+returns-2 c =
+    let a = c .before .before .before .before .before .before .args in
+    bad-width (now (a .rows)) (a .signed) (a .form) (a .width) (now (a .out)) (c .refused2 .result)
+    (rw (length-map (now (a .rows)) asU64) (sym (c .before .before .before .before .count .ensures) ∙ not-false _ (c .before .before .before .if1 .left)))
+    (sym (c .before .before .width .ensures) ∙ not-true _ (c .before .if2 .taken))
+    (c .refused2 .ensures)
 
--- src/lib.rt:25:71
 enum-told : tie.Need-enum-told
 enum-told c = search needs
 
--- src/lib.rt:25:30
 write-requires : tie.Need-write-requires
-write-requires c κs = ?
+write-requires c κs =
+    let a = c .before .before .before .before .before .before .before .before .args in
+    let e = c .before .enum-told .given .1 in
+    let n = within 3 10 (length (now (a .rows))) (rw e at (sym (c .before .before .before .before .before .before .count .ensures) ∙ not-false _ (c .before .before .before .before .before .if1 .left))) in
+    let w = within 1 8 (a .width) (rw e at (sym (c .before .before .before .before .width .ensures) ∙ not-false _ (c .before .before .before .if2 .left))) in
+    (n .0, n .1, w .0, w .1)
 
--- src/lib.rt:26:60
 enum-told-2 : tie.Need-enum-told-2
 enum-told-2 c = search needs
 
--- src/lib.rt:26:25
 write-requires-2 : tie.Need-write-requires-2
-write-requires-2 c κs = ?
+write-requires-2 c κs =
+    let a = c .before .before .before .before .before .before .before .before .args in
+    let e = c .before .enum-told2 .given .1 in
+    let n = within 1 512 (length (now (a .rows))) (rw e at (sym (c .before .before .before .before .before .before .count .ensures) ∙ not-false _ (c .before .before .before .before .before .if1 .left))) in
+    let w = within 0 31 (a .width) (rw e at (sym (c .before .before .before .before .width .ensures) ∙ not-false _ (c .before .before .before .if2 .left))) in
+    (n .0, n .1, w .1)
 
--- src/lib.rt:27:69
 enum-told-3 : tie.Need-enum-told-3
 enum-told-3 c = search needs
 
--- src/lib.rt:27:29
 write-fixed-requires : tie.Need-write-fixed-requires
-write-fixed-requires c κs = ?
+write-fixed-requires c κs =
+    let a = c .before .before .before .before .before .before .before .before .args in
+    let e = c .before .enum-told3 .given .1 in
+    let n = within 1 512 (length (now (a .rows))) (rw e at (sym (c .before .before .before .before .before .before .count .ensures) ∙ not-false _ (c .before .before .before .before .before .if1 .left))) in
+    (n .0, n .1, eqb-true (a .width) 0 (rw e at (sym (c .before .before .before .before .width .ensures) ∙ not-false _ (c .before .before .before .if2 .left))))
 
--- src/lib.rt:28:71
 enum-told-4 : tie.Need-enum-told-4
 enum-told-4 c = search needs
 
--- src/lib.rt:28:30
 write-packed-requires : tie.Need-write-packed-requires
-write-packed-requires c κs = ?
+write-packed-requires c κs =
+    let a = c .before .before .before .before .before .before .before .before .args in
+    let e = c .before .enum-told4 .given .1 in
+    let n = within 2 512 (length (now (a .rows))) (rw e at (sym (c .before .before .before .before .before .before .count .ensures) ∙ not-false _ (c .before .before .before .before .before .if1 .left))) in
+    let w = within 1 31 (a .width) (rw e at (sym (c .before .before .before .before .width .ensures) ∙ not-false _ (c .before .before .before .if2 .left))) in
+    (n .0, n .1, w .0, w .1)
 
--- src/lib.rt:15:1
 same-length : tie.Need-same-length
 same-length c = search needs
 
--- src/lib.rt:15:1
 returns-3 : tie.Need-returns-3
-returns-3 c = ?
+returns-3 c = rw (c .before .before .before .before .enum-told .given .1) (c .before .before .write .ensures)
 
--- src/lib.rt:15:1
 same-length-2 : tie.Need-same-length-2
 same-length-2 c = search needs
 
--- src/lib.rt:15:1
 returns-4 : tie.Need-returns-4
-returns-4 c = ?
+returns-4 c = rw (c .before .before .before .before .enum-told2 .given .1) (c .before .before .write2 .ensures)
 
--- src/lib.rt:15:1
 same-length-3 : tie.Need-same-length-3
 same-length-3 c = search needs
 
--- src/lib.rt:15:1
 returns-5 : tie.Need-returns-5
-returns-5 c = ?
+returns-5 c = rw (c .before .before .before .before .enum-told3 .given .1) (c .before .before .write-fixed .ensures)
 
--- src/lib.rt:15:1
 same-length-4 : tie.Need-same-length-4
 same-length-4 c = search needs
 
--- src/lib.rt:15:1
 returns-6 : tie.Need-returns-6
-returns-6 c = ?
+returns-6 c = rw (c .before .before .before .before .enum-told4 .given .1) (c .before .before .write-packed .ensures)
 
 pub write-run-spec : {M : Type 1} → statement M
 write-run-spec =
