@@ -1,34 +1,30 @@
 -- The writer's laws: what it accepts is a valid description; what it writes, the run reader reads as the rows given; and what it writes of a run's rows
 -- is that run again.
 -- Assumes nothing.
-use mathlib.Core.Path.{_≡_, refl, sym, ap, _∙_, subst}
-use Prim.Native.Nat.{ℕ, zero, suc, _+_, _-_, _*_, _/_, _%_, _^_, _<_, _≤_}
+use mathlib.Core.Path.{_≡_, refl, sym, ap, _∙_}
+use Prim.Native.Nat.{ℕ, zero, suc, _+_, _*_, _^_, _<_, _≤_}
 use native.Mathlib.Nat.{mod-lt, zero-lt-suc, lt-of-lt-of-le, mul-comm}
 use native.Mathlib.Omega.{arith}
-use native.Mathlib.Numerals.{add-two}
 use mathlib.Core.Bool.{Bool, true, false, not, _&&_}
 use mathlib.Core.List.{List, [], _∷_, _++_, map}
 use mathlib.Core.Logic.{_↔_}
-use lib.Dec.{T, leb, ltb, eqb, leb→le, le→leb, ltb→lt, lt→ltb, eqb→eq, eqb-refl, nltb→le, not-T}
+use lib.Dec.{T, leb, ltb, eqb, leb→le, le→leb, ltb→lt, lt→ltb, eqb→eq, eqb-refl, nltb→le}
 use borrow.Author.Tests.{le-ltb}
 use lib.IntN.{ℤ}
 use lib.ListN.{length, getD, drop, replicate, length-map, length-replicate, getD-replicate}
 use lib.Pow.{pow-pos, pow-mono}
-use mir.Syntax.{w64}
-use mir.Val.{SFits}
 use Rattle.format.specs.declared.Form.{Form}
 use Rattle.format.specs.declared.Form.the-variants.{ShortRepeat, Direct, FixedDelta, PackedDelta}
 use Rattle.format.specs.declared.Answer.{Answer}
 use Rattle.format.specs.Digits.{AllBelow, number, digits}
-use Rattle.format.specs.Fields.{pick, width, two64, negative, zigzag, zigzagged, row, Block, IsBlock, padBits, Varint, varintValue, groups, shortest}
+use Rattle.format.specs.Fields.{pick, width, two64, negative, zigzag, zigzagged, row, IsBlock, Varint, varintValue, groups, shortest}
 use Rattle.format.specs.Runs.{Description, short, direct, fixed, delta, Valid, layout, rowCount}
 use Rattle.format.specs.Rows
 use Rattle.format.specs.Rows.{rowsOf, i64Rows, asI64, asU64, plus, walk}
-use Rattle.format.specs.Parse.{Reason, plain, Parsed, end, got, refused, unless, parse, into}
+use Rattle.format.specs.Parse.{Parsed, got, refused, unless, parse, into}
 use Rattle.format.specs.Promises.{answerOf, kindOf, RunRead}
 use Rattle.format.specs.Answers.{ran, answerNumber}
-use Rattle.format.specs.Writing
-use Rattle.format.specs.Writing.{stored, minus, stepTo, stepsOf, baseDelta, falls, valuesOf, padded, firstOf, described, every, between, countAllowed, haveForm, widthAllowed, bitsOf, fitWidth, writing, AllI64, bytesIn, Written, Short, AsWritten, short-repeat, direct-run, fixed-delta, packed-delta}
+use Rattle.format.specs.Writing.{stored, minus, stepTo, stepsOf, baseDelta, falls, valuesOf, padded, firstOf, described, every, between, countAllowed, haveForm, widthAllowed, fitWidth, writing, AllI64, Written, Short, AsWritten, short-repeat, direct-run, fixed-delta, packed-delta}
 use Rattle.format.proofs.Digits.{number-lt, digits-number, length-digits, digits-below, number-digits, pow-pow}
 use Rattle.format.proofs.Patterns.{zigzag-zigzagged, zigzagged-zigzag, zigzagged-lt, zigzag-lt, as-back, as-forth, as-lt}
 use Rattle.format.proofs.Varints.{shortest-varint, shortest-value, shortest-unique}

@@ -2,7 +2,7 @@
 -- Rows are 64-bit patterns here, as in Rows; the promise turns i64 rows into them. Nothing here reads.
 -- Assumes nothing.
 use mathlib.Core.Path.{_≡_}
-use Prim.Native.Nat.{ℕ, zero, suc, _+_, _-_, _*_, _/_, _%_, _^_, _<_}
+use Prim.Native.Nat.{ℕ, zero, _+_, _-_, _*_, _%_, _^_, _<_}
 use mathlib.Core.Bool.{Bool, true, false, not, _&&_}
 use mathlib.Core.List.{List, [], _∷_, _++_, map}
 use lib.ListN.{length, getD, drop}
@@ -17,7 +17,7 @@ use Rattle.format.specs.Digits.{digits}
 use Rattle.format.specs.Fields.{pick, width, two64, zigzagged, Block, groups, shortest, Shortest}
 use Rattle.format.specs.Runs.{Description, short, direct, fixed, delta, layout}
 use Rattle.format.specs.Rows.{asU64}
-use Rattle.format.specs.Parse.{Reason, Parsed, end, got, refused, unless}
+use Rattle.format.specs.Parse.{Parsed, end, got, refused, unless}
 use Rattle.format.specs.Promises.{answerOf}
 
 -- ---- VALUES

@@ -1,6 +1,6 @@
 -- The laws that the writer's loops and tests cite. Assumes nothing.
-use mathlib.Core.Path.{_≡_, refl, sym, ap, _∙_}
-use Prim.Native.Nat.{ℕ, zero, suc, _+_, _-_, _*_, _/_, _^_, _<_, _≤_}
+use mathlib.Core.Path.{_≡_, refl, sym, _∙_}
+use Prim.Native.Nat.{ℕ, zero, suc, _+_, _*_, _/_, _^_, _<_, _≤_}
 use native.Mathlib.Nat.{div-lt-iff-lt-mul, mul-le-mul}
 use native.Mathlib.Numerals.{add-one}
 use native.Mathlib.Decide.{decLt}
@@ -8,9 +8,9 @@ use native.Mathlib.Omega.{arith}
 use mathlib.Core.Bool.{Bool, true, false, _&&_}
 use mathlib.Core.List.{List, [], _∷_, _++_, map}
 use mathlib.Core.Logic.{_↔_}
-use lib.Dec.{leb, ltb, eqb}
+use lib.Dec.{ltb, eqb}
 use lib.IntN.{ℤ, pos}
-use lib.ListN.{length, getD, drop, take, length-map, List·getD-map, drop-of-length-le, set, length-append}
+use lib.ListN.{length, getD, drop, take, List·getD-map, drop-of-length-le, set, length-append}
 use lib.Seq.{slice, slice-cons, slice-empty, drop-cons, take-at, drop-append-add, drop-drop}
 use lib.Pow.{pow-pos}
 use borrow.Author.Tests.{lt-ltb, le-ltb, eq-eqb, ne-eqb}
@@ -112,7 +112,7 @@ pub behind : (p q before out out′ : List ℕ) (at k : ℕ) → at ≡ length p
 behind p q before out out′ at k n l e f =
     let front : take at out ≡ p = rw e (take-at p (drop (length p) before) at (sym n)) in
     let back : drop (at + k) out ≡ drop (length (p ++ q)) before =
-        rw (e, n, drop-append-add p (drop (length p) before) k, drop-drop k (length p) before, length-append p q, l) in
+    rw (e, n, drop-append-add p (drop (length p) before) k, drop-drop k (length p) before, length-append p q, l) in
     f ∙ rw (front, back)
 
 -- ---- the size of a block

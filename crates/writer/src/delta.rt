@@ -7,10 +7,15 @@ ghost use Rattle.format.specs.Fields.{shortest};
 ghost use Rattle.format.specs.Rows.{asU64};
 ghost use Rattle.format.specs.Writing.{baseDelta, Written};
 ghost use Rattle.writer.specs.Start.{start, Started};
-
-use format::{Answer, Form, Kind};
-use util::{packed, pattern, varint, width};
-use crate::{head, values};
+use crate::head;
+use crate::values;
+use format::Answer;
+use format::Form;
+use format::Kind;
+use util::packed;
+use util::pattern;
+use util::varint;
+use util::width;
 
 // Row 1 less row 0; one row has delta 0.
 fn base_delta(rows: &[i64]) -> u64

@@ -2,10 +2,13 @@
 ghost use Prim.Native.Nat.{_≤_};
 ghost use lib.ListN.{length};
 ghost use Rattle.format.specs.Writing.{Written};
-
-use format::{Answer, Form, Kind};
-use util::{packed, width};
-use crate::{head, values};
+use crate::head;
+use crate::values;
+use format::Answer;
+use format::Form;
+use format::Kind;
+use util::packed;
+use util::width;
 
 pub(crate) fn write(rows: &[i64], signed: bool, code: u8, out: &mut [u8]) -> Answer
     requires { ⌜ (1 ≤ length (now rows)) × (length (now rows) ≤ 512) × (code ≤ 31) ⌝ }

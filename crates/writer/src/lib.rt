@@ -1,8 +1,8 @@
 // The run writer: rows, flag, form and width in, a run's bytes out. Every test comes before the first byte that is written.
 ghost use Rattle.format.specs.Fields.{Narrowest};
 ghost use Rattle.format.specs.Writing.{Written};
-
-use format::{Answer, Form};
+use format::Answer;
+use format::Form;
 
 mod allowed;
 mod delta;

@@ -4,10 +4,11 @@ ghost use mathlib.Core.List.{_∷_};
 ghost use Prim.Native.Nat.{_+_, _-_, _*_, _≤_};
 ghost use lib.ListN.{length, drop};
 ghost use Rattle.format.specs.Writing.{Written};
-
-use format::{Answer, Form, Kind};
-use util::big_endian;
 use crate::values;
+use format::Answer;
+use format::Form;
+use format::Kind;
+use util::big_endian;
 
 // Room for a short repeat's rows.
 fn scratch() -> [u64; 10] {

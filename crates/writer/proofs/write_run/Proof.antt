@@ -9,15 +9,6 @@ use Rattle.writer.proofs.Forms.{bad-count, bad-width}
 use borrow.Author.Needs.{needs}
 use Rattle.writer.proofs.write_run.Statement.{statement}
 use Rattle.writer.proofs.write_run.Tie as tie
-use Rattle.writer.proofs.write_run.Reads as reads
-use Rattle.writer.proofs.write_run.Lts as lts
-use Rattle.format.proofs.Answer.refused.Reads as refused-reads
-use Rattle.writer.proofs.allowed.count.Reads as count-reads
-use Rattle.writer.proofs.allowed.width.Reads as width-reads
-use Rattle.writer.proofs.delta.write_fixed.Reads as write-fixed-reads
-use Rattle.writer.proofs.delta.write_packed.Reads as write-packed-reads
-use Rattle.writer.proofs.direct.write.Reads as direct-write-reads
-use Rattle.writer.proofs.short_repeat.write.Reads as short-repeat-write-reads
 
 count-requires : tie.Need-count-requires
 count-requires c κs = search needs

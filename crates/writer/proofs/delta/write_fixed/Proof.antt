@@ -1,37 +1,18 @@
 -- `delta::write_fixed` meets its contract. Assumes nothing.
-use mathlib.Core.Path.{_≡_, refl, ap, _∙_}
-use mathlib.Core.List.{List, map}
-use Prim.Native.Nat.{ℕ, _+_, _-_}
+use mathlib.Core.Path.{_≡_, ap, _∙_}
+use mathlib.Core.List.{map}
+use Prim.Native.Nat.{ℕ, _-_}
 use native.Mathlib.Omega.{arith}
 use lib.ListN.{length, drop}
 use denote.Ref.{now}
-use Rattle.format.specs.declared.Form.the-variants.{PackedDelta}
-use Rattle.format.specs.declared.Kind.the-variants as kind
 use Rattle.format.specs.Fields.{zigzagged}
 use Rattle.format.specs.Rows.{asU64}
 use Rattle.format.specs.Writing as Writing
 use Rattle.format.specs.Writing.{firstOf, baseDelta}
-use Rattle.format.proofs.Varints.{shortest-length}
-use Rattle.util.proofs.Grow.{rest-is}
-use Rattle.writer.specs.Start.{start}
-use Rattle.writer.proofs.Laws.{width-known, block-small}
 use Rattle.writer.proofs.Forms.{Fixed, fixed-known, uneven, too-short, opened, start-sized, started}
 use borrow.Author.Needs.{needs}
 use Rattle.writer.proofs.delta.write_fixed.Statement.{statement}
 use Rattle.writer.proofs.delta.write_fixed.Tie as tie
-use Rattle.writer.proofs.delta.write_fixed.Reads as reads
-use Rattle.writer.proofs.delta.write_fixed.Lts as lts
-use Rattle.format.proofs.Answer.refused.Reads as refused-reads
-use Rattle.format.proofs.Answer.run.Reads as run-reads
-use Rattle.util.proofs.pattern.zigzag_of.Reads as zigzag-of-reads
-use Rattle.writer.proofs.delta.base_delta.Reads as base-delta-reads
-use Rattle.writer.proofs.delta.start_size.Reads as start-size-reads
-use Rattle.writer.proofs.delta.write_start.Reads as write-start-reads
-use Rattle.writer.proofs.values.all_are.Reads as all-are-reads
-use Rattle.writer.proofs.values.pattern_of.Reads as pattern-of-reads
-use Rattle.writer.proofs.values.scratch.Reads as scratch-reads
-use Rattle.writer.proofs.values.steps.Reads as steps-reads
-use Rattle.writer.proofs.values.stored.Reads as stored-reads
 
 base-delta-requires : tie.Need-base-delta-requires
 base-delta-requires c κs = search needs
@@ -64,8 +45,8 @@ returns c =
     let step = kept .before .before .before .base-delta in
     let a = kept .before .before .before .before .before .args in
     let k : Fixed (now (a .rows)) (a .signed) (a .code) (tested .all-are .result) =
-        fixed-known (now (a .rows)) (a .signed) (a .code) (step .result) (kept .steps2 .last .1 .1 .0) (drop (length (now (a .rows)) - 1) (kept .before .before .scratch .result)) (tested .all-are .result)
-        (omega arith) (omega arith) (omega arith) (step .ensures) (kept .steps2 .ensures) (tested .all-are .ensures) in
+    fixed-known (now (a .rows)) (a .signed) (a .code) (step .result) (kept .steps2 .last .1 .1 .0) (drop (length (now (a .rows)) - 1) (kept .before .before .scratch .result)) (tested .all-are .result)
+    (omega arith) (omega arith) (omega arith) (step .ensures) (kept .steps2 .ensures) (tested .all-are .ensures) in
     uneven k (now (a .out)) (c .refused .result) (c .before .if1 .taken) (c .refused .ensures)
 
 pattern-of-requires : tie.Need-pattern-of-requires
@@ -90,8 +71,8 @@ returns-2 c =
     let step = kept .before .before .before .base-delta in
     let a = kept .before .before .before .before .before .args in
     let k : Fixed (now (a .rows)) (a .signed) (a .code) (tested .all-are .result) =
-        fixed-known (now (a .rows)) (a .signed) (a .code) (step .result) (kept .steps2 .last .1 .1 .0) (drop (length (now (a .rows)) - 1) (kept .before .before .scratch .result)) (tested .all-are .result)
-        (omega arith) (omega arith) (omega arith) (step .ensures) (kept .steps2 .ensures) (tested .all-are .ensures) in
+    fixed-known (now (a .rows)) (a .signed) (a .code) (step .result) (kept .steps2 .last .1 .1 .0) (drop (length (now (a .rows)) - 1) (kept .before .before .scratch .result)) (tested .all-are .result)
+    (omega arith) (omega arith) (omega arith) (step .ensures) (kept .steps2 .ensures) (tested .all-are .ensures) in
     let p : c .before .before .before .before .stored .result ≡ firstOf (a .signed) (map asU64 (now (a .rows))) = c .before .before .before .before .stored .ensures ∙ ap (λ (x : ℕ). Writing.stored (a .signed) x) (c .before .before .before .before .before .pattern-of .ensures) in
     let q : c .before .before .before .zigzag-of .result ≡ zigzagged (baseDelta (map asU64 (now (a .rows)))) = c .before .before .before .zigzag-of .ensures ∙ ap zigzagged (step .ensures) in
     let z = start-sized 0 (length (now (a .rows))) p q (c .before .before .start-size .ensures) in
@@ -113,8 +94,8 @@ returns-3 c =
     let step = kept .before .before .before .base-delta in
     let a = kept .before .before .before .before .before .args in
     let k : Fixed (now (a .rows)) (a .signed) (a .code) (tested .all-are .result) =
-        fixed-known (now (a .rows)) (a .signed) (a .code) (step .result) (kept .steps2 .last .1 .1 .0) (drop (length (now (a .rows)) - 1) (kept .before .before .scratch .result)) (tested .all-are .result)
-        (omega arith) (omega arith) (omega arith) (step .ensures) (kept .steps2 .ensures) (tested .all-are .ensures) in
+    fixed-known (now (a .rows)) (a .signed) (a .code) (step .result) (kept .steps2 .last .1 .1 .0) (drop (length (now (a .rows)) - 1) (kept .before .before .scratch .result)) (tested .all-are .result)
+    (omega arith) (omega arith) (omega arith) (step .ensures) (kept .steps2 .ensures) (tested .all-are .ensures) in
     let p : c .before .before .before .before .before .before .before .before .stored .result ≡ firstOf (a .signed) (map asU64 (now (a .rows))) = c .before .before .before .before .before .before .before .before .stored .ensures ∙ ap (λ (x : ℕ). Writing.stored (a .signed) x) (c .before .before .before .before .before .before .before .before .before .pattern-of .ensures) in
     let q : c .before .before .before .before .before .before .before .zigzag-of .result ≡ zigzagged (baseDelta (map asU64 (now (a .rows)))) = c .before .before .before .before .before .before .before .zigzag-of .ensures ∙ ap zigzagged (step .ensures) in
     let z = start-sized 0 (length (now (a .rows))) p q (c .before .before .before .before .before .before .start-size .ensures) in

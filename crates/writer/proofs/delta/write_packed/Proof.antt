@@ -1,7 +1,7 @@
 -- `delta::write_packed` meets its contract. Assumes nothing.
-use mathlib.Core.Path.{_≡_, refl, ap, _∙_}
+use mathlib.Core.Path.{_≡_, ap, _∙_}
 use mathlib.Core.List.{List, map}
-use Prim.Native.Nat.{ℕ, _+_, _-_}
+use Prim.Native.Nat.{ℕ, _-_}
 use native.Mathlib.Omega.{arith}
 use lib.ListN.{length, drop}
 use denote.Ref.{now}
@@ -19,22 +19,6 @@ use Rattle.writer.proofs.Forms.{Packed, delta-packed, values-below, too
 use borrow.Author.Needs.{needs}
 use Rattle.writer.proofs.delta.write_packed.Statement.{statement}
 use Rattle.writer.proofs.delta.write_packed.Tie as tie
-use Rattle.writer.proofs.delta.write_packed.Reads as reads
-use Rattle.writer.proofs.delta.write_packed.Lts as lts
-use Rattle.format.proofs.Answer.refused.Reads as refused-reads
-use Rattle.format.proofs.Answer.run.Reads as run-reads
-use Rattle.util.proofs.packed.block_size.Reads as block-size-reads
-use Rattle.util.proofs.packed.pack.Reads as pack-reads
-use Rattle.util.proofs.pattern.zigzag_of.Reads as zigzag-of-reads
-use Rattle.util.proofs.width.bits_of.Reads as bits-of-reads
-use Rattle.writer.proofs.delta.base_delta.Reads as base-delta-reads
-use Rattle.writer.proofs.delta.start_size.Reads as start-size-reads
-use Rattle.writer.proofs.delta.write_start.Reads as write-start-reads
-use Rattle.writer.proofs.values.all_fit.Reads as all-fit-reads
-use Rattle.writer.proofs.values.pattern_of.Reads as pattern-of-reads
-use Rattle.writer.proofs.values.scratch.Reads as scratch-reads
-use Rattle.writer.proofs.values.steps.Reads as steps-reads
-use Rattle.writer.proofs.values.stored.Reads as stored-reads
 
 bits-of-requires : tie.Need-bits-of-requires
 bits-of-requires c κs = search needs
@@ -81,8 +65,8 @@ returns c =
     let a = kept .before .before .before .before .before .before .before .args in
     let rs : List ℕ = map asU64 (now (a .rows)) in
     let k : Packed (now (a .rows)) (a .signed) PackedDelta kind.Delta (a .code) (start (a .code) (length (now (a .rows))) (firstOf (a .signed) rs) (zigzagged (baseDelta rs))) (length (now (a .rows)) - 2) (bits .result) (kept .steps .last .1 .1 .0) (tested .all-fit .result) =
-        delta-packed (now (a .rows)) (a .signed) (a .code) (bits .result) (step .result) (kept .steps .last .1 .1 .0) (drop (length (drop 1 (now (a .rows))) - 1) (kept .before .before .before .scratch .result)) (tested .all-fit .result)
-        (omega arith) (omega arith) (omega arith) (omega arith) (bits .ensures) (step .ensures) (rw (rest-is (now (a .rows)) 1) at (kept .steps .ensures)) (tested .all-fit .ensures) in
+    delta-packed (now (a .rows)) (a .signed) (a .code) (bits .result) (step .result) (kept .steps .last .1 .1 .0) (drop (length (drop 1 (now (a .rows))) - 1) (kept .before .before .before .scratch .result)) (tested .all-fit .result)
+    (omega arith) (omega arith) (omega arith) (omega arith) (bits .ensures) (step .ensures) (rw (rest-is (now (a .rows)) 1) at (kept .steps .ensures)) (tested .all-fit .ensures) in
     too-wide k (now (a .out)) (c .refused .result) (c .before .if1 .taken) (c .refused .ensures)
 
 pattern-of-requires : tie.Need-pattern-of-requires
@@ -126,8 +110,8 @@ returns-2 c =
     let a = kept .before .before .before .before .before .before .before .args in
     let rs : List ℕ = map asU64 (now (a .rows)) in
     let k : Packed (now (a .rows)) (a .signed) PackedDelta kind.Delta (a .code) (start (a .code) (length (now (a .rows))) (firstOf (a .signed) rs) (zigzagged (baseDelta rs))) (length (now (a .rows)) - 2) (bits .result) (kept .steps .last .1 .1 .0) (tested .all-fit .result) =
-        delta-packed (now (a .rows)) (a .signed) (a .code) (bits .result) (step .result) (kept .steps .last .1 .1 .0) (drop (length (drop 1 (now (a .rows))) - 1) (kept .before .before .before .scratch .result)) (tested .all-fit .result)
-        (omega arith) (omega arith) (omega arith) (omega arith) (bits .ensures) (step .ensures) (rw (rest-is (now (a .rows)) 1) at (kept .steps .ensures)) (tested .all-fit .ensures) in
+    delta-packed (now (a .rows)) (a .signed) (a .code) (bits .result) (step .result) (kept .steps .last .1 .1 .0) (drop (length (drop 1 (now (a .rows))) - 1) (kept .before .before .before .scratch .result)) (tested .all-fit .result)
+    (omega arith) (omega arith) (omega arith) (omega arith) (bits .ensures) (step .ensures) (rw (rest-is (now (a .rows)) 1) at (kept .steps .ensures)) (tested .all-fit .ensures) in
     let p : c .before .before .before .before .before .stored .result ≡ firstOf (a .signed) (map asU64 (now (a .rows))) = c .before .before .before .before .before .stored .ensures ∙ ap (λ (x : ℕ). Writing.stored (a .signed) x) (c .before .before .before .before .before .before .pattern-of .ensures) in
     let q : c .before .before .before .before .zigzag-of .result ≡ zigzagged (baseDelta (map asU64 (now (a .rows)))) = c .before .before .before .before .zigzag-of .ensures ∙ ap zigzagged (step .ensures) in
     let z = start-sized (a .code) (length (now (a .rows))) p q (c .before .before .before .start-size .ensures) in
@@ -151,8 +135,8 @@ pack-requires c κs =
     let a = kept .before .before .before .before .before .before .before .args in
     let rs : List ℕ = map asU64 (now (a .rows)) in
     let k : Packed (now (a .rows)) (a .signed) PackedDelta kind.Delta (a .code) (start (a .code) (length (now (a .rows))) (firstOf (a .signed) rs) (zigzagged (baseDelta rs))) (length (now (a .rows)) - 2) (bits .result) (kept .steps .last .1 .1 .0) (tested .all-fit .result) =
-        delta-packed (now (a .rows)) (a .signed) (a .code) (bits .result) (step .result) (kept .steps .last .1 .1 .0) (drop (length (drop 1 (now (a .rows))) - 1) (kept .before .before .before .scratch .result)) (tested .all-fit .result)
-        (omega arith) (omega arith) (omega arith) (omega arith) (bits .ensures) (step .ensures) (rw (rest-is (now (a .rows)) 1) at (kept .steps .ensures)) (tested .all-fit .ensures) in
+    delta-packed (now (a .rows)) (a .signed) (a .code) (bits .result) (step .result) (kept .steps .last .1 .1 .0) (drop (length (drop 1 (now (a .rows))) - 1) (kept .before .before .before .scratch .result)) (tested .all-fit .result)
+    (omega arith) (omega arith) (omega arith) (omega arith) (bits .ensures) (step .ensures) (rw (rest-is (now (a .rows)) 1) at (kept .steps .ensures)) (tested .all-fit .ensures) in
     let w = width-known (a .code) (bits .ensures) in
     let p : c .before .before .before .before .before .before .before .before .before .before .stored .result ≡ firstOf (a .signed) (map asU64 (now (a .rows))) = c .before .before .before .before .before .before .before .before .before .before .stored .ensures ∙ ap (λ (x : ℕ). Writing.stored (a .signed) x) (c .before .before .before .before .before .before .before .before .before .before .before .pattern-of .ensures) in
     let q : c .before .before .before .before .before .before .before .before .before .zigzag-of .result ≡ zigzagged (baseDelta (map asU64 (now (a .rows)))) = c .before .before .before .before .before .before .before .before .before .zigzag-of .ensures ∙ ap zigzagged (step .ensures) in
@@ -175,8 +159,8 @@ returns-3 c =
     let a = kept .before .before .before .before .before .before .before .args in
     let rs : List ℕ = map asU64 (now (a .rows)) in
     let k : Packed (now (a .rows)) (a .signed) PackedDelta kind.Delta (a .code) (start (a .code) (length (now (a .rows))) (firstOf (a .signed) rs) (zigzagged (baseDelta rs))) (length (now (a .rows)) - 2) (bits .result) (kept .steps .last .1 .1 .0) (tested .all-fit .result) =
-        delta-packed (now (a .rows)) (a .signed) (a .code) (bits .result) (step .result) (kept .steps .last .1 .1 .0) (drop (length (drop 1 (now (a .rows))) - 1) (kept .before .before .before .scratch .result)) (tested .all-fit .result)
-        (omega arith) (omega arith) (omega arith) (omega arith) (bits .ensures) (step .ensures) (rw (rest-is (now (a .rows)) 1) at (kept .steps .ensures)) (tested .all-fit .ensures) in
+    delta-packed (now (a .rows)) (a .signed) (a .code) (bits .result) (step .result) (kept .steps .last .1 .1 .0) (drop (length (drop 1 (now (a .rows))) - 1) (kept .before .before .before .scratch .result)) (tested .all-fit .result)
+    (omega arith) (omega arith) (omega arith) (omega arith) (bits .ensures) (step .ensures) (rw (rest-is (now (a .rows)) 1) at (kept .steps .ensures)) (tested .all-fit .ensures) in
     let p : c .before .before .before .before .before .before .before .before .before .before .before .before .before .before .stored .result ≡ firstOf (a .signed) (map asU64 (now (a .rows))) = c .before .before .before .before .before .before .before .before .before .before .before .before .before .before .stored .ensures ∙ ap (λ (x : ℕ). Writing.stored (a .signed) x) (c .before .before .before .before .before .before .before .before .before .before .before .before .before .before .before .pattern-of .ensures) in
     let q : c .before .before .before .before .before .before .before .before .before .before .before .before .before .zigzag-of .result ≡ zigzagged (baseDelta (map asU64 (now (a .rows)))) = c .before .before .before .before .before .before .before .before .before .before .before .before .before .zigzag-of .ensures ∙ ap zigzagged (step .ensures) in
     let z = start-sized (a .code) (length (now (a .rows))) p q (c .before .before .before .before .before .before .before .before .before .before .before .before .start-size .ensures) in

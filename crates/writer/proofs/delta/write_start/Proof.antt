@@ -11,10 +11,6 @@ use Rattle.writer.proofs.Laws.{behind}
 use borrow.Author.Needs.{needs}
 use Rattle.writer.proofs.delta.write_start.Statement.{statement}
 use Rattle.writer.proofs.delta.write_start.Tie as tie
-use Rattle.writer.proofs.delta.write_start.Reads as reads
-use Rattle.writer.proofs.delta.write_start.Lts as lts
-use Rattle.util.proofs.varint.write.Reads as varint-write-reads
-use Rattle.writer.proofs.head.write.Reads as head-write-reads
 
 write-requires : tie.Need-write-requires
 write-requires c κs = search needs

@@ -1,6 +1,5 @@
 -- `direct::write` meets its contract. Assumes nothing.
-use mathlib.Core.Path.{_≡_, refl}
-use Prim.Native.Nat.{ℕ, _+_}
+use mathlib.Core.Path.{refl}
 use native.Mathlib.Omega.{arith}
 use lib.ListN.{length, drop}
 use denote.Ref.{now}
@@ -12,17 +11,6 @@ use Rattle.writer.proofs.Forms.{Packed, direct-packed, values-below, to
 use borrow.Author.Needs.{needs}
 use Rattle.writer.proofs.direct.write.Statement.{statement}
 use Rattle.writer.proofs.direct.write.Tie as tie
-use Rattle.writer.proofs.direct.write.Reads as reads
-use Rattle.writer.proofs.direct.write.Lts as lts
-use Rattle.format.proofs.Answer.refused.Reads as refused-reads
-use Rattle.format.proofs.Answer.run.Reads as run-reads
-use Rattle.util.proofs.packed.block_size.Reads as block-size-reads
-use Rattle.util.proofs.packed.pack.Reads as pack-reads
-use Rattle.util.proofs.width.bits_of.Reads as bits-of-reads
-use Rattle.writer.proofs.head.write.Reads as write-reads
-use Rattle.writer.proofs.values.all_fit.Reads as all-fit-reads
-use Rattle.writer.proofs.values.scratch.Reads as scratch-reads
-use Rattle.writer.proofs.values.store.Reads as store-reads
 
 bits-of-requires : tie.Need-bits-of-requires
 bits-of-requires c κs = search needs
@@ -52,8 +40,8 @@ returns c =
     let bits = kept .before .before .before .bits-of in
     let a = kept .before .before .before .before .before .args in
     let k : Packed (now (a .rows)) (a .signed) Direct kind.Direct (a .code) (head 1 (a .code) (length (now (a .rows)))) (length (now (a .rows))) (bits .result) (kept .store .last .1 .1 .0) (tested .all-fit .result) =
-        direct-packed (now (a .rows)) (a .signed) (a .code) (bits .result) (kept .store .last .1 .1 .0) (drop (length (now (a .rows))) (kept .before .before .scratch .result)) (tested .all-fit .result)
-        (omega arith) (omega arith) (omega arith) (bits .ensures) (kept .store .ensures) (tested .all-fit .ensures) in
+    direct-packed (now (a .rows)) (a .signed) (a .code) (bits .result) (kept .store .last .1 .1 .0) (drop (length (now (a .rows))) (kept .before .before .scratch .result)) (tested .all-fit .result)
+    (omega arith) (omega arith) (omega arith) (bits .ensures) (kept .store .ensures) (tested .all-fit .ensures) in
     too-wide k (now (a .out)) (c .refused .result) (c .before .if1 .taken) (c .refused .ensures)
 
 block-size-requires : tie.Need-block-size-requires
@@ -73,8 +61,8 @@ returns-2 c =
     let bits = kept .before .before .before .bits-of in
     let a = kept .before .before .before .before .before .args in
     let k : Packed (now (a .rows)) (a .signed) Direct kind.Direct (a .code) (head 1 (a .code) (length (now (a .rows)))) (length (now (a .rows))) (bits .result) (kept .store .last .1 .1 .0) (tested .all-fit .result) =
-        direct-packed (now (a .rows)) (a .signed) (a .code) (bits .result) (kept .store .last .1 .1 .0) (drop (length (now (a .rows))) (kept .before .before .scratch .result)) (tested .all-fit .result)
-        (omega arith) (omega arith) (omega arith) (bits .ensures) (kept .store .ensures) (tested .all-fit .ensures) in
+    direct-packed (now (a .rows)) (a .signed) (a .code) (bits .result) (kept .store .last .1 .1 .0) (drop (length (now (a .rows))) (kept .before .before .scratch .result)) (tested .all-fit .result)
+    (omega arith) (omega arith) (omega arith) (bits .ensures) (kept .store .ensures) (tested .all-fit .ensures) in
     too-few k (now (a .out)) (c .refused2 .result) (c .before .before .before .if1 .left) (rw (← (c .before .before .block-size .ensures)) (c .before .if2 .taken)) (c .refused2 .ensures)
 
 write-requires : tie.Need-write-requires
@@ -90,8 +78,8 @@ pack-requires c κs =
     let bits = kept .before .before .before .bits-of in
     let a = kept .before .before .before .before .before .args in
     let k : Packed (now (a .rows)) (a .signed) Direct kind.Direct (a .code) (head 1 (a .code) (length (now (a .rows)))) (length (now (a .rows))) (bits .result) (kept .store .last .1 .1 .0) (tested .all-fit .result) =
-        direct-packed (now (a .rows)) (a .signed) (a .code) (bits .result) (kept .store .last .1 .1 .0) (drop (length (now (a .rows))) (kept .before .before .scratch .result)) (tested .all-fit .result)
-        (omega arith) (omega arith) (omega arith) (bits .ensures) (kept .store .ensures) (tested .all-fit .ensures) in
+    direct-packed (now (a .rows)) (a .signed) (a .code) (bits .result) (kept .store .last .1 .1 .0) (drop (length (now (a .rows))) (kept .before .before .scratch .result)) (tested .all-fit .result)
+    (omega arith) (omega arith) (omega arith) (bits .ensures) (kept .store .ensures) (tested .all-fit .ensures) in
     let w = width-known (a .code) (bits .ensures) in
     ((w .pos, w .le, w .window), (search needs, values-below k (c .before .before .before .before .before .before .before .before .if1 .left)))
 
@@ -108,8 +96,8 @@ returns-3 c =
     let bits = kept .before .before .before .bits-of in
     let a = kept .before .before .before .before .before .args in
     let k : Packed (now (a .rows)) (a .signed) Direct kind.Direct (a .code) (head 1 (a .code) (length (now (a .rows)))) (length (now (a .rows))) (bits .result) (kept .store .last .1 .1 .0) (tested .all-fit .result) =
-        direct-packed (now (a .rows)) (a .signed) (a .code) (bits .result) (kept .store .last .1 .1 .0) (drop (length (now (a .rows))) (kept .before .before .scratch .result)) (tested .all-fit .result)
-        (omega arith) (omega arith) (omega arith) (bits .ensures) (kept .store .ensures) (tested .all-fit .ensures) in
+    direct-packed (now (a .rows)) (a .signed) (a .code) (bits .result) (kept .store .last .1 .1 .0) (drop (length (now (a .rows))) (kept .before .before .scratch .result)) (tested .all-fit .result)
+    (omega arith) (omega arith) (omega arith) (bits .ensures) (kept .store .ensures) (tested .all-fit .ensures) in
     let e = c .before .before .before .before .before .before .before .before .before .before .before .block-size .ensures in
     packed k (now (a .out)) (c .before .before .before .before .before .before .before .before .write .last .1 .1 .1 .0) (c .before .before .before .pack .last .1 .1 .1 .0) 2 (c .run .result) (c .before .before .before .before .before .before .before .before .before .before .before .before .if1 .left) (rw (← e) (c .before .before .before .before .before .before .before .before .before .before .if2 .left))
     (rw (← e) (c .run .ensures)) refl (c .before .before .before .before .before .before .before .before .write .ensures) (c .before .before .before .pack .ensures)

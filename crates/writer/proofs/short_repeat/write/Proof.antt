@@ -1,6 +1,6 @@
 -- `short_repeat::write` meets its contract. Assumes nothing.
 use mathlib.Core.Path.{_≡_, ap, _∙_}
-use mathlib.Core.List.{List, map}
+use mathlib.Core.List.{map}
 use Prim.Native.Nat.{ℕ, _*_, _^_}
 use native.Mathlib.Omega.{arith}
 use lib.Dec.{ltb}
@@ -13,18 +13,6 @@ use Rattle.writer.proofs.Forms.{Short, short-known, unlike, too-large, 
 use borrow.Author.Needs.{needs}
 use Rattle.writer.proofs.short_repeat.write.Statement.{statement}
 use Rattle.writer.proofs.short_repeat.write.Tie as tie
-use Rattle.writer.proofs.short_repeat.write.Reads as reads
-use Rattle.writer.proofs.short_repeat.write.Lts as lts
-use Rattle.format.proofs.Answer.refused.Reads as refused-reads
-use Rattle.format.proofs.Answer.run.Reads as run-reads
-use Rattle.util.proofs.big_endian.write.Reads as write-reads
-use Rattle.writer.proofs.short_repeat.scratch.Reads as scratch-reads
-use Rattle.writer.proofs.short_repeat.write_head.Reads as write-head-reads
-use Rattle.writer.proofs.values.all_are.Reads as all-are-reads
-use Rattle.writer.proofs.values.fits.Reads as fits-reads
-use Rattle.writer.proofs.values.pattern_of.Reads as pattern-of-reads
-use Rattle.writer.proofs.values.store.Reads as store-reads
-use Rattle.writer.proofs.values.stored.Reads as stored-reads
 
 pattern-of-requires : tie.Need-pattern-of-requires
 pattern-of-requires c κs = search needs
@@ -54,8 +42,8 @@ returns c =
     let first = kept .before .before .before .pattern-of in
     let a = kept .before .before .before .before .before .args in
     let k : Short (now (a .rows)) (a .signed) (a .size) (tested .all-are .result) =
-        short-known (now (a .rows)) (a .signed) (a .size) (first .result) (kept .store .last .1 .1 .0) (drop (length (now (a .rows))) (kept .before .before .scratch .result)) (tested .all-are .result)
-        (omega arith) (omega arith) (omega arith) (omega arith) (first .ensures) (kept .store .ensures) (tested .all-are .ensures) in
+    short-known (now (a .rows)) (a .signed) (a .size) (first .result) (kept .store .last .1 .1 .0) (drop (length (now (a .rows))) (kept .before .before .scratch .result)) (tested .all-are .result)
+    (omega arith) (omega arith) (omega arith) (omega arith) (first .ensures) (kept .store .ensures) (tested .all-are .ensures) in
     unlike k (now (a .out)) (c .refused .result) (c .before .if1 .taken) (c .refused .ensures)
 
 stored-requires : tie.Need-stored-requires
@@ -77,8 +65,8 @@ returns-2 c =
     let first = kept .before .before .before .pattern-of in
     let a = kept .before .before .before .before .before .args in
     let k : Short (now (a .rows)) (a .signed) (a .size) (tested .all-are .result) =
-        short-known (now (a .rows)) (a .signed) (a .size) (first .result) (kept .store .last .1 .1 .0) (drop (length (now (a .rows))) (kept .before .before .scratch .result)) (tested .all-are .result)
-        (omega arith) (omega arith) (omega arith) (omega arith) (first .ensures) (kept .store .ensures) (tested .all-are .ensures) in
+    short-known (now (a .rows)) (a .signed) (a .size) (first .result) (kept .store .last .1 .1 .0) (drop (length (now (a .rows))) (kept .before .before .scratch .result)) (tested .all-are .result)
+    (omega arith) (omega arith) (omega arith) (omega arith) (first .ensures) (kept .store .ensures) (tested .all-are .ensures) in
     let v : c .before .before .before .stored .result ≡ firstOf (a .signed) (map asU64 (now (a .rows))) = c .before .before .before .stored .ensures ∙ ap (λ (x : ℕ). Writing.stored (a .signed) x) (first .ensures) in
     let g : c .before .before .fits2 .result ≡ ltb (firstOf (a .signed) (map asU64 (now (a .rows)))) (2 ^ (8 * a .size)) = c .before .before .fits2 .ensures ∙ ap (λ (x : ℕ). ltb x (2 ^ (8 * a .size))) v in
     too-large k (c .before .before .before .before .if1 .left) _ g (now (a .out)) (c .refused2 .result) (c .before .if2 .taken) (c .refused2 .ensures)
@@ -96,8 +84,8 @@ returns-3 c =
     let first = kept .before .before .before .pattern-of in
     let a = kept .before .before .before .before .before .args in
     let k : Short (now (a .rows)) (a .signed) (a .size) (tested .all-are .result) =
-        short-known (now (a .rows)) (a .signed) (a .size) (first .result) (kept .store .last .1 .1 .0) (drop (length (now (a .rows))) (kept .before .before .scratch .result)) (tested .all-are .result)
-        (omega arith) (omega arith) (omega arith) (omega arith) (first .ensures) (kept .store .ensures) (tested .all-are .ensures) in
+    short-known (now (a .rows)) (a .signed) (a .size) (first .result) (kept .store .last .1 .1 .0) (drop (length (now (a .rows))) (kept .before .before .scratch .result)) (tested .all-are .result)
+    (omega arith) (omega arith) (omega arith) (omega arith) (first .ensures) (kept .store .ensures) (tested .all-are .ensures) in
     let v : c .before .before .before .before .stored .result ≡ firstOf (a .signed) (map asU64 (now (a .rows))) = c .before .before .before .before .stored .ensures ∙ ap (λ (x : ℕ). Writing.stored (a .signed) x) (first .ensures) in
     let g : c .before .before .before .fits2 .result ≡ ltb (firstOf (a .signed) (map asU64 (now (a .rows)))) (2 ^ (8 * a .size)) = c .before .before .before .fits2 .ensures ∙ ap (λ (x : ℕ). ltb x (2 ^ (8 * a .size))) v in
     too-little k (c .before .before .before .before .before .if1 .left) _ g (now (a .out)) (c .refused3 .result) (c .before .before .if2 .left) (c .before .if3 .taken) (c .refused3 .ensures)
@@ -124,8 +112,8 @@ returns-4 c =
     let first = kept .before .before .before .pattern-of in
     let a = kept .before .before .before .before .before .args in
     let k : Short (now (a .rows)) (a .signed) (a .size) (tested .all-are .result) =
-        short-known (now (a .rows)) (a .signed) (a .size) (first .result) (kept .store .last .1 .1 .0) (drop (length (now (a .rows))) (kept .before .before .scratch .result)) (tested .all-are .result)
-        (omega arith) (omega arith) (omega arith) (omega arith) (first .ensures) (kept .store .ensures) (tested .all-are .ensures) in
+    short-known (now (a .rows)) (a .signed) (a .size) (first .result) (kept .store .last .1 .1 .0) (drop (length (now (a .rows))) (kept .before .before .scratch .result)) (tested .all-are .result)
+    (omega arith) (omega arith) (omega arith) (omega arith) (first .ensures) (kept .store .ensures) (tested .all-are .ensures) in
     let v : c .before .before .before .before .before .before .before .before .before .before .before .before .stored .result ≡ firstOf (a .signed) (map asU64 (now (a .rows))) = c .before .before .before .before .before .before .before .before .before .before .before .before .stored .ensures ∙ ap (λ (x : ℕ). Writing.stored (a .signed) x) (first .ensures) in
     let g : c .before .before .before .before .before .before .before .before .before .before .before .fits2 .result ≡ ltb (firstOf (a .signed) (map asU64 (now (a .rows)))) (2 ^ (8 * a .size)) = c .before .before .before .before .before .before .before .before .before .before .before .fits2 .ensures ∙ ap (λ (x : ℕ). ltb x (2 ^ (8 * a .size))) v in
     repeated k (c .before .before .before .before .before .before .before .before .before .before .before .before .before .if1 .left) _ g (now (a .out)) (c .before .before .before .before .before .before .before .write-head .last .1 .1 .0) (c .before .before .before .write .last .1 .1 .0) (c .run .result) (c .before .before .before .before .before .before .before .before .before .before .if2 .left) (c .before .before .before .before .before .before .before .before .before .if3 .left)

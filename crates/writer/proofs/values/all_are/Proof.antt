@@ -1,19 +1,13 @@
 -- `values::all_are` meets its contract. The loop's invariant: the whole passes exactly if what is left passes. Assumes nothing.
-use mathlib.Core.Path.{_≡_, refl, sym, ap, _∙_}
-use mathlib.Core.Bool.{Bool, _&&_}
-use Prim.Native.Nat.{ℕ, _≤_, _-_, _^_}
+use mathlib.Core.Path.{refl}
+use Prim.Native.Nat.{_≤_, _-_}
 use native.Mathlib.Omega.{arith}
 use lib.Dec.{eqb}
-use lib.ListN.{take}
-use lib.Seq.{slice}
 use borrow.Author.Tests.{ne-eqb, eq-eqb}
-use Rattle.format.specs.Writing.{every}
 use denote.Ref.{now}
 use Rattle.writer.proofs.Laws.{Left, stops, goes, done}
 use Rattle.writer.proofs.values.all_are.Statement.{statement}
 use Rattle.writer.proofs.values.all_are.Tie as tie
-use Rattle.writer.proofs.values.all_are.Reads as reads
-use Rattle.writer.proofs.values.all_are.Lts as lts
 
 abbrev Inv-loop : tie.InvT-loop
 Inv-loop vals n value i₀ i = (i ≤ n) × Left (λ x. eqb x value) vals n i

@@ -1,20 +1,13 @@
 -- `values::all_fit` meets its contract. The loop's invariant: the whole passes exactly if what is left passes. Assumes nothing.
-use mathlib.Core.Path.{_≡_, refl, sym, ap, _∙_}
-use mathlib.Core.Bool.{Bool, _&&_}
-use Prim.Native.Nat.{ℕ, _≤_, _-_, _^_}
+use mathlib.Core.Path.{refl, sym, _∙_}
+use Prim.Native.Nat.{_≤_, _-_, _^_}
 use native.Mathlib.Omega.{arith}
 use lib.Dec.{ltb}
-use lib.ListN.{take}
-use lib.Seq.{slice}
 use borrow.Author.Tests.{not-true, not-false}
-use Rattle.format.specs.Writing.{every}
 use denote.Ref.{now}
 use Rattle.writer.proofs.Laws.{Left, stops, goes, done}
 use Rattle.writer.proofs.values.all_fit.Statement.{statement}
 use Rattle.writer.proofs.values.all_fit.Tie as tie
-use Rattle.writer.proofs.values.all_fit.Reads as reads
-use Rattle.writer.proofs.values.all_fit.Lts as lts
-use Rattle.writer.proofs.values.fits.Reads as fits-reads
 
 abbrev Inv-loop : tie.InvT-loop
 Inv-loop vals n bits i₀ i = (i ≤ n) × Left (λ x. ltb x (2 ^ bits)) vals n i

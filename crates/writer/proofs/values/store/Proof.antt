@@ -1,5 +1,5 @@
 -- `values::store` meets its contract. The loop's invariant: what stands so far, then what is still to come, is the whole. Assumes nothing.
-use mathlib.Core.Path.{_≡_, refl, sym, ap, _∙_}
+use mathlib.Core.Path.{_≡_, refl, ap, _∙_}
 use mathlib.Core.List.{List, [], _++_, map}
 use Prim.Native.Nat.{ℕ, _+_, _-_, _≤_, _<_}
 use native.Mathlib.Omega.{arith}
@@ -7,15 +7,10 @@ use lib.ListN.{length, getD, take, drop, length-set, length-map}
 use denote.Ref.{now}
 use Rattle.format.specs.Rows.{asU64}
 use Rattle.format.specs.Writing
-use Rattle.format.specs.Writing.{stepsOf, stepTo}
 use Rattle.util.proofs.Grow.{grow, kept, filled}
-use Rattle.writer.proofs.Laws.{map-next, map-end, steps-next, steps-end}
+use Rattle.writer.proofs.Laws.{map-next, map-end}
 use Rattle.writer.proofs.values.store.Statement.{statement}
 use Rattle.writer.proofs.values.store.Tie as tie
-use Rattle.writer.proofs.values.store.Reads as reads
-use Rattle.writer.proofs.values.store.Lts as lts
-use Rattle.writer.proofs.values.pattern_of.Reads as pattern-of-reads
-use Rattle.writer.proofs.values.stored.Reads as stored-reads
 
 abbrev Inv-loop : tie.InvT-loop
 Inv-loop rows signed vals₀ i₀ vals i =
