@@ -96,7 +96,7 @@ below-map : (f : ℕ → ℕ) (b c : ℕ) (l : List ℕ) → ((x : ℕ) → x < 
 below-map f b c [] h p = tt
 below-map f b c (x ∷ l) h p = (h x (p .0), below-map f b c l h (p .1))
 
-below-replicate : (b n x : ℕ) → x < b → AllBelow b (replicate n x)
+pub below-replicate : (b n x : ℕ) → x < b → AllBelow b (replicate n x)
 below-replicate b zero x h = tt
 below-replicate b (suc n) x h = (h, below-replicate b n x h)
 

@@ -9,3 +9,4 @@ pub mod Answers
 pub mod Promises
 pub mod Booleans
 pub mod ByteValues
+pub mod Writing
