@@ -79,6 +79,9 @@ module _ (x : ℕ) where
   decimal-next h l =
       decimal-more 19 x h ∙ ap (λ (ds : List ℕ). ds ++ ((48 + x % 10) ∷ [])) (sym (decimal-fuel 18 (x / 10) (omega arith)))
 
+  pub decimal-longer : 10 ≤ x → x < two64 → length (decimal x) ≡ length (decimal (x / 10)) + 1
+  decimal-longer h l = ap length (decimal-next h l) ∙ length-append (decimal (x / 10)) ((48 + x % 10) ∷ [])
+
 decimalIn-length : (k x : ℕ) → length (decimalIn k x) ≤ k
 unfolding decimalIn
 decimalIn-length zero x = omega arith

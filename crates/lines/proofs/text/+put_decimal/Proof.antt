@@ -1,129 +1,85 @@
-use Prim.Native.Nat.{ℕ, _<_}
+-- `text::put_decimal` meets its contract. It calls itself, on fewer digits: the measure is the number. Assumes nothing.
+use mathlib.Core.Path.{_≡_, refl, ap, _∙_}
+use Prim.Native.Nat.{ℕ, _<_, _/_, _%_, _+_}
+use mathlib.Core.List.{[], _∷_}
+use native.Mathlib.Omega.{arith}
+use borrow.Author.Needs.{needs}
+use lib.ListN.{length}
 use borrow.Fn.Kinds.{In}
 use borrow.Fn.PlainCycle.{Measures, is, falls, and}
+use Rattle.lines.specs.Decimal.{decimal}
+use Rattle.lines.proofs.Texts.{decimal-one, decimal-next, decimal-longer, then-written}
 use Rattle.lines.proofs.text.put_decimal.Reads as put-decimal
 use Rattle.lines.proofs.text.put_decimal.Kinds as put-decimal-kinds
-use Rattle.lines.proofs.text.+put_decimal.Lts-put_decimal as put-decimal-lts
+use Rattle.lines.proofs.text.+put_decimal.Lts-put_decimal as lts
 use Rattle.lines.proofs.text.low_digit.Reads as low-digit-reads
 use Rattle.lines.proofs.text.put.Reads as put-reads
 use Rattle.lines.proofs.text.+put_decimal.{statement}
 use Rattle.lines.proofs.text.+put_decimal.Tie.{close}
 
-abbrev μ-put-decimal : Measures 1 put-decimal-kinds.ps ℕ
-μ-put-decimal κs a = ?
+abbrev μ : Measures 1 put-decimal-kinds.ps ℕ
+μ κs a = a .0
 
-abbrev put-decimal-at : ℕ → In 1 put-decimal-kinds.ps
-put-decimal-at t =
-    and 1 put-decimal-kinds.ps (is 1 put-decimal-kinds.ps μ-put-decimal t) put-decimal.Pre
+-- what it is given at the measure t, and what its call of itself asks below t
+abbrev given : ℕ → In 1 put-decimal-kinds.ps
+given t = and 1 put-decimal-kinds.ps (is 1 put-decimal-kinds.ps μ t) put-decimal.Pre
 
-abbrev put-decimal-below : ℕ → In 1 put-decimal-kinds.ps
-put-decimal-below t =
-    and 1 put-decimal-kinds.ps (falls 1 put-decimal-kinds.ps _<_ μ-put-decimal t) put-decimal.Pre
+abbrev below : ℕ → In 1 put-decimal-kinds.ps
+below t = and 1 put-decimal-kinds.ps (falls 1 put-decimal-kinds.ps _<_ μ t) put-decimal.Pre
 
--- src/text.rt:45:9
-put-decimal-low-digit-requires : (t : ℕ) → put-decimal-lts.Need-low-digit-requires (
-  low-digit-reads.Asked,
-  low-digit-reads.Learnt,
-  put-reads.Asked,
-  put-reads.Learnt,
-  put-decimal-below t,
-  put-decimal.Post,
-) (put-decimal-at t) put-decimal.Post
-put-decimal-low-digit-requires t c κs = ?
+module _ (t : ℕ) where
+  low-digit-requires : lts.Need-low-digit-requires (low-digit-reads.Asked, low-digit-reads.Learnt, put-reads.Asked, put-reads.Learnt, below t, put-decimal.Post) (given t) put-decimal.Post
+  low-digit-requires c κs = tt
 
--- src/text.rt:47:9
-put-decimal-put-requires : (t : ℕ) → put-decimal-lts.Need-put-requires (
-  low-digit-reads.Asked,
-  low-digit-reads.Learnt,
-  put-reads.Asked,
-  put-reads.Learnt,
-  put-decimal-below t,
-  put-decimal.Post,
-) (put-decimal-at t) put-decimal.Post
-put-decimal-put-requires t c κs = ?
+  put-requires : lts.Need-put-requires (low-digit-reads.Asked, low-digit-reads.Learnt, put-reads.Asked, put-reads.Learnt, below t, put-decimal.Post) (given t) put-decimal.Post
+  put-requires c κs =
+      let s = c .before .before .before .before in
+      omega (arith, s .pre .1, ap length (decimal-one (s .args .x) (c .before .if1 .taken)))
 
--- src/text.rt:47:9
-put-decimal-same-length : (t : ℕ) → put-decimal-lts.Need-same-length (
-  low-digit-reads.Asked,
-  low-digit-reads.Learnt,
-  put-reads.Asked,
-  put-reads.Learnt,
-  put-decimal-below t,
-  put-decimal.Post,
-) (put-decimal-at t) put-decimal.Post
-put-decimal-same-length t c = ?
+  same-length : lts.Need-same-length (low-digit-reads.Asked, low-digit-reads.Learnt, put-reads.Asked, put-reads.Learnt, below t, put-decimal.Post) (given t) put-decimal.Post
+  same-length c = search needs
 
--- src/text.rt:47:9
-put-decimal-returns : (t : ℕ) → put-decimal-lts.Need-returns (
-  low-digit-reads.Asked,
-  low-digit-reads.Learnt,
-  put-reads.Asked,
-  put-reads.Learnt,
-  put-decimal-below t,
-  put-decimal.Post,
-) (put-decimal-at t) put-decimal.Post
-put-decimal-returns t c = ?
+  returns : lts.Need-returns (low-digit-reads.Asked, low-digit-reads.Learnt, put-reads.Asked, put-reads.Learnt, below t, put-decimal.Post) (given t) put-decimal.Post
+  returns c =
+      let p = c .before .before in
+      let i = p .before .before in
+      let l = i .before in
+      rw (decimal-one (l .before .before .args .x) (i .if1 .taken)) (rw (l .low-digit .ensures) at (p .put .ensures))
 
--- src/text.rt:49:9
-put-decimal-put-decimal-requires : (t : ℕ) → put-decimal-lts.Need-put-decimal-requires (
-  low-digit-reads.Asked,
-  low-digit-reads.Learnt,
-  put-reads.Asked,
-  put-reads.Learnt,
-  put-decimal-below t,
-  put-decimal.Post,
-) (put-decimal-at t) put-decimal.Post
-put-decimal-put-decimal-requires t c κs = ?
+  put-decimal-requires : lts.Need-put-decimal-requires (low-digit-reads.Asked, low-digit-reads.Learnt, put-reads.Asked, put-reads.Learnt, below t, put-decimal.Post) (given t) put-decimal.Post
+  put-decimal-requires c κs =
+      let s = c .before .before .before .before in
+      (omega (arith, s .pre .0), omega (arith, s .pre .1, decimal-longer (s .args .x) (omega arith) (omega arith)))
 
--- src/text.rt:50:5
-put-decimal-put-requires-2 : (t : ℕ) → put-decimal-lts.Need-put-requires-2 (
-  low-digit-reads.Asked,
-  low-digit-reads.Learnt,
-  put-reads.Asked,
-  put-reads.Learnt,
-  put-decimal-below t,
-  put-decimal.Post,
-) (put-decimal-at t) put-decimal.Post
-put-decimal-put-requires-2 t c κs = ?
+  put-requires-2 : lts.Need-put-requires-2 (low-digit-reads.Asked, low-digit-reads.Learnt, put-reads.Asked, put-reads.Learnt, below t, put-decimal.Post) (given t) put-decimal.Post
+  put-requires-2 c κs =
+      let d = c .before .before .before in
+      let s = d .before .before .before .before .before in
+      omega (arith, s .pre .1, decimal-longer (s .args .x) (omega arith) (omega arith), d .put-decimal .ensures .next, d .put-decimal .kept .1 .0)
 
--- src/text.rt:41:1
-put-decimal-same-length-2 : (t : ℕ) → put-decimal-lts.Need-same-length-2 (
-  low-digit-reads.Asked,
-  low-digit-reads.Learnt,
-  put-reads.Asked,
-  put-reads.Learnt,
-  put-decimal-below t,
-  put-decimal.Post,
-) (put-decimal-at t) put-decimal.Post
-put-decimal-same-length-2 t c = ?
+  same-length-2 : lts.Need-same-length-2 (low-digit-reads.Asked, low-digit-reads.Learnt, put-reads.Asked, put-reads.Learnt, below t, put-decimal.Post) (given t) put-decimal.Post
+  same-length-2 c = search needs
 
--- src/text.rt:41:1
-put-decimal-returns-2 : (t : ℕ) → put-decimal-lts.Need-returns-2 (
-  low-digit-reads.Asked,
-  low-digit-reads.Learnt,
-  put-reads.Asked,
-  put-reads.Learnt,
-  put-decimal-below t,
-  put-decimal.Post,
-) (put-decimal-at t) put-decimal.Post
-put-decimal-returns-2 t c = ?
+  returns-2 : lts.Need-returns-2 (low-digit-reads.Asked, low-digit-reads.Learnt, put-reads.Asked, put-reads.Learnt, below t, put-decimal.Post) (given t) put-decimal.Post
+  returns-2 c =
+      let p = c .before .before in
+      let d = p .before .before .before .before in
+      let l = d .before .before .before in
+      let s = l .before .before in
+      rw (decimal-next (s .args .x) (omega arith) (omega arith))
+      (then-written (omega arith) (d .put-decimal .ensures) (rw (l .low-digit .ensures) at (p .put2 .ensures)))
 
 pub +put-decimal-spec : {M : Type 1} → statement M
-+put-decimal-spec = close μ-put-decimal λ t. put-decimal-lts.spec (
-  low-digit-reads.Asked,
-  low-digit-reads.Learnt,
-  put-reads.Asked,
-  put-reads.Learnt,
-  put-decimal-below t,
-  put-decimal.Post,
-)
-    (put-decimal-at t)
++put-decimal-spec =
+    close μ λ t.
+    lts.spec (low-digit-reads.Asked, low-digit-reads.Learnt, put-reads.Asked, put-reads.Learnt, below t, put-decimal.Post)
+    (given t)
     put-decimal.Post
-    (put-decimal-low-digit-requires t)
-    (put-decimal-put-requires t)
-    (put-decimal-same-length t)
-    (put-decimal-returns t)
-    (put-decimal-put-decimal-requires t)
-    (put-decimal-put-requires-2 t)
-    (put-decimal-same-length-2 t)
-    (put-decimal-returns-2 t)
+    (low-digit-requires t)
+    (put-requires t)
+    (same-length t)
+    (returns t)
+    (put-decimal-requires t)
+    (put-requires-2 t)
+    (same-length-2 t)
+    (returns-2 t)
