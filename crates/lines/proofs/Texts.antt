@@ -97,17 +97,17 @@ decimal-length x = decimalIn-length 20 x
 
 -- ---- rows, by their bits
 
-pub row-low : (z : ℤ) → SFits w64 z → asU64 z < 2 ^ 63 → rowText z ≡ decimal (asU64 z)
+pub row-low : (z : ℤ) (b : ℕ) → SFits w64 z → b ≡ asU64 z → b < 2 ^ 63 → rowText z ≡ decimal b
 unfolding rowText
-row-low (pos n) f h = refl
-row-low (negsuc n) f h = absurd (omega (arith, f .sfits))
+row-low (pos n) b f e h = ap decimal (sym e)
+row-low (negsuc n) b f e h = absurd (omega (arith, f .sfits))
 
-pub row-high : (z : ℤ) → SFits w64 z → 2 ^ 63 ≤ asU64 z → rowText z ≡ (45 ∷ []) ++ decimal (two64 - 1 - asU64 z + 1)
+pub row-high : (z : ℤ) (b : ℕ) → SFits w64 z → b ≡ asU64 z → 2 ^ 63 ≤ b → rowText z ≡ (45 ∷ []) ++ decimal (two64 - 1 - b + 1)
 unfolding rowText
-row-high (pos n) f h = absurd (omega (arith, f .sfits))
-row-high (negsuc n) f h =
-    let e : two64 - 1 - (two64 - 1 - n) + 1 ≡ suc n = omega (arith, f .sfits) in
-    rw e
+row-high (pos n) b f e h = absurd (omega (arith, f .sfits))
+row-high (negsuc n) b f e h =
+    let m : two64 - 1 - b + 1 ≡ suc n = omega (arith, f .sfits) in
+    rw m
 
 pub row-length : (z : ℤ) → length (rowText z) ≤ 21
 unfolding rowText

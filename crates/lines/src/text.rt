@@ -63,9 +63,9 @@ fn put_row(row: i64, out: &mut [u8], at: usize) -> usize
     put_decimal(18446744073709551615 - bits + 1, out, next)
 }
 
-// The first n rows, with a space before each. A row takes 20 characters at most.
+// The first n rows, with a space before each. With its space, a row takes 22 characters at most.
 pub(crate) fn put_rows(rows: &[i64], n: usize, out: &mut [u8], at: usize) -> usize
-    requires { ⌜ (n ≤ length (now rows)) × (at + 21 * n ≤ length (now out)) ⌝ }
+    requires { ⌜ (n ≤ length (now rows)) × (at + 22 * n ≤ length (now out)) ⌝ }
     ensures { λ r. ⌜ Written (rowsText (take n (now (rows .entry)))) (now (out .entry)) at (now (out .exit)) r ⌝ }
 {
     let mut place = at;
