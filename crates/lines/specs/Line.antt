@@ -67,9 +67,9 @@ frameWords frame = wordsOf (eqb (flagOf frame) 1) (into 512 (parse (drop 1 frame
 unfoldable pub answerText : List ℕ → List ℕ
 answerText line = pick (badLine line) badWord (frameWords (hexBytes line))
 
--- the line that is written: the answer and a newline; none where fewer than 10,800 bytes are lent, which is room for any
+-- the line that is written: the answer and a newline; none where fewer than 11,310 bytes are lent, which is room for any
 unfoldable pub answerLine : ℕ → List ℕ → List ℕ
-answerLine room line = pick (ltb room 10800) [] (answerText line ++ (10 ∷ []))
+answerLine room line = pick (ltb room 11310) [] (answerText line ++ (10 ∷ []))
 
 -- WHAT `answer_line` PROMISES: the answer line stands in the first bytes, r is its length, and the other bytes keep their content
 pub record Answered (line out out′ : List ℕ) (r : ℕ) : Type 0 where
