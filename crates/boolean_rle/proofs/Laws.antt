@@ -3,8 +3,7 @@ use mathlib.Core.Path.{_≡_, refl, sym, ap, _∙_}
 use Prim.Native.Nat.{ℕ, zero, suc, _+_, _-_, _*_, _/_, _%_, _^_, _<_, _≤_, min}
 use native.Mathlib.Omega.{arith}
 use native.Mathlib.Nat.{sub-zero, add-assoc, add-zero}
-use native.Mathlib.Numerals.{add-one}
-use mathlib.Core.List.{List, [], _∷_, _++_, append-assoc, append-nil}
+use mathlib.Core.List.{List, [], _∷_, _++_, append-assoc}
 use lib.ListN.{length, getD, take, drop, set, getD-replicate, length-append, length-drop, drop-of-length-le, List·getD-append}
 use lib.Seq.{drop-drop, drop-at, drop-cons, drop-append-le, drop-append-add, set-at, take-suc, append-snoc, length-take-le, getD-drop}
 use lib.Dec.{eqb→eq}

@@ -1,6 +1,6 @@
 -- What the reader's own functions answer, by what reading at a place gives. Assumes nothing.
 use mathlib.Core.Path.{_≡_}
-use Prim.Native.Nat.{ℕ, _+_}
+use Prim.Native.Nat.{ℕ}
 use mathlib.Core.List.{List, [], _++_}
 use lib.ListN.{length, take, drop}
 use Rattle.format.specs.Parse.{Parsed, end, got, refused}

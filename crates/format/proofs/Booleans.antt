@@ -1,28 +1,26 @@
 -- Byte runs and booleans: a valid run's layout reads as that run, nothing else reads, a run that is cut is refused with 6, and no second list of
--- runs has the same bytes. Reading n booleans takes exactly the runs that n needs. The starred line of document 01. Any two outcomes that a
--- promise allows are equal. Assumes nothing.
+-- runs has the same bytes. Reading n booleans takes exactly the runs that n needs. The starred line of document 01. Assumes nothing.
 use mathlib.Core.Path.{_≡_, refl, sym, ap, _∙_}
 use mathlib.Core.Logic.{_≢_, _↔_}
-use Prim.Native.Nat.{ℕ, zero, suc, _+_, _-_, _*_, _/_, _%_, _^_, _<_, _≤_}
+use Prim.Native.Nat.{ℕ, zero, suc, _+_, _-_, _*_, _<_, _≤_}
 use native.Mathlib.Omega.{arith}
 use native.Mathlib.Nat.{le-refl, zero-lt-suc}
 use lib.Seq.{length-take-le}
-use mathlib.Core.Bool.{Bool, true, false, not}
-use mathlib.Core.List.{List, [], _∷_, _++_, append-assoc, append-nil, cons≢nil}
-use lib.ListN.{length, take, drop, replicate, length-append, length-replicate, length-take}
+use mathlib.Core.Bool.{Bool, true, false}
+use mathlib.Core.List.{List, [], _∷_, _++_, append-assoc, append-nil}
+use lib.ListN.{length, replicate, length-append, length-replicate}
 use lib.Dec.{T, leb, ltb, eqb, ltb→lt, nltb→le, eqb→eq}
-use borrow.Author.Tests.{lt-ltb, le-ltb, eq-eqb, ne-eqb}
+use borrow.Author.Tests.{lt-ltb, le-ltb, ne-eqb}
 use mir.Facts.{eqb-no}
 use Rattle.format.specs.declared.Kind.the-variants.{Booleans}
 use Rattle.format.specs.declared.Answer.{Answer}
 use Rattle.format.specs.Digits.{AllBelow, digits}
 use Rattle.format.specs.Fields.{pick, bytesFor}
-use Rattle.format.specs.Parse.{Reason, plain, cutIn, Parsed, end, got, refused, then, unless, bytes}
+use Rattle.format.specs.Parse.{Reason, plain, Parsed, got, refused, then, bytes}
 use Rattle.format.specs.Answers.{ran, refusedAt}
-use Rattle.format.specs.Booleans.{ByteRun, repeat, literals, ValidRun, AllValidRuns, Needed, runLayout, runBytes, byteCount, joinedRuns, joinedBytes, bits, booleansOf, repeatRun, byteRun, byteRuns, booleans, booleansInto, booleansAnswer, booleansPlaces, BooleansRead}
-use Rattle.format.specs.ByteValues.{ValueRead, ValueGiven}
+use Rattle.format.specs.Booleans.{ByteRun, repeat, literals, ValidRun, AllValidRuns, Needed, runLayout, runBytes, byteCount, joinedRuns, joinedBytes, bits, booleansOf, repeatRun, byteRun, byteRuns, booleans, booleansInto, booleansAnswer, booleansPlaces}
 use Rattle.format.proofs.Digits.{length-digits, digits-below}
-use Rattle.format.proofs.Fields.{Post, at-got, at-refused, of-got, then-post, pick-post, Took, IsBytes, bytes-complete, bytes-sound, append-below, below-append, below-take}
+use Rattle.format.proofs.Fields.{Post, at-got, at-refused, of-got, then-post, pick-post, Took, bytes-complete, bytes-sound, append-below, below-append, below-take}
 use Rattle.format.proofs.Runs.{append-empty, got-inj}
 
 -- ---- one run
@@ -251,26 +249,33 @@ booleans-below n ds = below-take 2 n (bits (joinedBytes ds)) (bits-below (joined
 abbrev starred : List ℕ
 starred = 0x00 ∷ 0xFF ∷ 0xFF ∷ 0x00 ∷ []
 
-pub starred-32 : booleansAnswer 0 32 (booleansInto 32 32 starred) ≡ ran Booleans 32 4
-unfolding booleansInto booleans byteRuns byteRun repeatRun bytes byteCount joinedRuns runLayout
+-- what a call gives of some bytes, which stand at position 1: the answer, and the n places, which held 7
+pub told : ℕ → List ℕ → Answer × List ℕ
+unfolding booleansInto booleans byteRuns byteRun repeatRun bytes byteCount joinedRuns runLayout booleansOf joinedBytes runBytes bits digits
+told n bs = (booleansAnswer 1 n (booleansInto n n bs), booleansPlaces n (replicate n 7) (booleansInto n n bs))
+
+pub starred-32 : told 32 starred ≡ (ran Booleans 32 4, replicate 24 1 ++ replicate 8 0)
+unfolding told
 starred-32 = refl
 
-pub starred-rows : booleansPlaces 32 (replicate 32 7) (booleansInto 32 32 starred) ≡ replicate 24 1 ++ replicate 8 0
-unfolding booleansInto booleans byteRuns byteRun repeatRun bytes byteCount booleansOf joinedBytes runBytes bits digits
-starred-rows = refl
-
-pub starred-33 : booleansAnswer 0 33 (booleansInto 33 33 starred) ≡ refusedAt 6 0
-unfolding booleansInto booleans byteRuns byteRun repeatRun bytes byteCount
+pub starred-33 : told 33 starred ≡ (refusedAt 6 1, replicate 33 7)
+unfolding told
 starred-33 = refl
 
--- ---- any two outcomes that a promise allows are equal
+-- the specification's own: one true and seven false; and the literal bytes 44 45, highest bit first
+pub one-true : told 8 (0xFF ∷ 0x80 ∷ []) ≡ (ran Booleans 8 2, 1 ∷ replicate 7 0)
+unfolding told
+one-true = refl
 
-module _ {input : List ℕ} {at n : ℕ} where
-  pub booleans-outcome-unique : {out o o′ : List ℕ} {r r′ : Answer} → BooleansRead input at n out o r → BooleansRead input at n out o′ r′ → (r ≡ r′) × (o ≡ o′)
-  booleans-outcome-unique p q = (p .answer ∙ sym (q .answer), p .places ∙ sym (q .places))
+pub two-literals : told 16 (0xFE ∷ 0x44 ∷ 0x45 ∷ []) ≡ (ran Booleans 16 3, 0 ∷ 1 ∷ 0 ∷ 0 ∷ 0 ∷ 1 ∷ 0 ∷ 0 ∷ 0 ∷ 1 ∷ 0 ∷ 0 ∷ 0 ∷ 1 ∷ 0 ∷ 1 ∷ [])
+unfolding told
+two-literals = refl
 
-  pub value-outcome-unique : {r r′ : Answer} → ValueRead input at n r → ValueRead input at n r′ → r ≡ r′
-  value-outcome-unique p q = p .answer ∙ sym (q .answer)
+-- a last run that is cut, though its needed byte is there; and none asked for, of nothing
+pub cut-literals : told 8 (0xFE ∷ 0x44 ∷ []) ≡ (refusedAt 6 1, replicate 8 7)
+unfolding told
+cut-literals = refl
 
-  pub part-outcome-unique : {v v′ : List ℕ} → ValueGiven input at n v → ValueGiven input at n v′ → v ≡ v′
-  part-outcome-unique p q = p .part-is ∙ sym (q .part-is)
+pub none-asked : told 0 [] ≡ (ran Booleans 0 0, [])
+unfolding told
+none-asked = refl

@@ -9,7 +9,7 @@ use lib.ListN.{length, getD, take, length-append}
 use lib.Seq.{take-suc}
 use lib.Arith.{digits-lt, digits-div, mod-mul}
 use lib.Pow.{pow-add}
-use Rattle.format.specs.Digits.{AllBelow, number, digits}
+use Rattle.format.specs.Digits.{AllBelow, number, digits, spread}
 
 -- ---- numbers
 
@@ -103,11 +103,6 @@ digits-number b (d ∷ ds) h =
 pub pow-pow : (b m n : ℕ) → (b ^ m) ^ n ≡ b ^ (n * m)
 pow-pow b m zero = rw (pow-zero, zero-mul, pow-zero)
 pow-pow b m (suc n) = rw (pow-suc, pow-pow b m n, suc-mul, pow-add)
-
--- the digits of each, one after another
-abbrev pub spread : ℕ → ℕ → List ℕ → List ℕ
-spread b w [] = []
-spread b w (v ∷ vs) = digits b w v ++ spread b w vs
 
 -- digits in base b^w are groups of w digits in base b
 pub spread-number : (b w : ℕ) (vs : List ℕ) → 0 < b → AllBelow (b ^ w) vs → digits b (length vs * w) (number (b ^ w) vs) ≡ spread b w vs

@@ -2,20 +2,20 @@
 -- Soundness is said by `Post`: what holds of a thing that was got, and of the bytes after it. Assumes nothing.
 use mathlib.Core.Path.{_≡_, refl, sym, ap, _∙_, subst}
 use Prim.Native.Nat.{ℕ, zero, suc, _+_, _-_, _*_, _/_, _%_, _^_, _<_, _≤_}
-use native.Mathlib.Nat.{mod-lt, div-lt-iff-lt-mul, div-add-mod', zero-lt-suc, one-le-pow, le-of-lt}
+use native.Mathlib.Nat.{mod-lt, div-lt-iff-lt-mul, div-add-mod', zero-lt-suc, one-le-pow, le-of-lt, zero-mul, suc-mul}
 use native.Mathlib.Omega.{arith}
 use mathlib.Core.Bool.{Bool, true, false, not}
 use mathlib.Core.List.{List, [], _∷_, _++_, append-assoc}
 use lib.ListN.{length, getD, take, drop, length-append, take-append-drop}
-use lib.Seq.{take-at, drop-at, length-take-le}
+use lib.Seq.{take-at, drop-at, drop-append-add, length-take-le}
 use lib.Arith.{digits-lt, digits-div, digits-mod}
 use lib.Pow.{pow-add, pow-pos}
 use lib.Dec.{T, leb, ltb, leb→le, ltb→lt, nltb→le}
 use borrow.Author.Tests.{le-leb, lt-ltb, le-ltb}
-use Rattle.format.specs.Digits.{AllBelow, number, digits}
+use Rattle.format.specs.Digits.{AllBelow, number, digits, spread}
 use Rattle.format.specs.Fields.{pick, Block, IsBlock, blockBytes, bytesFor, padBits, Varint, last, more}
 use Rattle.format.specs.Parse.{Reason, plain, cutIn, Parsed, end, got, refused, then, unless, bytes, unpack, block, varint}
-use Rattle.format.proofs.Digits.{spread, spread-number, digits-split, length-digits, number-lt, digits-below, number-digits, digits-number, pow-pow}
+use Rattle.format.proofs.Digits.{spread-number, digits-split, length-digits, number-lt, digits-below, number-digits, digits-number, pow-pow}
 
 -- ---- what holds of what was got, and that there was something
 
@@ -209,3 +209,16 @@ module _ (w n : ℕ) (k : Block) (v : IsBlock w n k) where
       let e : bytesFor (n * w) * 8 ≡ n * w + padBits w n = omega arith in
       let f : digits 2 (n * w) (number (2 ^ w) (k .values)) ≡ spread 2 w (k .values) = rw (v .count) at (spread-number 2 w (k .values) (zero-lt-suc 1) (v .fits)) in
       bytes-bits ∙ rw (e, ← f) (digits-split 2 (zero-lt-suc 1) (n * w) (padBits w n) (number (2 ^ w) (k .values)) (k .pad) (v .padFits))
+
+-- So field i of a block is bits i·w to i·w+w-1 of its bytes.
+field-bits : (w : ℕ) (vs : List ℕ) (i : ℕ) (rest : List ℕ) → i < length vs → take w (drop (i * w) (spread 2 w vs ++ rest)) ≡ digits 2 w (getD vs i 0)
+field-bits w [] i rest h = absurd (omega (arith, h))
+field-bits w (v ∷ vs) zero rest h =
+    rw (zero-mul w, append-assoc (digits 2 w v) (spread 2 w vs) rest) (take-at (digits 2 w v) (spread 2 w vs ++ rest) w (length-digits 2 w v))
+field-bits w (v ∷ vs) (suc i) rest h =
+    let e : suc i * w ≡ length (digits 2 w v) + i * w = suc-mul i w ∙ omega (arith, length-digits 2 w v) in
+    rw (e, append-assoc (digits 2 w v) (spread 2 w vs) rest, drop-append-add (digits 2 w v) (spread 2 w vs ++ rest) (i * w))
+    (field-bits w vs i rest (omega (arith, h)))
+
+pub block-field : (w n : ℕ) (k : Block) → IsBlock w n k → (i : ℕ) → i < n → take w (drop (i * w) (spread 2 8 (blockBytes w n k))) ≡ digits 2 w (getD (k .values) i 0)
+block-field w n k v i h = rw (block-bits w n k v) (field-bits w (k .values) i (digits 2 (padBits w n) (k .pad)) (omega (arith, v .count)))

@@ -10,4 +10,5 @@ pub mod Examples
 pub mod Rows
 pub mod Cut
 pub mod Booleans
+pub mod ByteValues
 pub mod Reading

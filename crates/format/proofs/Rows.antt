@@ -14,7 +14,8 @@ use Rattle.format.specs.Fields.{width, Block, IsBlock, blockBytes, bytes
 use Rattle.format.specs.Runs
 use Rattle.format.specs.Runs.{Description, short, direct, fixed, delta, patched, rowCount, Valid, layout, Patch, entryWidth}
 use Rattle.format.specs.Rows
-use Rattle.format.specs.Rows.{rowsOf}
+use Rattle.format.specs.Rows.{rowsOf, asI64, i64Rows}
+use Rattle.format.specs.Streams.{totalRows, joinedRows}
 use Rattle.format.proofs.Fields.{length-block}
 use Rattle.format.proofs.Digits.{number-lt}
 use Rattle.format.proofs.Patterns.{zigzag-lt}
@@ -42,6 +43,23 @@ rows-count signed (direct code k) = length-map (k .values) (row signed)
 rows-count signed (fixed rows first base) = length-steps rows _ _
 rows-count signed (delta code first base k) = ap (λ (n : ℕ). suc (suc n)) (length-walk _ _ (k .values)) ∙ sym (add-two _)
 rows-count signed (patched code base pc gw k l) = length-patchedRows _ _ _ 0 (k .values)
+
+pub i64-count : (signed : Bool) (d : Description) → length (i64Rows signed d) ≡ rowCount d
+unfolding i64Rows
+i64-count signed d = length-map (rowsOf signed d) asI64 ∙ rows-count signed d
+
+pub joined-count : (signed : Bool) (ds : List Description) → length (joinedRows signed ds) ≡ totalRows ds
+unfolding joinedRows totalRows
+joined-count signed [] = refl
+joined-count signed (d ∷ ds) = omega (arith, length-append (i64Rows signed d) (joinedRows signed ds), i64-count signed d, joined-count signed ds)
+
+-- one row at least, and 512 at most
+pub row-bounds : (d : Description) → Valid d → (1 ≤ rowCount d) × (rowCount d ≤ 512)
+row-bounds (short count value) v = omega (arith, v)
+row-bounds (direct code k) v = omega (arith, v .head)
+row-bounds (fixed rows first base) v = omega (arith, v .head)
+row-bounds (delta code first base k) v = omega (arith, v .head)
+row-bounds (patched code base pc gw k l) v = omega (arith, v .head)
 
 -- bytes consumed
 abbrev pub byteCount : Description → ℕ

@@ -9,7 +9,7 @@ use Rattle.format.specs.declared.Kind.the-variants.{Booleans}
 use Rattle.format.specs.declared.Answer.{Answer}
 use Rattle.format.specs.Digits.{AllBelow, digits}
 use Rattle.format.specs.Fields.{pick, bytesFor}
-use Rattle.format.specs.Parse.{Reason, plain, cutIn, Parsed, end, got, refused, then, unless, bytes}
+use Rattle.format.specs.Parse.{plain, cutIn, Parsed, end, got, refused, then, unless, bytes}
 use Rattle.format.specs.Answers.{ran, refusedAt}
 
 -- ---- BYTE RUNS: copies of one byte, with their count; or literal bytes

@@ -1,7 +1,7 @@
 -- Numbers and their digits. A list of bytes is a number in base 256, a packed block is a number in base 2^w: one pair of functions serves both.
 -- Assumes nothing.
 use Prim.Native.Nat.{ℕ, zero, suc, _+_, _*_, _/_, _%_, _^_, _<_}
-use mathlib.Core.List.{List, [], _∷_}
+use mathlib.Core.List.{List, [], _∷_, _++_}
 use lib.ListN.{length}
 
 -- each of the numbers is below b
@@ -18,3 +18,8 @@ number b (d ∷ ds) = d * b ^ length ds + number b ds
 unfoldable pub digits : ℕ → ℕ → ℕ → List ℕ
 digits b zero x = []
 digits b (suc n) x = x / b ^ n % b ∷ digits b n x
+
+-- the w digits in base b of each of the numbers, one after another: the bits of a list of bytes are `spread 2 8`
+abbrev pub spread : ℕ → ℕ → List ℕ → List ℕ
+spread b w [] = []
+spread b w (v ∷ vs) = digits b w v ++ spread b w vs

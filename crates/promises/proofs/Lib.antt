@@ -1,10 +1,15 @@
--- The theorems.
+-- The theorems, one file for each file of statements in specs/.
+-- document 01's lines and tables
 pub mod Table
-pub mod Outcomes
+pub mod Refusals
+-- its demands
 pub mod Demand2
 pub mod Demand3
-pub mod CutFile
+pub mod BooleansAndValues
+-- the user's four questions
 pub mod EachWidth
-pub mod Sums
 pub mod PatchLists
-pub mod Refusals
+pub mod Sums
+pub mod CutFile
+-- any two outcomes are equal
+pub mod Outcomes

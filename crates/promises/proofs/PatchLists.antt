@@ -7,7 +7,7 @@ use native.Mathlib.Decide.{ℕ-discrete}
 use native.Mathlib.Omega.{arith}
 use mathlib.Core.Bool.{Bool, true, false, not, _||_}
 use mathlib.Core.List.{List, [], _∷_, _++_}
-use lib.ListN.{length, getD, drop, List·getD-append, List·getD-map, length-map}
+use lib.ListN.{length, getD, drop, List·getD-append, List·getD-map}
 use lib.Seq.{drop-at}
 use lib.Dec.{T, leb, eqb, eqb→eq, leb→le, le→leb}
 use lib.IntN.{ℤ, pos}
@@ -19,7 +19,7 @@ use Rattle.format.specs.Rows.{baseValue, patchAt, rowsOf, asI64, i64Rows}
 use Rattle.format.specs.Promises.{RunRead}
 use Rattle.format.proofs.Fields.{any-block}
 use Rattle.format.proofs.Runs.{noList, patched-read}
-use Rattle.format.proofs.Rows.{rows-count}
+use Rattle.format.proofs.Rows.{i64-count}
 use Rattle.format.proofs.Streams.{into-got, into-refused}
 use Rattle.promises.specs.PatchLists
 use Rattle.promises.specs.PatchLists.{placeOf, Names, LastIsSkip, TwoShare, OneBeyond, OutOfPlace, Patched, PatchLists}
@@ -61,39 +61,46 @@ same a b e = rw (eq-eqb a b e) tt
 -- ---- the patches of a list, and the entries that name them; `before` is the sum of the gaps before the list
 
 module _ (pw : ℕ) where
+  -- behind an entry: the sum of the gaps, and the patches
+  abbrev past : ℕ → ℕ → ℕ
+  past before e = before + gapOf pw e
+
+  abbrev rest : ℕ → ℕ → List ℕ → List Patch
+  rest before e es = patchesFrom pw (past before e) es
+
   record From (before : ℕ) (es : List ℕ) (j p : ℕ) : Type 0 where
     there : j < length es
     no-skip : T (not (isSkip pw (getD es j 0)))
     here : before + placeOf pw es j ≡ p
 
-  from-here : (before e : ℕ) (es : List ℕ) → T (not (isSkip pw e)) → From before (e ∷ es) 0 (before + gapOf pw e)
+  from-here : (before e : ℕ) (es : List ℕ) → T (not (isSkip pw e)) → From before (e ∷ es) 0 (past before e)
   from-here before e es h = record { there = omega arith; no-skip = h; here = omega arith }
 
-  from-there : (before e : ℕ) (es : List ℕ) (j p : ℕ) → From (before + gapOf pw e) es j p → From before (e ∷ es) (suc j) p
+  from-there : (before e : ℕ) (es : List ℕ) (j p : ℕ) → From (past before e) es j p → From before (e ∷ es) (suc j) p
   from-there before e es j p f = record { there = omega (arith, f .there); no-skip = f .no-skip; here = omega (arith, f .here) }
 
-  from-back : (before e : ℕ) (es : List ℕ) (j p : ℕ) → From before (e ∷ es) (suc j) p → From (before + gapOf pw e) es j p
+  from-back : (before e : ℕ) (es : List ℕ) (j p : ℕ) → From before (e ∷ es) (suc j) p → From (past before e) es j p
   from-back before e es j p f = record { there = omega (arith, f .there); no-skip = f .no-skip; here = omega (arith, f .here) }
 
-  from-zero : (before e : ℕ) (es : List ℕ) (p : ℕ) → From before (e ∷ es) 0 p → p ≡ before + gapOf pw e
+  from-zero : (before e : ℕ) (es : List ℕ) (p : ℕ) → From before (e ∷ es) 0 p → p ≡ past before e
   from-zero before e es p f = omega (arith, f .here)
 
   abbrev named : ℕ → ℕ → Patch
-  named before e = record { place = before + gapOf pw e; patch = patchOf pw e }
+  named before e = record { place = past before e; patch = patchOf pw e }
 
-  of-skip : (before e : ℕ) (es : List ℕ) → T (isSkip pw e) → patchesFrom pw before (e ∷ es) ≡ patchesFrom pw (before + gapOf pw e) es
+  of-skip : (before e : ℕ) (es : List ℕ) → T (isSkip pw e) → patchesFrom pw before (e ∷ es) ≡ rest before e es
   unfolding patchesFrom
   of-skip before e es h = go (isSkip pw e) h
     where
-      go : (t : Bool) → T t → pick t (patchesFrom pw (before + gapOf pw e) es) (named before e ∷ patchesFrom pw (before + gapOf pw e) es) ≡ patchesFrom pw (before + gapOf pw e) es
+      go : (t : Bool) → T t → pick t (rest before e es) (named before e ∷ rest before e es) ≡ rest before e es
       go true h = refl
       go false h = absurd h
 
-  of-entry : (before e : ℕ) (es : List ℕ) → T (not (isSkip pw e)) → patchesFrom pw before (e ∷ es) ≡ named before e ∷ patchesFrom pw (before + gapOf pw e) es
+  of-entry : (before e : ℕ) (es : List ℕ) → T (not (isSkip pw e)) → patchesFrom pw before (e ∷ es) ≡ named before e ∷ rest before e es
   unfolding patchesFrom
   of-entry before e es h = go (isSkip pw e) h
     where
-      go : (t : Bool) → T (not t) → pick t (patchesFrom pw (before + gapOf pw e) es) (named before e ∷ patchesFrom pw (before + gapOf pw e) es) ≡ named before e ∷ patchesFrom pw (before + gapOf pw e) es
+      go : (t : Bool) → T (not t) → pick t (rest before e es) (named before e ∷ rest before e es) ≡ named before e ∷ rest before e es
       go true h = absurd h
       go false h = refl
 
@@ -103,31 +110,31 @@ module _ (pw : ℕ) where
     some-names : (before : ℕ) (es : List ℕ) → T (test (patchesFrom pw before es)) → (j p : ℕ) × From before es j p × T (of p)
     unfolding patchesFrom
     some-names before [] h = absurd (rw none at h)
-    some-names before (e ∷ es) h = go (either (isSkip pw e)) (some-names (before + gapOf pw e) es)
+    some-names before (e ∷ es) h = go (either (isSkip pw e)) (some-names (past before e) es)
       where
-        later : (j p : ℕ) × From (before + gapOf pw e) es j p × T (of p) → (j p : ℕ) × From before (e ∷ es) j p × T (of p)
+        later : (j p : ℕ) × From (past before e) es j p × T (of p) → (j p : ℕ) × From before (e ∷ es) j p × T (of p)
         later (j, p, f, t) = (suc j, p, from-there before e es j p f, t)
 
-        go : T (isSkip pw e) ⊎ T (not (isSkip pw e)) → (T (test (patchesFrom pw (before + gapOf pw e) es)) → (j p : ℕ) × From (before + gapOf pw e) es j p × T (of p))
+        go : T (isSkip pw e) ⊎ T (not (isSkip pw e)) → (T (test (rest before e es)) → (j p : ℕ) × From (past before e) es j p × T (of p))
             → (j p : ℕ) × From before (e ∷ es) j p × T (of p)
         go (inl s) ih = later (ih (rw (of-skip before e es s) at h))
-        go (inr s) ih = by (or-cases (of (before + gapOf pw e)) (test (patchesFrom pw (before + gapOf pw e) es)) (rw (of-entry before e es s, one) at h))
+        go (inr s) ih = by (or-cases (of (past before e)) (test (rest before e es)) (rw (of-entry before e es s, one) at h))
           where
-            by : T (of (before + gapOf pw e)) ⊎ T (test (patchesFrom pw (before + gapOf pw e) es)) → (j p : ℕ) × From before (e ∷ es) j p × T (of p)
-            by (inl t) = (0, before + gapOf pw e, from-here before e es s, t)
+            by : T (of (past before e)) ⊎ T (test (rest before e es)) → (j p : ℕ) × From before (e ∷ es) j p × T (of p)
+            by (inl t) = (0, past before e, from-here before e es s, t)
             by (inr t) = later (ih t)
 
     names-some : (before : ℕ) (es : List ℕ) (j p : ℕ) → From before es j p → T (of p) → T (test (patchesFrom pw before es))
     names-some before [] j p f t = absurd (omega (arith, f .there))
-    names-some before (e ∷ es) j p f t = go j f (either (isSkip pw e)) (names-some (before + gapOf pw e) es)
+    names-some before (e ∷ es) j p f t = go j f (either (isSkip pw e)) (names-some (past before e) es)
       where
         go : (j : ℕ) → From before (e ∷ es) j p → T (isSkip pw e) ⊎ T (not (isSkip pw e))
-            → ((j p : ℕ) → From (before + gapOf pw e) es j p → T (of p) → T (test (patchesFrom pw (before + gapOf pw e) es)))
+            → ((j p : ℕ) → From (past before e) es j p → T (of p) → T (test (rest before e es)))
             → T (test (patchesFrom pw before (e ∷ es)))
         go zero f (inl s) ih = absurd (never-both (isSkip pw e) s (f .no-skip))
-        go zero f (inr s) ih = rw (of-entry before e es s, one) (or-left (of (before + gapOf pw e)) (test (patchesFrom pw (before + gapOf pw e) es)) (rw (from-zero before e es p f) at t))
+        go zero f (inr s) ih = rw (of-entry before e es s, one) (or-left (of (past before e)) (test (rest before e es)) (rw (from-zero before e es p f) at t))
         go (suc j) f (inl s) ih = rw (of-skip before e es s) (ih j p (from-back before e es j p f) t)
-        go (suc j) f (inr s) ih = rw (of-entry before e es s, one) (or-right (of (before + gapOf pw e)) (test (patchesFrom pw (before + gapOf pw e) es)) (ih j p (from-back before e es j p f) t))
+        go (suc j) f (inr s) ih = rw (of-entry before e es s, one) (or-right (of (past before e)) (test (rest before e es)) (ih j p (from-back before e es j p f) t))
 
   -- a place is taken: an entry names it
   taken-names : (p before : ℕ) (es : List ℕ) → T (taken p (patchesFrom pw before es)) → (j : ℕ) × From before es j p
@@ -147,39 +154,39 @@ module _ (pw : ℕ) where
   shared-names : (before : ℕ) (es : List ℕ) → T (shared (patchesFrom pw before es)) → Two before es
   unfolding shared patchesFrom
   shared-names before [] h = absurd h
-  shared-names before (e ∷ es) h = go (either (isSkip pw e)) (shared-names (before + gapOf pw e) es)
+  shared-names before (e ∷ es) h = go (either (isSkip pw e)) (shared-names (past before e) es)
     where
-      later : Two (before + gapOf pw e) es → Two before (e ∷ es)
+      later : Two (past before e) es → Two before (e ∷ es)
       later (i, j, p, l, f, g) = (suc i, suc j, p, omega arith, from-there before e es i p f, from-there before e es j p g)
 
-      go : T (isSkip pw e) ⊎ T (not (isSkip pw e)) → (T (shared (patchesFrom pw (before + gapOf pw e) es)) → Two (before + gapOf pw e) es) → Two before (e ∷ es)
+      go : T (isSkip pw e) ⊎ T (not (isSkip pw e)) → (T (shared (rest before e es)) → Two (past before e) es) → Two before (e ∷ es)
       go (inl s) ih = later (ih (rw (of-skip before e es s) at h))
       go (inr s) ih =
-          by (or-cases (taken (before + gapOf pw e) (patchesFrom pw (before + gapOf pw e) es)) (shared (patchesFrom pw (before + gapOf pw e) es)) (rw (of-entry before e es s) at h))
+          by (or-cases (taken (past before e) (rest before e es)) (shared (rest before e es)) (rw (of-entry before e es s) at h))
         where
-          by : T (taken (before + gapOf pw e) (patchesFrom pw (before + gapOf pw e) es)) ⊎ T (shared (patchesFrom pw (before + gapOf pw e) es)) → Two before (e ∷ es)
+          by : T (taken (past before e) (rest before e es)) ⊎ T (shared (rest before e es)) → Two before (e ∷ es)
           by (inl t) =
-              let (j, f) = taken-names (before + gapOf pw e) (before + gapOf pw e) es t in
-              (0, suc j, before + gapOf pw e, omega arith, from-here before e es s, from-there before e es j (before + gapOf pw e) f)
+              let (j, f) = taken-names (past before e) (past before e) es t in
+              (0, suc j, past before e, omega arith, from-here before e es s, from-there before e es j (past before e) f)
           by (inr t) = later (ih t)
 
   names-shared : (before : ℕ) (es : List ℕ) (i j p : ℕ) → i < j → From before es i p → From before es j p → T (shared (patchesFrom pw before es))
   unfolding shared
   names-shared before [] i j p l f g = absurd (omega (arith, f .there))
-  names-shared before (e ∷ es) i j p l f g = go i j l f g (either (isSkip pw e)) (names-shared (before + gapOf pw e) es)
+  names-shared before (e ∷ es) i j p l f g = go i j l f g (either (isSkip pw e)) (names-shared (past before e) es)
     where
       go : (i j : ℕ) → i < j → From before (e ∷ es) i p → From before (e ∷ es) j p → T (isSkip pw e) ⊎ T (not (isSkip pw e))
-          → ((i j p : ℕ) → i < j → From (before + gapOf pw e) es i p → From (before + gapOf pw e) es j p → T (shared (patchesFrom pw (before + gapOf pw e) es)))
+          → ((i j p : ℕ) → i < j → From (past before e) es i p → From (past before e) es j p → T (shared (rest before e es)))
           → T (shared (patchesFrom pw before (e ∷ es)))
       go i zero l f g s ih = absurd (omega (arith, l))
       go zero (suc j) l f g (inl s) ih = absurd (never-both (isSkip pw e) s (f .no-skip))
       go zero (suc j) l f g (inr s) ih =
           rw (of-entry before e es s)
-          (or-left (taken (before + gapOf pw e) (patchesFrom pw (before + gapOf pw e) es)) (shared (patchesFrom pw (before + gapOf pw e) es)) (names-taken (before + gapOf pw e) (before + gapOf pw e) es j (rw (from-zero before e es p f) at (from-back before e es j p g))))
+          (or-left (taken (past before e) (rest before e es)) (shared (rest before e es)) (names-taken (past before e) (past before e) es j (rw (from-zero before e es p f) at (from-back before e es j p g))))
       go (suc i) (suc j) l f g (inl s) ih = rw (of-skip before e es s) (ih i j p (omega (arith, l)) (from-back before e es i p f) (from-back before e es j p g))
       go (suc i) (suc j) l f g (inr s) ih =
           rw (of-entry before e es s)
-          (or-right (taken (before + gapOf pw e) (patchesFrom pw (before + gapOf pw e) es)) (shared (patchesFrom pw (before + gapOf pw e) es)) (ih i j p (omega (arith, l)) (from-back before e es i p f) (from-back before e es j p g)))
+          (or-right (taken (past before e) (rest before e es)) (shared (rest before e es)) (ih i j p (omega (arith, l)) (from-back before e es i p f) (from-back before e es j p g)))
 
   last-names : (es : List ℕ) → T (lastIsSkip pw es) → LastIsSkip pw es
   unfolding lastIsSkip
@@ -203,31 +210,31 @@ module _ (pw : ℕ) where
       → patchAt p (patchesFrom pw before es) ≡ patchOf pw (getD es j 0)
   unfolding patchAt shared
   patch-there before [] j p f n = absurd (omega (arith, f .there))
-  patch-there before (e ∷ es) j p f n = go j f (either (isSkip pw e)) (patch-there (before + gapOf pw e) es)
+  patch-there before (e ∷ es) j p f n = go j f (either (isSkip pw e)) (patch-there (past before e) es)
     where
       go : (j : ℕ) → From before (e ∷ es) j p → T (isSkip pw e) ⊎ T (not (isSkip pw e))
-          → ((j p : ℕ) → From (before + gapOf pw e) es j p → T (not (shared (patchesFrom pw (before + gapOf pw e) es))) → patchAt p (patchesFrom pw (before + gapOf pw e) es) ≡ patchOf pw (getD es j 0))
+          → ((j p : ℕ) → From (past before e) es j p → T (not (shared (rest before e es))) → patchAt p (rest before e es) ≡ patchOf pw (getD es j 0))
           → patchAt p (patchesFrom pw before (e ∷ es)) ≡ patchOf pw (getD (e ∷ es) j 0)
       go zero f (inl s) ih = absurd (never-both (isSkip pw e) s (f .no-skip))
-      go zero f (inr s) ih = rw (of-entry before e es s, eq-eqb p (before + gapOf pw e) (from-zero before e es p f))
+      go zero f (inr s) ih = rw (of-entry before e es s, eq-eqb p (past before e) (from-zero before e es p f))
       go (suc j) f (inl s) ih = rw (of-skip before e es s) (ih j p (from-back before e es j p f) (rw (of-skip before e es s) at n))
       go (suc j) f (inr s) ih =
-          let m : T (not (taken (before + gapOf pw e) (patchesFrom pw (before + gapOf pw e) es) || shared (patchesFrom pw (before + gapOf pw e) es))) = rw (of-entry before e es s) at n in
-          let ne : p ≢ before + gapOf pw e =
-          λ z. never-both (taken (before + gapOf pw e) (patchesFrom pw (before + gapOf pw e) es)) (names-taken (before + gapOf pw e) (before + gapOf pw e) es j (rw z at (from-back before e es j p f)))
-          (not-left (taken (before + gapOf pw e) (patchesFrom pw (before + gapOf pw e) es)) (shared (patchesFrom pw (before + gapOf pw e) es)) m) in
-          rw (of-entry before e es s, ne-eqb p (before + gapOf pw e) ne)
-          (ih j p (from-back before e es j p f) (not-right (taken (before + gapOf pw e) (patchesFrom pw (before + gapOf pw e) es)) (shared (patchesFrom pw (before + gapOf pw e) es)) m))
+          let m : T (not (taken (past before e) (rest before e es) || shared (rest before e es))) = rw (of-entry before e es s) at n in
+          let ne : p ≢ past before e =
+          λ z. never-both (taken (past before e) (rest before e es)) (names-taken (past before e) (past before e) es j (rw z at (from-back before e es j p f)))
+          (not-left (taken (past before e) (rest before e es)) (shared (rest before e es)) m) in
+          rw (of-entry before e es s, ne-eqb p (past before e) ne)
+          (ih j p (from-back before e es j p f) (not-right (taken (past before e) (rest before e es)) (shared (rest before e es)) m))
 
   patch-none : (before : ℕ) (es : List ℕ) (p : ℕ) → ((j : ℕ) → From before es j p → ⊥) → patchAt p (patchesFrom pw before es) ≡ 0
   unfolding patchAt patchesFrom
   patch-none before [] p n = refl
   patch-none before (e ∷ es) p n =
-      go (either (isSkip pw e)) (patch-none (before + gapOf pw e) es p (λ j f. n (suc j) (from-there before e es j p f)))
+      go (either (isSkip pw e)) (patch-none (past before e) es p (λ j f. n (suc j) (from-there before e es j p f)))
     where
-      go : T (isSkip pw e) ⊎ T (not (isSkip pw e)) → patchAt p (patchesFrom pw (before + gapOf pw e) es) ≡ 0 → patchAt p (patchesFrom pw before (e ∷ es)) ≡ 0
+      go : T (isSkip pw e) ⊎ T (not (isSkip pw e)) → patchAt p (rest before e es) ≡ 0 → patchAt p (patchesFrom pw before (e ∷ es)) ≡ 0
       go (inl s) ih = rw (of-skip before e es s) ih
-      go (inr s) ih = rw (of-entry before e es s, ne-eqb p (before + gapOf pw e) (λ z. n 0 (rw z (from-here before e es s)))) ih
+      go (inr s) ih = rw (of-entry before e es s, ne-eqb p (past before e) (λ z. n 0 (rw z (from-here before e es s)))) ih
 
   -- ---- refusal 7, in its three cases
 
@@ -267,15 +274,11 @@ module _ (pw : ℕ) where
 
 module _ (code : ℕ) (base : List ℕ) (pc gw : ℕ) (k l : Block) (out out′ : List ℤ) (signed : Bool)
     (places : out′ ≡ i64Rows signed (patched code base pc gw k l) ++ drop (length (k .values)) out) where
-  rows-length : length (i64Rows signed (patched code base pc gw k l)) ≡ length (k .values)
-  unfolding i64Rows
-  rows-length = length-map (rowsOf signed (patched code base pc gw k l)) asI64 ∙ rows-count signed (patched code base pc gw k l)
-
   row-at : (p : ℕ) → p < length (k .values)
       → getD out′ p (pos 0) ≡ asI64 ((baseValue base + (getD (k .values) p 0 + patchAt p (patches (width pc) (l .values)) * 2 ^ width code)) % two64)
   unfolding i64Rows asI64
   row-at p h =
-      rw (places, List·getD-append (i64Rows signed (patched code base pc gw k l)) (drop (length (k .values)) out) (pos 0) p (omega (arith, rows-length)))
+      rw (places, List·getD-append (i64Rows signed (patched code base pc gw k l)) (drop (length (k .values)) out) (pos 0) p (omega (arith, i64-count signed (patched code base pc gw k l))))
       (List·getD-map asI64 (rowsOf signed (patched code base pc gw k l)) p 0 ∙ ap asI64 (sums .patched-row signed code base pc gw k l p h))
 
   rows-patched : T (not (outOfPlace (width pc) (length (k .values)) (l .values))) → (p : ℕ) → p < length (k .values) → Patched code base pc k l out′ p
@@ -314,5 +317,5 @@ patch-lists = record {
           in-place = λ o. never-both (outOfPlace (width pc) (length (k .values)) (l .values)) (out-of-place (width pc) (length (k .values)) (l .values) .1 o) (rw t tt);
           answer = rw (e, patched-read code base pc gw k l rest v few list, t, into-got (length out) (patched code base pc gw k l) rest room) at (h .answer);
           rows = rows-patched code base pc gw k l out out′ signed places (rw t tt);
-          others = ap (drop (length (k .values))) places ∙ drop-at (i64Rows signed (patched code base pc gw k l)) (drop (length (k .values)) out) (length (k .values)) (rows-length code base pc gw k l out out′ signed places);
+          others = ap (drop (length (k .values))) places ∙ drop-at (i64Rows signed (patched code base pc gw k l)) (drop (length (k .values)) out) (length (k .values)) (i64-count signed (patched code base pc gw k l));
         })

@@ -1,11 +1,16 @@
 -- The user's demands, as statements over the definitions that the contracts cite; the theorems stand in proofs/. Document 01 is the text that each
 -- of them is checked against.
+-- document 01's lines and tables
 pub mod Table
-pub mod Outcomes
+pub mod Refusals
+-- its demands
 pub mod Demand2
 pub mod Demand3
-pub mod CutFile
+pub mod BooleansAndValues
+-- the user's four questions
 pub mod EachWidth
-pub mod Sums
 pub mod PatchLists
-pub mod Refusals
+pub mod Sums
+pub mod CutFile
+-- any two outcomes are equal
+pub mod Outcomes

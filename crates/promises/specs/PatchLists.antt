@@ -66,7 +66,8 @@ pub record Refused (pc : ℕ) (k l : Block) (at : ℕ) (out out′ : List ℤ) (
 pub record PatchLists : Type 0 where
   -- any bytes, as many as n entries take, are the block of some n entries
   pub any-bytes : (w n : ℕ) (bs : List ℕ) → AllBelow 256 bs → length bs ≡ bytesFor (n * w) → (l : Block) × IsBlock w n l × (blockBytes w n l ≡ bs)
-  -- Of every patched run that is good without a list, with any list of up to 31 entries behind it, wherever its bytes stand and whatever follows them
+  -- Of every patched run that is good without a list, with any list of up to 31 entries behind it, wherever its bytes stand and whatever follows them:
+  -- refusal 7, or the run with these rows
   pub either-way : (code : ℕ) (base : List ℕ) (pc gw : ℕ) (k l : Block) → Valid (patched code base pc gw k (record { values = []; pad = 0 }))
       → length (l .values) < 32 → IsBlock (entryWidth pc gw) (length (l .values)) l
       → (input : List ℕ) (at : ℕ) (signed : Bool) (out out′ : List ℤ) (r : Answer) → RunRead input at signed out out′ r

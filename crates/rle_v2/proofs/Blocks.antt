@@ -1,12 +1,13 @@
 -- The fields of a block that stands in a slice. Assumes nothing.
 use mathlib.Core.Path.{_≡_, _∙_}
-use Prim.Native.Nat.{ℕ, _^_, _≤_}
-use native.Mathlib.Nat.{lt-of-lt-of-le}
+use Prim.Native.Nat.{ℕ, _*_, _^_, _≤_}
+use native.Mathlib.Nat.{lt-of-lt-of-le, mul-le-mul}
+use native.Mathlib.Omega.{arith}
 use mathlib.Core.List.{List, [], _∷_, map}
 use lib.ListN.{length, length-map}
 use lib.Pow.{pow-pos, pow-mono}
 use Rattle.format.specs.Digits.{AllBelow, digits}
-use Rattle.format.specs.Fields.{two64}
+use Rattle.format.specs.Fields.{two64, bytesFor}
 use Rattle.format.proofs.Digits.{length-digits, digits-below}
 use Rattle.format.specs.Fields as Fields
 use Rattle.format.specs.Rows.{asI64}
@@ -37,3 +38,7 @@ code-width code = for-unpack (width-is code)
 
 pub entry-width : (bits : ℕ) → Width (Fields.leastWidth bits)
 entry-width bits = for-unpack (least-is bits)
+
+-- a block of a run is small
+pub size-small : (n w : ℕ) → n ≤ 512 → w ≤ 64 → bytesFor (n * w) ≤ 4096
+size-small n w h l = omega (arith, mul-le-mul {n₂ = 512} {m₂ = 64} h l)

@@ -1,3 +1,5 @@
 -- What the reader's inner functions are stated with. The promises themselves cite `format`.
 pub mod Pass
+pub mod DeltaStart
+pub mod PatchedHead
 pub mod PatchList

@@ -1,11 +1,10 @@
 -- A pass over places: each is made anew from what it holds and from what was carried to it, and something is carried on.
 -- Assumes nothing.
-use mathlib.Core.Path.{_≡_}
-use Prim.Native.Nat.{ℕ, _+_, _-_, _≤_}
+use Prim.Native.Nat.{ℕ, _^_}
 use mathlib.Core.Bool.{Bool, true, false}
-use mathlib.Core.List.{List, [], _∷_, _++_}
-use lib.ListN.{length, take, drop}
+use mathlib.Core.List.{List, [], _∷_}
 use lib.IntN.{ℤ}
+use lib.Dec.{leb}
 use Rattle.format.specs.Fields.{pick, negative, zigzag}
 use Rattle.format.specs.Rows.{plus, asI64, asU64}
 
@@ -39,3 +38,7 @@ moved falling x m = plus x (pick falling (negative m) m)
 -- each magnitude summed up from the row before the first of them
 abbrev pub summed : Bool → ℕ → List ℤ → List ℤ
 summed falling x out = pass (λ y z. asI64 (moved falling y (asU64 z))) (λ y z. moved falling y (asU64 z)) x out
+
+-- a packed delta's rows: the first, the second, and the magnitudes summed up from it, falling where the base delta is below 0
+abbrev pub laid : ℕ → ℕ → List ℤ → List ℤ
+laid first step ms = asI64 first ∷ asI64 (plus first step) ∷ summed (leb (2 ^ 63) step) (plus first step) ms

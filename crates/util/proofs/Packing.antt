@@ -10,7 +10,8 @@ use lib.ListN.{length, getD, take, drop, take-append-drop}
 use lib.Pow.{pow-pos, pow-add, shr-shr, shl-shr, shl-lt, shr-lt, shl-exact, field, split, high, low, mod-pow-add}
 use Rattle.format.specs.Digits.{number, digits}
 use Rattle.format.specs.Fields.{bytesFor, padBits, blockBytes}
-use Rattle.format.proofs.Digits.{number-take-suc, digits-add, digits-high, length-digits, pow-pow}
+use Rattle.format.proofs.Digits.{number-take-suc, digits-add, digits-high, length-digits}
+use Rattle.util.proofs.BigEndian.{pow-256}
 use Rattle.util.proofs.Grow.{front-is, kept-by, long-by}
 
 -- ---- words of 64 bits
@@ -34,12 +35,9 @@ raised-is x a c =
 
 -- ---- bytes
 
-bytes-pow : (n : ℕ) → 256 ^ n ≡ 2 ^ (8 * n)
-bytes-pow n = pow-pow 2 8 n ∙ ap (λ (y : ℕ). 2 ^ y) (omega arith)
-
 digits-low : (q z : ℕ) → digits 256 q (z % 2 ^ (8 * q)) ≡ digits 256 q z
 digits-low q z =
-    let e : z ≡ z / 2 ^ (8 * q) * 256 ^ q + z % 2 ^ (8 * q) = rw bytes-pow (sym (split z (8 * q))) in
+    let e : z ≡ z / 2 ^ (8 * q) * 256 ^ q + z % 2 ^ (8 * q) = rw pow-256 (sym (split z (8 * q))) in
     sym (ap (digits 256 q) e ∙ digits-high 256 (pow-pos 8) q (z / 2 ^ (8 * q)) (z % 2 ^ (8 * q)))
 
 -- ---- a field v after the number N, of which the t lowest bits are at the top of a word
@@ -90,7 +88,7 @@ last-bytes N b t q pad ht hq e =
     let y : N * 2 ^ (64 - t) % 2 ^ 64 / 2 ^ c ≡ N * 2 ^ pad % 2 ^ (8 * q)
     = ap (λ (z : ℕ). N * 2 ^ (64 - t) % 2 ^ z / 2 ^ c) (sym f) ∙ rw (field, g, pow-add 2 pad c, ← mul-assoc, shl-shr) in
     let z : N * 2 ^ pad / 2 ^ (8 * q) ≡ N / 2 ^ t = rw (e, ← shr-shr, shl-shr) in
-    rw (digits-add 256 b q, bytes-pow q, z, y, digits-low)
+    rw (digits-add 256 b q, pow-256 q, z, y, digits-low)
 
 -- ---- the values before k are packed at `at`: b bytes are written, and t bits stand at the top of x
 
@@ -102,7 +100,7 @@ pub record Holds (w at : ℕ) (vals out₀ out : List ℕ) (x t b k : ℕ) : Typ
   pub front : take (at + b) out ≡ take at out₀ ++ digits 256 b (number (2 ^ w) (take k vals) / 2 ^ t)
   pub back : drop (at + b) out ≡ drop (at + b) out₀
 
-module _ (w at : ℕ) (vals out₀ out : List ℕ) (x t b k : ℕ) (hw : w ≤ 64) (hk : k < length vals) (hv : getD vals k 0 < 2 ^ w) (i : Holds w at vals out₀ out x t b k) where
+module _ {w at : ℕ} {vals out₀ out : List ℕ} {x t b k : ℕ} (i : Holds w at vals out₀ out x t b k) (hw : w ≤ 64) (hk : k < length vals) (hv : getD vals k 0 < 2 ^ w) where
   abbrev N : ℕ
   N = number (2 ^ w) (take k vals)
 
@@ -150,11 +148,11 @@ pub full-room : (w n k b t : ℕ) → k < n → 8 * b + t ≡ k * w → 64 ≤ t
 full-room w n k b t h e f = omega (arith, mul-le-mul-right w h)
 
 -- all n values, and the last bytes
-pub whole : (w at n : ℕ) (vals out₀ out out′ : List ℕ) (x t b k : ℕ) → k ≡ n → Holds w at vals out₀ out x t b k → at + b + (t + 7) / 8 ≤ length out
+pub whole : {w at n : ℕ} {vals out₀ out : List ℕ} (out′ : List ℕ) {x t b k : ℕ} → Holds w at vals out₀ out x t b k → k ≡ n → at + b + (t + 7) / 8 ≤ length out
     → out′ ≡ (take (at + b) out ++ digits 256 ((t + 7) / 8) (x / 2 ^ (64 - 8 * ((t + 7) / 8)))) ++ drop (at + b + (t + 7) / 8) out
     → out′ ≡ take at out₀ ++ blockBytes w n (record { values = take n vals; pad = 0 }) ++ drop (at + bytesFor (n * w)) out₀
 unfolding blockBytes
-whole w at n vals out₀ out out′ x t b k r i′ l e =
+whole {w} {at} {n} {vals} {out₀} {out} out′ {x} {t} {b} i′ r l e =
     let i : Holds w at vals out₀ out x t b n = rw r at i′ in
     let q = (t + 7) / 8 in
     let N = number (2 ^ w) (take n vals) in

@@ -10,10 +10,10 @@ use mathlib.Core.List.{List, [], _∷_, _++_, map, append-assoc, append-nil, rev
 use lib.ListN.{length, getD, take, drop, drop-of-length-le, length-append, length-drop, length-reverse, take-append-drop}
 use lib.Seq.{take-at, drop-at, drop-cons, take-append-le, drop-append-le, drop-append-add, length-take-le}
 use lib.Pow.{shr-shr, high, ones-split, ones-lt}
-use Rattle.format.specs.Digits.{AllBelow, number, digits}
+use Rattle.format.specs.Digits.{AllBelow, number, digits, spread}
 use Rattle.format.specs.Fields.{bytesFor, padBits, Block, IsBlock, blockBytes}
 use Rattle.format.specs.Parse.{got}
-use Rattle.format.proofs.Digits.{spread, spread-number, digits-add, length-digits, number-low, digits-number, getD-digits, pow-pow}
+use Rattle.format.proofs.Digits.{spread-number, digits-add, length-digits, number-low, digits-number, getD-digits, pow-pow}
 use Rattle.format.proofs.Fields.{below-take, below-drop, length-block, block-below, block-complete}
 use Rattle.format.proofs.Reading.{blockAt, block-here}
 use Rattle.format.proofs.Widths.{IsWidth}

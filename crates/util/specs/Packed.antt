@@ -3,10 +3,9 @@ use mathlib.Core.Path.{_≡_}
 use Prim.Native.Nat.{ℕ, _+_, _*_, _/_, _%_, _≤_, _<_}
 use mathlib.Core.List.{List}
 use lib.ListN.{getD, take, drop}
-use Rattle.format.specs.Digits.{number}
+use Rattle.format.specs.Digits.{number, spread}
 use Rattle.format.specs.Fields.{bytesFor}
 use Rattle.format.specs.Parse.{unpack}
-use Rattle.format.proofs.Digits.{spread}
 
 -- the n fields of width w that s begins with
 abbrev pub fields : ℕ → ℕ → List ℕ → List ℕ

@@ -1,8 +1,7 @@
 -- `boolean_rle::put_bits` meets its contract. The loop's invariant: the first j bits stand in their places. Assumes nothing.
-use mathlib.Core.Path.{_≡_, refl, ap}
-use Prim.Native.Nat.{ℕ, _+_, _-_, _≤_}
+use mathlib.Core.Path.{_≡_, refl}
+use Prim.Native.Nat.{_+_, _-_, _≤_}
 use native.Mathlib.Omega.{arith}
-use borrow.Author.Needs.{needs}
 use lib.ListN.{length, length-set}
 use Rattle.format.specs.Digits.{digits}
 use Rattle.boolean_rle.specs.Found.{Wrote}

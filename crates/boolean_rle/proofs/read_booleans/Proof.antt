@@ -1,5 +1,5 @@
 -- `boolean_rle::read_booleans` meets its promise, for refused inputs too: by what the first pass finds. Assumes nothing.
-use mathlib.Core.Path.{_≡_, sym, _∙_}
+use mathlib.Core.Path.{sym, _∙_}
 use denote.Ref.{now}
 use Rattle.boolean_rle.proofs.Laws.{reads-cut, reads-8, reads-all}
 use borrow.Author.Needs.{needs}

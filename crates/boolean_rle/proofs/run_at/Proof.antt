@@ -1,9 +1,10 @@
+-- `boolean_rle::run_at` meets its contract: its tests are those of the definition. Assumes nothing.
 use Prim.Native.Nat.{_+_, _-_}
 use lib.Seq.{length-take-le}
 use lib.ListN.{drop, getD, length-drop}
 use native.Mathlib.Numerals.{add-one}
 use Rattle.boolean_rle.proofs.Laws.{none-here, repeat-cut, repeat-here, literals-cut, literals-here}
-use Rattle.format.specs.Booleans.{byteRun, runLayout, byteCount}
+use Rattle.format.specs.Booleans.{runLayout, byteCount}
 use native.Mathlib.Omega.{arith}
 use denote.Ref.{now}
 use borrow.Author.Needs.{needs}

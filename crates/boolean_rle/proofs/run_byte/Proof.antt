@@ -1,9 +1,7 @@
 -- `boolean_rle::run_byte` meets its contract: a run's byte stands where its control says. Assumes nothing.
-use mathlib.Core.Path.{_≡_}
-use Prim.Native.Nat.{ℕ, _+_, _<_, _≤_}
 use native.Mathlib.Omega.{arith}
 use denote.Ref.{now}
-use lib.ListN.{drop, getD}
+use lib.ListN.{drop}
 use Rattle.format.specs.Booleans.{byteRun}
 use Rattle.boolean_rle.specs.Found.{bytesIn}
 use Rattle.boolean_rle.proofs.Laws.{here, bytes-are, ByteAt, byte-at}

@@ -1,6 +1,5 @@
 -- `boolean_rle::span_from` meets its contract. The loop's invariant: the runs up to `end` are passed, and `left` bytes are still needed. Assumes nothing.
 use mathlib.Core.Path.{_≡_, sym, _∙_}
-use Prim.Native.Nat.{ℕ, _+_, _-_, _≤_, _<_}
 use native.Mathlib.Nat.{le-refl, add-zero}
 use native.Mathlib.Omega.{arith}
 use borrow.Author.Needs.{needs}

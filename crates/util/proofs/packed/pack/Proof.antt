@@ -62,9 +62,8 @@ add-x : tie.Need-add-x Inv-loop μ-loop
 add-x c =
     let at-in = c .before .before in
     let at-start = at-in .before .before .before .before in
-    let a = at-start .args in
     let l = at-in .before .loop in
-    record { fits = joined-fits (a .w) (a .at) (a .vals .now) (a .out .now) (l .out) (l .x) (l .t) (l .b) (l .k) (at-start .pre .0 .1) (omega arith) (value at-in) (l .inv .1) (c .if1 .taken) }
+    record { fits = joined-fits (l .inv .1) (at-start .pre .0 .1) (omega arith) (value at-in) (c .if1 .taken) }
 
 shr-write : tie.Need-shr-write Inv-loop μ-loop
 shr-write c = omega arith
@@ -73,9 +72,8 @@ add-write : tie.Need-add-write Inv-loop μ-loop
 add-write c =
     let at-in = c .before .before in
     let at-start = at-in .before .before .before .before in
-    let a = at-start .args in
     let l = at-in .before .loop in
-    record { fits = full-fits (a .w) (a .at) (a .vals .now) (a .out .now) (l .out) (l .x) (l .t) (l .b) (l .k) (at-start .pre .0 .1) (omega arith) (value at-in) (l .inv .1) (c .if1 .left) }
+    record { fits = full-fits (l .inv .1) (at-start .pre .0 .1) (omega arith) (value at-in) (c .if1 .left) }
 
 add-write-2 : tie.Need-add-write-2 Inv-loop μ-loop
 add-write-2 c = omega (arith, room (c .before .before .before) (c .before .if1 .left))
@@ -104,14 +102,13 @@ loop-again : tie.Need-loop-again Inv-loop μ-loop
 loop-again c =
     let at-in = c .before .before in
     let at-start = at-in .before .before .before .before in
-    let a = at-start .args in
     let l = at-in .before .loop in (
       omega arith,
       ⊎-elim (λ w.
           rw (w .1, w .2, w .3, w .4)
-          (holds-joined (a .w) (a .at) (a .vals .now) (a .out .now) (l .out) (l .x) (l .t) (l .b) (l .k) (at-start .pre .0 .1) (omega arith) (value at-in) (l .inv .1) (w .0 .taken))) (λ w.
+          (holds-joined (l .inv .1) (at-start .pre .0 .1) (omega arith) (value at-in) (w .0 .taken))) (λ w.
           rw (w .6, w .7, w .8, w .9, w .5 .ensures)
-          (holds-full (a .w) (a .at) (a .vals .now) (a .out .now) (l .out) (l .x) (l .t) (l .b) (l .k) (at-start .pre .0 .1) (omega arith) (value at-in) (l .inv .1) (w .0 .left) _ (room at-in (w .0 .left)) (w .2 .ensures))) (c .if1 .came),
+          (holds-full (l .inv .1) (at-start .pre .0 .1) (omega arith) (value at-in) (w .0 .left) _ (room at-in (w .0 .left)) (w .2 .ensures))) (c .if1 .came),
     )
 
 -- and so do the last bytes
@@ -146,9 +143,8 @@ same-length c = c .before .before .write2 .kept .1 .1 .0 ∙ c .before .before .
 returns : tie.Need-returns Inv-loop μ-loop
 returns c =
     let at-after = c .before .before .before .before .before in
-    let a = at-after .before .before .before .before .args in
     let l = at-after .before .loop in
-    whole (a .w) (a .at) (a .n) (a .vals .now) (a .out .now) (l .out) _ (l .x) (l .t) (l .b) (l .k) (omega arith) (l .inv .1) (last-room at-after) (c .before .before .write2 .ensures)
+    whole _ (l .inv .1) (omega arith) (last-room at-after) (c .before .before .write2 .ensures)
 
 same-length-2 : tie.Need-same-length-2 Inv-loop μ-loop
 same-length-2 c = c .before .before .loop .inv .1 .long
@@ -159,7 +155,7 @@ returns-2 c =
     let a = c .before .before .before .before .before .args in
     let l = c .before .before .loop in
     let z : l .t ≡ 0 = omega arith in
-    whole (a .w) (a .at) (a .n) (a .vals .now) (a .out .now) (l .out) (l .out) (l .x) (l .t) (l .b) (l .k) (omega arith) (l .inv .1) (last-room (c .before))
+    whole (l .out) (l .inv .1) (omega arith) (last-room (c .before))
     (rw (z, append-nil, add-zero) (sym (take-append-drop (a .at + l .b) (l .out))))
 
 pub pack-spec : {M : Type 1} → statement M

@@ -1,0 +1,145 @@
+-- What a patched base run gives, by the tests of its reader. Assumes nothing.
+use mathlib.Core.Path.{_≡_, refl, sym, ap, _∙_}
+use Prim.Native.Nat.{ℕ, suc, _+_, _-_, _*_, _/_, _%_, _^_, _<_, _≤_}
+use native.Mathlib.Omega.{arith}
+use native.Mathlib.Decide.{decLt}
+use mathlib.Core.Bool.{Bool, true, false}
+use mathlib.Core.List.{List, [], _∷_, _++_, map}
+use lib.ListN.{length, take, drop, getD, drop-of-length-le, length-drop}
+use lib.Seq.{length-take-le}
+use lib.IntN.{ℤ}
+use borrow.Author.Tests.{lt-ltb, le-ltb}
+use Rattle.format.specs.Fields.{width, bytesFor}
+use Rattle.format.specs.Runs.{Description, patched, entryWidth, outOfPlace, patches}
+use Rattle.format.specs.Rows as Rows
+use Rattle.format.specs.Rows.{asI64, baseValue, i64Rows, rowsOf}
+use Rattle.format.specs.Parse.{Parsed, got, refused, plain, codeOf, rowsLess, unless, patchedBody, patchedRun}
+use Rattle.format.specs.Promises.{Gives}
+use Rattle.format.specs.Answers.{ran, refusedAt}
+use Rattle.format.specs.declared.Kind.the-variants.{PatchedBase}
+use Rattle.format.proofs.Rows.{width-le, bytes-count}
+use Rattle.format.proofs.Reading.{byte-here, bytes-here, bytes-cut, blockAt, block-here, block-cut, gives-refused, gives-8, gives-run}
+use Rattle.rle_v2.specs.Pass.{based}
+use Rattle.rle_v2.specs.PatchList.{patchAll}
+use Rattle.rle_v2.proofs.Pass.{based-is}
+use Rattle.rle_v2.proofs.PatchList.{patched-is}
+use Rattle.rle_v2.proofs.Blocks.{block-count, block-patterns}
+
+module _ (s : List ℕ) (at : ℕ) (signed : Bool) (out : List ℤ) where
+  -- ---- the header
+
+  abbrev run : Parsed Description
+  run = patchedRun (getD s at 0) (drop (at + 1) s)
+
+  pub no-header : at < length s → length s - at < 4 → Gives at signed run out out (refusedAt 1 at)
+  unfolding patchedRun
+  no-header h l = gives-refused at signed run out 1 (few (drop (at + 1) s) (rw length-drop (omega arith)))
+    where
+      few : (bs : List ℕ) → length bs < 3 → patchedRun (getD s at 0) bs ≡ refused (plain 1)
+      few [] k = refl
+      few (b ∷ []) k = refl
+      few (b ∷ c ∷ []) k = refl
+      few (b ∷ c ∷ e ∷ bs) k = absurd (omega arith)
+
+  pub is-body : 4 ≤ length s - at
+      → run
+      ≡ patchedBody (codeOf (getD s at 0)) (rowsLess (getD s at 0) (getD s (at + 1) 0) + 1) (getD s (at + 2) 0 / 32 + 1) (getD s (at + 2) 0 % 32)
+      (getD s (at + 3) 0 / 32 + 1) (getD s (at + 3) 0 % 32) (drop (at + 4) s)
+  unfolding patchedRun
+  is-body h =
+      let e₂ : at + 2 ≡ at + 1 + 1 = omega arith in
+      let e₃ : at + 3 ≡ at + 1 + 1 + 1 = omega arith in
+      let e₄ : at + 4 ≡ at + 1 + 1 + 1 + 1 = omega arith in
+      rw (e₂, e₃, e₄, byte-here s (at + 1) (omega arith), byte-here s (at + 1 + 1) (omega arith), byte-here s (at + 1 + 1 + 1) (omega arith))
+
+  -- ---- the body
+
+  module _ (code rows bw pc gw len : ℕ) where
+    abbrev body : Parsed Description
+    body = patchedBody code rows bw pc gw len (drop (at + 4) s)
+
+    -- the bytes of the values, and of the list
+    abbrev size : ℕ
+    size = bytesFor (rows * width code)
+
+    abbrev listSize : ℕ
+    listSize = bytesFor (len * entryWidth pc gw)
+
+    pub refused-2 : 64 < width pc + gw → Gives at signed body out out (refusedAt 2 at)
+    unfolding patchedBody
+    refused-2 h = gives-refused at signed body out 2 (rw (lt-ltb 64 (width pc + gw) h))
+
+    module _ (not-2 : width pc + gw ≤ 64) where
+      pub refused-3 : 64 < width code + width pc → Gives at signed body out out (refusedAt 3 at)
+      unfolding patchedBody
+      refused-3 h = gives-refused at signed body out 3 (rw (le-ltb 64 (width pc + gw) not-2, lt-ltb 64 (width code + width pc) h))
+
+      module _ (not-3 : width code + width pc ≤ 64) where
+        -- the input ends in the base, in the values or in the list
+        cut-is : at + 4 ≤ length s → length s < at + 4 + bw + size + listSize → Dec (length s - (at + 4) < bw) → Dec (length s - (at + 4 + bw) < size) → body ≡ refused (plain 6)
+        unfolding patchedBody
+        cut-is t h (yes l) m = rw (le-ltb 64 (width pc + gw) not-2, le-ltb 64 (width code + width pc) not-3, bytes-cut s (at + 4) 6 bw l)
+        cut-is t h (no l) (yes m) =
+            rw (
+              le-ltb 64 (width pc + gw) not-2,
+              le-ltb 64 (width code + width pc) not-3,
+              bytes-here s (at + 4) 6 bw (omega arith),
+              block-cut s (at + 4 + bw) 6 (width code) rows m,
+            )
+        cut-is t h (no l) (no m) =
+            rw (
+              le-ltb 64 (width pc + gw) not-2,
+              le-ltb 64 (width code + width pc) not-3,
+              bytes-here s (at + 4) 6 bw (omega arith),
+              block-here s (at + 4 + bw) 6 (width code) rows (omega arith),
+              block-cut s (at + 4 + bw + size) 6 (entryWidth pc gw) len (omega arith),
+            )
+
+        pub refused-6 : at + 4 ≤ length s → length s < at + 4 + bw + size + listSize → Gives at signed body out out (refusedAt 6 at)
+        refused-6 t h = gives-refused at signed body out 6 (cut-is t h (decLt (length s - (at + 4)) bw) (decLt (length s - (at + 4 + bw)) size))
+
+        module _ (h : at + 4 + bw + size + listSize ≤ length s) where
+          abbrev entries : List ℕ
+          entries = blockAt s (at + 4 + bw + size) (entryWidth pc gw) len .values
+
+          -- all of the body but the test of the list
+          all-there : body
+              ≡ unless (outOfPlace (width pc) rows entries) 7
+              (got (patched code (take bw (drop (at + 4) s)) pc gw (blockAt s (at + 4 + bw) (width code) rows) (blockAt s (at + 4 + bw + size) (entryWidth pc gw) len))
+              (drop (at + 4 + bw + size + listSize) s))
+          unfolding patchedBody
+          all-there =
+              rw (
+                le-ltb 64 (width pc + gw) not-2,
+                le-ltb 64 (width code + width pc) not-3,
+                bytes-here s (at + 4) 6 bw (omega arith),
+                block-here s (at + 4 + bw) 6 (width code) rows (omega arith),
+                block-here s (at + 4 + bw + size) 6 (entryWidth pc gw) len (omega arith),
+              )
+
+          pub refused-7 : outOfPlace (width pc) rows entries ≡ true → Gives at signed body out out (refusedAt 7 at)
+          refused-7 o = gives-refused at signed body out 7 (all-there ∙ rw o)
+
+          module _ (o : outOfPlace (width pc) rows entries ≡ false) where
+            is-run : body
+                ≡ got (patched code (take bw (drop (at + 4) s)) pc gw (blockAt s (at + 4 + bw) (width code) rows) (blockAt s (at + 4 + bw + size) (entryWidth pc gw) len))
+                (drop (at + 4 + bw + size + listSize) s)
+            is-run = all-there ∙ rw o
+
+            pub refused-8 : length out < rows → Gives at signed body out out (refusedAt 8 at)
+            refused-8 r = gives-8 at signed body out _ _ is-run (rw (block-count s (at + 4 + bw) (width code) rows) r)
+
+            pub read-is : (one out′ : List ℤ) → rows ≤ length out
+                → one ≡ based (baseValue (take bw (drop (at + 4) s))) (map asI64 (blockAt s (at + 4 + bw) (width code) rows .values)) ++ drop rows out
+                → out′ ≡ patchAll (width code) (width pc) 0 one entries
+                → Gives at signed body out out′ (ran PatchedBase rows (at + 4 + bw + size + listSize - at))
+            unfolding i64Rows rowsOf
+            read-is one out′ r e f =
+                let n = block-count s (at + 4 + bw) (width code) rows in
+                let vs = blockAt s (at + 4 + bw) (width code) rows .values in
+                let base = baseValue (take bw (drop (at + 4) s)) in
+                let b : one ≡ map asI64 (Rows.patchedRows base (width code) [] 0 vs) ++ drop rows out
+                = e ∙ ap (λ (x : List ℤ). x ++ drop rows out) (based-is base (width code) 0 vs (block-patterns s (at + 4 + bw) (width code) rows (width-le code))) in
+                gives-run at signed body out _ _ is-run out′ PatchedBase rows _ (rw n r) refl (sym n)
+                (sym (bytes-count _ ∙ rw (length-take-le bw (drop (at + 4) s) (rw length-drop (omega arith)), n, block-count s (at + 4 + bw + size) (entryWidth pc gw) len) (omega arith)))
+                (f ∙ rw b (patched-is (width code) (width pc) base vs entries (drop rows out) (rw n o)))

@@ -1,0 +1,34 @@
+-- The magnitudes are laid down as patterns and then summed up in their places. Assumes nothing.
+use mathlib.Core.List.{map}
+use denote.Ref.{now}
+use lib.ListN.{length-map}
+use mathlib.Core.Path.{_∙_}
+use Rattle.format.specs.Rows.{asI64}
+use Rattle.util.specs.Packed.{fields}
+use Rattle.util.proofs.Window.{length-fields}
+use Rattle.rle_v2.specs.Pass.{summed}
+use Rattle.rle_v2.proofs.Pass.{then-pass}
+use borrow.Author.Needs.{needs}
+use Rattle.rle_v2.proofs.delta.magnitudes.Statement.{statement}
+use Rattle.rle_v2.proofs.delta.magnitudes.Tie as tie
+
+unpack-requires : tie.Need-unpack-requires
+unpack-requires c κs = search needs
+
+sum-requires : tie.Need-sum-requires
+sum-requires c κs = search needs
+
+same-length : tie.Need-same-length
+same-length c = search needs
+
+returns : tie.Need-returns
+returns c =
+    let d = c .before in
+    let u = d .before .before .before in
+    let a = u .before .before .before .args in
+    let vs = fields (a .bits) (a .n) (now (a .block)) in
+    then-pass (summed (a .falling) (a .second)) (map asI64 vs) (now (a .out)) (u .unpack .last .1 .1 .1 .0) (d .sum .last .1 .1 .1 .0) (a .n)
+    (length-map vs asI64 ∙ length-fields (a .bits) (a .n) (now (a .block))) (u .unpack .ensures) (d .sum .ensures)
+
+pub magnitudes-spec : {M : Type 1} → statement M
+magnitudes-spec = tie.close (tie.spec unpack-requires sum-requires same-length returns)

@@ -1,0 +1,69 @@
+//! The table, in markdown.
+use std::fmt::Write as _;
+
+use crate::cases::{Case, Group};
+use crate::measure::Times;
+
+/// A case with its times.
+pub struct Row {
+    pub case: Case,
+    pub times: Times,
+}
+
+fn cell(number: Option<f64>) -> String {
+    number.map_or_else(|| "-".into(), |number| format!("{number:.2}"))
+}
+
+/// One over the other, where both were timed.
+fn ratio(over: Option<f64>, under: Option<f64>) -> Option<f64> {
+    Some(over? / under?)
+}
+
+/// The geometric mean of those that there are.
+pub fn mean(numbers: impl Iterator<Item = Option<f64>>) -> Option<f64> {
+    let logarithms: Vec<f64> = numbers.flatten().map(f64::ln).collect();
+    let count = logarithms.len() as f64;
+    (!logarithms.is_empty()).then(|| (logarithms.iter().sum::<f64>() / count).exp())
+}
+
+/// How many times as fast as the Rust ours is.
+pub fn faster(row: &Row) -> Option<f64> {
+    ratio(row.times.rust, row.times.ours)
+}
+
+/// How many times as long as a copy ours takes.
+pub fn over_copy(row: &Row) -> Option<f64> {
+    ratio(row.times.ours, Some(row.times.copy))
+}
+
+fn section(text: &mut String, title: &str, rows: &[&Row]) {
+    write!(
+        text,
+        "\n## {title}\n\n| Runs | Flag | Ours | Rust | Copy | Rust / ours | Ours / copy |\n\
+         |---|---|---:|---:|---:|---:|---:|\n"
+    )
+    .expect("a string takes it");
+    for row in rows {
+        let flag = if row.case.signed { "signed" } else { "unsigned" };
+        let [ours, rust, copy] = [row.times.ours, row.times.rust, Some(row.times.copy)].map(cell);
+        let [faster, over] = [faster(row), over_copy(row)].map(cell);
+        writeln!(text, "| {} | {flag} | {ours} | {rust} | {copy} | {faster} | {over} |", row.case.name)
+            .expect("a string takes it");
+    }
+    let faster = cell(mean(rows.iter().map(|row| faster(row))));
+    let over = cell(mean(rows.iter().map(|row| over_copy(row))));
+    writeln!(text, "| geometric mean | | | | | {faster} | {over} |").expect("a string takes it");
+}
+
+/// All tables.
+pub fn markdown(rows: &[Row]) -> String {
+    let mut text = String::new();
+    let of = |keep: fn(Group) -> bool| rows.iter().filter(|row| keep(row.case.group)).collect::<Vec<_>>();
+    section(&mut text, "Direct runs of 512 rows", &of(|group| matches!(group, Group::Direct(_))));
+    section(&mut text, "Other runs in long buffers", &of(|group| group == Group::Long));
+    section(&mut text, "One short run by itself", &of(|group| group == Group::Single));
+    let all = |number: fn(&Row) -> Option<f64>| cell(mean(rows.iter().map(number)));
+    writeln!(text, "\nOver all lines: Rust / ours {}, ours / copy {}.", all(faster), all(over_copy))
+        .expect("a string takes it");
+    text
+}

@@ -1,0 +1,178 @@
+//! The probe program: every public function, a line in and a line out, held to the model.
+//!
+//! Each batch of lines is one child process, so that it does not matter when the program writes.
+use std::fmt::Write as _;
+use std::io::{self, Write as _};
+use std::path::PathBuf;
+use std::process::{Command, Stdio};
+use std::{env, thread};
+
+use model::{Answer, Booleans, Form, Kind, Refusal, Stream, Value, Written};
+
+use crate::tally::{Hex, Tally};
+
+/// How many lines one child process is given.
+const BATCH: usize = 20_000;
+
+/// The program, and the lines that wait for it.
+pub struct Probe {
+    program: PathBuf,
+    lines: Vec<(String, String)>,
+}
+
+impl Probe {
+    /// The program that `PROBE` names, or the repository's own.
+    pub fn find() -> Result<Self, String> {
+        let own = concat!(env!("CARGO_MANIFEST_DIR"), "/../../target/bin/probe");
+        let program = env::var_os("PROBE").map_or_else(|| PathBuf::from(own), PathBuf::from);
+        if program.is_file() {
+            return Ok(Probe { program, lines: Vec::new() });
+        }
+        Err(format!(
+            "the probe program {} is missing: build it with `rt check probe` in the repository's root, \
+             or set PROBE to its path",
+            program.display()
+        ))
+    }
+
+    pub fn run(&mut self, input: &[u8], at: u64, signed: bool, places: u16) {
+        let expected = match model::read_run(input, at as usize, signed, places.into()) {
+            Answer::End => "end".into(),
+            Answer::Refused(refusal) => refused(refusal),
+            Answer::Run(run) => {
+                let counts = format!("run {} {} {}", kind(run.kind), run.rows.len(), run.consumed);
+                with_rows(counts, &run.rows)
+            }
+        };
+        self.ask(format!("01{:02x}{at:016x}{places:04x}{}", u8::from(signed), Hex(input)), expected);
+    }
+
+    pub fn stream(&mut self, input: &[u8], at: u64, signed: bool, places: u16) {
+        let expected = match model::read_stream(input, at as usize, signed, places.into()) {
+            Stream::Whole { rows, consumed } => with_rows(format!("whole {} {consumed}", rows.len()), &rows),
+            Stream::Refused { refusal, rows, consumed } => {
+                with_rows(format!("{} {} {consumed}", refused(refusal), rows.len()), &rows)
+            }
+        };
+        self.ask(format!("02{:02x}{at:016x}{places:04x}{}", u8::from(signed), Hex(input)), expected);
+    }
+
+    pub fn booleans(&mut self, input: &[u8], at: u64, n: u64, places: u16) {
+        let expected = match model::read_booleans(input, at as usize, n as usize, places.into()) {
+            Booleans::Refused(refusal) => refused(refusal),
+            Booleans::Given { values, consumed } => {
+                let bits: String = values.iter().map(|value| if *value { '1' } else { '0' }).collect();
+                format!("booleans {n} {consumed} {bits}")
+            }
+        };
+        self.ask(format!("03{n:016x}{at:016x}{places:04x}{}", Hex(input)), expected);
+    }
+
+    pub fn value(&mut self, input: &[u8], at: u64, n: u64) {
+        let expected = match model::read_value(input, at as usize, n as usize) {
+            Value::Refused(refusal) => refused(refusal),
+            Value::Given(part) => format!("value {n} {n} {}", Hex(&part)).to_lowercase(),
+        };
+        self.ask(format!("04{n:016x}{at:016x}{}", Hex(input)), expected);
+    }
+
+    pub fn write(&mut self, rows: &[i64], signed: bool, form: Form, width: u8, places: u16) {
+        let expected = match model::write_run(rows, signed, form, width, places.into()) {
+            Written::Refused(refusal) => refused(refusal),
+            Written::Run { kind: written, rows, bytes } => {
+                format!("written {} {rows} {} {}", kind(written), bytes.len(), Hex(&bytes)).to_lowercase()
+            }
+        };
+        let form = match form {
+            Form::ShortRepeat => 0,
+            Form::Direct => 1,
+            Form::FixedDelta => 2,
+            Form::PackedDelta => 3,
+        };
+        let mut line = format!("05{:02x}{form:02x}{width:02x}{places:04x}", u8::from(signed));
+        for row in rows {
+            write!(line, "{row:016x}").expect("a string takes it");
+        }
+        self.ask(line, expected);
+    }
+
+    pub fn narrowest(&mut self, number: u64) {
+        self.ask(format!("06{number:016x}"), format!("code {}", model::narrowest_code(number)));
+    }
+
+    /// A line that the probe says is bad.
+    pub fn bad(&mut self, line: &str) {
+        self.ask(line.into(), "bad line".into());
+    }
+
+    fn ask(&mut self, line: String, expected: String) {
+        self.lines.push((line, expected));
+    }
+
+    /// Runs the program on the lines that wait, if they are a batch.
+    pub fn batch(&mut self, tally: &mut Tally) {
+        if self.lines.len() >= BATCH {
+            self.flush(tally);
+        }
+    }
+
+    /// Runs the program on all lines that wait.
+    pub fn flush(&mut self, tally: &mut Tally) {
+        let lines = std::mem::take(&mut self.lines);
+        if lines.is_empty() {
+            return;
+        }
+        let answers = match self.answers(&lines) {
+            Ok(answers) => answers,
+            Err(error) => {
+                return tally.unlisted(&format!("{} cannot be run: {error}", self.program.display()))
+            }
+        };
+        let mut answers = answers.lines();
+        for (line, expected) in &lines {
+            // A part that is empty leaves a space at the end of its line, or does not.
+            let answer = answers.next();
+            if answer.map(str::trim_end) == Some(expected.trim_end()) {
+                tally.probe();
+            } else {
+                let answer = answer.unwrap_or("no line");
+                tally.unlisted(&format!("probe {line}\n  document 01: {expected}\n  probe: {answer}"));
+            }
+        }
+        if let Some(line) = answers.next() {
+            tally.unlisted(&format!("the probe wrote a line more than it was given: {line}"));
+        }
+    }
+
+    fn answers(&self, lines: &[(String, String)]) -> io::Result<String> {
+        let mut child = Command::new(&self.program).stdin(Stdio::piped()).stdout(Stdio::piped()).spawn()?;
+        let mut stdin = child.stdin.take().expect("stdin is piped");
+        let text: String = lines.iter().flat_map(|(line, _)| [line, "\n"]).collect();
+        let output = thread::scope(|scope| {
+            // A program that ends early closes its end: its missing lines say so.
+            scope.spawn(move || stdin.write_all(text.as_bytes()));
+            child.wait_with_output()
+        })?;
+        Ok(String::from_utf8_lossy(&output.stdout).into_owned())
+    }
+}
+
+fn refused(refusal: Refusal) -> String {
+    format!("refused {} {}", refusal.number, refusal.place)
+}
+
+fn kind(kind: Kind) -> &'static str {
+    match kind {
+        Kind::ShortRepeat => "short",
+        Kind::Direct => "direct",
+        Kind::PatchedBase => "patched",
+        Kind::Delta => "delta",
+    }
+}
+
+fn with_rows(mut line: String, rows: &[i64]) -> String {
+    for row in rows {
+        write!(line, " {row}").expect("a string takes it");
+    }
+    line
+}

@@ -1,0 +1,56 @@
+//! The list itself: each smallest input shows its difference. And a small run of every stage.
+use differential::listed::{of_booleans, of_run, of_stream, of_value, Call, Sort, LIST};
+use differential::random::Random;
+use differential::stages::{Session, Size};
+use differential::tally::Tally;
+
+#[test]
+fn each_listed_input_shows_its_difference() {
+    for entry in &LIST {
+        let bytes = entry.bytes();
+        let sort = match entry.call {
+            Call::Run { signed } | Call::ReadBack { signed } => {
+                of_run(&bytes, &model::read_run(&bytes, 0, signed, 512), &oracle::read_run(&bytes, signed))
+            }
+            Call::Stream { signed } => of_stream(&bytes, signed, &oracle::read_stream(&bytes, signed, 1000)),
+            Call::Booleans { n } => {
+                let paper = model::read_booleans(&bytes, 0, n, n);
+                of_booleans(&bytes, n, &paper, &oracle::read_booleans(&bytes, n))
+            }
+            Call::Value { n } => {
+                of_value(&bytes, &model::read_value(&bytes, 0, n), &oracle::read_value(&bytes, n))
+            }
+        };
+        assert_eq!(sort, Some(Sort::Listed(entry.difference)), "{}", entry.name);
+    }
+}
+
+#[test]
+fn what_is_not_listed_is_found() {
+    use model::{Answer, Kind, Refusal, Run};
+    let bytes = [0x46, 0x02, 0x12, 0x30];
+    let rust = oracle::read_run(&bytes, false);
+    let answer =
+        |rows: &[i64], consumed| Answer::Run(Run { kind: Kind::Direct, rows: rows.to_vec(), consumed });
+    assert_eq!(of_run(&bytes, &answer(&[1, 2, 3], 4), &rust), Some(Sort::Same));
+    assert_eq!(of_run(&bytes, &answer(&[1, 2, 4], 4), &rust), None);
+    assert_eq!(of_run(&bytes, &answer(&[1, 2, 3], 3), &rust), None);
+    assert_eq!(of_run(&bytes, &Answer::End, &rust), None);
+    for number in [1, 4, 6, 8] {
+        assert_eq!(of_run(&bytes, &Answer::Refused(Refusal { number, place: 0 }), &rust), None);
+    }
+}
+
+#[test]
+fn a_little_of_every_stage() {
+    let mut session = Session {
+        tally: Tally::start(),
+        random: Random::new(7),
+        size: Size::Test,
+        #[cfg(feature = "ours")]
+        ours: Some(differential::ours::Ours::start()),
+        probe: None,
+    };
+    session.all();
+    assert!(session.tally.report());
+}

@@ -1,0 +1,107 @@
+//! Bits, packed fields, varints, zigzag and the table of widths.
+
+/// "Codes 0 to 23 mean 1 to 24 bits; 24, 25, 26 mean 26, 28, 30; 27 to 31 mean 32, 40, 48, 56, 64."
+pub const WIDTHS: [usize; 32] = [
+    1, 2, 3, 4, 5, 6, 7, 8, 9, 10, 11, 12, 13, 14, 15, 16, 17, 18, 19, 20, 21, 22, 23, 24, 26, 28, 30, 32,
+    40, 48, 56, 64,
+];
+
+/// "Even u is u/2, odd u is -(u+1)/2."
+pub fn zigzag(u: u64) -> i64 {
+    let whole = i128::from(u);
+    let row = if whole % 2 == 0 { whole / 2 } else { -(whole + 1) / 2 };
+    row as i64
+}
+
+/// Bits in the order of the bytes, the highest bit of each byte first.
+pub struct Bits<'a> {
+    bytes: &'a [u8],
+    /// How many bits were taken.
+    at: usize,
+}
+
+/// The input ends before the run does: refusal 6.
+pub const CUT: u8 = 6;
+
+impl<'a> Bits<'a> {
+    pub fn new(bytes: &'a [u8]) -> Self {
+        Bits { bytes, at: 0 }
+    }
+
+    fn bit(&mut self) -> Result<u64, u8> {
+        let byte = *self.bytes.get(self.at / 8).ok_or(CUT)?;
+        let bit = byte >> (7 - self.at % 8) & 1;
+        self.at += 1;
+        Ok(u64::from(bit))
+    }
+
+    /// A number of so many bits, the highest first.
+    pub fn number(&mut self, bits: usize) -> Result<u64, u8> {
+        let mut number = 0;
+        for _ in 0..bits {
+            number = number << 1 | self.bit()?;
+        }
+        Ok(number)
+    }
+
+    /// A block of packed fields. "The block is padded to a byte; padding bits are ignored."
+    pub fn block(&mut self, fields: usize, width: usize) -> Result<Vec<u64>, u8> {
+        let mut block = Vec::with_capacity(fields);
+        for _ in 0..fields {
+            block.push(self.number(width)?);
+        }
+        self.at = self.at.next_multiple_of(8);
+        Ok(block)
+    }
+
+    /// "Seven bits a byte, lowest group first, top bit set on all but the last. At most ten bytes.
+    /// Bits at 2^64 and above are dropped."
+    pub fn varint(&mut self) -> Result<u64, u8> {
+        let mut sum: u128 = 0;
+        for group in 0..10 {
+            let more = self.bit()?;
+            sum += u128::from(self.number(7)?) << (7 * group);
+            if more == 0 {
+                return Ok(sum as u64);
+            }
+        }
+        Err(5)
+    }
+
+    /// How many whole bytes were taken.
+    pub fn bytes(&self) -> usize {
+        self.at.div_ceil(8)
+    }
+}
+
+/// Bits written, the highest of each byte first.
+#[derive(Default)]
+pub struct Put {
+    bits: Vec<bool>,
+}
+
+impl Put {
+    /// So many low bits of a number, the highest first.
+    pub fn number(&mut self, number: u64, bits: usize) {
+        for k in (0..bits).rev() {
+            self.bits.push(number >> k & 1 == 1);
+        }
+    }
+
+    /// The shortest varint.
+    pub fn varint(&mut self, mut number: u64) {
+        while number >= 128 {
+            self.number(1, 1);
+            self.number(number % 128, 7);
+            number /= 128;
+        }
+        self.number(number, 8);
+    }
+
+    /// The bytes, with zero padding.
+    pub fn bytes(self) -> Vec<u8> {
+        let byte =
+            |eight: &[bool]| (0..8).fold(0, |byte, k| byte << 1 | u8::from(eight.get(k) == Some(&true)));
+        self.bits.chunks(8).map(byte).collect()
+    }
+}

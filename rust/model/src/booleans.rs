@@ -1,0 +1,49 @@
+//! The boolean reader.
+use crate::{rest, Refusal};
+
+/// What the boolean reader answers.
+#[derive(Debug, Clone, PartialEq, Eq)]
+pub enum Booleans {
+    Given { values: Vec<bool>, consumed: usize },
+    Refused(Refusal),
+}
+
+/// The bytes of the run at the start of some bytes, and the bytes that it takes up; nothing where it
+/// is cut or there is none.
+///
+/// "Control c from 0 to 127: c+3 copies of the next byte. From 128 to 255: 256-c literal bytes."
+pub fn first_run(bytes: &[u8]) -> Option<(Vec<u8>, usize)> {
+    let (control, body) = bytes.split_first()?;
+    let control = usize::from(*control);
+    if control < 128 {
+        let copies = vec![*body.first()?; control + 3];
+        Some((copies, 2))
+    } else {
+        let literals = body.get(..256 - control)?;
+        Some((literals.to_vec(), 1 + literals.len()))
+    }
+}
+
+/// Reads `n` booleans at a position, with so many places lent. "Takes only as many runs as needed,
+/// and consumes each of those whole."
+pub fn read_booleans(input: &[u8], at: usize, n: usize, places: usize) -> Booleans {
+    let refused = |number| Booleans::Refused(Refusal { number, place: at });
+    let rest = rest(input, at);
+    let mut values = Vec::new();
+    let mut consumed = 0;
+    while values.len() < n {
+        let Some((bytes, taken)) = first_run(&rest[consumed..]) else {
+            return refused(6);
+        };
+        // "Highest bit first."
+        for byte in bytes {
+            values.extend((0..8).rev().map(|k| byte >> k & 1 == 1));
+        }
+        consumed += taken;
+    }
+    if places < n {
+        return refused(8);
+    }
+    values.truncate(n);
+    Booleans::Given { values, consumed }
+}

@@ -1,0 +1,64 @@
+//! A model of document 01, written bit by bit from its text: neither from the proved code nor from
+//! the Rust decoders, so that it is a third opinion where those two are compared.
+//!
+//! It is slow and plain on purpose. Every reader takes the whole input and a position, and how many
+//! places the caller lends; it answers what document 01 says the call answers, with the rows as a
+//! list of its own.
+//!
+//! ```
+//! use model::{read_run, Answer, Kind, Run};
+//! let run = Run { kind: Kind::Direct, rows: vec![-1, 1, -2], consumed: 4 };
+//! assert_eq!(read_run(&[0x46, 0x02, 0x12, 0x30], 0, true, 512), Answer::Run(run));
+//! ```
+#![forbid(unsafe_code)]
+
+mod bits;
+mod booleans;
+mod runs;
+mod streams;
+mod values;
+mod writer;
+
+pub use bits::{zigzag, WIDTHS};
+pub use booleans::{first_run, read_booleans, Booleans};
+pub use runs::{list_faults, read_run, Faults};
+pub use streams::{read_stream, Stream};
+pub use values::{read_value, Value};
+pub use writer::{narrowest_code, write_run, Form, Written};
+
+/// The kind of an integer run.
+#[derive(Debug, Clone, Copy, PartialEq, Eq, Hash, PartialOrd, Ord)]
+pub enum Kind {
+    ShortRepeat,
+    Direct,
+    PatchedBase,
+    Delta,
+}
+
+/// A run: its kind, its rows, and the bytes that it takes up.
+#[derive(Debug, Clone, PartialEq, Eq)]
+pub struct Run {
+    pub kind: Kind,
+    pub rows: Vec<i64>,
+    pub consumed: usize,
+}
+
+/// A refusal: its number in document 01's table, and the byte where the refused run begins.
+#[derive(Debug, Clone, Copy, PartialEq, Eq)]
+pub struct Refusal {
+    pub number: u8,
+    pub place: usize,
+}
+
+/// What the run reader answers.
+#[derive(Debug, Clone, PartialEq, Eq)]
+pub enum Answer {
+    End,
+    Run(Run),
+    Refused(Refusal),
+}
+
+/// The bytes from a position on. "A position past the end is empty input."
+fn rest(input: &[u8], at: usize) -> &[u8] {
+    input.get(at..).unwrap_or(&[])
+}

@@ -1,0 +1,200 @@
+//! The run reader.
+use crate::bits::{zigzag, Bits, WIDTHS};
+use crate::{rest, Answer, Kind, Refusal, Run};
+
+/// Reads the run at a position, with so many places lent.
+pub fn read_run(input: &[u8], at: usize, signed: bool, places: usize) -> Answer {
+    let rest = rest(input, at);
+    if rest.is_empty() {
+        return Answer::End;
+    }
+    match run(rest, signed) {
+        Ok(run) if run.rows.len() > places => Answer::Refused(Refusal { number: 8, place: at }),
+        Ok(run) => Answer::Run(run),
+        Err(number) => Answer::Refused(Refusal { number, place: at }),
+    }
+}
+
+/// The run at the start of some bytes, or the refusal's number.
+fn run(bytes: &[u8], signed: bool) -> Result<Run, u8> {
+    let mut bits = Bits::new(bytes);
+    let (kind, header) = match bits.number(2)? {
+        0 => (Kind::ShortRepeat, 1),
+        1 => (Kind::Direct, 2),
+        2 => (Kind::PatchedBase, 4),
+        _ => (Kind::Delta, 2),
+    };
+    if bytes.len() < header {
+        return Err(1);
+    }
+    let rows = match kind {
+        Kind::ShortRepeat => short_repeat(&mut bits, signed)?,
+        Kind::Direct => direct(&mut bits, signed)?,
+        Kind::PatchedBase => patched_base(&mut bits)?,
+        Kind::Delta => delta(&mut bits, signed)?,
+    };
+    Ok(Run { kind, rows, consumed: bits.bytes() })
+}
+
+/// A number as a row: zigzag decoded if signed, otherwise the i64 with the same bits.
+fn row(number: u64, signed: bool) -> i64 {
+    if signed {
+        zigzag(number)
+    } else {
+        number as i64
+    }
+}
+
+/// The five bits of a width code, and the nine bits of rows - 1.
+fn code_and_rows(bits: &mut Bits) -> Result<(usize, usize), u8> {
+    let code = bits.number(5)? as usize;
+    let rows = bits.number(9)? as usize + 1;
+    Ok((code, rows))
+}
+
+/// "2 bits kind, 3 bits size-1, 3 bits count-3. Then size bytes."
+fn short_repeat(bits: &mut Bits, signed: bool) -> Result<Vec<i64>, u8> {
+    let size = bits.number(3)? as usize + 1;
+    let count = bits.number(3)? as usize + 3;
+    let value = bits.number(8 * size)?;
+    Ok(vec![row(value, signed); count])
+}
+
+/// "2 bits kind, 5 bits width code, 9 bits rows-1", then the packed rows.
+fn direct(bits: &mut Bits, signed: bool) -> Result<Vec<i64>, u8> {
+    let (code, rows) = code_and_rows(bits)?;
+    let block = bits.block(rows, WIDTHS[code])?;
+    Ok(block.into_iter().map(|number| row(number, signed)).collect())
+}
+
+/// "First row as a varint (zigzag if signed), then the base delta as a zigzag varint always."
+fn delta(bits: &mut Bits, signed: bool) -> Result<Vec<i64>, u8> {
+    let (code, count) = code_and_rows(bits)?;
+    if code != 0 && count == 1 {
+        return Err(4);
+    }
+    let first = row(bits.varint()?, signed);
+    let base = zigzag(bits.varint()?);
+    let mut rows = vec![first];
+    if code == 0 {
+        while rows.len() < count {
+            rows.push(rows[rows.len() - 1].wrapping_add(base));
+        }
+        return Ok(rows);
+    }
+    rows.push(first.wrapping_add(base));
+    for magnitude in bits.block(count - 2, WIDTHS[code])? {
+        let before = rows[rows.len() - 1];
+        rows.push(match base < 0 {
+            true => before.wrapping_sub(magnitude as i64),
+            false => before.wrapping_add(magnitude as i64),
+        });
+    }
+    Ok(rows)
+}
+
+/// An entry of a patch list.
+struct Entry {
+    gap: u64,
+    patch: u64,
+}
+
+impl Entry {
+    /// "An entry with gap 255 and patch 0 is a skip."
+    fn is_skip(&self) -> bool {
+        self.gap == 255 && self.patch == 0
+    }
+}
+
+/// A patched run as it is laid out.
+struct Patched {
+    width: usize,
+    base: i64,
+    values: Vec<u64>,
+    list: Vec<Entry>,
+}
+
+fn patched(bits: &mut Bits) -> Result<Patched, u8> {
+    let (code, rows) = code_and_rows(bits)?;
+    let width = WIDTHS[code];
+    let base_bytes = bits.number(3)? as usize + 1;
+    let patch_width = WIDTHS[bits.number(5)? as usize];
+    let gap_width = bits.number(3)? as usize + 1;
+    let entries = bits.number(5)? as usize;
+    if patch_width + gap_width > 64 {
+        return Err(2);
+    }
+    if width + patch_width > 64 {
+        return Err(3);
+    }
+    // "Top bit is the sign, the rest the magnitude."
+    let negative = bits.number(1)? == 1;
+    let magnitude = bits.number(8 * base_bytes - 1)? as i64;
+    let base = if negative { -magnitude } else { magnitude };
+    let values = bits.block(rows, width)?;
+    // "Packed at the least table width that holds patch width + gap width."
+    let holds = |bits: &&usize| **bits >= patch_width + gap_width;
+    let entry_width = *WIDTHS.iter().find(holds).expect("64 bits hold it");
+    let split = |entry: u64| Entry { gap: entry >> patch_width, patch: entry % (1 << patch_width) };
+    let list = bits.block(entries, entry_width)?.into_iter().map(split).collect();
+    Ok(Patched { width, base, values, list })
+}
+
+/// The ways in which a patch list is out of place. Refusal 7 if there is one.
+#[derive(Debug, Clone, Copy, Default, PartialEq, Eq)]
+pub struct Faults {
+    /// The last entry is a skip.
+    pub last_skip: bool,
+    /// Two entries that are no skips share a place.
+    pub shared: bool,
+    /// The place of an entry that is no skip is L or more.
+    pub outside: bool,
+}
+
+impl Faults {
+    fn any(self) -> bool {
+        self != Faults::default()
+    }
+}
+
+/// The entries' places ("the whole-number sum of all gaps up to its own"), skips left out, and the
+/// list's faults.
+fn places(run: &Patched) -> (Vec<(u128, u64)>, Faults) {
+    let mut faults = Faults { last_skip: run.list.last().is_some_and(Entry::is_skip), ..Faults::default() };
+    let mut patches: Vec<(u128, u64)> = Vec::new();
+    let mut place: u128 = 0;
+    for entry in &run.list {
+        place += u128::from(entry.gap);
+        if entry.is_skip() {
+            continue;
+        }
+        faults.shared |= patches.iter().any(|(earlier, _)| *earlier == place);
+        faults.outside |= place >= run.values.len() as u128;
+        patches.push((place, entry.patch));
+    }
+    (patches, faults)
+}
+
+/// "Rows are base + (value or patch·2^W), modulo 2^64, with no zigzag under either flag."
+fn patched_base(bits: &mut Bits) -> Result<Vec<i64>, u8> {
+    let run = patched(bits)?;
+    let (patches, faults) = places(&run);
+    if faults.any() {
+        return Err(7);
+    }
+    let mut values = run.values;
+    for (place, patch) in patches {
+        values[place as usize] |= patch << run.width;
+    }
+    Ok(values.into_iter().map(|value| run.base.wrapping_add(value as i64)).collect())
+}
+
+/// The faults of the patch list of a patched run at the start of some bytes, where the run is whole
+/// and its widths are allowed.
+pub fn list_faults(bytes: &[u8]) -> Option<Faults> {
+    let mut bits = Bits::new(bytes);
+    if bytes.len() < 4 || bits.number(2) != Ok(2) {
+        return None;
+    }
+    patched(&mut bits).ok().map(|run| places(&run).1)
+}

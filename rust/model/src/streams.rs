@@ -1,0 +1,28 @@
+//! The stream reader.
+use crate::{read_run, Answer, Refusal};
+
+/// What the stream reader answers: the joined rows, and the bytes that they took.
+#[derive(Debug, Clone, PartialEq, Eq)]
+pub enum Stream {
+    /// "Whole stream read."
+    Whole { rows: Vec<i64>, consumed: usize },
+    /// The first refusal, with the rows and bytes of the runs before it.
+    Refused { refusal: Refusal, rows: Vec<i64>, consumed: usize },
+}
+
+/// Reads runs from a position to the end, with so many places lent.
+pub fn read_stream(input: &[u8], at: usize, signed: bool, places: usize) -> Stream {
+    let mut rows = Vec::new();
+    let mut consumed = 0;
+    loop {
+        // A position past the end is empty input, so this sum is never past a run's own bytes.
+        match read_run(input, at.saturating_add(consumed), signed, places - rows.len()) {
+            Answer::End => return Stream::Whole { rows, consumed },
+            Answer::Refused(refusal) => return Stream::Refused { refusal, rows, consumed },
+            Answer::Run(run) => {
+                rows.extend(run.rows);
+                consumed += run.consumed;
+            }
+        }
+    }
+}

@@ -1,0 +1,134 @@
+//! The run writer.
+use crate::bits::{Put, WIDTHS};
+use crate::{Kind, Refusal};
+
+/// The form that rows are written in.
+#[derive(Debug, Clone, Copy, PartialEq, Eq, Hash)]
+pub enum Form {
+    ShortRepeat,
+    Direct,
+    FixedDelta,
+    PackedDelta,
+}
+
+/// What the writer answers, with the bytes that it writes.
+#[derive(Debug, Clone, PartialEq, Eq)]
+pub enum Written {
+    Run { kind: Kind, rows: usize, bytes: Vec<u8> },
+    Refused(Refusal),
+}
+
+/// Writes rows, with so many places lent. "Writing order: 9, 10, 11, 8."
+pub fn write_run(rows: &[i64], signed: bool, form: Form, width: u8, places: usize) -> Written {
+    let refused = |number| Written::Refused(Refusal { number, place: 0 });
+    match layout(rows, signed, form, usize::from(width)) {
+        Ok((_, bytes)) if bytes.len() > places => refused(8),
+        Ok((kind, bytes)) => Written::Run { kind, rows: rows.len(), bytes },
+        Err(number) => refused(number),
+    }
+}
+
+/// The run's kind and bytes, or the refusal's number.
+fn layout(rows: &[i64], signed: bool, form: Form, width: usize) -> Result<(Kind, Vec<u8>), u8> {
+    allowed(rows, form, width)?;
+    let mut put = Put::default();
+    let kind = match form {
+        Form::ShortRepeat => {
+            put.number(0, 2);
+            put.number(width as u64 - 1, 3);
+            put.number(rows.len() as u64 - 3, 3);
+            put_fields(&mut put, &[number(rows[0], signed)], 8 * width)?;
+            Kind::ShortRepeat
+        }
+        Form::Direct => {
+            put_header(&mut put, 1, width, rows.len());
+            let fields: Vec<u64> = rows.iter().map(|row| number(*row, signed)).collect();
+            put_fields(&mut put, &fields, WIDTHS[width])?;
+            Kind::Direct
+        }
+        Form::FixedDelta | Form::PackedDelta => {
+            put_header(&mut put, 3, width, rows.len());
+            put.varint(number(rows[0], signed));
+            // "The base delta being row 1 - row 0 modulo 2^64 read as i64"; "one row writes delta 0".
+            let base = steps(rows).first().map_or(0, |step| *step as i64);
+            put.varint(number(base, true));
+            if form == Form::PackedDelta {
+                let toward = |step: u64| if base < 0 { step.wrapping_neg() } else { step };
+                let magnitudes: Vec<u64> = steps(rows)[1..].iter().map(|step| toward(*step)).collect();
+                put_fields(&mut put, &magnitudes, WIDTHS[width])?;
+            }
+            Kind::Delta
+        }
+    };
+    Ok((kind, put.bytes()))
+}
+
+/// Refusal 9 for a row count that the form does not allow, then 10 for rows that do not have the form
+/// or a width that is not one of the form's.
+fn allowed(rows: &[i64], form: Form, width: usize) -> Result<(), u8> {
+    let (counts, widths) = match form {
+        Form::ShortRepeat => (3..=10, 1..=8),
+        Form::Direct => (1..=512, 0..=31),
+        Form::FixedDelta => (1..=512, 0..=0),
+        Form::PackedDelta => (2..=512, 1..=31),
+    };
+    let has_form = match form {
+        Form::ShortRepeat => rows.windows(2).all(|two| two[0] == two[1]),
+        Form::FixedDelta => steps(rows).windows(2).all(|two| two[0] == two[1]),
+        Form::Direct | Form::PackedDelta => true,
+    };
+    if !counts.contains(&rows.len()) {
+        return Err(9);
+    }
+    if !has_form || !widths.contains(&width) {
+        return Err(10);
+    }
+    Ok(())
+}
+
+/// From each row to the next, modulo 2^64.
+fn steps(rows: &[i64]) -> Vec<u64> {
+    rows.windows(2).map(|two| two[1].wrapping_sub(two[0]) as u64).collect()
+}
+
+/// The number that stands for a row: zigzagged if signed.
+fn number(row: i64, signed: bool) -> u64 {
+    let row = i128::from(row);
+    match (signed, row < 0) {
+        (true, true) => (-2 * row - 1) as u64,
+        (true, false) => (2 * row) as u64,
+        (false, _) => row as u64,
+    }
+}
+
+fn put_header(put: &mut Put, kind: u64, code: usize, rows: usize) {
+    put.number(kind, 2);
+    put.number(code as u64, 5);
+    put.number(rows as u64 - 1, 9);
+}
+
+/// Packed fields. Refusal 11 if one needs more bits than the width.
+fn put_fields(put: &mut Put, fields: &[u64], width: usize) -> Result<(), u8> {
+    if fields.iter().any(|field| needs(*field) > width) {
+        return Err(11);
+    }
+    for field in fields {
+        put.number(*field, width);
+    }
+    Ok(())
+}
+
+/// How many bits a number needs. "0 needs one bit."
+fn needs(number: u64) -> usize {
+    let mut bits = 1;
+    while u128::from(number) >= 1u128 << bits {
+        bits += 1;
+    }
+    bits
+}
+
+/// The narrowest width code that holds a number.
+pub fn narrowest_code(number: u64) -> u8 {
+    let holds = |width: &usize| *width >= needs(number);
+    WIDTHS.iter().position(holds).expect("64 bits hold it") as u8
+}

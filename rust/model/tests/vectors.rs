@@ -1,0 +1,43 @@
+//! The vectors of an independent bit-by-bit reader, in the form that a proved table takes:
+//! `line FLAG (byte ∷ .. ∷ []) ANSWER`, the answer being `nothing`, `(refusal N)` or
+//! `(run (row ∷ .. ∷ []) BYTES)`, rows as patterns of 64 bits.
+use model::{read_run, Answer, Refusal};
+
+const VECTORS: &str = include_str!("vectors.txt");
+
+/// The numbers between the bracket that opens here and its `[]`, and what follows it.
+fn list(text: &str) -> (Vec<u64>, &str) {
+    let (inside, rest) = text.split_once("[])").expect("a list ends with []");
+    let inside = inside.trim_start().strip_prefix('(').expect("a list opens");
+    let numbers = inside.split('∷').map(str::trim).filter(|word| !word.is_empty());
+    (numbers.map(|word| word.parse().expect("a number")).collect(), rest)
+}
+
+#[test]
+fn vectors() {
+    let mut counts = [0; 3];
+    for line in VECTORS.split("line ").skip(1) {
+        let signed = line.starts_with("true");
+        let (bytes, answer) = list(line.trim_start_matches(['t', 'r', 'u', 'e', 'f', 'a', 'l', 's']));
+        let bytes: Vec<u8> = bytes.into_iter().map(|byte| byte as u8).collect();
+        let read = read_run(&bytes, 0, signed, 512);
+        let answer = answer.trim_start();
+        if answer.starts_with("nothing") {
+            counts[0] += 1;
+            assert_eq!(read, Answer::End);
+        } else if let Some(number) = answer.strip_prefix("(refusal ") {
+            counts[1] += 1;
+            let number = number[..number.find(')').unwrap()].parse().unwrap();
+            assert_eq!(read, Answer::Refused(Refusal { number, place: 0 }), "{bytes:02X?}");
+        } else {
+            counts[2] += 1;
+            let (rows, rest) = list(answer.strip_prefix("(run ").expect("an answer"));
+            let consumed = rest[..rest.find(')').unwrap()].trim().parse().unwrap();
+            let rows: Vec<i64> = rows.into_iter().map(|row| row as i64).collect();
+            let Answer::Run(run) = read else { panic!("{bytes:02X?}: {read:?}") };
+            assert_eq!((run.rows, run.consumed), (rows, consumed), "{bytes:02X?}");
+        }
+    }
+    assert_eq!(counts.iter().sum::<usize>(), 127);
+    println!("end {}, refused {}, runs {}", counts[0], counts[1], counts[2]);
+}
