@@ -1,0 +1,4 @@
+-- The laws that the proofs cite.
+pub mod Texts
+pub mod HexDigits
+pub mod Frames

@@ -1,0 +1,109 @@
+use native.Mathlib.Omega.{arith}
+use Rattle.lines.proofs.Texts.{decimal-length, then-written}
+use borrow.Author.Needs.{needs}
+use Rattle.lines.proofs.put_run.Statement.{statement}
+use Rattle.lines.proofs.put_run.Tie as tie
+use Rattle.lines.proofs.put_run.Reads as reads
+use Rattle.lines.proofs.put_run.Lts as lts
+use Rattle.lines.proofs.text.put.Reads as put-reads
+use Rattle.lines.proofs.text.put_decimal.Reads as put-decimal-reads
+use Rattle.lines.proofs.text.put_rows.Reads as put-rows-reads
+use Rattle.lines.proofs.text.put_word.Reads as put-word-reads
+
+-- src/lib.rt:33:27
+slice-aggregate-put-word : tie.Need-slice-aggregate-put-word
+slice-aggregate-put-word c = search needs
+
+-- src/lib.rt:33:9
+put-word-requires : tie.Need-put-word-requires
+put-word-requires c κs = search needs
+
+-- src/lib.rt:34:5
+put-decimal-requires : tie.Need-put-decimal-requires
+put-decimal-requires c κs =
+    let w = c .before .before .before in
+    let s = w .before .before .before .before in
+    omega (arith, s .pre, w .put-word .ensures .next, w .put-word .kept .1 .0, decimal-length (s .args .rows))
+
+-- src/lib.rt:35:5
+put-requires : tie.Need-put-requires
+put-requires c κs =
+    let d = c .before .before .before in
+    let w = d .before .before .before .before in
+    let s = w .before .before .before .before in
+    omega (arith, s .pre, w .put-word .ensures .next, w .put-word .kept .1 .0, decimal-length (s .args .rows), d .put-decimal .ensures .next, d .put-decimal .kept .1 .0)
+
+-- src/lib.rt:36:5
+put-decimal-requires-2 : tie.Need-put-decimal-requires-2
+put-decimal-requires-2 c κs =
+    let p = c .before .before .before in
+    let d = p .before .before .before .before in
+    let w = d .before .before .before .before in
+    let s = w .before .before .before .before in
+    omega (
+      arith,
+      s .pre,
+      w .put-word .ensures .next,
+      w .put-word .kept .1 .0,
+      decimal-length (s .args .rows),
+      d .put-decimal .ensures .next,
+      d .put-decimal .kept .1 .0,
+      p .put .ensures .next,
+      p .put .kept .1 .0,
+      decimal-length (s .args .consumed),
+    )
+
+-- src/lib.rt:37:5
+put-rows-requires : tie.Need-put-rows-requires
+put-rows-requires c κs =
+    let e = c .before .before .before in
+    let p = e .before .before .before .before in
+    let d = p .before .before .before .before in
+    let w = d .before .before .before .before in
+    let s = w .before .before .before .before in (
+      s .pre .1,
+      omega (
+        arith,
+        s .pre,
+        w .put-word .ensures .next,
+        w .put-word .kept .1 .0,
+        decimal-length (s .args .rows),
+        d .put-decimal .ensures .next,
+        d .put-decimal .kept .1 .0,
+        p .put .ensures .next,
+        p .put .kept .1 .0,
+        decimal-length (s .args .consumed),
+        e .put-decimal2 .ensures .next,
+        e .put-decimal2 .kept .1 .0,
+      ),
+    )
+
+-- src/lib.rt:29:1
+same-length : tie.Need-same-length
+same-length c = search needs
+
+-- src/lib.rt:29:1
+returns : tie.Need-returns
+returns c =
+    let r = c .before .before in
+    let e = r .before .before .before .before in
+    let p = e .before .before .before .before in
+    let d = p .before .before .before .before in
+    let w = d .before .before .before .before in
+    let s = w .before .before .before .before in
+    then-written (omega arith)
+    (then-written (omega arith) (then-written (omega arith) (w .put-word .ensures) (d .put-decimal .ensures)) (then-written (omega (arith, s .pre, w .put-word .ensures .next, w .put-word .kept .1 .0, decimal-length (s .args .rows), d .put-decimal .ensures .next, d .put-decimal .kept .1 .0)) (p .put .ensures) (e .put-decimal2 .ensures)))
+    (r .put-rows .ensures)
+
+pub put-run-spec : {M : Type 1} → statement M
+put-run-spec =
+    tie.close
+    (tie.spec
+    slice-aggregate-put-word
+    put-word-requires
+    put-decimal-requires
+    put-requires
+    put-decimal-requires-2
+    put-rows-requires
+    same-length
+    returns)

@@ -1,0 +1,28 @@
+-- Hexadecimal, either letter case: the value of a digit, and the bytes that a line of digits writes.
+-- Assumes nothing.
+use Prim.Native.Nat.{ℕ, _+_, _-_, _*_}
+use mathlib.Core.Bool.{Bool, true, false, _&&_}
+use mathlib.Core.List.{List, [], _∷_}
+use lib.Dec.{ltb}
+use Rattle.format.specs.Fields.{pick}
+
+-- the value of a digit, 0 to 9, A to F, a to f; and 16 for a character that is no digit
+unfoldable pub hexValue : ℕ → ℕ
+hexValue c =
+    pick (ltb c 48) 16
+    (pick (ltb c 58) (c - 48)
+    (pick (ltb c 65) 16
+    (pick (ltb c 71) (c - 55)
+    (pick (ltb c 97) 16
+    (pick (ltb c 103) (c - 87) 16)))))
+
+-- each character is a digit
+unfoldable pub allHex : List ℕ → Bool
+allHex [] = true
+allHex (c ∷ cs) = ltb (hexValue c) 16 && allHex cs
+
+-- the bytes, two digits each, the high one first
+unfoldable pub hexBytes : List ℕ → List ℕ
+hexBytes [] = []
+hexBytes (c ∷ []) = []
+hexBytes (c ∷ e ∷ cs) = (hexValue c * 16 + hexValue e) ∷ hexBytes cs

@@ -1,0 +1,83 @@
+-- THE PROGRAM'S ANSWER to a line (document 01, "The program"), and what `answer_line` promises.
+-- Assumes nothing.
+use mathlib.Core.Path.{_≡_}
+use Prim.Native.Nat.{ℕ, _%_}
+use mathlib.Core.Bool.{Bool, _||_, not}
+use mathlib.Core.List.{List, [], _∷_, _++_}
+use lib.ListN.{length, take, drop, getD}
+use lib.Dec.{ltb, eqb}
+use lib.IntN.{ℤ}
+use Rattle.format.specs.Fields.{pick}
+use Rattle.format.specs.Runs.{Description}
+use Rattle.format.specs.Rows.{i64Rows}
+use Rattle.format.specs.Parse.{Parsed, end, got, refused, parse, into}
+use Rattle.format.specs.Promises.{answerOf}
+use Rattle.format.specs.declared.Answer.{Answer}
+use Rattle.format.specs.declared.Answer.the-variants.{End, Run, Refused}
+use Rattle.lines.specs.Hexadecimal.{allHex, hexBytes}
+use Rattle.lines.specs.Decimal.{decimal, rowsText}
+
+-- The fixed words: "run ", "refused ", "end", "bad line".
+abbrev pub runWord : List ℕ
+runWord = 114 ∷ 117 ∷ 110 ∷ 32 ∷ []
+
+abbrev pub refusedWord : List ℕ
+refusedWord = 114 ∷ 101 ∷ 102 ∷ 117 ∷ 115 ∷ 101 ∷ 100 ∷ 32 ∷ []
+
+abbrev pub endWord : List ℕ
+endWord = 101 ∷ 110 ∷ 100 ∷ []
+
+abbrev pub badWord : List ℕ
+badWord = 98 ∷ 97 ∷ 100 ∷ 32 ∷ 108 ∷ 105 ∷ 110 ∷ 101 ∷ []
+
+-- A line that is empty, odd, over 8,800 characters, not hexadecimal or with another flag (00 unsigned, 01 signed) is bad.
+unfoldable pub badLine : List ℕ → Bool
+badLine line =
+    eqb (length line) 0
+    || eqb (length line % 2) 1
+    || ltb 8800 (length line)
+    || not (allHex line)
+    || ltb 1 (getD (hexBytes line) 0 0)
+
+-- The numbers after `run` are rows, bytes consumed, then the rows as i64.
+unfoldable pub answerWords : Answer → List ℤ → List ℕ
+answerWords End rows = endWord
+answerWords (Run r) rows = runWord ++ decimal (r .rows .rows) ++ (32 ∷ decimal (r .consumed .bytes)) ++ rowsText rows
+answerWords (Refused f) rows = refusedWord ++ decimal (f .number)
+
+-- the rows of what was read
+abbrev pub rowsIn : Bool → Parsed Description → List ℤ
+rowsIn signed end = []
+rowsIn signed (got d rest) = i64Rows signed d
+rowsIn signed (refused r) = []
+
+-- what reading gives, in words; the run stands from byte 1 on
+abbrev pub wordsOf : Bool → Parsed Description → List ℕ
+wordsOf signed m = answerWords (answerOf 1 m) (rowsIn signed m)
+
+-- The bytes of a line: none where it is bad.
+unfoldable pub frameOf : List ℕ → List ℕ
+frameOf line = pick (badLine line) [] (hexBytes line)
+
+-- The first byte is the flag, the rest one run; bytes after it aren't read. No run has more than 512 rows, so that 512 places are room for any.
+unfoldable pub frameText : List ℕ → List ℕ
+frameText [] = badWord
+frameText (flag ∷ run) = wordsOf (eqb flag 1) (into 512 (parse run))
+
+-- the answer to a line, without its newline
+unfoldable pub answerText : List ℕ → List ℕ
+answerText line = frameText (frameOf line)
+
+-- the line that is written: the answer and a newline; none where fewer than 11,310 bytes are lent, which is room for any
+unfoldable pub answerLine : ℕ → List ℕ → List ℕ
+answerLine room line = pick (ltb room 11310) [] (answerText line ++ (10 ∷ []))
+
+-- the first n places hold the bytes of a line
+pub record Framed (line frame : List ℕ) (n : ℕ) : Type 0 where
+  pub count : n ≡ length (frameOf line)
+  pub bytes : take n frame ≡ frameOf line
+
+-- WHAT `answer_line` PROMISES: the answer line stands in the first bytes, r is its length, and the other bytes keep their content
+pub record Answered (line out out′ : List ℕ) (r : ℕ) : Type 0 where
+  pub count : r ≡ length (answerLine (length out) line)
+  pub places : out′ ≡ answerLine (length out) line ++ drop (length (answerLine (length out) line)) out

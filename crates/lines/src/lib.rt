@@ -1,0 +1,128 @@
+// One line of hexadecimal in, one answer line out: document 01's program, without its input and output.
+mod hexadecimal;
+mod text;
+
+ghost use mathlib.Core.Path.{_≡_};
+ghost use mathlib.Core.List.{_++_, _∷_, []};
+ghost use Prim.Native.Nat.{_≤_, _<_};
+ghost use lib.ListN.{length, take};
+ghost use Rattle.format.specs.Answers.{answerRows};
+ghost use Rattle.lines.specs.Decimal.{decimal, rowsText};
+ghost use Rattle.lines.specs.Line.{runWord, answerWords, frameText, Framed, Answered};
+ghost use Rattle.lines.specs.Written.{Written};
+use format::Answer;
+use format::ByteOffset;
+use format::Kind;
+use text::put;
+use text::put_decimal;
+use text::put_rows;
+use text::put_word;
+
+// The fixed words.
+const RUN: [u8; 4] = *b"run ";
+
+const REFUSED: [u8; 8] = *b"refused ";
+
+const END: [u8; 3] = *b"end";
+
+const BAD_LINE: [u8; 9] = *b"bad line\n";
+
+// The most characters of a line, and the bytes that they write.
+const MAX_LINE: usize = 8800;
+
+const MAX_FRAME: usize = 4400;
+
+// Room for any answer line: `run `, two numbers of at most 20 digits, 512 rows of at most 21 characters, the spaces and the newline.
+pub const ANSWER_ROOM: usize = 11310;
+
+// A run's rows, its bytes consumed, and then the rows.
+fn put_run(rows: usize, consumed: usize, values: &[i64], out: &mut [u8]) -> usize
+    requires { ⌜ (rows ≤ 512) × (rows ≤ length (now values)) × (11310 ≤ length (now out)) ⌝ }
+    ensures { λ r. ⌜ Written (runWord ++ decimal rows ++ (32 ∷ decimal consumed) ++ rowsText (take rows (now (values .entry)))) (now (out .entry)) 0 (now (out .exit)) r ⌝ }
+{
+    let mut at = put_word(&RUN, out, 0);
+    at = put_decimal(rows as u64, out, at);
+    at = put(b' ', out, at);
+    at = put_decimal(consumed as u64, out, at);
+    put_rows(values, rows, out, at)
+}
+
+// What the run reader answered, in words.
+fn put_answer(answer: Answer, values: &[i64], out: &mut [u8]) -> usize
+    requires { ⌜ (answerRows answer ≤ 512) × (answerRows answer ≤ length (now values)) × (11310 ≤ length (now out)) ⌝ }
+    ensures { λ r. ⌜ Written (answerWords answer (take (answerRows answer) (now (values .entry)))) (now (out .entry)) 0 (now (out .exit)) r ⌝ }
+{
+    match answer {
+        Answer::End => put_word(&END, out, 0),
+        Answer::Run(run) => put_run(run.rows.rows, run.consumed.bytes, values, out),
+        Answer::Refused(refusal) => {
+            let at = put_word(&REFUSED, out, 0);
+            put_decimal(refusal.number as u64, out, at)
+        }
+    }
+}
+
+// Places for the bytes of a line, and for the rows of a run.
+fn frame_places() -> [u8; MAX_FRAME]
+    ensures { λ r. ⌜ length r ≡ 4400 ⌝ }
+{
+    [0; MAX_FRAME]
+}
+
+fn row_places() -> [i64; Kind::MAX_ROWS]
+    ensures { λ r. ⌜ length r ≡ 512 ⌝ }
+{
+    [0; Kind::MAX_ROWS]
+}
+
+// How many bytes the line writes, put into the first places of the frame: 0 where the line is bad.
+fn frame_of(line: &[u8], frame: &mut [u8]) -> usize
+    requires { ⌜ 4400 ≤ length (now frame) ⌝ }
+    ensures { λ r. ⌜ Framed (now (line .entry)) (now (frame .exit)) r ⌝ }
+{
+    let len = line.len();
+    if len == 0 {
+        return 0;
+    }
+    if len % 2 == 1 {
+        return 0;
+    }
+    if MAX_LINE < len {
+        return 0;
+    }
+    if !hexadecimal::bytes(line, len / 2, frame) {
+        return 0;
+    }
+    if 1 < frame[0] {
+        return 0;
+    }
+    len / 2
+}
+
+// The answer line to a frame that has a flag.
+fn put_frame(frame: &[u8], out: &mut [u8]) -> usize
+    requires { ⌜ (0 < length (now frame)) × (11310 ≤ length (now out)) ⌝ }
+    ensures { λ r. ⌜ Written (frameText (now (frame .entry)) ++ (10 ∷ [])) (now (out .entry)) 0 (now (out .exit)) r ⌝ }
+{
+    let mut rows = row_places();
+    let signed = frame[0] == 1;
+    let answer = rle_v2::read_run(frame, ByteOffset::new(1), signed, &mut rows);
+    let at = put_answer(answer, &rows, out);
+    put(b'\n', out, at)
+}
+
+// The answer line to a line (its bytes without the newline), in the first bytes of `out`: how many they are. Nothing is written where `out` has
+// fewer bytes than any answer line needs.
+pub fn answer_line(line: &[u8], out: &mut [u8]) -> usize
+    ensures { λ r. ⌜ Answered (now (line .entry)) (now (out .entry)) (now (out .exit)) r ⌝ }
+{
+    if out.len() < ANSWER_ROOM {
+        return 0;
+    }
+    let mut frame = frame_places();
+    let n = frame_of(line, &mut frame);
+    if n == 0 {
+        return put_word(&BAD_LINE, out, 0);
+    }
+    put_frame(&frame[..n], out)
+}
