@@ -3,7 +3,7 @@ use mathlib.Core.Path.{_≡_, refl}
 use Prim.Native.Nat.{ℕ, _<_, _≤_}
 use mathlib.Core.Bool.{Bool, true, false, not, _&&_}
 use mathlib.Core.List.{List, [], map}
-use lib.ListN.{length}
+use lib.ListN.{length, length-map}
 use lib.IntN.{ℤ}
 use lib.Dec.{ltb}
 use borrow.Author.Tests.{ltb-true, ltb-false}
@@ -26,14 +26,14 @@ pub writer-table : WriterTable
 unfolding writing
 writer-table rows signed form width out out′ r p =
     rw (p .answer)
-    (go (countAllowed form (length rows)) (haveForm form (map asU64 rows) && widthAllowed form width) (fitWidth signed form width (map asU64 rows))
+    (go (countAllowed form (length (map asU64 rows))) (haveForm form (map asU64 rows) && widthAllowed form width) (fitWidth signed form width (map asU64 rows))
     (ltb (length out) (length (layout (described signed form width (map asU64 rows))))) refl refl refl refl)
   where
-    go : (a b c e : Bool) → countAllowed form (length rows) ≡ a → (haveForm form (map asU64 rows) && widthAllowed form width) ≡ b
+    go : (a b c e : Bool) → countAllowed form (length (map asU64 rows)) ≡ a → (haveForm form (map asU64 rows) && widthAllowed form width) ≡ b
         → fitWidth signed form width (map asU64 rows) ≡ c → ltb (length out) (length (layout (described signed form width (map asU64 rows)))) ≡ e
         → Outcome rows signed form width out (answerOf 0 (unless (not a) 9 (unless (not b) 10 (unless (not c) 11 (unless e 8 (got (described signed form width (map asU64 rows)) []))))))
-    go false b c e p q s t = refusal-9 p
-    go true false c e p q s t = refusal-10 p q
-    go true true false e p q s t = refusal-11 p q s
-    go true true true true p q s t = refusal-8 p q s (ltb-true (length out) (length (layout (described signed form width (map asU64 rows)))) t)
-    go true true true false p q s t = written p q s (ltb-false (length out) (length (layout (described signed form width (map asU64 rows)))) t)
+    go false b c e p q s t = refusal-9 (rw (length-map rows asU64) at p)
+    go true false c e p q s t = refusal-10 (rw (length-map rows asU64) at p) q
+    go true true false e p q s t = refusal-11 (rw (length-map rows asU64) at p) q s
+    go true true true true p q s t = refusal-8 (rw (length-map rows asU64) at p) q s (ltb-true (length out) (length (layout (described signed form width (map asU64 rows)))) t)
+    go true true true false p q s t = written (rw (length-map rows asU64) at p) q s (ltb-false (length out) (length (layout (described signed form width (map asU64 rows)))) t)
