@@ -27,6 +27,7 @@ use Rattle.format.specs.Answers.{ran, answerNumber}
 use Rattle.format.specs.Writing.{stored, minus, stepTo, stepsOf, baseDelta, falls, valuesOf, padded, firstOf, described, every, between, countAllowed, haveForm, widthAllowed, fitWidth, writing, AllI64, Written, Short, AsWritten, short-repeat, direct-run, fixed-delta, packed-delta}
 use Rattle.format.proofs.Digits.{number-lt, digits-number, length-digits, digits-below, number-digits, pow-pow}
 use Rattle.format.proofs.Patterns.{zigzag-zigzagged, zigzagged-zigzag, zigzagged-lt, zigzag-lt, as-back, as-forth, as-lt}
+use Rattle.format.proofs.Widths.{and-left, and-right}
 use Rattle.format.proofs.Varints.{shortest-varint, shortest-value, shortest-unique}
 use Rattle.format.proofs.Rows.{width-le, below-replicate, row-lt, varint-lt, rows-below, rows-count}
 use Rattle.format.proofs.Runs.{parse-complete, got-inj}
@@ -38,8 +39,7 @@ and-i true b x y = y
 and-i false b x y = x
 
 and-e : (a b : Bool) → T (a && b) → T a × T b
-and-e true b t = (tt, t)
-and-e false b t = absurd t
+and-e a b t = (and-left a b t, and-right a b t)
 
 T-true : (a : Bool) → T a → a ≡ true
 T-true true t = refl
