@@ -1,0 +1,95 @@
+-- Lines of an input, one by one: the first line is answered, and the others as if they stood alone; and an input in blocks is answered as one.
+-- Assumes nothing.
+use mathlib.Core.Path.{_≡_, refl, sym, ap, _∙_}
+use Prim.Native.Nat.{ℕ, zero, suc, _+_, _-_, _<_, _≤_}
+use native.Mathlib.Omega.{arith}
+use mathlib.Core.Bool.{Bool, true, false}
+use mathlib.Core.List.{List, [], _∷_, _++_, append-assoc, append-nil}
+use lib.ListN.{length, take, drop, getD, set, length-drop}
+use lib.Seq.{getD-drop, take-suc, take-suc-set, drop-set-lt, drop-drop}
+use native.Mathlib.Numerals.{add-one}
+use borrow.Author.Tests.{eq-eqb, ne-eqb}
+use Rattle.format.proofs.Reading.{byte-here}
+use lib.Dec.{eqb}
+use Rattle.format.specs.Fields.{pick}
+use Rattle.runs.specs.Program.{answered, answersFrom, begunFrom, lastAnswer, programText, lineLength}
+
+pub line-le : (s : List ℕ) → lineLength s ≤ length s
+unfolding lineLength
+line-le [] = omega arith
+line-le (c ∷ s) = by (eqb c 10) (line-le s)
+  where
+    by : (t : Bool) → lineLength s ≤ length s → pick t 0 (suc (lineLength s)) ≤ suc (length s)
+    by true h = omega arith
+    by false h = omega arith
+
+-- a line that its newline ends
+pub line-answered : (line s : List ℕ) → lineLength s < length s
+    → answersFrom line s ≡ answered (line ++ take (lineLength s) s) ++ answersFrom [] (drop (lineLength s + 1) s)
+unfolding lineLength answersFrom
+line-answered line [] h = absurd (omega arith)
+line-answered line (c ∷ s) h = by (eqb c 10) h (line-answered (line ++ (c ∷ [])) s)
+  where
+    by : (t : Bool) → pick t 0 (suc (lineLength s)) < suc (length s)
+        → (lineLength s < length s → answersFrom (line ++ (c ∷ [])) s ≡ answered ((line ++ (c ∷ [])) ++ take (lineLength s) s) ++ answersFrom [] (drop (lineLength s + 1) s))
+        → pick t (answered line ++ answersFrom [] s) (answersFrom (line ++ (c ∷ [])) s)
+        ≡ answered (line ++ take (pick t 0 (suc (lineLength s))) (c ∷ s)) ++ answersFrom [] (drop (pick t 0 (suc (lineLength s)) + 1) (c ∷ s))
+    by true h f = rw append-nil
+    by false h f =
+        let e : suc (lineLength s) + 1 ≡ suc (lineLength s + 1) = omega arith in
+        f (omega arith) ∙ rw (e, append-assoc line (c ∷ []) (take (lineLength s) s))
+
+pub line-passed : (line s : List ℕ) → lineLength s < length s → begunFrom line s ≡ begunFrom [] (drop (lineLength s + 1) s)
+unfolding lineLength begunFrom
+line-passed line [] h = absurd (omega arith)
+line-passed line (c ∷ s) h = by (eqb c 10) h (line-passed (line ++ (c ∷ [])) s)
+  where
+    by : (t : Bool) → pick t 0 (suc (lineLength s)) < suc (length s)
+        → (lineLength s < length s → begunFrom (line ++ (c ∷ [])) s ≡ begunFrom [] (drop (lineLength s + 1) s))
+        → pick t (begunFrom [] s) (begunFrom (line ++ (c ∷ [])) s) ≡ begunFrom [] (drop (pick t 0 (suc (lineLength s)) + 1) (c ∷ s))
+    by true h f = refl
+    by false h f =
+        let e : suc (lineLength s) + 1 ≡ suc (lineLength s + 1) = omega arith in
+        f (omega arith) ∙ rw e
+
+-- a line that has no newline yet
+pub line-open : (line s : List ℕ) → length s ≤ lineLength s → (answersFrom line s ≡ []) × (begunFrom line s ≡ line ++ s)
+unfolding lineLength answersFrom begunFrom
+line-open line [] h = (refl, sym (append-nil line))
+line-open line (c ∷ s) h = by (eqb c 10) h (line-open (line ++ (c ∷ [])) s)
+  where
+    by : (t : Bool) → suc (length s) ≤ pick t 0 (suc (lineLength s))
+        → (length s ≤ lineLength s → (answersFrom (line ++ (c ∷ [])) s ≡ []) × (begunFrom (line ++ (c ∷ [])) s ≡ (line ++ (c ∷ [])) ++ s))
+        → (pick t (answered line ++ answersFrom [] s) (answersFrom (line ++ (c ∷ [])) s) ≡ []) × (pick t (begunFrom [] s) (begunFrom (line ++ (c ∷ [])) s) ≡ line ++ (c ∷ s))
+    by true h f = absurd (omega arith)
+    by false h f = let (a, b) = f (omega arith) in (a, b ∙ append-assoc line (c ∷ []) s)
+
+-- the line that begins at a place: its newline is there, or a byte that is none
+module _ (s : List ℕ) (i : ℕ) (h : i < length s) where
+  pub newline-here : getD s i 0 ≡ 10 → lineLength (drop i s) ≡ 0
+  unfolding lineLength
+  newline-here e = rw (byte-here s i h, eq-eqb (getD s i 0) 10 e)
+
+  pub newline-later : (getD s i 0 ≡ 10 → ⊥) → lineLength (drop i s) ≡ suc (lineLength (drop (i + 1) s))
+  unfolding lineLength
+  newline-later n = rw (byte-here s i h, ne-eqb (getD s i 0) 10 n)
+
+-- one byte more is moved to the front
+module _ (x x₀ : List ℕ) (from i : ℕ) (l : length x ≡ length x₀) (h : from + i < length x) (f : take i x ≡ take i (drop from x₀)) (d : drop (from + i) x ≡ drop (from + i) x₀) where
+  abbrev moved : ℕ
+  moved = getD x (from + i) 0
+
+  moved-is : moved ≡ getD (drop from x₀) i 0
+  moved-is =
+      let z : from + i + 0 ≡ from + i = omega arith in
+      rw z at (sym (getD-drop (from + i) x 0 0) ∙ ap (λ (s : List ℕ). getD s 0 0) d ∙ getD-drop (from + i) x₀ 0 0) ∙ sym (getD-drop from x₀ i 0)
+
+  pub moved-front : take (i + 1) (set x i moved) ≡ take (i + 1) (drop from x₀)
+  moved-front =
+      rw (add-one, take-suc-set x i moved (omega arith), take-suc (drop from x₀) i 0 (rw length-drop (omega arith)), f) (ap (λ (c : ℕ). take i (drop from x₀) ++ (c ∷ [])) moved-is)
+
+  pub moved-rest : drop (from + (i + 1)) (set x i moved) ≡ drop (from + (i + 1)) x₀
+  moved-rest =
+      let z : from + (i + 1) ≡ from + i + 1 = omega arith in
+      rw (z, drop-set-lt (from + i + 1) x i moved (omega arith))
+      (sym (drop-drop 1 (from + i) x) ∙ ap (λ (s : List ℕ). drop 1 s) d ∙ drop-drop 1 (from + i) x₀)
