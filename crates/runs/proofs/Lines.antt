@@ -5,14 +5,16 @@ use Prim.Native.Nat.{ℕ, zero, suc, _+_, _-_, _<_, _≤_}
 use native.Mathlib.Omega.{arith}
 use mathlib.Core.Bool.{Bool, true, false}
 use mathlib.Core.List.{List, [], _∷_, _++_, append-assoc, append-nil}
-use lib.ListN.{length, take, drop, getD, set, length-drop}
+use lib.ListN.{length, take, drop, getD, set, length-drop, length-append}
 use lib.Seq.{getD-drop, take-suc, take-suc-set, drop-set-lt, drop-drop}
 use native.Mathlib.Numerals.{add-one}
-use borrow.Author.Tests.{eq-eqb, ne-eqb}
+use borrow.Author.Tests.{eq-eqb, ne-eqb, le-ltb}
 use Rattle.format.proofs.Reading.{byte-here}
 use lib.Dec.{eqb}
 use Rattle.format.specs.Fields.{pick}
-use Rattle.runs.specs.Program.{answered, answersFrom, begunFrom, lastAnswer, programText, lineLength}
+use Rattle.lines.specs.Line.{answerLine, Answered}
+use Rattle.util.proofs.Grow.{back-is, front-is, kept-by, long-by}
+use Rattle.runs.specs.Program.{answered, answersFrom, begunFrom, lastAnswer, programText, lineLength, Cut}
 
 pub line-le : (s : List ℕ) → lineLength s ≤ length s
 unfolding lineLength
@@ -93,3 +95,94 @@ module _ (x x₀ : List ℕ) (from i : ℕ) (l : length x ≡ length x₀) (h : 
       let z : from + (i + 1) ≡ from + i + 1 = omega arith in
       rw (z, drop-set-lt (from + i + 1) x i moved (omega arith))
       (sym (drop-drop 1 (from + i) x) ∙ ap (λ (s : List ℕ). drop 1 s) d ∙ drop-drop 1 (from + i) x₀)
+
+-- ---- answering a block line by line
+
+-- the lines in the first bytes taken are answered
+pub record Going (input out₀ out : List ℕ) (taken written : ℕ) : Type 0 where
+  pub within : taken ≤ length input
+  pub fits : written ≤ length out₀
+  pub long : length out ≡ length out₀
+  pub text : take written out ++ answersFrom [] (drop taken input) ≡ answersFrom [] input
+  pub rest : drop written out ≡ drop written out₀
+  pub begun : begunFrom [] (drop taken input) ≡ begunFrom [] input
+  pub some : taken ≡ 0 → written ≡ 0
+
+module _ (input out₀ : List ℕ) where
+  pub going-first : Going input out₀ out₀ 0 0
+  going-first = record { within = omega arith; fits = omega arith; long = refl; text = refl; rest = refl; begun = refl; some = λ e. refl }
+
+  module _ (out : List ℕ) (taken written : ℕ) (g : Going input out₀ out taken written) where
+    -- no room for an answer
+    pub going-full : length out - written < 11310 → Cut input out₀ out taken written
+    going-full h = record {
+      within = g .within;
+      fits = g .fits;
+      text = g .text;
+      rest = g .rest;
+      begun = g .begun;
+      some = g .some;
+      all = λ l. absurd (omega (arith, g .long, g .fits));
+    }
+
+    module _ (end : ℕ) (is : end ≡ taken + lineLength (drop taken input)) where
+      -- no whole line
+      pub going-open : end ≡ length input → Cut input out₀ out taken written
+      going-open h = record {
+        within = g .within;
+        fits = g .fits;
+        text = g .text;
+        rest = g .rest;
+        begun = g .begun;
+        some = g .some;
+        all = λ l. line-open [] (drop taken input) (rw length-drop (omega arith)) .0;
+      }
+
+      pub end-le : end ≤ length input
+      end-le = omega (arith, line-le (drop taken input), length-drop taken input, g .within)
+
+      -- a line, and its answer in the bytes that were lent from `written` on
+      module _ (whole : end ≡ length input → ⊥) (room : 11310 ≤ length out - written) (part : List ℕ) (r : ℕ) (l : length part ≡ length (drop written out))
+          (a : Answered (take (end - taken) (drop taken input)) (drop written out) part r) where
+        abbrev line : List ℕ
+        line = take (end - taken) (drop taken input)
+
+        answer-is : answerLine (length (drop written out)) line ≡ answered line
+        unfolding answerLine
+        answer-is = rw (le-ltb (length (drop written out)) 11310 (rw length-drop (omega arith)))
+
+        count-is : length (answered line) ≡ r
+        count-is = sym (rw answer-is at (a .count))
+
+        part-is : part ≡ answered line ++ drop r (drop written out)
+        part-is = rw count-is at (rw answer-is at (a .places))
+
+        pub answer-fits : written + r ≤ length out
+        answer-fits =
+            omega (arith, l, ap length part-is, length-append (answered line) (drop r (drop written out)), count-is, length-drop r (drop written out), length-drop written out)
+
+        lines-are : (answersFrom [] (drop taken input) ≡ answered line ++ answersFrom [] (drop (end + 1) input)) × (begunFrom [] (drop (end + 1) input) ≡ begunFrom [] (drop taken input))
+        lines-are =
+            let n = lineLength (drop taken input) in
+            let h : n < length (drop taken input) = rw length-drop (omega (arith, end-le)) in
+            let e : end - taken ≡ n = omega arith in
+            let z : taken + (n + 1) ≡ end + 1 = omega arith in
+            (
+              rw e (rw (drop-drop (n + 1) taken input, z) at (line-answered [] (drop taken input) h)),
+              sym (rw (drop-drop (n + 1) taken input, z) at (line-passed [] (drop taken input) h)),
+            )
+
+        pub going-on : Going input out₀ (take written out ++ (part ++ drop (length out - written) (drop written out))) (end + 1) (written + r)
+        going-on =
+            let out′ = take written out ++ (part ++ drop (length out - written) (drop written out)) in
+            let e : out′ ≡ (take written out ++ answered line) ++ drop (written + r) out = back-is out part (answered line) written r part-is in
+            let h : written ≤ length out = omega (arith, g .fits, g .long) in
+            record {
+              within = omega (arith, end-le);
+              fits = omega (arith, answer-fits, g .long);
+              long = long-by out out′ (answered line) written r h count-is e answer-fits ∙ g .long;
+              text = rw (front-is out out′ (answered line) written r h count-is e, append-assoc (take written out) (answered line) (answersFrom [] (drop (end + 1) input)), ← lines-are .0) (g .text);
+              rest = kept-by out out′ (answered line) written r h count-is e out₀ (g .rest);
+              begun = lines-are .1 ∙ g .begun;
+              some = λ z. absurd (omega arith);
+            }

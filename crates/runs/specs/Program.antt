@@ -7,6 +7,8 @@ use lib.ListN.{length, take, drop}
 use lib.Dec.{eqb}
 use Rattle.format.specs.Fields.{pick}
 use Rattle.lines.specs.Line.{answerText}
+use Rattle.runs.specs.declared.Left.{Left}
+use Rattle.runs.specs.declared.Left.the-variants.{Begun, Done}
 
 -- a line's answer, with its newline
 abbrev pub answered : List ℕ → List ℕ
@@ -51,3 +53,12 @@ pub record Cut (input out out′ : List ℕ) (taken written : ℕ) : Type 0 wher
 pub record Kept (from end : ℕ) (input input′ : List ℕ) (n : ℕ) : Type 0 where
   pub count : n ≡ min (end - from) 8801
   pub bytes : take n input′ ≡ take n (drop from input)
+
+-- what is left of a block: from a place on, the beginning of a line
+abbrev pub LeftIn : List ℕ → Left → Type 0
+LeftIn input (Begun from) = (from ≤ length input) × (answersFrom [] (drop from input) ≡ []) × (begunFrom [] (drop from input) ≡ begunFrom [] input)
+LeftIn input Done = Unit {0}
+
+abbrev pub Holds : ℕ → Left → Type 0
+Holds most (Begun n) = n ≤ most
+Holds most Done = Unit {0}
