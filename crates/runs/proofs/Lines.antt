@@ -96,6 +96,12 @@ module _ (x x₀ : List ℕ) (from i : ℕ) (l : length x ≡ length x₀) (h : 
       rw (z, drop-set-lt (from + i + 1) x i moved (omega arith))
       (sym (drop-drop 1 (from + i) x) ∙ ap (λ (s : List ℕ). drop 1 s) d ∙ drop-drop 1 (from + i) x₀)
 
+-- an answer line stands within the bytes that were lent
+pub answered-le : (line out out′ : List ℕ) (r : ℕ) → Answered line out out′ r → r ≤ length out′
+answered-le line out out′ r a =
+    let t = answerLine (length out) line in
+    omega (arith, a .count, ap length (a .places), length-append t (drop (length t) out))
+
 -- ---- answering a block line by line
 
 -- the lines in the first bytes taken are answered
@@ -166,8 +172,7 @@ module _ (input out₀ : List ℕ) where
             let n = lineLength (drop taken input) in
             let h : n < length (drop taken input) = rw length-drop (omega (arith, end-le)) in
             let e : end - taken ≡ n = omega arith in
-            let z : taken + (n + 1) ≡ end + 1 = omega arith in
-            (
+            let z : taken + (n + 1) ≡ end + 1 = omega arith in (
               rw e (rw (drop-drop (n + 1) taken input, z) at (line-answered [] (drop taken input) h)),
               sym (rw (drop-drop (n + 1) taken input, z) at (line-passed [] (drop taken input) h)),
             )

@@ -1,3 +1,6 @@
+use mathlib.Core.Path.{sym}
+use lib.Seq.{length-take-le}
+use Rattle.runs.proofs.Lines.{answered-le}
 use borrow.Author.Needs.{needs}
 use Rattle.runs.proofs.answer_last.Statement.{statement}
 use Rattle.runs.proofs.answer_last.Tie as tie
@@ -16,11 +19,11 @@ answer-line-requires c κs = search needs
 
 -- src/main.rt:60:34
 slice-reshare-prefix-write-all : tie.Need-slice-reshare-prefix-write-all
-slice-reshare-prefix-write-all c = ?
+slice-reshare-prefix-write-all c = answered-le _ _ _ _ (c .before .before .answer-line .ensures)
 
 -- src/main.rt:60:34
 slice-aggregate-write-all : tie.Need-slice-aggregate-write-all
-slice-aggregate-write-all c = ?
+slice-aggregate-write-all c = let k = c .before .before .before in sym (length-take-le (k .answer-line .result) (k .answer-line .last .1 .0) (answered-le _ _ _ _ (k .answer-line .ensures)))
 
 -- src/main.rt:60:5
 write-all-requires : tie.Need-write-all-requires

@@ -26,10 +26,12 @@ abbrev μ-loop : tie.MeasureT-loop
 
 -- a line that is not hexadecimal says nothing of its bytes
 refused : {r : Bool} {P : Type 0} → false ≡ r → (false ≡ r) × (_≡_ {A = Bool} false true → P)
-refused e =
-    (e, λ y.
+refused e = (
+  e,
+  λ y.
       let z : _≡_ {A = ℕ} 0 1 = cc in
-      absurd (omega arith))
+      absurd (omega arith),
+)
 
 -- src/hexadecimal.rt:35:5
 loop-holds : tie.Need-loop-holds Inv-loop μ-loop
