@@ -2,27 +2,29 @@
 -- Assumes nothing.
 use mathlib.Core.Path.{_≡_}
 use Prim.Native.Nat.{ℕ, suc, _+_, _-_, _≤_, min}
+use Prim.Native.Char.{code}
 use mathlib.Core.List.{List, [], _∷_, _++_}
 use lib.ListN.{length, take, drop}
 use lib.Dec.{eqb}
 use Rattle.format.specs.Fields.{pick}
+use Rattle.lines.specs.Ascii.{ascii}
 use Rattle.lines.specs.Line.{answerText}
 use Rattle.runs.specs.declared.Left.{Left}
 use Rattle.runs.specs.declared.Left.the-variants.{Begun, Done}
 
 -- a line's answer, with its newline
 abbrev pub answered : List ℕ → List ℕ
-answered line = answerText line ++ (10 ∷ [])
+answered line = answerText line ++ ascii "\n"
 
 -- the answers to the lines of s that a newline ends; the first of them has begun as `line`
 unfoldable pub answersFrom : List ℕ → List ℕ → List ℕ
 answersFrom line [] = []
-answersFrom line (c ∷ s) = pick (eqb c 10) (answered line ++ answersFrom [] s) (answersFrom (line ++ (c ∷ [])) s)
+answersFrom line (c ∷ s) = pick (eqb c (code "\n")) (answered line ++ answersFrom [] s) (answersFrom (line ++ (c ∷ [])) s)
 
 -- what the line after the last newline has begun as
 unfoldable pub begunFrom : List ℕ → List ℕ → List ℕ
 begunFrom line [] = line
-begunFrom line (c ∷ s) = pick (eqb c 10) (begunFrom [] s) (begunFrom (line ++ (c ∷ [])) s)
+begunFrom line (c ∷ s) = pick (eqb c (code "\n")) (begunFrom [] s) (begunFrom (line ++ (c ∷ [])) s)
 
 -- a final newline opens no further line
 unfoldable pub lastAnswer : List ℕ → List ℕ
@@ -37,7 +39,7 @@ programText s = answersFrom [] s ++ lastAnswer (begunFrom [] s)
 -- how many bytes stand before the first newline
 unfoldable pub lineLength : List ℕ → ℕ
 lineLength [] = 0
-lineLength (c ∷ s) = pick (eqb c 10) 0 (suc (lineLength s))
+lineLength (c ∷ s) = pick (eqb c (code "\n")) 0 (suc (lineLength s))
 
 -- the whole lines in the first bytes taken are answered in the first bytes written; it stops where no whole line is left or no room for its answer
 pub record Cut (input out out′ : List ℕ) (taken written : ℕ) : Type 0 where

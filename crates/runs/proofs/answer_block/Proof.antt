@@ -1,19 +1,15 @@
+-- `runs::answer_block` meets its contract. The loop's invariant: the line that is left of the rest is the one that is left of the block. Assumes nothing.
 use mathlib.Core.Path.{_≡_, refl, sym, _∙_}
-use Prim.Native.Nat.{ℕ, _+_, _-_, _≤_}
+use Prim.Native.Nat.{_-_, _≤_}
 use native.Mathlib.Omega.{arith}
-use borrow.Author.Needs.{needs}
 use denote.Ref.{now}
-use lib.ListN.{length, take, drop, length-drop}
+use lib.ListN.{length, drop, length-drop}
 use lib.Seq.{length-take-le, drop-drop}
 use Rattle.util.proofs.Grow.{rest-is}
 use mathlib.Core.List.{[]}
 use Rattle.runs.specs.Program.{begunFrom}
 use Rattle.runs.proofs.answer_block.Statement.{statement}
 use Rattle.runs.proofs.answer_block.Tie as tie
-use Rattle.runs.proofs.answer_block.Reads as reads
-use Rattle.runs.proofs.answer_block.Lts as lts
-use Rattle.io.proofs.write_all.Reads as write-all-reads
-use Rattle.runs.proofs.cutting.answer_lines.Reads as answer-lines-reads
 
 abbrev Inv-loop : tie.InvT-loop
 Inv-loop input output₀ from₀ output from =
@@ -22,31 +18,24 @@ Inv-loop input output₀ from₀ output from =
 abbrev μ-loop : tie.MeasureT-loop
 μ-loop input output₀ from₀ output from = length input - from
 
--- src/main.rt:40:5
 loop-holds : tie.Need-loop-holds Inv-loop μ-loop
 loop-holds c = (omega arith, refl, refl)
 
--- src/main.rt:41:39
 sub-answer-lines : tie.Need-sub-answer-lines Inv-loop μ-loop
 sub-answer-lines c = omega arith
 
--- src/main.rt:41:39
 part-answer-lines-start : tie.Need-part-answer-lines-start Inv-loop μ-loop
 part-answer-lines-start c = omega arith
 
--- src/main.rt:41:39
 part-answer-lines-end : tie.Need-part-answer-lines-end Inv-loop μ-loop
 part-answer-lines-end c = omega arith
 
--- src/main.rt:41:13
 answer-lines-requires : tie.Need-answer-lines-requires Inv-loop μ-loop
 answer-lines-requires c κs = tt
 
--- src/main.rt:45:13
 same-length : tie.Need-same-length Inv-loop μ-loop
 same-length c = let k = c .before .before .before in k .answer-lines .kept .1 .0 ∙ k .before .before .before .loop .inv .1
 
--- src/main.rt:45:13
 returns : tie.Need-returns Inv-loop μ-loop
 returns c =
     let k = c .before .before .before in
@@ -55,7 +44,6 @@ returns c =
     let t = rw (rest-is (now (a .input)) (l .from)) at (k .answer-lines .ensures) in
     (l .inv .0, rw (c .if1 .taken) at (t .all (omega (arith, t .some (c .if1 .taken), l .inv .1, k .before .before .before .before .before .before .pre))), l .inv .2)
 
--- src/main.rt:47:42
 slice-reshare-prefix-write-all : tie.Need-slice-reshare-prefix-write-all Inv-loop μ-loop
 slice-reshare-prefix-write-all c =
     let k = c .before .before .before in
@@ -64,7 +52,6 @@ slice-reshare-prefix-write-all c =
     let t = rw (rest-is (now (a .input)) (l .from)) at (k .answer-lines .ensures) in
     omega (arith, t .fits, k .answer-lines .kept .1 .0)
 
--- src/main.rt:47:42
 slice-aggregate-write-all : tie.Need-slice-aggregate-write-all Inv-loop μ-loop
 slice-aggregate-write-all c =
     let k = c .before .before .before .before in
@@ -73,19 +60,15 @@ slice-aggregate-write-all c =
     let t = rw (rest-is (now (a .input)) (l .from)) at (k .answer-lines .ensures) in
     sym (length-take-le (k .answer-lines .result .written) (k .answer-lines .last .1 .0) (omega (arith, t .fits, k .answer-lines .kept .1 .0)))
 
--- src/main.rt:47:13
 write-all-requires : tie.Need-write-all-requires Inv-loop μ-loop
 write-all-requires c κs = tt
 
--- src/main.rt:48:13
 same-length-2 : tie.Need-same-length-2 Inv-loop μ-loop
 same-length-2 c = let k = c .before .before .before .before .before .before in k .answer-lines .kept .1 .0 ∙ k .before .before .before .loop .inv .1
 
--- src/main.rt:48:13
 returns-2 : tie.Need-returns-2 Inv-loop μ-loop
 returns-2 c = tt
 
--- src/main.rt:50:9
 add-from : tie.Need-add-from Inv-loop μ-loop
 add-from c =
     let k = c .before .before .before .before .before .before in
@@ -94,7 +77,6 @@ add-from c =
     let t = rw (rest-is (now (a .input)) (l .from)) at (k .answer-lines .ensures) in
     omega (arith, t .within, length-drop (l .from) (now (a .input)))
 
--- src/main.rt:40:5
 loop-less : tie.Need-loop-less Inv-loop μ-loop
 loop-less c =
     let k = c .before .before .before .before .before .before in
@@ -103,7 +85,6 @@ loop-less c =
     let t = rw (rest-is (now (a .input)) (l .from)) at (k .answer-lines .ensures) in
     omega (arith, t .within, length-drop (l .from) (now (a .input)))
 
--- src/main.rt:40:5
 loop-again : tie.Need-loop-again Inv-loop μ-loop
 loop-again c =
     let k = c .before .before .before .before .before .before in

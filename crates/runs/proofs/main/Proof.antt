@@ -1,15 +1,11 @@
+-- `runs::main` is safe and ends. The loop's invariant: the arrays are as long as they were, and no more is held than a line may have. Assumes nothing.
 use mathlib.Core.Path.{_≡_, sym, _∙_}
-use Prim.Native.Nat.{ℕ, _≤_}
+use Prim.Native.Nat.{_≤_}
 use native.Mathlib.Omega.{arith}
 use borrow.Author.Needs.{needs}
 use lib.ListN.{length}
 use Rattle.runs.proofs.main.Statement.{statement}
 use Rattle.runs.proofs.main.Tie as tie
-use Rattle.runs.proofs.main.Reads as reads
-use Rattle.runs.proofs.main.Lts as lts
-use Rattle.io.proofs.large_buffer.Reads as large-buffer-reads
-use Rattle.runs.proofs.input_places.Reads as input-places-reads
-use Rattle.runs.proofs.turn.Reads as turn-reads
 
 abbrev Inv-loop : tie.InvT-loop
 Inv-loop input₀ output₀ held₀ turns₀ input output held turns = (74337 ≡ length input) × (65536 ≡ length output) × (held ≤ 8801)
@@ -17,58 +13,45 @@ Inv-loop input₀ output₀ held₀ turns₀ input output held turns = (74337 �
 abbrev μ-loop : tie.MeasureT-loop
 μ-loop input₀ output₀ held₀ turns₀ input output held turns = turns
 
--- src/main.rt:82:21
 input-places-requires : tie.Need-input-places-requires Inv-loop μ-loop
 input-places-requires c κs = tt
 
--- src/main.rt:83:22
 large-buffer-requires : tie.Need-large-buffer-requires Inv-loop μ-loop
 large-buffer-requires c κs = tt
 
--- src/main.rt:86:5
 loop-holds : tie.Need-loop-holds Inv-loop μ-loop
 loop-holds c = (sym (c .before .input-places .ensures), c .large-buffer .ensures, omega arith)
 
--- src/main.rt:87:35
 slice-aggregate-turn : tie.Need-slice-aggregate-turn Inv-loop μ-loop
 slice-aggregate-turn c = c .before .before .loop .inv .0
 
--- src/main.rt:87:53
 slice-aggregate-turn-2 : tie.Need-slice-aggregate-turn-2 Inv-loop μ-loop
 slice-aggregate-turn-2 c = c .before .before .before .loop .inv .1
 
--- src/main.rt:87:30
 turn-requires : tie.Need-turn-requires Inv-loop μ-loop
 turn-requires c κs = omega arith
 
--- src/main.rt:87:25
 enum-known-n : tie.Need-enum-known-n Inv-loop μ-loop
 enum-known-n c = search needs
 
--- src/main.rt:88:13
 enum-told : tie.Need-enum-told Inv-loop μ-loop
 enum-told c = search needs
 
--- src/main.rt:88:13
 returns : tie.Need-returns Inv-loop μ-loop
 returns c = tt
 
--- src/main.rt:91:9
 sub-turns : tie.Need-sub-turns Inv-loop μ-loop
 sub-turns c = omega arith
 
--- src/main.rt:86:5
 loop-less : tie.Need-loop-less Inv-loop μ-loop
 loop-less c = omega arith
 
--- src/main.rt:86:5
 loop-again : tie.Need-loop-again Inv-loop μ-loop
 loop-again c =
     let t = c .before .before .before .before .before in
     let l = t .before .before .before .before .loop in
     (l .inv .0 ∙ sym (t .turn .kept .0), l .inv .1 ∙ sym (t .turn .kept .1 .1 .0), rw (c .before .n .given .1) at (t .turn .ensures))
 
--- src/main.rt:81:1
 returns-2 : tie.Need-returns-2 Inv-loop μ-loop
 returns-2 c = tt
 

@@ -1,81 +1,59 @@
+-- `runs::turn` meets its contract. Assumes nothing.
 use mathlib.Core.Path.{sym}
 use native.Mathlib.Omega.{arith}
 use lib.Seq.{length-take-le}
 use borrow.Author.Needs.{needs}
 use Rattle.runs.proofs.turn.Statement.{statement}
 use Rattle.runs.proofs.turn.Tie as tie
-use Rattle.runs.proofs.turn.Reads as reads
-use Rattle.runs.proofs.turn.Lts as lts
-use Rattle.runs.proofs.answer_block.Reads as answer-block-reads
-use Rattle.runs.proofs.answer_last.Reads as answer-last-reads
-use Rattle.runs.proofs.cutting.keep.Reads as keep-reads
-use Rattle.runs.proofs.read_after.Reads as read-after-reads
 
--- src/main.rt:68:9
 read-after-requires : tie.Need-read-after-requires
 read-after-requires c κs = search needs
 
--- src/main.rt:69:15
 add-end : tie.Need-add-end
 add-end c = search needs
 
--- src/main.rt:71:21
 slice-reshare-prefix-answer-last : tie.Need-slice-reshare-prefix-answer-last
 slice-reshare-prefix-answer-last c = search needs
 
--- src/main.rt:71:21
 slice-aggregate-answer-last : tie.Need-slice-aggregate-answer-last
 slice-aggregate-answer-last c = let k = c .before .before .before .before in sym (length-take-le _ (k .read-after .last .0) (k .read-after .ensures))
 
--- src/main.rt:71:9
 answer-last-requires : tie.Need-answer-last-requires
 answer-last-requires c κs = search needs
 
--- src/main.rt:72:9
 same-length : tie.Need-same-length
 same-length c = search needs
 
--- src/main.rt:72:9
 same-length-2 : tie.Need-same-length-2
 same-length-2 c = search needs
 
--- src/main.rt:72:9
 returns : tie.Need-returns
 returns c = search needs
 
--- src/main.rt:74:42
 slice-reshare-prefix-answer-block : tie.Need-slice-reshare-prefix-answer-block
 slice-reshare-prefix-answer-block c = search needs
 
--- src/main.rt:74:42
 slice-aggregate-answer-block : tie.Need-slice-aggregate-answer-block
 slice-aggregate-answer-block c = let k = c .before .before .before .before in sym (length-take-le _ (k .read-after .last .0) (k .read-after .ensures))
 
--- src/main.rt:74:29
 answer-block-requires : tie.Need-answer-block-requires
 answer-block-requires c κs = search needs
 
--- src/main.rt:74:21
 enum-known-from : tie.Need-enum-known-from
 enum-known-from c = search needs
 
--- src/main.rt:75:9
 enum-told : tie.Need-enum-told
 enum-told c = search needs
 
--- src/main.rt:75:9
 same-length-3 : tie.Need-same-length-3
 same-length-3 c = search needs
 
--- src/main.rt:75:9
 same-length-4 : tie.Need-same-length-4
 same-length-4 c = search needs
 
--- src/main.rt:75:9
 returns-2 : tie.Need-returns-2
 returns-2 c = search needs
 
--- src/main.rt:77:17
 keep-requires : tie.Need-keep-requires
 keep-requires c κs =
     let f = c .before .before in
@@ -84,15 +62,12 @@ keep-requires c κs =
     let t = rw (f .from .given .1) at (b .answer-block .ensures) in
     (omega (arith, t .0, length-take-le _ (k .read-after .last .0) (k .read-after .ensures)), k .read-after .ensures)
 
--- src/main.rt:64:1
 same-length-5 : tie.Need-same-length-5
 same-length-5 c = search needs
 
--- src/main.rt:64:1
 same-length-6 : tie.Need-same-length-6
 same-length-6 c = search needs
 
--- src/main.rt:64:1
 returns-3 : tie.Need-returns-3
 returns-3 c = search needs
 

@@ -1,17 +1,12 @@
-use mathlib.Core.Path.{_≡_, refl, sym, _∙_}
-use Prim.Native.Nat.{ℕ, _+_, _-_, _≤_}
+-- `cutting::answer_lines` meets its contract. The loop's invariant: the lines in the first bytes are answered. Assumes nothing.
+use Prim.Native.Nat.{_-_}
 use native.Mathlib.Omega.{arith}
-use borrow.Author.Needs.{needs}
 use denote.Ref.{now}
-use lib.ListN.{length, take, drop}
+use lib.ListN.{length}
 use Rattle.runs.proofs.Lines.{Going, going-first, going-full, going-open, end-le, answer-fits, going-on}
 use Rattle.util.proofs.Grow.{rest-is}
 use Rattle.runs.proofs.cutting.answer_lines.Statement.{statement}
 use Rattle.runs.proofs.cutting.answer_lines.Tie as tie
-use Rattle.runs.proofs.cutting.answer_lines.Reads as reads
-use Rattle.runs.proofs.cutting.answer_lines.Lts as lts
-use Rattle.lines.proofs.answer_line.Reads as answer-line-reads
-use Rattle.runs.proofs.cutting.line_end.Reads as line-end-reads
 
 abbrev Inv-loop : tie.InvT-loop
 Inv-loop input out₀ taken₀ written₀ out taken written = Going input out₀ out taken written
@@ -19,61 +14,48 @@ Inv-loop input out₀ taken₀ written₀ out taken written = Going input out₀
 abbrev μ-loop : tie.MeasureT-loop
 μ-loop input out₀ taken₀ written₀ out taken written = length input - taken
 
--- src/cutting.rt:34:5
 loop-holds : tie.Need-loop-holds Inv-loop μ-loop
 loop-holds c = going-first _ _
 
--- src/cutting.rt:34:33
 sub-loop : tie.Need-sub-loop Inv-loop μ-loop
 sub-loop c = omega arith
 
--- src/cutting.rt:35:13
 line-end-requires : tie.Need-line-end-requires Inv-loop μ-loop
 line-end-requires c κs = omega arith
 
--- src/cutting.rt:37:13
 same-length : tie.Need-same-length Inv-loop μ-loop
 same-length c = c .before .before .before .loop .inv .long
 
--- src/cutting.rt:37:13
 returns : tie.Need-returns Inv-loop μ-loop
 returns c =
     let l = c .before .before .before .loop in
     let a = c .before .before .before .before .before .before .args in
     going-open (now (a .input)) (now (a .out)) (l .out) (l .taken) (l .written) (l .inv) _ (c .before .line-end .ensures) (c .if1 .taken)
 
--- src/cutting.rt:39:39
 sub-answer-line : tie.Need-sub-answer-line Inv-loop μ-loop
 sub-answer-line c = omega arith
 
--- src/cutting.rt:39:39
 part-answer-line-start : tie.Need-part-answer-line-start Inv-loop μ-loop
 part-answer-line-start c = omega arith
 
--- src/cutting.rt:39:39
 part-answer-line-end : tie.Need-part-answer-line-end Inv-loop μ-loop
 part-answer-line-end c =
     let l = c .before .before .before .loop in
     let a = c .before .before .before .before .before .before .args in
     end-le (now (a .input)) (now (a .out)) (l .out) (l .taken) (l .written) (l .inv) _ (c .before .line-end .ensures)
 
--- src/cutting.rt:39:59
 sub-answer-line-2 : tie.Need-sub-answer-line-2 Inv-loop μ-loop
 sub-answer-line-2 c = omega arith
 
--- src/cutting.rt:39:59
 part-answer-line-start-2 : tie.Need-part-answer-line-start-2 Inv-loop μ-loop
 part-answer-line-start-2 c = omega arith
 
--- src/cutting.rt:39:59
 part-answer-line-end-2 : tie.Need-part-answer-line-end-2 Inv-loop μ-loop
 part-answer-line-end-2 c = omega arith
 
--- src/cutting.rt:39:20
 answer-line-requires : tie.Need-answer-line-requires Inv-loop μ-loop
 answer-line-requires c κs = tt
 
--- src/cutting.rt:39:9
 add-written : tie.Need-add-written Inv-loop μ-loop
 add-written c =
     let q = c .before .before in
@@ -83,7 +65,6 @@ add-written c =
     let a = e .before .before .before .before .before .args in
     let f = answer-fits (now (a .input)) (now (a .out)) (l .out) (l .taken) (l .written) (l .inv) _ (e .line-end .ensures) (i .if1 .left) (e .before .loop-test .taken) _ _ (rw (rest-is (l .out) (l .written)) at (q .answer-line .kept .1 .0)) (rw (rest-is (l .out) (l .written)) at (q .answer-line .ensures)) in omega (arith, f)
 
--- src/cutting.rt:40:17
 add-taken : tie.Need-add-taken Inv-loop μ-loop
 add-taken c =
     let e = c .before .before .before .before .before .before in
@@ -91,7 +72,6 @@ add-taken c =
     let a = e .before .before .before .before .before .args in
     omega (arith, end-le (now (a .input)) (now (a .out)) (l .out) (l .taken) (l .written) (l .inv) _ (e .line-end .ensures))
 
--- src/cutting.rt:34:5
 loop-less : tie.Need-loop-less Inv-loop μ-loop
 loop-less c =
     let e = c .before .before .before .before .before .before in
@@ -99,7 +79,6 @@ loop-less c =
     let a = e .before .before .before .before .before .args in
     omega (arith, e .line-end .ensures, end-le (now (a .input)) (now (a .out)) (l .out) (l .taken) (l .written) (l .inv) _ (e .line-end .ensures))
 
--- src/cutting.rt:34:5
 loop-again : tie.Need-loop-again Inv-loop μ-loop
 loop-again c =
     let q = c .before .before in
@@ -109,11 +88,9 @@ loop-again c =
     let a = e .before .before .before .before .before .args in
     going-on (now (a .input)) (now (a .out)) (l .out) (l .taken) (l .written) (l .inv) _ (e .line-end .ensures) (i .if1 .left) (e .before .loop-test .taken) _ _ (rw (rest-is (l .out) (l .written)) at (q .answer-line .kept .1 .0)) (rw (rest-is (l .out) (l .written)) at (q .answer-line .ensures))
 
--- src/cutting.rt:29:1
 same-length-2 : tie.Need-same-length-2 Inv-loop μ-loop
 same-length-2 c = c .before .loop .inv .long
 
--- src/cutting.rt:29:1
 returns-2 : tie.Need-returns-2 Inv-loop μ-loop
 returns-2 c =
     let l = c .before .loop in

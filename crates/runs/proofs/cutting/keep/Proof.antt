@@ -1,5 +1,6 @@
-use mathlib.Core.Path.{_≡_, refl, sym, _∙_}
-use Prim.Native.Nat.{ℕ, _+_, _-_, _<_, _≤_}
+-- `cutting::keep` meets its contract. The loop's invariant: the first i bytes are moved, and those still to be moved are as they were. Assumes nothing.
+use mathlib.Core.Path.{_≡_, refl}
+use Prim.Native.Nat.{_+_, _-_, _<_, _≤_}
 use native.Mathlib.Omega.{arith}
 use borrow.Author.Needs.{needs}
 use denote.Ref.{now}
@@ -7,9 +8,6 @@ use lib.ListN.{length, take, drop, length-set}
 use Rattle.runs.proofs.Lines.{moved-front, moved-rest}
 use Rattle.runs.proofs.cutting.keep.Statement.{statement}
 use Rattle.runs.proofs.cutting.keep.Tie as tie
-use Rattle.runs.proofs.cutting.keep.Reads as reads
-use Rattle.runs.proofs.cutting.keep.Lts as lts
-use Rattle.runs.proofs.cutting.least.Reads as least-reads
 
 abbrev Inv-loop : tie.InvT-loop
 Inv-loop input₀ from end n i₀ input i =
@@ -18,39 +16,30 @@ Inv-loop input₀ from end n i₀ input i =
 abbrev μ-loop : tie.MeasureT-loop
 μ-loop input₀ from end n i₀ input i = n - i
 
--- src/cutting.rt:51:19
 sub-least : tie.Need-sub-least Inv-loop μ-loop
 sub-least c = omega arith
 
--- src/cutting.rt:51:9
 least-requires : tie.Need-least-requires Inv-loop μ-loop
 least-requires c κs = search needs
 
--- src/cutting.rt:53:5
 loop-holds : tie.Need-loop-holds Inv-loop μ-loop
 loop-holds c = (omega arith, refl, refl, refl)
 
--- src/cutting.rt:54:26
 add-input : tie.Need-add-input Inv-loop μ-loop
 add-input c = omega arith
 
--- src/cutting.rt:54:20
 slice-read-input : tie.Need-slice-read-input Inv-loop μ-loop
 slice-read-input c = omega arith
 
--- src/cutting.rt:54:9
 slice-write-input : tie.Need-slice-write-input Inv-loop μ-loop
 slice-write-input c = omega arith
 
--- src/cutting.rt:55:9
 add-i : tie.Need-add-i Inv-loop μ-loop
 add-i c = omega arith
 
--- src/cutting.rt:53:5
 loop-less : tie.Need-loop-less Inv-loop μ-loop
 loop-less c = omega arith
 
--- src/cutting.rt:53:5
 loop-again : tie.Need-loop-again Inv-loop μ-loop
 loop-again c =
     let l = c .before .before .loop in
@@ -62,11 +51,9 @@ loop-again c =
       moved-rest (l .input) (now (a .input)) (a .from) (l .i) (l .inv .1) h (l .inv .2) (l .inv .3),
     )
 
--- src/cutting.rt:47:1
 same-length : tie.Need-same-length Inv-loop μ-loop
 same-length c = c .before .loop .inv .1
 
--- src/cutting.rt:47:1
 returns : tie.Need-returns Inv-loop μ-loop
 returns c =
     let e : c .before .loop .i ≡ c .before .before .least .result = omega arith in
