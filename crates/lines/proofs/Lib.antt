@@ -2,3 +2,4 @@
 pub mod Texts
 pub mod HexDigits
 pub mod Frames
+pub mod Examples

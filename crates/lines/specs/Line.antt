@@ -14,21 +14,22 @@ use Rattle.format.specs.Parse.{Parsed, end, got, refused, parse, into}
 use Rattle.format.specs.Promises.{answerOf}
 use Rattle.format.specs.declared.Answer.{Answer}
 use Rattle.format.specs.declared.Answer.the-variants.{End, Run, Refused}
+use Rattle.lines.specs.Ascii.{ascii}
 use Rattle.lines.specs.Hexadecimal.{allHex, hexBytes}
 use Rattle.lines.specs.Decimal.{decimal, rowsText}
 
--- The fixed words: "run ", "refused ", "end", "bad line".
+-- The fixed words.
 abbrev pub runWord : List ℕ
-runWord = 114 ∷ 117 ∷ 110 ∷ 32 ∷ []
+runWord = ascii "run "
 
 abbrev pub refusedWord : List ℕ
-refusedWord = 114 ∷ 101 ∷ 102 ∷ 117 ∷ 115 ∷ 101 ∷ 100 ∷ 32 ∷ []
+refusedWord = ascii "refused "
 
 abbrev pub endWord : List ℕ
-endWord = 101 ∷ 110 ∷ 100 ∷ []
+endWord = ascii "end"
 
 abbrev pub badWord : List ℕ
-badWord = 98 ∷ 97 ∷ 100 ∷ 32 ∷ 108 ∷ 105 ∷ 110 ∷ 101 ∷ []
+badWord = ascii "bad line"
 
 -- A line that is empty, odd, over 8,800 characters, not hexadecimal or with another flag (00 unsigned, 01 signed) is bad.
 unfoldable pub badLine : List ℕ → Bool
@@ -42,7 +43,7 @@ badLine line =
 -- The numbers after `run` are rows, bytes consumed, then the rows as i64.
 unfoldable pub answerWords : Answer → List ℤ → List ℕ
 answerWords End rows = endWord
-answerWords (Run r) rows = runWord ++ decimal (r .rows .rows) ++ (32 ∷ decimal (r .consumed .bytes)) ++ rowsText rows
+answerWords (Run r) rows = runWord ++ decimal (r .rows .rows) ++ (ascii " " ++ decimal (r .consumed .bytes)) ++ rowsText rows
 answerWords (Refused f) rows = refusedWord ++ decimal (f .number)
 
 -- the rows of what was read
@@ -70,7 +71,7 @@ answerText line = frameText (frameOf line)
 
 -- the line that is written: the answer and a newline; none where fewer than 11,310 bytes are lent, which is room for any
 unfoldable pub answerLine : ℕ → List ℕ → List ℕ
-answerLine room line = pick (ltb room 11310) [] (answerText line ++ (10 ∷ []))
+answerLine room line = pick (ltb room 11310) [] (answerText line ++ ascii "\n")
 
 -- the first n places hold the bytes of a line
 pub record Framed (line frame : List ℕ) (n : ℕ) : Type 0 where

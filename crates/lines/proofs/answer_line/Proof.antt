@@ -1,48 +1,34 @@
+-- `lines::answer_line` meets its promise, for bad lines and for too little room too. Assumes nothing.
 use native.Mathlib.Omega.{arith}
 use denote.Ref.{now}
-use Rattle.lines.specs.Line.{answerText}
 use Rattle.lines.proofs.Frames.{frame-long, frame-fits, text-of, text-bad, answered-none, answered}
 use borrow.Author.Needs.{needs}
 use Rattle.lines.proofs.answer_line.Statement.{statement}
 use Rattle.lines.proofs.answer_line.Tie as tie
-use Rattle.lines.proofs.answer_line.Reads as reads
-use Rattle.lines.proofs.answer_line.Lts as lts
-use Rattle.lines.proofs.frame_of.Reads as frame-of-reads
-use Rattle.lines.proofs.frame_places.Reads as frame-places-reads
-use Rattle.lines.proofs.put_frame.Reads as put-frame-reads
-use Rattle.lines.proofs.text.put_word.Reads as put-word-reads
 
--- src/lib.rt:120:9
 returns : tie.Need-returns
 returns c =
     let a = c .before .before .before .args in
     answered-none (now (a .line)) (now (a .out)) (now (a .out)) (c .if1 .taken)
 
--- src/lib.rt:122:21
 frame-places-requires : tie.Need-frame-places-requires
 frame-places-requires c κs = search needs
 
--- src/lib.rt:123:28
 slice-aggregate-frame-of : tie.Need-slice-aggregate-frame-of
 slice-aggregate-frame-of c = search needs
 
--- src/lib.rt:123:9
 frame-of-requires : tie.Need-frame-of-requires
 frame-of-requires c κs = search needs
 
--- src/lib.rt:125:25
 slice-aggregate-put-word : tie.Need-slice-aggregate-put-word
 slice-aggregate-put-word c = search needs
 
--- src/lib.rt:125:9
 put-word-requires : tie.Need-put-word-requires
 put-word-requires c κs = search needs
 
--- src/lib.rt:125:9
 same-length : tie.Need-same-length
 same-length c = search needs
 
--- src/lib.rt:125:9
 returns-2 : tie.Need-returns-2
 returns-2 c =
     let p = c .before .before in
@@ -53,27 +39,22 @@ returns-2 c =
     answered (now (a .line)) (now (a .out)) _ _ (e .if1 .left)
     (rw (text-bad _ _ _ (f .frame-of .ensures) (i .if2 .taken)) (p .put-word .ensures))
 
--- src/lib.rt:127:15
 array-share-prefix-frame : tie.Need-array-share-prefix-frame
 array-share-prefix-frame c =
     frame-fits _ _ _ (c .before .before .frame-of .ensures)
 
--- src/lib.rt:127:15
 slice-aggregate-put-frame : tie.Need-slice-aggregate-put-frame
 slice-aggregate-put-frame c =
     frame-long _ _ _ (c .before .before .before .frame-of .ensures)
 
--- src/lib.rt:127:5
 put-frame-requires : tie.Need-put-frame-requires
 put-frame-requires c κs =
     let f = c .before .before .before .before in
     (omega (arith, frame-long _ _ _ (f .frame-of .ensures)), omega arith)
 
--- src/lib.rt:116:1
 same-length-2 : tie.Need-same-length-2
 same-length-2 c = search needs
 
--- src/lib.rt:116:1
 returns-3 : tie.Need-returns-3
 returns-3 c =
     let p = c .before .before in

@@ -1,3 +1,4 @@
+-- `lines::frame_of` meets its contract, test by test. Assumes nothing.
 use mathlib.Core.Path.{sym, _∙_}
 use denote.Ref.{now}
 use native.Mathlib.Omega.{arith}
@@ -5,37 +6,28 @@ use Rattle.lines.proofs.Frames.{bad-empty, bad-odd, bad-long, bad-digit
 use borrow.Author.Needs.{needs}
 use Rattle.lines.proofs.frame_of.Statement.{statement}
 use Rattle.lines.proofs.frame_of.Tie as tie
-use Rattle.lines.proofs.frame_of.Reads as reads
-use Rattle.lines.proofs.frame_of.Lts as lts
-use Rattle.lines.proofs.hexadecimal.bytes.Reads as bytes-reads
 
--- src/lib.rt:85:9
 returns : tie.Need-returns
 returns c =
     let a = c .before .before .before .args in
     bad-empty (now (a .line)) (now (a .frame)) (c .if1 .taken)
 
--- src/lib.rt:88:9
 returns-2 : tie.Need-returns-2
 returns-2 c =
     let a = c .before .before .before .before .args in
     bad-odd (now (a .line)) (now (a .frame)) (c .before .if1 .left) (c .if2 .taken)
 
--- src/lib.rt:91:9
 returns-3 : tie.Need-returns-3
 returns-3 c =
     let a = c .before .before .before .before .before .args in
     bad-long (now (a .line)) (now (a .frame)) (c .before .before .if1 .left) (c .before .if2 .left) (c .if3 .taken)
 
--- src/lib.rt:93:9
 bytes-requires : tie.Need-bytes-requires
 bytes-requires c κs = search needs
 
--- src/lib.rt:94:9
 same-length : tie.Need-same-length
 same-length c = search needs
 
--- src/lib.rt:94:9
 returns-4 : tie.Need-returns-4
 returns-4 c =
     let b = c .before .before .before in
@@ -43,15 +35,12 @@ returns-4 c =
     let a = i .before .before .before .before .before .args in
     bad-digit (now (a .line)) _ (i .before .before .if1 .left) (i .before .if2 .left) (i .if3 .left) (sym (b .bytes .ensures .0) ∙ off _ (c .if4 .taken))
 
--- src/lib.rt:96:12
 slice-read-if5 : tie.Need-slice-read-if5
 slice-read-if5 c = search needs
 
--- src/lib.rt:97:9
 same-length-2 : tie.Need-same-length-2
 same-length-2 c = search needs
 
--- src/lib.rt:97:9
 returns-5 : tie.Need-returns-5
 returns-5 c =
     let b = c .before .before .before .before .before in
@@ -60,11 +49,9 @@ returns-5 c =
     let t = on _ (c .before .before .if4 .left) in
     bad-flag (now (a .line)) _ (i .before .before .if1 .left) (i .before .if2 .left) (i .if3 .left) (sym (b .bytes .ensures .0) ∙ t) (b .bytes .ensures .1 t) (omega (arith, b .bytes .kept .1 .1 .0)) (c .if5 .taken)
 
--- src/lib.rt:79:1
 same-length-3 : tie.Need-same-length-3
 same-length-3 c = search needs
 
--- src/lib.rt:79:1
 returns-6 : tie.Need-returns-6
 returns-6 c =
     let b = c .before .before .before .before .before in

@@ -1,54 +1,40 @@
+-- `lines::put_answer` meets its contract, answer by answer. Assumes nothing.
 use native.Mathlib.Omega.{arith}
 use Rattle.lines.specs.Line.{answerWords}
 use Rattle.lines.proofs.Texts.{decimal-length, then-written}
 use borrow.Author.Needs.{needs}
 use Rattle.lines.proofs.put_answer.Statement.{statement}
 use Rattle.lines.proofs.put_answer.Tie as tie
-use Rattle.lines.proofs.put_answer.Reads as reads
-use Rattle.lines.proofs.put_answer.Lts as lts
-use Rattle.lines.proofs.put_run.Reads as put-run-reads
-use Rattle.lines.proofs.text.put_decimal.Reads as put-decimal-reads
-use Rattle.lines.proofs.text.put_word.Reads as put-word-reads
 
--- src/lib.rt:46:33
 enum-told : tie.Need-enum-told
 enum-told c = search needs
 
--- src/lib.rt:46:33
 slice-aggregate-put-word : tie.Need-slice-aggregate-put-word
 slice-aggregate-put-word c = search needs
 
--- src/lib.rt:46:24
 put-word-requires : tie.Need-put-word-requires
 put-word-requires c κs = search needs
 
--- src/lib.rt:47:21
 enum-known-answer : tie.Need-enum-known-answer
 enum-known-answer c = search needs
 
--- src/lib.rt:47:29
 put-run-requires : tie.Need-put-run-requires
 put-run-requires c κs =
     let a = c .before .before in
     rw (a .answer .given .1) at (a .before .before .before .pre)
 
--- src/lib.rt:48:25
 enum-known-answer-2 : tie.Need-enum-known-answer-2
 enum-known-answer-2 c = search needs
 
--- src/lib.rt:49:31
 slice-aggregate-put-word-2 : tie.Need-slice-aggregate-put-word-2
 slice-aggregate-put-word-2 c = search needs
 
--- src/lib.rt:49:17
 put-word-requires-2 : tie.Need-put-word-requires-2
 put-word-requires-2 c κs = search needs
 
--- src/lib.rt:50:25
 cast-put-decimal : tie.Need-cast-put-decimal
 cast-put-decimal c = search needs
 
--- src/lib.rt:50:13
 put-decimal-requires : tie.Need-put-decimal-requires
 put-decimal-requires c κs =
     let w = c .before .before .before .before in
@@ -56,33 +42,27 @@ put-decimal-requires c κs =
     let s = a .before .before .before in
     omega (arith, s .pre, w .put-word2 .ensures .next, w .put-word2 .kept .1 .0, decimal-length (a .answer2 .given .0 .0 .number))
 
--- src/lib.rt:41:1
 same-length : tie.Need-same-length
 same-length c = search needs
 
--- src/lib.rt:41:1
 returns : tie.Need-returns
 unfolding answerWords
 returns c =
     let w = c .before .before in
     rw (w .before .before .before .enum-told .given .1) (w .put-word .ensures)
 
--- src/lib.rt:41:1
 same-length-2 : tie.Need-same-length-2
 same-length-2 c = search needs
 
--- src/lib.rt:41:1
 returns-2 : tie.Need-returns-2
 unfolding answerWords
 returns-2 c =
     let p = c .before .before in
     rw (p .before .before .before .answer .given .1) (p .put-run .ensures)
 
--- src/lib.rt:41:1
 same-length-3 : tie.Need-same-length-3
 same-length-3 c = search needs
 
--- src/lib.rt:41:1
 returns-3 : tie.Need-returns-3
 unfolding answerWords
 returns-3 c =

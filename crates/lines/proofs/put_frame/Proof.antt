@@ -1,47 +1,31 @@
-use mathlib.Core.Path.{_≡_, sym, ap, _∙_}
-use Prim.Native.Nat.{_≤_}
+-- `lines::put_frame` meets its contract: what the run reader promises, in words. Assumes nothing.
+use mathlib.Core.Path.{sym, _∙_}
 use native.Mathlib.Omega.{arith}
 use denote.Ref.{now}
-use lib.ListN.{length, take, length-take}
-use Rattle.format.specs.Answers.{answerRows}
 use Rattle.lines.proofs.Texts.{then-written}
 use Rattle.lines.proofs.Frames.{reads, frame-text, words-length}
 use borrow.Author.Needs.{needs}
 use Rattle.lines.proofs.put_frame.Statement.{statement}
 use Rattle.lines.proofs.put_frame.Tie as tie
-use Rattle.lines.proofs.put_frame.Reads as reads
-use Rattle.lines.proofs.put_frame.Lts as lts
-use Rattle.format.proofs.ByteOffset.new.Reads as new-reads
-use Rattle.lines.proofs.put_answer.Reads as put-answer-reads
-use Rattle.lines.proofs.row_places.Reads as row-places-reads
-use Rattle.lines.proofs.text.put.Reads as put-reads
-use Rattle.rle_v2.proofs.read_run.Reads as read-run-reads
 
--- src/lib.rt:107:20
 row-places-requires : tie.Need-row-places-requires
 row-places-requires c κs = search needs
 
--- src/lib.rt:108:18
 shared-slice-read-signed : tie.Need-shared-slice-read-signed
 shared-slice-read-signed c = search needs
 
--- src/lib.rt:109:42
 new-requires : tie.Need-new-requires
 new-requires c κs = search needs
 
--- src/lib.rt:109:70
 slice-aggregate-read-run : tie.Need-slice-aggregate-read-run
 slice-aggregate-read-run c = search needs
 
--- src/lib.rt:109:9
 read-run-requires : tie.Need-read-run-requires
 read-run-requires c κs = search needs
 
--- src/lib.rt:110:33
 slice-aggregate-put-answer : tie.Need-slice-aggregate-put-answer
 slice-aggregate-put-answer c = search needs
 
--- src/lib.rt:110:9
 put-answer-requires : tie.Need-put-answer-requires
 put-answer-requires c κs =
     let r = c .before .before .before in

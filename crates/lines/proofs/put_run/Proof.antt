@@ -1,31 +1,22 @@
+-- `lines::put_run` meets its contract: five texts, one after the other. Assumes nothing.
 use native.Mathlib.Omega.{arith}
 use Rattle.lines.proofs.Texts.{decimal-length, then-written}
 use borrow.Author.Needs.{needs}
 use Rattle.lines.proofs.put_run.Statement.{statement}
 use Rattle.lines.proofs.put_run.Tie as tie
-use Rattle.lines.proofs.put_run.Reads as reads
-use Rattle.lines.proofs.put_run.Lts as lts
-use Rattle.lines.proofs.text.put.Reads as put-reads
-use Rattle.lines.proofs.text.put_decimal.Reads as put-decimal-reads
-use Rattle.lines.proofs.text.put_rows.Reads as put-rows-reads
-use Rattle.lines.proofs.text.put_word.Reads as put-word-reads
 
--- src/lib.rt:33:27
 slice-aggregate-put-word : tie.Need-slice-aggregate-put-word
 slice-aggregate-put-word c = search needs
 
--- src/lib.rt:33:9
 put-word-requires : tie.Need-put-word-requires
 put-word-requires c κs = search needs
 
--- src/lib.rt:34:5
 put-decimal-requires : tie.Need-put-decimal-requires
 put-decimal-requires c κs =
     let w = c .before .before .before in
     let s = w .before .before .before .before in
     omega (arith, s .pre, w .put-word .ensures .next, w .put-word .kept .1 .0, decimal-length (s .args .rows))
 
--- src/lib.rt:35:5
 put-requires : tie.Need-put-requires
 put-requires c κs =
     let d = c .before .before .before in
@@ -33,7 +24,6 @@ put-requires c κs =
     let s = w .before .before .before .before in
     omega (arith, s .pre, w .put-word .ensures .next, w .put-word .kept .1 .0, decimal-length (s .args .rows), d .put-decimal .ensures .next, d .put-decimal .kept .1 .0)
 
--- src/lib.rt:36:5
 put-decimal-requires-2 : tie.Need-put-decimal-requires-2
 put-decimal-requires-2 c κs =
     let p = c .before .before .before in
@@ -53,7 +43,6 @@ put-decimal-requires-2 c κs =
       decimal-length (s .args .consumed),
     )
 
--- src/lib.rt:37:5
 put-rows-requires : tie.Need-put-rows-requires
 put-rows-requires c κs =
     let e = c .before .before .before in
@@ -78,11 +67,9 @@ put-rows-requires c κs =
       ),
     )
 
--- src/lib.rt:29:1
 same-length : tie.Need-same-length
 same-length c = search needs
 
--- src/lib.rt:29:1
 returns : tie.Need-returns
 returns c =
     let r = c .before .before in

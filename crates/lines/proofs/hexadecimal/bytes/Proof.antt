@@ -1,18 +1,17 @@
-use mathlib.Core.Path.{_≡_, refl, sym, ap, _∙_}
+-- `hexadecimal::bytes` meets its contract. The loop's invariant: what stands so far, then the bytes of the rest of the line, is the whole; and the
+-- line is hexadecimal if its rest is. Assumes nothing.
+use mathlib.Core.Path.{_≡_, refl, sym, _∙_}
 use Prim.Native.Nat.{ℕ, _+_, _-_, _*_, _<_, _≤_}
 use mathlib.Core.Bool.{Bool, true, false}
 use mathlib.Core.List.{[], _++_, append-nil}
 use native.Mathlib.Omega.{arith}
 use denote.Ref.{now}
-use lib.ListN.{length, take, drop, getD, length-set, drop-of-length-le}
+use lib.ListN.{length, take, drop, length-set, drop-of-length-le}
 use Rattle.util.proofs.Grow.{grow}
-use Rattle.lines.specs.Hexadecimal.{hexValue, allHex, hexBytes}
+use Rattle.lines.specs.Hexadecimal.{allHex, hexBytes}
 use Rattle.lines.proofs.HexDigits.{not-high, not-low, both, byte-here}
 use Rattle.lines.proofs.hexadecimal.bytes.Statement.{statement}
 use Rattle.lines.proofs.hexadecimal.bytes.Tie as tie
-use Rattle.lines.proofs.hexadecimal.bytes.Reads as reads
-use Rattle.lines.proofs.hexadecimal.bytes.Lts as lts
-use Rattle.lines.proofs.hexadecimal.digit.Reads as digit-reads
 
 abbrev Inv-loop : tie.InvT-loop
 Inv-loop line n frame₀ i₀ frame i =
@@ -33,43 +32,33 @@ refused e = (
       absurd (omega arith),
 )
 
--- src/hexadecimal.rt:35:5
 loop-holds : tie.Need-loop-holds Inv-loop μ-loop
 loop-holds c = (omega arith, refl, refl, refl)
 
--- src/hexadecimal.rt:36:31
 mul-digit : tie.Need-mul-digit Inv-loop μ-loop
 mul-digit c = omega arith
 
--- src/hexadecimal.rt:36:26
 shared-slice-read-digit : tie.Need-shared-slice-read-digit Inv-loop μ-loop
 shared-slice-read-digit c = omega arith
 
--- src/hexadecimal.rt:36:13
 digit-requires : tie.Need-digit-requires Inv-loop μ-loop
 digit-requires c κs = tt
 
--- src/hexadecimal.rt:37:30
 mul-digit-2 : tie.Need-mul-digit-2 Inv-loop μ-loop
 mul-digit-2 c = omega arith
 
--- src/hexadecimal.rt:37:30
 add-digit : tie.Need-add-digit Inv-loop μ-loop
 add-digit c = omega arith
 
--- src/hexadecimal.rt:37:25
 shared-slice-read-digit-2 : tie.Need-shared-slice-read-digit-2 Inv-loop μ-loop
 shared-slice-read-digit-2 c = omega arith
 
--- src/hexadecimal.rt:37:13
 digit-requires-2 : tie.Need-digit-requires-2 Inv-loop μ-loop
 digit-requires-2 c κs = tt
 
--- src/hexadecimal.rt:39:13
 same-length : tie.Need-same-length Inv-loop μ-loop
 same-length c = c .before .before .before .before .before .before .loop .inv .1
 
--- src/hexadecimal.rt:39:13
 returns : tie.Need-returns Inv-loop μ-loop
 returns c =
     let g = c .before .before .before in
@@ -77,11 +66,9 @@ returns c =
     let s = now (g .before .before .before .before .before .before .args .line) in
     refused (sym (l .inv .2 ∙ not-high s (2 * l .i) (omega arith) (omega (arith, g .digit .ensures))))
 
--- src/hexadecimal.rt:42:13
 same-length-2 : tie.Need-same-length-2 Inv-loop μ-loop
 same-length-2 c = c .before .before .before .before .before .before .before .loop .inv .1
 
--- src/hexadecimal.rt:42:13
 returns-2 : tie.Need-returns-2 Inv-loop μ-loop
 returns-2 c =
     let b = c .before .before in
@@ -90,27 +77,21 @@ returns-2 c =
     let s = now (g .before .before .before .before .before .before .args .line) in
     refused (sym (l .inv .2 ∙ not-low s (2 * l .i) (omega arith) (omega (arith, g .digit .ensures)) (omega (arith, b .digit2 .ensures))))
 
--- src/hexadecimal.rt:44:20
 mul-frame : tie.Need-mul-frame Inv-loop μ-loop
 mul-frame c = omega arith
 
--- src/hexadecimal.rt:44:20
 add-frame : tie.Need-add-frame Inv-loop μ-loop
 add-frame c = omega arith
 
--- src/hexadecimal.rt:44:9
 slice-write-frame : tie.Need-slice-write-frame Inv-loop μ-loop
 slice-write-frame c = omega arith
 
--- src/hexadecimal.rt:45:9
 add-i : tie.Need-add-i Inv-loop μ-loop
 add-i c = omega arith
 
--- src/hexadecimal.rt:35:5
 loop-less : tie.Need-loop-less Inv-loop μ-loop
 loop-less c = omega arith
 
--- src/hexadecimal.rt:35:5
 loop-again : tie.Need-loop-again Inv-loop μ-loop
 loop-again c =
     let b = c .before .before in
@@ -126,11 +107,9 @@ loop-again c =
       rw (z, g .digit .ensures, b .digit2 .ensures) (grow (l .frame) (l .i) _ _ _ (omega arith) (rw (byte-here s p h) at (l .inv .3))),
     )
 
--- src/hexadecimal.rt:30:1
 same-length-3 : tie.Need-same-length-3 Inv-loop μ-loop
 same-length-3 c = c .before .loop .inv .1
 
--- src/hexadecimal.rt:30:1
 returns-3 : tie.Need-returns-3 Inv-loop μ-loop
 unfolding allHex hexBytes
 returns-3 c =

@@ -1,4 +1,5 @@
-use mathlib.Core.Path.{_≡_, ap}
+-- `text::put_row` meets its contract, by the row's 64 bits. Assumes nothing.
+use mathlib.Core.Path.{ap}
 use native.Mathlib.Omega.{arith}
 use lib.ListN.{length}
 use mir.Facts.{toZ-ofZ}
@@ -6,17 +7,10 @@ use Rattle.lines.proofs.Texts.{row-low, row-high, then-written}
 use borrow.Author.Needs.{needs}
 use Rattle.lines.proofs.text.put_row.Statement.{statement}
 use Rattle.lines.proofs.text.put_row.Tie as tie
-use Rattle.lines.proofs.text.put_row.Reads as reads
-use Rattle.lines.proofs.text.put_row.Lts as lts
-use Rattle.lines.proofs.text.put.Reads as put-reads
-use Rattle.lines.proofs.text.put_decimal.Reads as put-decimal-reads
-use Rattle.util.proofs.pattern.to_u64.Reads as to-u64-reads
 
--- src/text.rt:58:9
 to-u64-requires : tie.Need-to-u64-requires
 to-u64-requires c κs = search needs
 
--- src/text.rt:60:9
 put-decimal-requires : tie.Need-put-decimal-requires
 put-decimal-requires c κs =
     let u = c .before .before in
@@ -24,11 +18,9 @@ put-decimal-requires c κs =
     let e = row-low (s .args .row) _ (s .fits .row) (rw (toZ-ofZ (s .fits .row)) at (u .to-u64 .ensures)) (c .before .if1 .taken) in
     omega (arith, s .pre, ap length e)
 
--- src/text.rt:60:9
 same-length : tie.Need-same-length
 same-length c = search needs
 
--- src/text.rt:60:9
 returns : tie.Need-returns
 returns c =
     let p = c .before .before in
@@ -36,7 +28,6 @@ returns c =
     let s = u .before .before in
     rw (row-low (s .args .row) _ (s .fits .row) (rw (toZ-ofZ (s .fits .row)) at (u .to-u64 .ensures)) (p .before .before .if1 .taken)) (p .put-decimal .ensures)
 
--- src/text.rt:62:9
 put-requires : tie.Need-put-requires
 put-requires c κs =
     let u = c .before .before in
@@ -44,15 +35,12 @@ put-requires c κs =
     let e = row-high (s .args .row) _ (s .fits .row) (rw (toZ-ofZ (s .fits .row)) at (u .to-u64 .ensures)) (c .before .if1 .left) in
     omega (arith, s .pre, ap length e)
 
--- src/text.rt:63:17
 sub-put-decimal : tie.Need-sub-put-decimal
 sub-put-decimal c = search needs
 
--- src/text.rt:63:17
 add-put-decimal : tie.Need-add-put-decimal
 add-put-decimal c = search needs
 
--- src/text.rt:63:5
 put-decimal-requires-2 : tie.Need-put-decimal-requires-2
 put-decimal-requires-2 c κs =
     let p = c .before .before .before in
@@ -61,11 +49,9 @@ put-decimal-requires-2 c κs =
     let e = row-high (s .args .row) _ (s .fits .row) (rw (toZ-ofZ (s .fits .row)) at (u .to-u64 .ensures)) (p .before .before .if1 .left) in
     omega (arith, s .pre, ap length e, p .put .ensures .next, p .put .kept .1 .0)
 
--- src/text.rt:54:1
 same-length-2 : tie.Need-same-length-2
 same-length-2 c = search needs
 
--- src/text.rt:54:1
 returns-2 : tie.Need-returns-2
 returns-2 c =
     let q = c .before .before in

@@ -1,22 +1,19 @@
+-- `text::put_rows` meets its contract. The loop's invariant: the first i rows are written. Assumes nothing.
 use mir.Val.{toZ, ofZ}
 use mir.Syntax.{w64}
 use mathlib.Core.Path.{_≡_, refl, _∙_}
-use Prim.Native.Nat.{ℕ, _+_, _-_, _*_, _≤_}
+use Prim.Native.Nat.{_+_, _-_, _*_, _≤_}
 use native.Mathlib.Omega.{arith}
-use borrow.Author.Needs.{needs, sfits-of}
+use borrow.Author.Needs.{sfits-of}
 use denote.Ref.{now}
 use lib.ListN.{length, take, getD}
 use lib.IntN.{pos}
 use mir.Facts.{toZ-ofZ}
-use Rattle.lines.specs.Decimal.{rowText, rowsText}
+use Rattle.lines.specs.Decimal.{rowsText}
 use Rattle.lines.specs.Written.{Written}
 use Rattle.lines.proofs.Texts.{none-written, then-written, row-length, rows-next}
 use Rattle.lines.proofs.text.put_rows.Statement.{statement}
 use Rattle.lines.proofs.text.put_rows.Tie as tie
-use Rattle.lines.proofs.text.put_rows.Reads as reads
-use Rattle.lines.proofs.text.put_rows.Lts as lts
-use Rattle.lines.proofs.text.put.Reads as put-reads
-use Rattle.lines.proofs.text.put_row.Reads as put-row-reads
 
 abbrev Inv-loop : tie.InvT-loop
 Inv-loop rows n out₀ at place₀ i₀ out place i =
@@ -25,36 +22,28 @@ Inv-loop rows n out₀ at place₀ i₀ out place i =
 abbrev μ-loop : tie.MeasureT-loop
 μ-loop rows n out₀ at place₀ i₀ out place i = n - i
 
--- src/text.rt:73:5
 loop-holds : tie.Need-loop-holds Inv-loop μ-loop
 unfolding rowsText
 loop-holds c = let a = c .before .args in (omega arith, omega arith, refl, none-written (now (a .out)) (a .at))
 
--- src/text.rt:74:13
 put-requires : tie.Need-put-requires Inv-loop μ-loop
 put-requires c κs = omega arith
 
--- src/text.rt:75:25
 mul-put-row : tie.Need-mul-put-row Inv-loop μ-loop
 mul-put-row c = omega arith
 
--- src/text.rt:75:25
 shared-slice-copy-out-put-row : tie.Need-shared-slice-copy-out-put-row Inv-loop μ-loop
 shared-slice-copy-out-put-row c = omega arith
 
--- src/text.rt:75:9
 put-row-requires : tie.Need-put-row-requires Inv-loop μ-loop
 put-row-requires c κs = let p = c .before .before .before .before in omega (arith, row-length (toZ w64 (ofZ w64 (getD (now (p .before .before .before .before .before .args .rows)) (p .before .before .before .loop .i) (pos 0)))), p .put .ensures .next, p .put .kept .1 .0)
 
--- src/text.rt:76:9
 add-i : tie.Need-add-i Inv-loop μ-loop
 add-i c = omega arith
 
--- src/text.rt:73:5
 loop-less : tie.Need-loop-less Inv-loop μ-loop
 loop-less c = omega arith
 
--- src/text.rt:73:5
 loop-again : tie.Need-loop-again Inv-loop μ-loop
 loop-again c =
     let q = c .before .before in
@@ -71,11 +60,9 @@ loop-again c =
       rw (rows-next rows (l .i) (omega arith)) (then-written (omega arith) (then-written (omega arith) (l .inv .3) (p .put .ensures)) w),
     )
 
--- src/text.rt:67:1
 same-length : tie.Need-same-length Inv-loop μ-loop
 same-length c = c .before .loop .inv .2
 
--- src/text.rt:67:1
 returns : tie.Need-returns Inv-loop μ-loop
 returns c =
     let e : c .before .loop .i ≡ c .before .before .before .args .n = omega arith in

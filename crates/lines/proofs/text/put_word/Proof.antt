@@ -1,8 +1,8 @@
+-- `text::put_word` meets its contract. The loop's invariant: the first i characters are written. Assumes nothing.
 use mathlib.Core.Path.{_≡_, refl, _∙_}
-use Prim.Native.Nat.{ℕ, _+_, _-_, _≤_}
+use Prim.Native.Nat.{_+_, _-_, _≤_}
 use native.Mathlib.Omega.{arith}
 use native.Mathlib.Numerals.{add-one}
-use borrow.Author.Needs.{needs}
 use denote.Ref.{now}
 use lib.ListN.{length, take}
 use lib.Seq.{take-suc, take-length}
@@ -10,9 +10,6 @@ use Rattle.lines.specs.Written.{Written}
 use Rattle.lines.proofs.Texts.{none-written, then-written}
 use Rattle.lines.proofs.text.put_word.Statement.{statement}
 use Rattle.lines.proofs.text.put_word.Tie as tie
-use Rattle.lines.proofs.text.put_word.Reads as reads
-use Rattle.lines.proofs.text.put_word.Lts as lts
-use Rattle.lines.proofs.text.put.Reads as put-reads
 
 abbrev Inv-loop : tie.InvT-loop
 Inv-loop word out₀ at place₀ i₀ out place i =
@@ -21,27 +18,21 @@ Inv-loop word out₀ at place₀ i₀ out place i =
 abbrev μ-loop : tie.MeasureT-loop
 μ-loop word out₀ at place₀ i₀ out place i = length word - i
 
--- src/text.rt:26:5
 loop-holds : tie.Need-loop-holds Inv-loop μ-loop
 loop-holds c = let a = c .before .before .args in (omega arith, omega arith, refl, none-written (now (a .out)) (a .at))
 
--- src/text.rt:27:21
 shared-slice-read-put : tie.Need-shared-slice-read-put Inv-loop μ-loop
 shared-slice-read-put c = omega arith
 
--- src/text.rt:27:9
 put-requires : tie.Need-put-requires Inv-loop μ-loop
 put-requires c κs = omega arith
 
--- src/text.rt:28:9
 add-i : tie.Need-add-i Inv-loop μ-loop
 add-i c = omega arith
 
--- src/text.rt:26:5
 loop-less : tie.Need-loop-less Inv-loop μ-loop
 loop-less c = omega arith
 
--- src/text.rt:26:5
 loop-again : tie.Need-loop-again Inv-loop μ-loop
 loop-again c =
     let p = c .before .before in
@@ -54,11 +45,9 @@ loop-again c =
       rw (add-one, take-suc (now (s .args .word)) (l .i) 0 (omega arith)) w,
     )
 
--- src/text.rt:20:1
 same-length : tie.Need-same-length Inv-loop μ-loop
 same-length c = c .before .loop .inv .2
 
--- src/text.rt:20:1
 returns : tie.Need-returns Inv-loop μ-loop
 returns c =
     let w = now (c .before .before .before .before .args .word) in
