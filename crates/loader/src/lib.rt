@@ -3,7 +3,8 @@ ghost use mathlib.Core.Path.{_≡_};
 ghost use mathlib.Core.List.{_++_};
 ghost use Prim.Native.Nat.{_+_, _*_, _≤_};
 ghost use lib.ListN.{length, take, drop};
-ghost use Rattle.format.specs.Parse.{parse, into};
+ghost use mathlib.Core.Bool.{true};
+ghost use Rattle.loader.specs.Room.{Enough};
 ghost use Rattle.format.specs.Loader.{lowestFirst, rowBytes, Loaded, LoadedAs};
 use format::ByteOffset;
 use format::Kind;
@@ -44,7 +45,7 @@ fn least(a: usize, b: usize) -> usize
 
 // Reads a run into the rows, of which there are enough for it, and lays them out as bytes.
 fn read_by(input: &[u8], signed: bool, rows: &mut [i64], out: &mut [u8]) -> u64
-    requires { ⌜ into (length (now rows)) (parse (now input)) ≡ parse (now input) ⌝ }
+    requires { ⌜ Enough (length (now rows)) (now input) ⌝ }
     ensures { λ r. ⌜ LoadedAs (now (input .entry)) signed (now (out .entry)) (now (out .exit)) r ⌝ }
 {
     let places = least(out.len() / 8, rows.len());
@@ -53,13 +54,26 @@ fn read_by(input: &[u8], signed: bool, rows: &mut [i64], out: &mut [u8]) -> u64
     answer.packed()
 }
 
-// Places for the rows of a short repeat, and of any run. What stands in them is of no account.
+// Places for the rows of a short run, and of any. What stands in them is of no account.
 fn few_rows() -> [i64; Kind::MAX_REPEAT] {
     [0; Kind::MAX_REPEAT]
 }
 
 fn all_rows() -> [i64; Kind::MAX_ROWS] {
     [0; Kind::MAX_ROWS]
+}
+
+// Whether ten rows are enough for the run that the input begins with: a short repeat, or a header that says ten rows at most.
+fn is_short(input: &[u8]) -> bool
+    ensures { λ r. ⌜ (r ≡ true → Enough 10 (now (input .entry))) ⌝ }
+{
+    if input.len() < 2 {
+        return false;
+    }
+    if input[0] / 64 == 0 {
+        return true;
+    }
+    input[0] % 2 == 0 && input[1] < 10
 }
 
 // One run at the start of the input, its rows as eight bytes each, lowest first. The flag is 0 for unsigned, and any other number for signed.
@@ -72,8 +86,8 @@ pub extern "C" fn orc_read_run(input: &[u8], out: &mut [u8], flag: u64) -> u64
         return 0;
     }
     let signed = flag != 0;
-    // a short repeat pays for ten places, and not for 512
-    if input[0] / 64 == 0 {
+    // a short run pays for ten places, and not for 512
+    if is_short(input) {
         let mut rows = few_rows();
         return read_by(input, signed, &mut rows, out);
     }

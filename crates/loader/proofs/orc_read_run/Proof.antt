@@ -1,20 +1,19 @@
--- The loader's function keeps its promise: there are rows enough for the run that is read, ten for a short repeat and 512 for any. Assumes nothing.
+-- The loader's function keeps its promise: there are rows enough for the run that is read, ten for a short one and 512 for any. Assumes nothing.
 use mathlib.Core.Path.{_≡_}
-use native.Mathlib.Omega.{arith}
 use lib.ListN.{length}
 use denote.Ref.{now}
-use Rattle.format.proofs.Fields.{below-all}
-use Rattle.loader.proofs.Room.{enough-few, enough-all}
-use Rattle.loader.proofs.Reading.{loaded-end}
 use borrow.Author.Needs.{needs}
+use Rattle.format.proofs.Fields.{below-all}
+use Rattle.loader.proofs.Room.{enough-all}
+use Rattle.loader.proofs.Reading.{loaded-end}
 use Rattle.loader.proofs.orc_read_run.Statement.{statement}
 use Rattle.loader.proofs.orc_read_run.Tie as tie
 
 returns : tie.Need-returns
 returns c = let a = c .before .before .before .args in loaded-end (now (a .input)) _ (now (a .out)) (c .if1 .taken)
 
-shared-slice-read-if2 : tie.Need-shared-slice-read-if2
-shared-slice-read-if2 c = search needs
+is-short-requires : tie.Need-is-short-requires
+is-short-requires c κs = search needs
 
 few-rows-requires : tie.Need-few-rows-requires
 few-rows-requires c κs = search needs
@@ -25,9 +24,8 @@ slice-aggregate-read-by c = search needs
 read-by-requires : tie.Need-read-by-requires
 read-by-requires c κs =
     let t = c .before .before .before in
-    let a = t .before .before .before .before .before .args in
     let l : length (c .before .before .few-rows .result) ≡ 10 = search needs in
-    rw l (enough-few (now (a .input)) (omega arith) (t .if2 .taken))
+    rw l (t .before .is-short .ensures (t .if2 .taken))
 
 same-length : tie.Need-same-length
 same-length c = search needs
@@ -59,7 +57,7 @@ orc-read-run-spec =
     tie.close
     (tie.spec
     returns
-    shared-slice-read-if2
+    is-short-requires
     few-rows-requires
     slice-aggregate-read-by
     read-by-requires
