@@ -1,6 +1,6 @@
 -- What the run reader gives in the first of the rows, as the loader's number and bytes. Assumes nothing.
-use mathlib.Core.Path.{_≡_, refl, sym, ap, _∙_}
-use Prim.Native.Nat.{ℕ, _+_, _*_, _/_, _<_, _≤_, min}
+use mathlib.Core.Path.{_≡_, refl}
+use Prim.Native.Nat.{ℕ, _*_, _≤_, min}
 use native.Mathlib.Omega.{arith}
 use mathlib.Core.Bool.{Bool}
 use mathlib.Core.List.{List, [], _∷_, _++_, append-assoc}
@@ -37,10 +37,15 @@ module _ (input : List ℕ) (signed : Bool) (out : List ℕ) (rows part part′ 
       let n : into k (parse input) ≡ into (placesIn out) (parse input) = rw m (least-room (placesIn out) (length rows) (parse input) e) in
       by (into k (parse input)) n (into-outcome k input b) (rw (l, z) at (g .answer)) (rw (l, z) at (g .places))
     where
+      -- nothing was read: no row, no byte, and the output as it was
+      none : (x : Parsed Description) → x ≡ into (placesIn out) (parse input) → r ≡ answerOf 0 x → answerRows (answerOf 0 x) ≡ 0 → answerBytes (answerOf 0 x) ≡ 0
+          → out ≡ bytesOf signed out x → Reads input signed out (part′ ++ rest) k r
+      none x n a c d o = record { answer = rw (← n) a; fits = rw (a, c) (omega arith); few = rw (a, c) (omega arith); short = rw (a, d) (omega arith); bytes = rw (a, c, ← n) o }
+
       by : (x : Parsed Description) → x ≡ into (placesIn out) (parse input) → Into k input x → r ≡ answerOf 0 x → part′ ≡ placesOf signed part x
           → Reads input signed out (part′ ++ rest) k r
-      by x n (into-nothing _) a p = record { answer = rw (← n) a; fits = rw a (omega arith); few = rw a (omega arith); short = rw a (omega arith); bytes = rw (a, ← n) refl }
-      by x n (into-refusal {r = plain _} _) a p = record { answer = rw (← n) a; fits = rw a (omega arith); few = rw a (omega arith); short = rw a (omega arith); bytes = rw (a, ← n) refl }
+      by x n (into-nothing _) a p = none x n a refl refl refl
+      by x n (into-refusal {r = plain _} _) a p = none x n a refl refl refl
       by x n (into-run {d} t f) a p = record {
         answer = rw (← n) a;
         fits = rw a f;

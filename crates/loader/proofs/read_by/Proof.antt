@@ -1,6 +1,5 @@
 -- `read_by` meets its contract: what the run reader gives in the first rows is laid out as bytes, and its counts are packed. Assumes nothing.
 use mathlib.Core.Path.{sym, ap, _∙_, _≡_}
-use Prim.Native.Nat.{_≤_}
 use mathlib.Core.List.{_++_}
 use native.Mathlib.Omega.{arith}
 use lib.ListN.{length, take, drop, length-append}

@@ -1,14 +1,16 @@
 // Text written at a place of lent bytes: each function hands back the place after it.
+pub mod hexadecimal;
+
 ghost use mathlib.Core.Path.{_≡_};
 ghost use mathlib.Core.List.{_∷_, []};
 ghost use Prim.Native.Nat.{_+_, _*_, _%_, _<_, _≤_};
 ghost use lib.ListN.{length, take};
-ghost use Rattle.lines.specs.Decimal.{decimal, rowText, rowsText};
-ghost use Rattle.lines.specs.Written.{Written};
+ghost use Rattle.text.specs.Decimal.{decimal, rowText, rowsText};
+ghost use Rattle.text.specs.Written.{Written};
 use util::pattern;
 
 // One character.
-pub(crate) fn put(c: u8, out: &mut [u8], at: usize) -> usize
+pub fn put(c: u8, out: &mut [u8], at: usize) -> usize
     requires { ⌜ at < length (now out) ⌝ }
     ensures { λ r. ⌜ Written (c ∷ []) (now (out .entry)) at (now (out .exit)) r ⌝ }
 {
@@ -17,7 +19,7 @@ pub(crate) fn put(c: u8, out: &mut [u8], at: usize) -> usize
 }
 
 // A fixed word.
-pub(crate) fn put_word(word: &[u8], out: &mut [u8], at: usize) -> usize
+pub fn put_word(word: &[u8], out: &mut [u8], at: usize) -> usize
     requires { ⌜ at + length (now word) ≤ length (now out) ⌝ }
     ensures { λ r. ⌜ Written (now (word .entry)) (now (out .entry)) at (now (out .exit)) r ⌝ }
 {
@@ -38,7 +40,7 @@ fn low_digit(x: u64) -> u8
 }
 
 // A number in decimal: the digits above its lowest, and then that.
-pub(crate) fn put_decimal(x: u64, out: &mut [u8], at: usize) -> usize
+pub fn put_decimal(x: u64, out: &mut [u8], at: usize) -> usize
     requires { ⌜ at + length (decimal x) ≤ length (now out) ⌝ }
     ensures { λ r. ⌜ Written (decimal x) (now (out .entry)) at (now (out .exit)) r ⌝ }
 {
@@ -64,7 +66,7 @@ fn put_row(row: i64, out: &mut [u8], at: usize) -> usize
 }
 
 // The first n rows, with a space before each. With its space, a row takes 22 characters at most.
-pub(crate) fn put_rows(rows: &[i64], n: usize, out: &mut [u8], at: usize) -> usize
+pub fn put_rows(rows: &[i64], n: usize, out: &mut [u8], at: usize) -> usize
     requires { ⌜ (n ≤ length (now rows)) × (at + 22 * n ≤ length (now out)) ⌝ }
     ensures { λ r. ⌜ Written (rowsText (take n (now (rows .entry)))) (now (out .entry)) at (now (out .exit)) r ⌝ }
 {

@@ -6,10 +6,10 @@ use native.Mathlib.Numerals.{add-one}
 use denote.Ref.{now}
 use lib.ListN.{length, take}
 use lib.Seq.{take-suc, take-length}
-use Rattle.lines.specs.Written.{Written}
-use Rattle.lines.proofs.Texts.{none-written, then-written}
-use Rattle.lines.proofs.text.put_word.Statement.{statement}
-use Rattle.lines.proofs.text.put_word.Tie as tie
+use Rattle.text.specs.Written.{Written}
+use Rattle.text.proofs.Texts.{none-written, then-written}
+use Rattle.text.proofs.put_word.Statement.{statement}
+use Rattle.text.proofs.put_word.Tie as tie
 
 abbrev Inv-loop : tie.InvT-loop
 Inv-loop word out₀ at place₀ i₀ out place i =

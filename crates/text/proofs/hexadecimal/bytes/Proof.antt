@@ -8,10 +8,10 @@ use native.Mathlib.Omega.{arith}
 use denote.Ref.{now}
 use lib.ListN.{length, take, drop, length-set, drop-of-length-le}
 use Rattle.util.proofs.Grow.{grow}
-use Rattle.lines.specs.Hexadecimal.{allHex, hexBytes}
-use Rattle.lines.proofs.HexDigits.{not-high, not-low, both, byte-here}
-use Rattle.lines.proofs.hexadecimal.bytes.Statement.{statement}
-use Rattle.lines.proofs.hexadecimal.bytes.Tie as tie
+use Rattle.text.specs.Hexadecimal.{allHex, hexBytes}
+use Rattle.text.proofs.HexDigits.{not-high, not-low, both, byte-here}
+use Rattle.text.proofs.hexadecimal.bytes.Statement.{statement}
+use Rattle.text.proofs.hexadecimal.bytes.Tie as tie
 
 abbrev Inv-loop : tie.InvT-loop
 Inv-loop line n frame₀ i₀ frame i =

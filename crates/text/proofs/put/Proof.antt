@@ -2,9 +2,9 @@
 use borrow.Author.Needs.{needs}
 use denote.Ref.{now}
 use native.Mathlib.Omega.{arith}
-use Rattle.lines.proofs.Texts.{one-written}
-use Rattle.lines.proofs.text.put.Statement.{statement}
-use Rattle.lines.proofs.text.put.Tie as tie
+use Rattle.text.proofs.Texts.{one-written}
+use Rattle.text.proofs.put.Statement.{statement}
+use Rattle.text.proofs.put.Tie as tie
 
 slice-write-out : tie.Need-slice-write-out
 slice-write-out c = search needs

@@ -3,10 +3,10 @@ use mathlib.Core.Path.{ap}
 use native.Mathlib.Omega.{arith}
 use lib.ListN.{length}
 use mir.Facts.{toZ-ofZ}
-use Rattle.lines.proofs.Texts.{row-low, row-high, then-written}
+use Rattle.text.proofs.Texts.{row-low, row-high, then-written}
 use borrow.Author.Needs.{needs}
-use Rattle.lines.proofs.text.put_row.Statement.{statement}
-use Rattle.lines.proofs.text.put_row.Tie as tie
+use Rattle.text.proofs.put_row.Statement.{statement}
+use Rattle.text.proofs.put_row.Tie as tie
 
 to-u64-requires : tie.Need-to-u64-requires
 to-u64-requires c κs = search needs

@@ -3,7 +3,7 @@ ghost use mathlib.Core.Path.{_≡_};
 ghost use mathlib.Core.Bool.{true};
 ghost use Prim.Native.Nat.{_*_, _≤_};
 ghost use lib.ListN.{length, take};
-ghost use Rattle.lines.specs.Hexadecimal.{hexValue, allHex, hexBytes};
+ghost use Rattle.text.specs.Hexadecimal.{hexValue, allHex, hexBytes};
 
 // The value of a digit; 16 for a character that is none.
 fn digit(c: u8) -> u8
@@ -27,7 +27,7 @@ fn digit(c: u8) -> u8
 }
 
 // The n bytes that the line writes, in the first places of the frame; false where a character is no digit.
-pub(crate) fn bytes(line: &[u8], n: usize, frame: &mut [u8]) -> bool
+pub fn bytes(line: &[u8], n: usize, frame: &mut [u8]) -> bool
     requires { ⌜ (length (now line) ≡ 2 * n) × (n ≤ length (now frame)) ⌝ }
     ensures { λ r. ⌜ (r ≡ allHex (now (line .entry))) × (r ≡ true → take n (now (frame .exit)) ≡ hexBytes (now (line .entry))) ⌝ }
 {

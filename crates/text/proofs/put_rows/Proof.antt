@@ -9,11 +9,11 @@ use denote.Ref.{now}
 use lib.ListN.{length, take, getD}
 use lib.IntN.{pos}
 use mir.Facts.{toZ-ofZ}
-use Rattle.lines.specs.Decimal.{rowsText}
-use Rattle.lines.specs.Written.{Written}
-use Rattle.lines.proofs.Texts.{none-written, then-written, row-length, rows-next}
-use Rattle.lines.proofs.text.put_rows.Statement.{statement}
-use Rattle.lines.proofs.text.put_rows.Tie as tie
+use Rattle.text.specs.Decimal.{rowsText}
+use Rattle.text.specs.Written.{Written}
+use Rattle.text.proofs.Texts.{none-written, then-written, row-length, rows-next}
+use Rattle.text.proofs.put_rows.Statement.{statement}
+use Rattle.text.proofs.put_rows.Tie as tie
 
 abbrev Inv-loop : tie.InvT-loop
 Inv-loop rows n out₀ at place₀ i₀ out place i =

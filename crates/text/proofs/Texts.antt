@@ -18,8 +18,8 @@ use borrow.Author.Tests.{lt-ltb, le-ltb}
 use Rattle.format.specs.Fields.{pick, two64}
 use Rattle.format.specs.Rows.{asU64}
 use Rattle.util.proofs.Grow.{same-is, front-is, kept-by}
-use Rattle.lines.specs.Decimal.{decimalIn, decimal, rowText, rowsText}
-use Rattle.lines.specs.Written.{Written}
+use Rattle.text.specs.Decimal.{decimalIn, decimal, rowText, rowsText}
+use Rattle.text.specs.Written.{Written}
 
 -- ---- written texts
 

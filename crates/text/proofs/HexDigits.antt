@@ -8,7 +8,7 @@ use mathlib.Core.List.{List, [], _∷_, _++_}
 use lib.ListN.{length, take, drop, getD}
 use lib.Seq.{drop-cons}
 use borrow.Author.Tests.{lt-ltb, le-ltb}
-use Rattle.lines.specs.Hexadecimal.{hexValue, allHex, hexBytes}
+use Rattle.text.specs.Hexadecimal.{hexValue, allHex, hexBytes}
 
 -- two characters at the place p of a line
 module _ (s : List ℕ) (p : ℕ) (h : p + 1 < length s) where

@@ -2,9 +2,9 @@
 use borrow.Author.Needs.{needs}
 use borrow.Author.Tests.{lt-ltb, le-ltb, le-leb, lt-leb}
 use native.Mathlib.Omega.{arith}
-use Rattle.lines.specs.Hexadecimal.{hexValue}
-use Rattle.lines.proofs.hexadecimal.digit.Statement.{statement}
-use Rattle.lines.proofs.hexadecimal.digit.Tie as tie
+use Rattle.text.specs.Hexadecimal.{hexValue}
+use Rattle.text.proofs.hexadecimal.digit.Statement.{statement}
+use Rattle.text.proofs.hexadecimal.digit.Tie as tie
 
 add-result : tie.Need-add-result
 add-result c = search needs

@@ -6,7 +6,7 @@ use mathlib.Core.List.{List, [], _∷_, _++_}
 use lib.Dec.{ltb}
 use lib.IntN.{ℤ, pos, negsuc}
 use Rattle.format.specs.Fields.{pick}
-use Rattle.lines.specs.Ascii.{ascii}
+use Rattle.text.specs.Ascii.{ascii}
 
 -- the digits of x, the highest first, at most k of them; 20 hold any number below 2^64
 unfoldable pub decimalIn : ℕ → ℕ → List ℕ

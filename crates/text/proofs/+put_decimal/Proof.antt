@@ -7,15 +7,15 @@ use borrow.Author.Needs.{needs}
 use lib.ListN.{length}
 use borrow.Fn.Kinds.{In}
 use borrow.Fn.PlainCycle.{Measures, is, falls, and}
-use Rattle.lines.specs.Decimal.{decimal}
-use Rattle.lines.proofs.Texts.{decimal-one, decimal-next, decimal-longer, then-written}
-use Rattle.lines.proofs.text.put_decimal.Reads as put-decimal
-use Rattle.lines.proofs.text.put_decimal.Kinds as put-decimal-kinds
-use Rattle.lines.proofs.text.+put_decimal.Lts-put_decimal as lts
-use Rattle.lines.proofs.text.low_digit.Reads as low-digit-reads
-use Rattle.lines.proofs.text.put.Reads as put-reads
-use Rattle.lines.proofs.text.+put_decimal.{statement}
-use Rattle.lines.proofs.text.+put_decimal.Tie.{close}
+use Rattle.text.specs.Decimal.{decimal}
+use Rattle.text.proofs.Texts.{decimal-one, decimal-next, decimal-longer, then-written}
+use Rattle.text.proofs.put_decimal.Reads as put-decimal
+use Rattle.text.proofs.put_decimal.Kinds as put-decimal-kinds
+use Rattle.text.proofs.+put_decimal.Lts-put_decimal as lts
+use Rattle.text.proofs.low_digit.Reads as low-digit-reads
+use Rattle.text.proofs.put.Reads as put-reads
+use Rattle.text.proofs.+put_decimal.{statement}
+use Rattle.text.proofs.+put_decimal.Tie.{close}
 
 abbrev μ : Measures 1 put-decimal-kinds.ps ℕ
 μ κs a = a .0
