@@ -1,29 +1,36 @@
 -- What the small readers give at a place p of a lent slice s: by the tests that a reader makes on lengths. Assumes nothing.
-use mathlib.Core.Path.{_≡_, refl, sym, ap, _∙_}
-use Prim.Native.Nat.{ℕ, zero, suc, _+_, _-_, _*_, _/_, _%_, _^_, _<_, _≤_}
+use mathlib.Core.Path.{_≡_}
+use Prim.Native.Nat.{ℕ, suc, _+_, _-_, _*_, _<_, _≤_}
 use native.Mathlib.Omega.{arith}
 use native.Mathlib.Numerals.{add-one}
-use mathlib.Core.Bool.{Bool, true, false}
+use mathlib.Core.Bool.{Bool}
 use mathlib.Core.List.{List, [], _∷_, _++_}
-use lib.ListN.{length, getD, take, drop, length-append, length-drop}
-use lib.Seq.{drop-cons, drop-drop, drop-append-add, drop-at}
+use lib.ListN.{length, getD, take, drop, length-drop, drop-of-length-le}
+use lib.Seq.{drop-cons, drop-drop}
 use lib.IntN.{ℤ}
-use borrow.Author.Tests.{le-leb, lt-leb, le-ltb, lt-ltb}
-use Rattle.format.specs.Digits.{AllBelow, number}
-use Rattle.format.specs.Fields.{Block, bytesFor, Varint}
+use borrow.Author.Tests.{le-leb, lt-leb, lt-ltb}
+use Rattle.format.specs.Digits.{number}
+use Rattle.format.specs.Fields.{Block, bytesFor}
 use Rattle.format.specs.Runs.{Description, rowCount, layout}
 use Rattle.format.specs.Rows.{i64Rows}
-use Rattle.format.specs.Parse.{Reason, plain, cutIn, Parsed, end, got, refused, bytes, unpack, block, varint, into}
+use Rattle.format.specs.Parse.{plain, cutIn, Parsed, end, got, refused, bytes, unpack, block, into}
 use Rattle.format.specs.Answers.{ran, refusedAt}
-use Rattle.format.specs.Promises.{kindOf, answerOf, placesOf, Gives}
+use Rattle.format.specs.Promises.{kindOf, answerOf, Gives}
 use Rattle.format.specs.declared.Kind.{Kind}
-use Rattle.format.specs.declared.Answer.{Answer}
-use Rattle.format.proofs.Fields.{Post, at-got, at-refused, Took, varint-sound, below-drop}
 use Rattle.format.proofs.Streams.{into-got, into-refused, into-end}
 
 module _ (s : List ℕ) (p : ℕ) where
   pub byte-here : p < length s → drop p s ≡ getD s p 0 ∷ drop (p + 1) s
   byte-here h = rw (add-one, drop-cons s p 0 h)
+
+  -- what follows it: one byte more, or none
+  pub byte-after : 2 ≤ length s - p → drop (p + 1) s ≡ getD s (p + 1) 0 ∷ drop (p + 2) s
+  byte-after h =
+      let e : p + 2 ≡ suc (p + 1) = omega arith in
+      rw (e, drop-cons s (p + 1) 0 (omega arith))
+
+  pub none-after : p < length s → length s - p < 2 → drop (p + 1) s ≡ []
+  none-after h l = drop-of-length-le s {i = p + 1} (omega arith)
 
   pub bytes-here : (c n : ℕ) → n ≤ length s - p → bytes c n (drop p s) ≡ got (take n (drop p s)) (drop (p + n) s)
   unfolding bytes

@@ -1,26 +1,26 @@
 -- What a delta run's body gives, by the tests of its reader. Assumes nothing.
 use mathlib.Core.Path.{_≡_, refl, sym, ap, _∙_}
-use Prim.Native.Nat.{ℕ, suc, _+_, _-_, _*_, _^_, _<_, _≤_}
+use Prim.Native.Nat.{ℕ, _+_, _-_, _*_, _^_, _<_, _≤_}
 use native.Mathlib.Omega.{arith}
 use mathlib.Core.Bool.{Bool}
 use mathlib.Core.List.{List, [], _∷_, _++_, map}
-use lib.ListN.{length, take, drop, getD, drop-of-length-le}
+use lib.ListN.{length, take, drop, getD}
 use lib.Seq.{drop-drop}
 use native.Mathlib.Nat.{add-comm}
 use Rattle.util.proofs.Grow.{back-is, rest-is}
 use lib.IntN.{ℤ}
-use lib.Dec.{leb, eqb}
+use lib.Dec.{leb}
 use borrow.Author.Tests.{eq-eqb, ne-eqb}
 use Rattle.format.specs.Fields.{width, bytesFor}
 use Rattle.format.specs.Runs.{Description, fixed, delta}
 use Rattle.format.specs.Rows as Rows
 use Rattle.format.specs.Rows.{plus, asI64, i64Rows, rowsOf}
-use Rattle.format.specs.Parse.{Parsed, got, refused, plain, then, block, codeOf, rowsLess, fixedBody, deltaBody, deltaRun}
+use Rattle.format.specs.Parse.{Parsed, got, refused, plain, codeOf, rowsLess, fixedBody, deltaBody, deltaRun}
 use Rattle.format.specs.Promises.{Gives}
 use Rattle.format.specs.Answers.{ran, refusedAt}
 use Rattle.format.specs.declared.Kind.the-variants.{Delta}
 use Rattle.format.proofs.Rows.{width-le, bytes-count}
-use Rattle.format.proofs.Reading.{byte-here, blockAt, block-here, block-cut, gives-refused, gives-8, gives-run}
+use Rattle.format.proofs.Reading.{byte-after, none-after, blockAt, block-here, block-cut, gives-refused, gives-8, gives-run}
 use Rattle.rle_v2.specs.Pass.{stepped, summed, laid}
 use Rattle.rle_v2.specs.DeltaStart.{both, Started}
 use Rattle.rle_v2.proofs.Pass.{stepped-is, summed-is}
@@ -45,29 +45,22 @@ module _ (s : List ℕ) (at : ℕ) (signed : Bool) (out : List ℤ) where
 
   pub no-header : at < length s → length s - at < 2 → Gives at signed run out out (refusedAt 1 at)
   unfolding deltaRun
-  no-header h l =
-      let e : drop (at + 1) s ≡ [] = drop-of-length-le s {i = at + 1} (omega arith) in
-      gives-refused at signed run out 1 (rw e)
+  no-header h l = gives-refused at signed run out 1 (rw (none-after s at h l))
 
   module _ (h : 2 ≤ length s - at) where
-    past : drop (at + 1) s ≡ getD s (at + 1) 0 ∷ drop (at + 2) s
-    past =
-        let e : at + 2 ≡ at + 1 + 1 = omega arith in
-        rw e (byte-here s (at + 1) (omega arith))
-
     -- code 0: a fixed delta
     pub is-fixed : codeOf (getD s at 0) ≡ 0 → run ≡ fixedBody (rowsLess (getD s at 0) (getD s (at + 1) 0) + 1) (drop (at + 2) s)
     unfolding deltaRun
-    is-fixed e = rw (past, eq-eqb (codeOf (getD s at 0)) 0 e)
+    is-fixed e = rw (byte-after s at h, eq-eqb (codeOf (getD s at 0)) 0 e)
 
     pub one-row : (codeOf (getD s at 0) ≡ 0 → ⊥) → rowsLess (getD s at 0) (getD s (at + 1) 0) ≡ 0 → Gives at signed run out out (refusedAt 4 at)
     unfolding deltaRun
-    one-row e r = gives-refused at signed run out 4 (rw (past, ne-eqb (codeOf (getD s at 0)) 0 e, eq-eqb (rowsLess (getD s at 0) (getD s (at + 1) 0)) 0 r))
+    one-row e r = gives-refused at signed run out 4 (rw (byte-after s at h, ne-eqb (codeOf (getD s at 0)) 0 e, eq-eqb (rowsLess (getD s at 0) (getD s (at + 1) 0)) 0 r))
 
     pub is-packed : (codeOf (getD s at 0) ≡ 0 → ⊥) → (rowsLess (getD s at 0) (getD s (at + 1) 0) ≡ 0 → ⊥)
         → run ≡ deltaBody (codeOf (getD s at 0)) (rowsLess (getD s at 0) (getD s (at + 1) 0) - 1) (drop (at + 2) s)
     unfolding deltaRun
-    is-packed e r = rw (past, ne-eqb (codeOf (getD s at 0)) 0 e, ne-eqb (rowsLess (getD s at 0) (getD s (at + 1) 0)) 0 r)
+    is-packed e r = rw (byte-after s at h, ne-eqb (codeOf (getD s at 0)) 0 e, ne-eqb (rowsLess (getD s at 0) (getD s (at + 1) 0)) 0 r)
 
   -- ---- a fixed delta
 

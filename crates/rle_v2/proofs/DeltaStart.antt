@@ -1,16 +1,16 @@
 -- The two varints of a delta run's body, by what the varint reader answered. Assumes nothing.
-use mathlib.Core.Path.{_≡_, refl, sym, ap, _∙_}
-use Prim.Native.Nat.{ℕ, _+_, _<_}
+use mathlib.Core.Path.{_≡_}
+use Prim.Native.Nat.{ℕ, _<_}
 use native.Mathlib.Omega.{arith}
 use mathlib.Core.Bool.{Bool}
 use mathlib.Core.List.{List}
-use lib.ListN.{length, drop, getD}
+use lib.ListN.{drop, getD}
 use Rattle.format.specs.Fields.{zigzag, row}
 use Rattle.format.specs.Runs.{Description}
 use Rattle.format.specs.Parse.{Parsed, refused, plain}
 use Rattle.util.specs.declared.varint.Varint.the-variants.{Value, Refused}
 use Rattle.util.specs.Varint.{varintAt}
-use Rattle.util.proofs.Varints.{Stood, value-is, refused-is}
+use Rattle.util.proofs.Varints.{value-is, refused-is}
 use Rattle.rle_v2.specs.DeltaStart.{both, Started}
 
 module _ (s : List ℕ) (at : ℕ) (below : (i : ℕ) → getD s i 0 < 256) where

@@ -1,20 +1,19 @@
 -- What a direct run gives, by the tests of its reader. Assumes nothing.
 use mathlib.Core.Path.{_≡_, refl, sym, ap, _∙_}
-use Prim.Native.Nat.{ℕ, suc, _+_, _-_, _*_, _^_, _<_, _≤_}
-use native.Mathlib.Omega.{arith}
+use Prim.Native.Nat.{ℕ, _+_, _-_, _*_, _<_, _≤_}
 use mathlib.Core.Bool.{Bool}
-use mathlib.Core.List.{List, [], _∷_, _++_, map}
-use lib.ListN.{length, take, drop, getD, drop-of-length-le, length-map}
+use mathlib.Core.List.{List, _++_, map}
+use lib.ListN.{length, drop, getD}
 use lib.IntN.{ℤ}
 use Rattle.format.specs.Fields.{width, bytesFor}
-use Rattle.format.specs.Runs.{Description, direct, layout, rowCount}
+use Rattle.format.specs.Runs.{Description, direct}
 use Rattle.format.specs.Rows.{asI64, i64Rows, rowsOf}
-use Rattle.format.specs.Parse.{Parsed, got, refused, plain, codeOf, rowsLess, directRun}
+use Rattle.format.specs.Parse.{Parsed, got, codeOf, rowsLess, directRun}
 use Rattle.format.specs.Promises.{Gives}
 use Rattle.format.specs.Answers.{ran, refusedAt}
 use Rattle.format.specs.declared.Kind.the-variants.{Direct}
 use Rattle.format.proofs.Rows.{width-le, bytes-count}
-use Rattle.format.proofs.Reading.{byte-here, blockAt, block-here, block-cut, gives-refused, gives-8, gives-run}
+use Rattle.format.proofs.Reading.{byte-after, none-after, blockAt, block-here, block-cut, gives-refused, gives-8, gives-run}
 use Rattle.rle_v2.specs.Pass.{decoded}
 use Rattle.rle_v2.proofs.Pass.{decoded-is}
 use Rattle.rle_v2.proofs.Blocks.{block-count, block-patterns}
@@ -32,24 +31,17 @@ module _ (s : List ℕ) (at : ℕ) (signed : Bool) (out : List ℤ) where
 
   pub no-header : at < length s → length s - at < 2 → Gives at signed run out out (refusedAt 1 at)
   unfolding directRun
-  no-header h l =
-      let e : drop (at + 1) s ≡ [] = drop-of-length-le s {i = at + 1} (omega arith) in
-      gives-refused at signed run out 1 (rw e)
+  no-header h l = gives-refused at signed run out 1 (rw (none-after s at h l))
 
   module _ (h : 2 ≤ length s - at) where
-    past : drop (at + 1) s ≡ getD s (at + 1) 0 ∷ drop (at + 2) s
-    past =
-        let e : at + 2 ≡ at + 1 + 1 = omega arith in
-        rw e (byte-here s (at + 1) (omega arith))
-
     pub no-body : length s - (at + 2) < bytesFor (count * bits) → Gives at signed run out out (refusedAt 6 at)
     unfolding directRun
-    no-body l = gives-refused at signed run out 6 (rw (past, block-cut s (at + 2) 6 bits count l))
+    no-body l = gives-refused at signed run out 6 (rw (byte-after s at h, block-cut s (at + 2) 6 bits count l))
 
     module _ (l : bytesFor (count * bits) ≤ length s - (at + 2)) where
       is-run : run ≡ got (direct (codeOf (getD s at 0)) (blockAt s (at + 2) bits count)) (drop (at + 2 + bytesFor (count * bits)) s)
       unfolding directRun
-      is-run = rw (past, block-here s (at + 2) 6 bits count l)
+      is-run = rw (byte-after s at h, block-here s (at + 2) 6 bits count l)
 
       pub no-room : length out < count → Gives at signed run out out (refusedAt 8 at)
       no-room r = gives-8 at signed run out _ _ is-run (rw (block-count s (at + 2) bits count) r)

@@ -1,20 +1,19 @@
 -- The turns of a loop that makes a pass over its places, once for every pass; and what each reader's pass makes of the patterns it finds.
 -- Assumes nothing.
-use mathlib.Core.Path.{_≡_, refl, sym, ap, ap₂, _∙_}
-use Prim.Native.Nat.{ℕ, zero, suc, _+_, _-_, _*_, _%_, _^_, _<_, _≤_}
+use mathlib.Core.Path.{_≡_, refl, sym, ap, _∙_}
+use Prim.Native.Nat.{ℕ, zero, suc, _+_, _-_, _*_, _^_, _<_, _≤_}
 use native.Mathlib.Nat.{sub-zero, zero-mul, add-zero}
 use native.Mathlib.Numerals.{add-one}
 use native.Mathlib.Omega.{arith}
 use mathlib.Core.Bool.{Bool, true, false}
-use mathlib.Core.List.{List, [], _∷_, _++_, map, append-nil}
-use lib.ListN.{length, take, drop, getD, set, length-set, length-map, length-append}
+use mathlib.Core.List.{List, [], _∷_, _++_, map}
+use lib.ListN.{length, take, drop, getD, set, length-set}
 use lib.Seq.{drop-cons, getD-drop, take-at, drop-at}
-use lib.IntN.{ℤ, pos}
+use lib.IntN.{ℤ}
 use Rattle.format.specs.Digits.{AllBelow}
 use Rattle.format.specs.Fields.{two64, zigzag, row}
 use Rattle.format.specs.Rows as Rows
-use Rattle.format.specs.Rows.{plus, asI64, asU64}
-use Rattle.format.specs.Runs.{Patch}
+use Rattle.format.specs.Rows.{plus, asI64}
 use Rattle.format.proofs.Patterns.{as-back}
 use Rattle.util.proofs.Grow.{grow, kept, filled}
 use Rattle.rle_v2.specs.Pass.{pass, stepped, unzigzagged, decoded, based, moved, summed}

@@ -10,11 +10,11 @@ use lib.Seq.{getD-set-same, getD-set-other, getD-append-add, ext-getD}
 use lib.IntN.{ℤ, pos}
 use lib.Pow.{pow-pos, pow-mono}
 use native.Mathlib.Nat.{mod-lt, mod-eq-of-lt, mod-add-mod, zero-mul, add-zero, add-assoc, suc-add, add-suc, pow-zero, div-one, div-lt-iff-lt-mul}
-use lib.Dec.{T, leb, ltb, eqb}
+use lib.Dec.{leb, ltb, eqb}
 use borrow.Author.Tests.{le-ltb, lt-ltb, eq-eqb, ne-eqb, ltb-false, leb-false}
 use Rattle.format.specs.Fields.{pick, two64}
 use Rattle.format.specs.Rows as Rows
-use Rattle.format.specs.Rows.{plus, asI64, asU64}
+use Rattle.format.specs.Rows.{plus, asI64}
 use Rattle.format.proofs.Patterns.{as-back}
 use Rattle.format.proofs.Rows.{length-patchedRows}
 use Rattle.format.specs.Runs.{Patch, isSkip, gapOf, patchOf, patchesFrom, patches, lastIsSkip, taken, shared, outside, outOfPlace}

@@ -1,16 +1,16 @@
 -- What a patched base run gives, by the tests of its reader. Assumes nothing.
 use mathlib.Core.Path.{_≡_, refl, sym, ap, _∙_}
-use Prim.Native.Nat.{ℕ, suc, _+_, _-_, _*_, _/_, _%_, _^_, _<_, _≤_}
+use Prim.Native.Nat.{ℕ, _+_, _-_, _*_, _/_, _%_, _<_, _≤_}
 use native.Mathlib.Omega.{arith}
 use native.Mathlib.Decide.{decLt}
 use mathlib.Core.Bool.{Bool, true, false}
 use mathlib.Core.List.{List, [], _∷_, _++_, map}
-use lib.ListN.{length, take, drop, getD, drop-of-length-le, length-drop}
+use lib.ListN.{length, take, drop, getD, length-drop}
 use lib.Seq.{length-take-le}
 use lib.IntN.{ℤ}
 use borrow.Author.Tests.{lt-ltb, le-ltb}
 use Rattle.format.specs.Fields.{width, bytesFor}
-use Rattle.format.specs.Runs.{Description, patched, entryWidth, outOfPlace, patches}
+use Rattle.format.specs.Runs.{Description, patched, entryWidth, outOfPlace}
 use Rattle.format.specs.Rows as Rows
 use Rattle.format.specs.Rows.{asI64, baseValue, i64Rows, rowsOf}
 use Rattle.format.specs.Parse.{Parsed, got, refused, plain, codeOf, rowsLess, unless, patchedBody, patchedRun}

@@ -1,16 +1,15 @@
 -- What a short repeat gives, by the tests of its reader. Assumes nothing.
 use mathlib.Core.Path.{_≡_, refl, sym, ap, _∙_}
-use Prim.Native.Nat.{ℕ, zero, suc, _+_, _-_, _*_, _/_, _%_, _^_, _<_, _≤_}
+use Prim.Native.Nat.{ℕ, zero, suc, _+_, _-_, _/_, _%_, _<_, _≤_}
 use native.Mathlib.Nat.{add-zero, mod-eq-of-lt}
-use native.Mathlib.Omega.{arith}
 use mathlib.Core.Bool.{Bool}
-use mathlib.Core.List.{List, [], _∷_, _++_, map}
+use mathlib.Core.List.{List, _∷_, _++_, map}
 use lib.ListN.{length, take, drop, getD, replicate, length-drop}
 use lib.Seq.{length-take-le}
 use lib.IntN.{ℤ}
 use Rattle.format.specs.Digits.{number}
 use Rattle.format.specs.Fields.{two64, row}
-use Rattle.format.specs.Runs.{Description, short, layout}
+use Rattle.format.specs.Runs.{Description, short}
 use Rattle.format.specs.Rows as Rows
 use Rattle.format.specs.Rows.{plus, asI64, i64Rows, rowsOf}
 use Rattle.format.specs.Parse.{Parsed, got, shortRun}

@@ -1,7 +1,7 @@
 -- The turns of the stream reader: the runs read so far leave their rows in the first places, and what is left is read in the places that are left.
 -- Assumes nothing.
 use mathlib.Core.Path.{_≡_, refl, sym, ap, _∙_}
-use Prim.Native.Nat.{ℕ, zero, suc, _+_, _-_, _<_, _≤_}
+use Prim.Native.Nat.{ℕ, suc, _+_, _-_, _<_, _≤_}
 use native.Mathlib.Nat.{sub-zero, le-refl}
 use native.Mathlib.Omega.{arith}
 use mathlib.Core.Bool.{Bool}
@@ -12,14 +12,12 @@ use lib.IntN.{ℤ}
 use Rattle.format.specs.Digits.{AllBelow}
 use Rattle.format.specs.Runs.{Description, rowCount, layout, joined}
 use Rattle.format.specs.Rows.{i64Rows}
-use Rattle.format.specs.Parse.{Reason, plain, Parsed, end, got, refused, parse, into}
+use Rattle.format.specs.Parse.{plain, Parsed, end, got, refused, parse, into}
 use Rattle.format.specs.Streams.{Reading, whole, broken, after, runsFrom, readAll, totalRows, joinedRows}
-use Rattle.format.specs.Answers.{ran, refusedAt, readWhole, brokeAt}
-use Rattle.format.specs.Promises.{kindOf, answerOf, placesOf, Gives, StreamRead}
+use Rattle.format.specs.Answers.{readWhole, brokeAt}
+use Rattle.format.specs.Promises.{answerOf, placesOf, Gives, StreamRead}
 use Rattle.format.specs.declared.Answer.{Answer}
 use Rattle.format.specs.declared.Answer.the-variants.{End, Run, Refused}
-use Rattle.format.specs.declared.Run as run-type
-use Rattle.format.specs.declared.Refusal as refusal-type
 use Rattle.format.proofs.Fields.{below-drop}
 use Rattle.format.proofs.Runs.{layout-pos}
 use Rattle.format.proofs.Rows.{i64-count}
