@@ -1,8 +1,8 @@
 -- More input: what was read stays read, and a refusal stays a refusal unless it is one for input that ended too soon (1 or 6).
 -- So a run that is cut is refused with 1 or 6. (Change request 4 rests on this law.) Assumes nothing.
-use mathlib.Core.Path.{_≡_, refl, sym, ap, _∙_, subst}
+use mathlib.Core.Path.{_≡_, refl, sym, ap, _∙_}
 use mathlib.Core.Logic.{_≢_}
-use Prim.Native.Nat.{ℕ, zero, suc, _+_, _-_, _*_, _/_, _%_, _^_, _<_, _≤_}
+use Prim.Native.Nat.{ℕ, zero, suc, _+_, _-_, _*_, _/_, _%_, _≤_}
 use native.Mathlib.Omega.{arith}
 use mathlib.Core.Bool.{Bool, true, false, not, _||_}
 use mathlib.Core.List.{List, [], _∷_, _++_, append-nil}
@@ -13,7 +13,7 @@ use borrow.Author.Tests.{le-leb}
 use Rattle.format.specs.Fields.{pick, width, bytesFor}
 use Rattle.format.specs.Runs.{Description, Valid, layout, outOfPlace, entryWidth}
 use Rattle.format.specs.Parse
-use Rattle.format.specs.Parse.{Reason, plain, cutIn, Parsed, end, got, refused, then, unless, bytes, block, varint, codeOf, rowsLess, parse}
+use Rattle.format.specs.Parse.{Reason, plain, cutIn, Parsed, got, refused, then, unless, bytes, block, varint, codeOf, rowsLess, parse}
 use Rattle.format.proofs.Runs.{parse-complete, cut-refused}
 
 -- the refusals that more input may turn into another answer

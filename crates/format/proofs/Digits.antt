@@ -1,6 +1,6 @@
 -- `number` and `digits` are inverse to each other, in any base; and what a loop over digits, or over packed fields, needs of them.
 -- Assumes nothing.
-use mathlib.Core.Path.{_≡_, refl, sym, ap, _∙_}
+use mathlib.Core.Path.{_≡_, refl, ap, _∙_}
 use Prim.Native.Nat.{ℕ, zero, suc, _+_, _*_, _/_, _%_, _^_, _<_, _-_}
 use native.Mathlib.Nat.{one-le-pow, pow-succ', pow-zero, mod-lt, mod-one, div-one, zero-lt-suc, zero-mul, suc-mul, pow-suc, one-mul, mod-eq-of-lt, zero-add, suc-add, add-comm, mul-assoc, div-div-eq-div-mul, mul-add-div-right, mul-add-mod-self-right}
 use native.Mathlib.Omega.{arith}

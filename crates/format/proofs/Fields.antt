@@ -1,8 +1,8 @@
 -- Each of the small readers (bytes, block, varint) reads back what its layout lays down (`-complete`), and takes nothing else (`-sound`).
 -- Soundness is said by `Post`: what holds of a thing that was got, and of the bytes after it. Assumes nothing.
-use mathlib.Core.Path.{_≡_, refl, sym, ap, _∙_, subst}
-use Prim.Native.Nat.{ℕ, zero, suc, _+_, _-_, _*_, _/_, _%_, _^_, _<_, _≤_}
-use native.Mathlib.Nat.{mod-lt, div-lt-iff-lt-mul, div-add-mod', zero-lt-suc, one-le-pow, le-of-lt, zero-mul, suc-mul}
+use mathlib.Core.Path.{_≡_, refl, sym, ap, _∙_}
+use Prim.Native.Nat.{ℕ, zero, suc, _+_, _-_, _*_, _/_, _^_, _<_}
+use native.Mathlib.Nat.{mod-lt, div-lt-iff-lt-mul, div-add-mod', zero-lt-suc, zero-mul, suc-mul}
 use native.Mathlib.Omega.{arith}
 use mathlib.Core.Bool.{Bool, true, false, not}
 use mathlib.Core.List.{List, [], _∷_, _++_, append-assoc}
@@ -14,7 +14,7 @@ use lib.Dec.{T, leb, ltb, leb→le, ltb→lt, nltb→le}
 use borrow.Author.Tests.{le-leb, lt-ltb, le-ltb}
 use Rattle.format.specs.Digits.{AllBelow, number, digits, spread}
 use Rattle.format.specs.Fields.{pick, Block, IsBlock, blockBytes, bytesFor, padBits, Varint, last, more}
-use Rattle.format.specs.Parse.{Reason, plain, cutIn, Parsed, end, got, refused, then, unless, bytes, unpack, block, varint}
+use Rattle.format.specs.Parse.{Reason, Parsed, got, refused, then, unless, bytes, unpack, block, varint}
 use Rattle.format.proofs.Digits.{spread-number, digits-split, length-digits, number-lt, digits-below, number-digits, digits-number, pow-pow}
 
 -- ---- what holds of what was got, and that there was something

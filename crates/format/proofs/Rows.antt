@@ -1,7 +1,7 @@
 -- Rows and counts: how many rows a run has, that each is below 2^64, and how many bytes it takes.
 -- Assumes nothing.
 use mathlib.Core.Path.{_≡_, refl, sym, ap, _∙_}
-use Prim.Native.Nat.{ℕ, zero, suc, _+_, _-_, _*_, _/_, _%_, _^_, _<_, _≤_}
+use Prim.Native.Nat.{ℕ, zero, suc, _+_, _-_, _*_, _^_, _<_, _≤_}
 use native.Mathlib.Nat.{mod-lt, zero-lt-suc, lt-of-lt-of-le, pow-le-pow-right, mul-le-mul}
 use native.Mathlib.Omega.{arith}
 use native.Mathlib.Numerals.{add-two}
@@ -9,8 +9,8 @@ use mathlib.Core.Bool.{Bool, true, false}
 use mathlib.Core.List.{List, [], _∷_, _++_, map}
 use lib.Pow.{pow-pos, pow-mono}
 use lib.ListN.{length, length-map, length-replicate, replicate, length-append}
-use Rattle.format.specs.Digits.{AllBelow, number}
-use Rattle.format.specs.Fields.{width, Block, IsBlock, blockBytes, bytesFor, row, two64, varintValue, groups}
+use Rattle.format.specs.Digits.{AllBelow}
+use Rattle.format.specs.Fields.{width, blockBytes, bytesFor, row, two64, varintValue, groups}
 use Rattle.format.specs.Runs
 use Rattle.format.specs.Runs.{Description, short, direct, fixed, delta, patched, rowCount, Valid, layout, Patch, entryWidth}
 use Rattle.format.specs.Rows

@@ -1,23 +1,23 @@
 -- A valid description's layout parses as that description (`parse-complete`), and nothing else parses (`parse-sound`).
 -- Assumes nothing.
-use mathlib.Core.Path.{_≡_, refl, sym, ap, ap₂, _∙_, subst}
-use Prim.Native.Nat.{ℕ, zero, suc, _+_, _-_, _*_, _/_, _%_, _^_, _<_, _≤_}
+use mathlib.Core.Path.{_≡_, refl, sym, ap, ap₂, _∙_}
+use Prim.Native.Nat.{ℕ, zero, suc, _+_, _-_, _*_, _/_, _%_, _<_, _≤_}
 use native.Mathlib.Omega.{arith}
-use mathlib.Core.Bool.{Bool, true, false, not}
+use mathlib.Core.Bool.{false, not}
 use mathlib.Core.List.{List, [], _∷_, _++_, append-assoc, append-nil, cons≢nil}
 use lib.ListN.{length}
 use lib.Pow.{pow-pos}
-use lib.Dec.{T, leb, ltb, eqb}
+use lib.Dec.{ltb, eqb}
 use borrow.Author.Tests.{le-ltb, ne-eqb}
 use lib.Dec.{eqb→eq, nltb→le}
 use mir.Facts.{eqb-no}
 use mathlib.Core.Logic.{_≢_}
 use Rattle.format.specs.Digits.{AllBelow}
-use Rattle.format.specs.Fields.{width, Block, IsBlock, blockBytes, Varint}
+use Rattle.format.specs.Fields.{width, Block, IsBlock, blockBytes}
 use Rattle.format.specs.Runs
 use Rattle.format.specs.Runs.{Description, short, direct, fixed, delta, patched, Valid, ValidHead, head₀, head₁, head, layout, outOfPlace, entryWidth}
 use Rattle.format.specs.Parse
-use Rattle.format.specs.Parse.{Reason, Parsed, end, got, refused, then, unless, codeOf, rowsLess, parse}
+use Rattle.format.specs.Parse.{Reason, Parsed, end, got, refused, unless, codeOf, rowsLess, parse}
 use Rattle.format.proofs.Fields
 
 -- ---- the two-byte header: its fields come back out of it

@@ -3,7 +3,7 @@
 use mathlib.Core.Path.{_≡_, refl, sym, ap, _∙_}
 use mathlib.Core.Logic.{_≢_, _↔_}
 use mathlib.Core.Bool.{Bool, true, false}
-use Prim.Native.Nat.{ℕ, zero, suc, _+_, _-_, _<_, _≤_}
+use Prim.Native.Nat.{ℕ, zero, suc, _+_, _-_, _≤_}
 use native.Mathlib.Nat.{le-refl, sub-zero}
 use native.Mathlib.Omega.{arith}
 use mathlib.Core.List.{List, [], _∷_, _++_, append-assoc, append-nil}
@@ -12,7 +12,7 @@ use lib.Dec.{T, ltb, nltb→le}
 use borrow.Author.Tests.{le-ltb}
 use Rattle.format.specs.Digits.{AllBelow}
 use Rattle.format.specs.Runs.{Description, rowCount, Valid, layout, AllValid, joined}
-use Rattle.format.specs.Parse.{Reason, plain, Parsed, end, got, refused, parse, into}
+use Rattle.format.specs.Parse.{Reason, Parsed, end, got, refused, parse, into}
 use Rattle.format.specs.Streams.{Reading, whole, broken, after, next, runsFrom, readAll, totalRows}
 use Rattle.format.proofs.Fields.{Took}
 use Rattle.format.proofs.Cut.{isCut, cut-number}

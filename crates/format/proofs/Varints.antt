@@ -1,6 +1,6 @@
 -- The shortest varint of a number: it is a varint with that number as its value, no varint with a last byte of 0, and the only such.
 -- Assumes nothing.
-use mathlib.Core.Path.{_≡_, refl, sym, ap, _∙_}
+use mathlib.Core.Path.{_≡_, sym}
 use Prim.Native.Nat.{ℕ, zero, suc, _+_, _-_, _*_, _/_, _%_, _^_, _<_, _≤_}
 use native.Mathlib.Omega.{arith}
 use native.Mathlib.Decide.{decLt}
@@ -8,7 +8,7 @@ use native.Mathlib.Nat.{mod-eq-of-lt, pow-suc, pow-zero}
 use mathlib.Core.List.{List, [], _∷_}
 use lib.ListN.{length}
 use borrow.Author.Tests.{lt-ltb, le-ltb}
-use Rattle.format.specs.Fields.{pick, two64, Varint, last, more, groups, varintValue, shortestIn, shortest, lastByte, Shortest}
+use Rattle.format.specs.Fields.{two64, Varint, last, more, groups, varintValue, shortestIn, shortest, lastByte, Shortest}
 
 -- how long a varint of at most k bytes is
 pub varint-length : (k : ℕ) (v : List ℕ) → Varint k v → (1 ≤ length v) × (length v ≤ k)

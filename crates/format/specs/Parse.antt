@@ -1,7 +1,7 @@
 -- Reading one run, as a function on the list of bytes, in document 01's reading order: "end" for empty input; then 1, 2, 3, 4; then 5 and 6 in
 -- byte order; then 7; then 8.
 -- Assumes nothing.
-use Prim.Native.Nat.{ℕ, zero, suc, _+_, _-_, _*_, _/_, _%_, _^_, _<_, _≤_}
+use Prim.Native.Nat.{ℕ, zero, suc, _+_, _-_, _*_, _/_, _%_, _^_}
 use mathlib.Core.Bool.{Bool, true, false}
 use mathlib.Core.List.{List, [], _∷_}
 use lib.ListN.{length, take, drop}

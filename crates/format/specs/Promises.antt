@@ -14,7 +14,7 @@ use Rattle.format.specs.declared.Stream.{Stream}
 use Rattle.format.specs.Answers.{ran, refusedAt, readWhole, brokeAt}
 use Rattle.format.specs.Runs.{Description, short, direct, fixed, delta, patched, rowCount, layout, joined}
 use Rattle.format.specs.Rows.{i64Rows}
-use Rattle.format.specs.Parse.{Reason, plain, Parsed, end, got, refused, parse, into}
+use Rattle.format.specs.Parse.{plain, Parsed, end, got, refused, parse, into}
 use Rattle.format.specs.Streams.{Reading, whole, broken, readAll, runsOf, totalRows, joinedRows}
 
 -- ---- one run

@@ -1,13 +1,13 @@
 -- The rows that a description stands for, as numbers below 2^64 (an i64 row is the number with the same bits). Sums are modulo 2^64.
 -- Assumes nothing.
-use Prim.Native.Nat.{ℕ, zero, suc, _+_, _-_, _*_, _/_, _%_, _^_}
-use mathlib.Core.Bool.{Bool, true, false}
+use Prim.Native.Nat.{ℕ, zero, suc, _+_, _-_, _*_, _%_, _^_}
+use mathlib.Core.Bool.{Bool}
 use mathlib.Core.List.{List, [], _∷_, map}
 use lib.ListN.{length, replicate}
 use lib.IntN.{ℤ, pos, negsuc}
 use lib.Dec.{leb, ltb, eqb}
 use Rattle.format.specs.Digits.{number}
-use Rattle.format.specs.Fields.{pick, width, two64, negative, zigzag, row, Block, varintValue}
+use Rattle.format.specs.Fields.{pick, width, two64, negative, zigzag, row, varintValue}
 use Rattle.format.specs.Runs.{Description, short, direct, fixed, delta, patched, Patch, patches}
 
 abbrev pub plus : ℕ → ℕ → ℕ

@@ -1,11 +1,10 @@
 -- Description descriptions, which of them are valid, and the bytes that each lays down (document 01, "Layouts" and "Numbers that come back").
 -- Nothing here reads: `layout` is defined by the fields alone. Assumes nothing.
-use mathlib.Core.Path.{_≡_}
-use Prim.Native.Nat.{ℕ, zero, suc, _+_, _-_, _*_, _/_, _%_, _^_, _<_, _≤_}
-use mathlib.Core.Bool.{Bool, true, false, not, _&&_, _||_}
-use mathlib.Core.List.{List, [], _∷_, _++_, map}
+use Prim.Native.Nat.{ℕ, _+_, _-_, _*_, _/_, _%_, _^_, _<_, _≤_}
+use mathlib.Core.Bool.{Bool, false, not, _&&_, _||_}
+use mathlib.Core.List.{List, [], _∷_, _++_}
 use lib.ListN.{length}
-use lib.Dec.{T, leb, ltb, eqb}
+use lib.Dec.{T, leb, eqb}
 use Rattle.format.specs.Digits.{AllBelow}
 use Rattle.format.specs.Fields.{pick, width, leastWidth, Block, IsBlock, blockBytes, Varint}
 
