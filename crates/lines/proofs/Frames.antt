@@ -108,6 +108,10 @@ module _ (line out out′ : List ℕ) where
       let z : 0 + length (answerText line ++ (10 ∷ [])) ≡ length (answerText line ++ (10 ∷ [])) = omega arith in
       record { count = rw (le-ltb (length out) 11310 h) (w .next ∙ z); places = rw (le-ltb (length out) 11310 h) (rw z at (w .places)) }
 
+-- any two outcomes that the promise allows are equal
+pub answered-unique : {line out o o′ : List ℕ} {r r′ : ℕ} → Answered line out o r → Answered line out o′ r′ → (r ≡ r′) × (o ≡ o′)
+answered-unique a b = (a .count ∙ sym (b .count), a .places ∙ sym (b .places))
+
 -- ---- the run reader's answer
 
 -- the rows that were read fit the places

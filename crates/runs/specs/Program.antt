@@ -64,3 +64,19 @@ LeftIn input Done = Unit {0}
 abbrev pub Holds : ℕ → Left → Type 0
 Holds most (Begun n) = n ≤ most
 Holds most Done = Unit {0}
+
+-- ---- an input that comes in blocks
+
+-- the beginning of a line, as far as it is kept
+abbrev pub kept : List ℕ → List ℕ
+kept line = take 8801 line
+
+-- what is written for the blocks that come, with a line's beginning held: the whole lines' answers after each block, and at the end the last line's
+unfoldable pub blockText : List ℕ → List (List ℕ) → List ℕ
+blockText held [] = lastAnswer held
+blockText held (b ∷ bs) = answersFrom [] (held ++ b) ++ blockText (kept (begunFrom [] (held ++ b))) bs
+
+-- the blocks as one input
+unfoldable pub joinedBlocks : List (List ℕ) → List ℕ
+joinedBlocks [] = []
+joinedBlocks (b ∷ bs) = b ++ joinedBlocks bs
