@@ -14,7 +14,7 @@ use borrow.Author.Tests.{lt-ltb, ne-eqb}
 use Rattle.format.specs.Fields.{pick}
 use Rattle.lines.specs.Ascii.{ascii}
 use Rattle.lines.specs.Hexadecimal.{allHex, hexBytes}
-use Rattle.lines.specs.Line.{badWord, badLine, frameOf, frameText, answerText}
+use Rattle.lines.specs.Line.{badLine, frameOf, frameText, answerText}
 use Rattle.runs.specs.Program.{answered, answersFrom, begunFrom, lastAnswer, programText, kept, blockText, joinedBlocks}
 
 -- ---- two blocks
@@ -75,11 +75,11 @@ no-open line (c ∷ s) h =
 
 -- ---- a line that is too long is bad, whatever follows in it
 
-long-bad : (line : List ℕ) → 8800 < length line → answerText line ≡ badWord
+long-bad : (line : List ℕ) → 8800 < length line → answerText line ≡ ascii "bad line"
 unfolding answerText frameOf frameText badLine
 long-bad line h = rw (ne-eqb (length line) 0 (omega arith), lt-ltb 8800 (length line) h) (by (eqb (length line % 2) 1) (not (allHex line)) (ltb 1 (getD (hexBytes line) 0 0)))
   where
-    by : (t u v : Bool) → frameText (pick ((((false || t) || true) || u) || v) [] (hexBytes line)) ≡ badWord
+    by : (t u v : Bool) → frameText (pick ((((false || t) || true) || u) || v) [] (hexBytes line)) ≡ ascii "bad line"
     by true u v = refl
     by false u v = refl
 
