@@ -12,3 +12,4 @@ pub mod Cut
 pub mod Booleans
 pub mod ByteValues
 pub mod Reading
+pub mod Writing

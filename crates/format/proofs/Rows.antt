@@ -2,7 +2,7 @@
 -- Assumes nothing.
 use mathlib.Core.Path.{_≡_, refl, sym, ap, _∙_}
 use Prim.Native.Nat.{ℕ, zero, suc, _+_, _-_, _*_, _/_, _%_, _^_, _<_, _≤_}
-use native.Mathlib.Nat.{mod-lt, zero-lt-suc, lt-of-lt-of-le, pow-le-pow-right}
+use native.Mathlib.Nat.{mod-lt, zero-lt-suc, lt-of-lt-of-le, pow-le-pow-right, mul-le-mul}
 use native.Mathlib.Omega.{arith}
 use native.Mathlib.Numerals.{add-two}
 use mathlib.Core.Bool.{Bool, true, false}
@@ -19,7 +19,8 @@ use Rattle.format.specs.Streams.{totalRows, joinedRows}
 use Rattle.format.proofs.Fields.{length-block}
 use Rattle.format.proofs.Digits.{number-lt}
 use Rattle.format.proofs.Patterns.{zigzag-lt}
-use Rattle.format.proofs.Widths.{width-is}
+use Rattle.format.proofs.Widths.{width-is, least-le}
+use Rattle.format.proofs.Varints.{varint-length}
 
 length-steps : (n x step : ℕ) → length (Rows.steps n x step) ≡ n
 unfolding Rows.steps
@@ -90,13 +91,39 @@ bytes-count (patched code base pc gw k l) =
       length-block (entryWidth pc gw) (length (l .values)) l,
     )
 
+-- no run is long: 512 fields of 64 bits, and less than 512 bytes beside them
+block-le : (n w m : ℕ) → n ≤ m → w ≤ 64 → bytesFor (n * w) ≤ 8 * m
+block-le n w m h l = omega (arith, mul-le-mul h l)
+
+pub byte-bounds : (d : Description) → Valid d → length (layout d) ≤ 4608
+byte-bounds d v = rw (bytes-count d) (by d v)
+  where
+    by : (d : Description) → Valid d → byteCount d ≤ 4608
+    by (short count value) v = omega (arith, v .eight)
+    by (direct code k) v = omega (arith, block-le (length (k .values)) (width code) 512 (v .head .rows-fit) (width-is code .le))
+    by (fixed rows first base) v = omega (arith, varint-length 10 first (v .first-varint), varint-length 10 base (v .base-varint))
+    by (delta code first base k) v =
+        omega (
+          arith,
+          varint-length 10 first (v .first-varint),
+          varint-length 10 base (v .base-varint),
+          block-le (length (k .values)) (width code) 512 (omega (arith, v .head .rows-fit)) (width-is code .le),
+        )
+    by (patched code base pc gw k l) v =
+        omega (
+          arith,
+          v .eight,
+          block-le (length (k .values)) (width code) 512 (v .head .rows-fit) (width-is code .le),
+          block-le (length (l .values)) (entryWidth pc gw) 32 (omega (arith, v .entries-fit)) (least-le (width pc + gw)),
+        )
+
 -- ---- each row is below 2^64
 
 below-map : (f : ℕ → ℕ) (b c : ℕ) (l : List ℕ) → ((x : ℕ) → x < b → f x < c) → AllBelow b l → AllBelow c (map f l)
 below-map f b c [] h p = tt
 below-map f b c (x ∷ l) h p = (h x (p .0), below-map f b c l h (p .1))
 
-below-replicate : (b n x : ℕ) → x < b → AllBelow b (replicate n x)
+pub below-replicate : (b n x : ℕ) → x < b → AllBelow b (replicate n x)
 below-replicate b zero x h = tt
 below-replicate b (suc n) x h = (h, below-replicate b n x h)
 

@@ -61,7 +61,7 @@ pub data Reads (n : ℕ) (bs : List ℕ) : Reading → Type 0 where
   reads-broken : {ds : List Description} {r : Reason} {rest : List ℕ} → AllValid ds → bs ≡ joined ds ++ rest → totalRows ds ≤ n
       → into (n - totalRows ds) (parse rest) ≡ refused r → Reads n bs (broken ds r rest)
 
-sub-sub : (n a b : ℕ) → n - a - b ≡ n - (a + b)
+pub sub-sub : (n a b : ℕ) → n - a - b ≡ n - (a + b)
 sub-sub n a b = omega arith
 
 reads-after : {n : ℕ} {bs : List ℕ} {d : Description} {rest : List ℕ} {r : Reading} → Took bs layout Valid d rest → rowCount d ≤ n
@@ -92,7 +92,7 @@ stream-post n bs h = fuel-post (length bs) n bs h (le-refl (length bs))
 
 -- ---- and the other way. `stop` is what the reader says of the bytes after the runs, however much fuel it has.
 
-abbrev afterAll : List Description → Reading → Reading
+abbrev pub afterAll : List Description → Reading → Reading
 afterAll [] stop = stop
 afterAll (d ∷ ds) stop = after d (afterAll ds stop)
 
@@ -108,20 +108,20 @@ module _ (m : ℕ) (rest : List ℕ) (stop : Reading) (stops : (f : ℕ) → len
       (ap (after d) (fuel-joined f (n - rowCount d) ds (v .1) (omega arith) (omega arith)
       (omega (arith, l, layout-pos d, length-append (layout d) (joined ds ++ rest), ap length (append-assoc (layout d) (joined ds) rest)))))
 
-after-whole : (ds : List Description) → afterAll ds (whole []) ≡ whole ds
+pub after-whole : (ds : List Description) → afterAll ds (whole []) ≡ whole ds
 after-whole [] = refl
 after-whole (d ∷ ds) = ap (after d) (after-whole ds)
 
-after-broken : (ds : List Description) (r : Reason) (rest : List ℕ) → afterAll ds (broken [] r rest) ≡ broken ds r rest
+pub after-broken : (ds : List Description) (r : Reason) (rest : List ℕ) → afterAll ds (broken [] r rest) ≡ broken ds r rest
 after-broken [] r rest = refl
 after-broken (d ∷ ds) r rest = ap (after d) (after-broken ds r rest)
 
-stops-empty : (n f : ℕ) → 0 ≤ f → runsFrom f n [] ≡ whole []
+pub stops-empty : (n f : ℕ) → 0 ≤ f → runsFrom f n [] ≡ whole []
 unfolding runsFrom
 stops-empty n zero l = refl
 stops-empty n (suc f) l = rw (parse-empty, into-end n)
 
-stops-refused : (n : ℕ) (rest : List ℕ) (r : Reason) → into n (parse rest) ≡ refused r → (f : ℕ) → length rest ≤ f → runsFrom f n rest ≡ broken [] r rest
+pub stops-refused : (n : ℕ) (rest : List ℕ) (r : Reason) → into n (parse rest) ≡ refused r → (f : ℕ) → length rest ≤ f → runsFrom f n rest ≡ broken [] r rest
 unfolding runsFrom
 stops-refused n [] r e f l =
     let z : _≡_ {A = ℕ} 0 1 = cc (into-end n, parse-empty) in

@@ -23,6 +23,14 @@ pub enum Kind {
     ByteValues,
 }
 
+// What the writer writes. Fixed and packed delta are forms of one kind.
+pub enum Form {
+    ShortRepeat,
+    Direct,
+    FixedDelta,
+    PackedDelta,
+}
+
 // A run: its kind, and how many rows and bytes it has.
 pub struct Run {
     pub kind: Kind,

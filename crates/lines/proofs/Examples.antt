@@ -7,9 +7,9 @@ use Rattle.format.specs.Fields
 use Rattle.format.specs.Runs
 use Rattle.format.specs.Rows
 use Rattle.format.specs.Parse
-use Rattle.lines.specs.Ascii.{ascii}
-use Rattle.lines.specs.Hexadecimal
-use Rattle.lines.specs.Decimal
+use Rattle.text.specs.Ascii.{ascii}
+use Rattle.text.specs.Hexadecimal
+use Rattle.text.specs.Decimal
 use Rattle.lines.specs.Line
 
 -- (the `unfolding` line opens all that computes: whoever says `unfolding written` computes with it)

@@ -18,12 +18,12 @@ use Rattle.format.specs.Promises.{RunRead, answerOf, placesOf}
 use Rattle.format.specs.declared.Answer.{Answer}
 use Rattle.format.specs.declared.Answer.the-variants.{End, Run, Refused}
 use Rattle.format.proofs.Rows.{rows-count}
-use Rattle.lines.specs.Ascii.{ascii}
-use Rattle.lines.specs.Hexadecimal.{allHex, hexBytes}
-use Rattle.lines.specs.Decimal.{decimal, rowText, rowsText}
+use Rattle.text.specs.Ascii.{ascii}
+use Rattle.text.specs.Hexadecimal.{allHex, hexBytes}
+use Rattle.text.specs.Decimal.{decimal, rowText, rowsText}
 use Rattle.lines.specs.Line.{badLine, frameOf, frameText, answerText, ended, answerLine, answerWords, rowsIn, wordsOf, Framed, Answered}
-use Rattle.lines.specs.Written.{Written}
-use Rattle.lines.proofs.Texts.{decimal-length, row-length}
+use Rattle.text.specs.Written.{Written}
+use Rattle.text.proofs.Texts.{decimal-length, row-length}
 
 -- ---- the tests of a line
 

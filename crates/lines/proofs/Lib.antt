@@ -1,5 +1,3 @@
 -- The laws that the proofs cite.
-pub mod Texts
-pub mod HexDigits
 pub mod Frames
 pub mod Examples

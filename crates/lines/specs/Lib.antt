@@ -1,6 +1,2 @@
--- What a line of the program is answered with (document 01, "The program"), and what the functions that write it are stated with.
-pub mod Ascii
-pub mod Hexadecimal
-pub mod Decimal
-pub mod Written
+-- What a line of the program is answered with (document 01, "The program").
 pub mod Line

@@ -14,9 +14,9 @@ use Rattle.format.specs.Parse.{Parsed, end, got, refused, parse, into}
 use Rattle.format.specs.Promises.{answerOf}
 use Rattle.format.specs.declared.Answer.{Answer}
 use Rattle.format.specs.declared.Answer.the-variants.{End, Run, Refused}
-use Rattle.lines.specs.Ascii.{ascii}
-use Rattle.lines.specs.Hexadecimal.{allHex, hexBytes}
-use Rattle.lines.specs.Decimal.{decimal, rowsText}
+use Rattle.text.specs.Ascii.{ascii}
+use Rattle.text.specs.Hexadecimal.{allHex, hexBytes}
+use Rattle.text.specs.Decimal.{decimal, rowsText}
 
 -- A line that is empty, odd, over 8,800 characters, not hexadecimal or with another flag (00 unsigned, 01 signed) is bad.
 unfoldable pub badLine : List ℕ → Bool

@@ -1,13 +1,10 @@
 // One line of hexadecimal in, one answer line out: document 01's program, without its input and output.
-mod hexadecimal;
-mod text;
-
 ghost use mathlib.Core.Path.{_≡_};
 ghost use Prim.Native.Nat.{_≤_, _<_};
 ghost use lib.ListN.{length, take};
 ghost use Rattle.format.specs.Answers.{answerRows};
 ghost use Rattle.lines.specs.Line.{runWords, answerWords, frameText, ended, answerRoom, Framed, Answered};
-ghost use Rattle.lines.specs.Written.{Written};
+ghost use Rattle.text.specs.Written.{Written};
 use format::Answer;
 use format::ByteOffset;
 use format::Kind;
@@ -88,7 +85,7 @@ fn frame_of(line: &[u8], frame: &mut [u8]) -> usize
     if MAX_LINE < len {
         return 0;
     }
-    if !hexadecimal::bytes(line, len / 2, frame) {
+    if !text::hexadecimal::bytes(line, len / 2, frame) {
         return 0;
     }
     if 1 < frame[0] {

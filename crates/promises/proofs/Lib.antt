@@ -6,6 +6,7 @@ pub mod Refusals
 pub mod Demand2
 pub mod Demand3
 pub mod BooleansAndValues
+pub mod RoundTrips
 -- the user's four questions
 pub mod EachWidth
 pub mod PatchLists

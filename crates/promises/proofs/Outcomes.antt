@@ -1,6 +1,6 @@
 -- The promises of the readers determine the answer and every lent place: each is an equation for either. Assumes nothing.
 use mathlib.Core.Path.{_≡_, refl, sym, _∙_}
-use Rattle.promises.specs.Outcomes.{Determines, RunDetermined, StreamDetermined, BooleansDetermined, ValueDetermined}
+use Rattle.promises.specs.Outcomes.{Determines, RunDetermined, StreamDetermined, BooleansDetermined, ValueDetermined, WriterDetermined, LoaderDetermined}
 
 -- a promise that says what the places and the answer are
 determined : {P A : Type 0} (Allows : P → A → Type 0) (p₀ : P) (r₀ : A) → Allows p₀ r₀ → ((p : P) (r : A) → Allows p r → (p ≡ p₀) × (r ≡ r₀)) → Determines P A Allows
@@ -21,3 +21,9 @@ booleans-determined input at n out = determined _ _ _ (record { answer = refl; p
 
 pub value-determined : ValueDetermined
 value-determined input at n = determined _ _ _ (record { part-is = refl }, record { answer = refl }) (λ p r a. (a .0 .part-is, a .1 .answer))
+
+pub writer-determined : WriterDetermined
+writer-determined rows signed form width out = determined _ _ _ (record { answer = refl; places = refl }) (λ p r a. (a .places, a .answer))
+
+pub loader-determined : LoaderDetermined
+loader-determined input flag out = determined _ _ _ (record { number = refl; bytes = refl }) (λ p r a. (a .bytes, a .number))

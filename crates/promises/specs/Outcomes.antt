@@ -10,6 +10,9 @@ use Rattle.format.specs.declared.Stream.{Stream}
 use Rattle.format.specs.Promises.{RunRead, StreamRead}
 use Rattle.format.specs.Booleans.{BooleansRead}
 use Rattle.format.specs.ByteValues.{ValueRead, ValueGiven}
+use Rattle.format.specs.Loader.{Loaded}
+use Rattle.format.specs.Writing.{Written}
+use Rattle.format.specs.declared.Form.{Form}
 
 -- A promise, as a relation of the places at exit and the answer: some outcome is allowed, and any two that are allowed are equal.
 pub record Determines (P A : Type 0) (Allows : P → A → Type 0) : Type 0 where
@@ -31,3 +34,11 @@ BooleansDetermined = (input : List ℕ) (at n : ℕ) (out : List ℕ) → Determ
 -- the part that is handed back, and the answer: for every input, position and length
 abbrev pub ValueDetermined : Type 0
 ValueDetermined = (input : List ℕ) (at n : ℕ) → Determines (List ℕ) Answer (λ p r. ValueGiven input at n p × ValueRead input at n r)
+
+-- for all rows, flags, forms and widths, and all lent places
+abbrev pub WriterDetermined : Type 0
+WriterDetermined = (rows : List ℤ) (signed : Bool) (form : Form) (width : ℕ) (out : List ℕ) → Determines (List ℕ) Answer (λ p r. Written rows signed form width out p r)
+
+-- the loader's number and bytes: for every input, flag and lent bytes
+abbrev pub LoaderDetermined : Type 0
+LoaderDetermined = (input : List ℕ) (flag : ℕ) (out : List ℕ) → Determines (List ℕ) ℕ (λ p r. Loaded input flag out p r)

@@ -8,3 +8,4 @@ pub mod PatchWalk
 pub mod DeltaRun
 pub mod PatchedRun
 pub mod ByKind
+pub mod StreamWalk

@@ -1,7 +1,8 @@
 // RLE version 2: the run reader, a module for each kind of run, and the stream reader.
-ghost use Rattle.format.specs.Promises.{RunRead};
+ghost use Rattle.format.specs.Promises.{RunRead, StreamRead};
 use format::Answer;
 use format::ByteOffset;
+use format::Stream;
 
 mod delta;
 mod direct;
@@ -32,4 +33,32 @@ pub fn read_run(input: &[u8], at: ByteOffset, signed: bool, out: &mut [i64]) -> 
         return patched_base::read(input, p, signed, out);
     }
     delta::read(input, p, signed, out)
+}
+
+// The runs from a position to the end of the input, their rows one after another in the places. At the first refusal it stops: the rows
+// of the runs before it stay, and the places after them keep their content.
+pub fn read_stream(input: &[u8], at: ByteOffset, signed: bool, out: &mut [i64]) -> Stream
+    ensures { λ r. ⌜ StreamRead (now (input .entry)) (at .bytes) signed (now (out .entry)) (now (out .exit)) r ⌝ }
+{
+    let from = at.bytes;
+    let mut p = from;
+    let mut k: usize = 0;
+    while p < input.len() {
+        let a = read_run(input, ByteOffset { bytes: p }, signed, &mut out[k..]);
+        match a {
+            Answer::Run(r) => {
+                let rows = r.rows;
+                let consumed = r.consumed;
+                k += rows.rows;
+                p += consumed.bytes;
+            }
+            Answer::Refused(f) => {
+                return Stream::refused(f.number, p, k, p - from);
+            }
+            Answer::End => {
+                return Stream::whole(k, p - from);
+            }
+        }
+    }
+    Stream::whole(k, p - from)
 }

@@ -74,14 +74,14 @@ pub(crate) fn put(
     requires { ⌜ (width < 64) × (rows ≤ length (now out)) × (outOfPlace pw rows (fields bits n (now list)) ≡ false) ⌝ }
     ensures { λ _. ⌜ now (out .exit) ≡ patchAll width pw 0 (now (out .entry)) (fields bits n (now (list .entry))) ⌝ }
 {
-    let mut place: usize = 0;
+    let mut row: usize = 0;
     let mut k: usize = 0;
     while k < n {
         let e = entry_at(list, bits, pw, k);
-        place += e.gap;
+        row += e.gap;
         if !e.skip {
-            let r = pattern::to_i64(pattern::add(pattern::to_u64(out[place]), e.patch << width));
-            out[place] = r;
+            let r = pattern::to_i64(pattern::add(pattern::to_u64(out[row]), e.patch << width));
+            out[row] = r;
         }
         k += 1;
     }

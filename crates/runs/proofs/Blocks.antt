@@ -12,8 +12,8 @@ use lib.Seq.{take-all}
 use lib.Dec.{eqb, ltb}
 use borrow.Author.Tests.{lt-ltb, ne-eqb}
 use Rattle.format.specs.Fields.{pick}
-use Rattle.lines.specs.Ascii.{ascii}
-use Rattle.lines.specs.Hexadecimal.{allHex, hexBytes}
+use Rattle.text.specs.Ascii.{ascii}
+use Rattle.text.specs.Hexadecimal.{allHex, hexBytes}
 use Rattle.lines.specs.Line.{badLine, frameOf, frameText, answerText}
 use Rattle.runs.specs.Program.{answered, answersFrom, begunFrom, lastAnswer, programText, kept, blockText, joinedBlocks}
 

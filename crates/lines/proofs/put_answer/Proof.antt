@@ -1,7 +1,7 @@
 -- `lines::put_answer` meets its contract, answer by answer. Assumes nothing.
 use native.Mathlib.Omega.{arith}
 use Rattle.lines.specs.Line.{answerWords}
-use Rattle.lines.proofs.Texts.{decimal-length, then-written}
+use Rattle.text.proofs.Texts.{decimal-length, then-written}
 use borrow.Author.Needs.{needs}
 use Rattle.lines.proofs.put_answer.Statement.{statement}
 use Rattle.lines.proofs.put_answer.Tie as tie

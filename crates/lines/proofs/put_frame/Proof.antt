@@ -2,7 +2,7 @@
 use mathlib.Core.Path.{sym, _∙_}
 use native.Mathlib.Omega.{arith}
 use denote.Ref.{now}
-use Rattle.lines.proofs.Texts.{then-written}
+use Rattle.text.proofs.Texts.{then-written}
 use Rattle.lines.proofs.Frames.{reads, frame-text, words-length}
 use borrow.Author.Needs.{needs}
 use Rattle.lines.proofs.put_frame.Statement.{statement}

@@ -1,6 +1,6 @@
 -- `lines::put_run` meets its contract: five texts, one after the other. Assumes nothing.
 use native.Mathlib.Omega.{arith}
-use Rattle.lines.proofs.Texts.{decimal-length, then-written}
+use Rattle.text.proofs.Texts.{decimal-length, then-written}
 use borrow.Author.Needs.{needs}
 use Rattle.lines.proofs.put_run.Statement.{statement}
 use Rattle.lines.proofs.put_run.Tie as tie

@@ -19,10 +19,10 @@ use Rattle.rle_v2.proofs.patch_list.put.Tie as tie
 use Rattle.rle_v2.proofs.patch_list.put.Reads as reads
 
 abbrev Inv-loop : tie.InvT-loop
-Inv-loop list bits pw n width rows out₀ place₀ k₀ out place k = (k ≤ n) × Put width pw rows (fields bits n list) out₀ out k place
+Inv-loop list bits pw n width rows out₀ row₀ k₀ out row k = (k ≤ n) × Put width pw rows (fields bits n list) out₀ out k row
 
 abbrev μ-loop : tie.MeasureT-loop
-μ-loop list bits pw n width rows out₀ place₀ k₀ out place k = n - k
+μ-loop list bits pw n width rows out₀ row₀ k₀ out row k = n - k
 
 -- the entry that a turn reads
 next-is : (x : tie.After-entry-at Inv-loop μ-loop) → let l = x .before .before .loop in let a = x .before .before .before .before .args in
@@ -34,13 +34,13 @@ next-is x =
     entry-next (a .bits) (a .n) (l .k) (a .list .now) (below-all 256 (a .list .now) (λ i. k .shared-slice-known .given i .fits)) (x .before .loop-test .taken) (k .before .pre .0 .there)
 
 -- where it names a row, that is one of them
-named : (x : tie.After-entry-at Inv-loop μ-loop) → x .entry-at .result .skip ≡ false → x .before .before .loop .place + x .entry-at .result .gap < x .before .before .before .before .args .rows
+named : (x : tie.After-entry-at Inv-loop μ-loop) → x .entry-at .result .skip ≡ false → x .before .before .loop .row + x .entry-at .result .gap < x .before .before .before .before .args .rows
 named x y =
     let l = x .before .before .loop in
     let a = x .before .before .before .before .args in
-    put-inside (a .width) (a .pw) (a .rows) (fields (a .bits) (a .n) (a .list .now)) (a .out .now) (l .out) (l .k) (l .place) _ _ _ _ (l .inv .1) (next-is x) (x .entry-at .ensures) y
+    put-inside (a .width) (a .pw) (a .rows) (fields (a .bits) (a .n) (a .list .now)) (a .out .now) (l .out) (l .k) (l .row) _ _ _ _ (l .inv .1) (next-is x) (x .entry-at .ensures) y
 
-inside : (x : tie.After-entry-at Inv-loop μ-loop) → x .entry-at .result .skip ≡ false → x .before .before .loop .place + x .entry-at .result .gap < length (x .before .before .loop .out)
+inside : (x : tie.After-entry-at Inv-loop μ-loop) → x .entry-at .result .skip ≡ false → x .before .before .loop .row + x .entry-at .result .gap < length (x .before .before .loop .out)
 inside x y = omega (arith, named x y, x .before .before .loop .inv .1 .long, x .before .before .before .before .pre .1 .1)
 
 loop-holds : tie.Need-loop-holds Inv-loop μ-loop
@@ -49,8 +49,8 @@ loop-holds c = (search needs, put-first _ _ _ _ _ (c .before .pre .1 .2))
 entry-at-requires : tie.Need-entry-at-requires Inv-loop μ-loop
 entry-at-requires c κs = let z = c .before .before .before in let a = z .args in (z .pre .0 .wide, (z .pre .0 .some, z .pre .0 .few, omega arith, field-there (a .bits) (a .n) (c .before .loop .k) (a .list .now) (c .loop-test .taken) (z .pre .0 .there)))
 
-add-place : tie.Need-add-place Inv-loop μ-loop
-add-place c = let x = c .before in omega (arith, x .entry-at .ensures .gap-lt, x .before .before .loop .inv .1 .low)
+add-row : tie.Need-add-row Inv-loop μ-loop
+add-row c = let x = c .before in omega (arith, x .entry-at .ensures .gap-lt, x .before .before .loop .inv .1 .low)
 
 mul-to-u64 : tie.Need-mul-to-u64 Inv-loop μ-loop
 mul-to-u64 c = let x = c .before .before .before in omega (arith, named x (not-true _ (c .if1 .taken)), x .before .before .before .before .pre .0 .most)
@@ -93,11 +93,11 @@ loop-again c =
       ⊎-elim
           (λ w.
           rw (w .6)
-          (put-named (a .width) (a .pw) (a .rows) es (a .out .now) (l .out) (l .k) (l .place) _ _ _ _ (l .inv .1) (next-is x) (x .entry-at .ensures) (not-true _ (w .0 .taken)) (z .pre .0 .most) _
+          (put-named (a .width) (a .pw) (a .rows) es (a .out .now) (l .out) (l .k) (l .row) _ _ _ _ (l .inv .1) (next-is x) (x .entry-at .ensures) (not-true _ (w .0 .taken)) (z .pre .0 .most) _
           (toZ-ofZ (sfits-of (w .5 .ok)) ∙ w .5 .ensures ∙ rw (w .4 .ensures, w .2 .ensures, toZ-ofZ (sfits-of (w .1 .given)), add-mod-mod))))
           (λ w.
           rw (w .1)
-          (put-skip (a .width) (a .pw) (a .rows) es (a .out .now) (l .out) (l .k) (l .place) _ _ _ _ (l .inv .1) (next-is x) (x .entry-at .ensures) (not-false _ (w .0 .left))))
+          (put-skip (a .width) (a .pw) (a .rows) es (a .out .now) (l .out) (l .k) (l .row) _ _ _ _ (l .inv .1) (next-is x) (x .entry-at .ensures) (not-false _ (w .0 .left))))
           (c .if1 .came),
     )
 
@@ -108,7 +108,7 @@ returns : tie.Need-returns Inv-loop μ-loop
 returns c =
     let l = c .before .loop in
     let a = c .before .before .before .args in
-    put-last (a .width) (a .pw) (a .rows) (fields (a .bits) (a .n) (a .list .now)) (a .out .now) (l .out) (l .k) (l .place) (l .inv .1) (rw length-fields (c .loop-test .left))
+    put-last (a .width) (a .pw) (a .rows) (fields (a .bits) (a .n) (a .list .now)) (a .out .now) (l .out) (l .k) (l .row) (l .inv .1) (rw length-fields (c .loop-test .left))
 
 pub put-spec : {M : Type 1} → statement M
 put-spec =
@@ -118,7 +118,7 @@ put-spec =
     μ-loop
     loop-holds
     entry-at-requires
-    add-place
+    add-row
     mul-to-u64
     slice-copy-out-to-u64
     to-u64-requires

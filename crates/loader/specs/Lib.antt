@@ -1,0 +1,2 @@
+-- What the loader's inner functions are stated with. The promise itself stands in `format`.
+pub mod Room

@@ -1,0 +1,186 @@
+-- The stream reader keeps its promise: each turn reads one run more, or ends with what document 01 says. Assumes nothing.
+use Prim.Native.Nat.{_-_}
+use mathlib.Core.Path.{_∙_, ap}
+use lib.ListN.{length, drop, length-drop, drop-of-length-le}
+use denote.Ref.{now}
+use Rattle.format.proofs.Fields.{below-all}
+use Rattle.format.proofs.Runs.{layout-pos}
+use Rattle.util.proofs.Grow.{rest-is}
+use Rattle.rle_v2.proofs.StreamWalk.{OneRun, NoRun, Nothing, Step, step-is, Walked, walked-first, walked-run, back-same, walked-whole, walked-refused}
+use borrow.Author.Needs.{needs}
+use native.Mathlib.Omega.{arith}
+use Rattle.rle_v2.proofs.read_stream.Statement.{statement}
+use Rattle.rle_v2.proofs.read_stream.Tie as tie
+use Rattle.rle_v2.proofs.read_stream.Reads as reads
+
+abbrev Inv-loop : tie.InvT-loop
+Inv-loop input signed out₀ from p₀ k₀ out p k = Walked input from signed out₀ out p k
+
+abbrev μ-loop : tie.MeasureT-loop
+μ-loop input signed out₀ from p₀ k₀ out p k = length input - p
+
+-- what the call of a turn says, and its three cases
+step : (x : tie.After-read-run Inv-loop μ-loop) → let l = x .before .before .before .loop in let a = x .before .before .before .before .before .args in
+    Step (a .input .now) (l .p) (a .signed) (drop (l .k) (l .out)) (x .read-run .last .1 .1 .1 .0) (x .read-run .result)
+step x =
+    let l = x .before .before .before .loop in
+    let n = x .before .before .before .before in
+    let a = n .before .args in
+    step-is (a .input .now) (l .p) (a .signed) (drop (l .k) (l .out)) (x .read-run .last .1 .1 .1 .0) (x .read-run .result)
+    (below-all 256 (a .input .now) (λ i. n .shared-slice-known .given i .fits)) (rw (rest-is (l .out) (l .k)) at (x .read-run .ensures))
+
+ran-is : (m : tie.After-a Inv-loop μ-loop) → let x = m .before .before .before in let l = x .before .before .before .loop in let a = x .before .before .before .before .before .args in
+    OneRun (a .input .now) (l .p) (a .signed) (drop (l .k) (l .out)) (x .read-run .last .1 .1 .1 .0) (m .a .given .0 .0 .rows .rows) (m .a .given .0 .0 .consumed .bytes)
+ran-is m = rw (m .a .given .1) at (step (m .before .before .before))
+
+refused-is : (m : tie.After-a2 Inv-loop μ-loop) → let x = m .before .before .before in let l = x .before .before .before .loop in let a = x .before .before .before .before .before .args in
+    NoRun (a .input .now) (l .p) (a .signed) (drop (l .k) (l .out)) (x .read-run .last .1 .1 .1 .0) (m .a2 .given .0 .0 .number)
+refused-is m = rw (m .a2 .given .1) at (step (m .before .before .before))
+
+ended-is : (m : tie.After-enum-told Inv-loop μ-loop) → let x = m .before .before .before in let l = x .before .before .before .loop in let a = x .before .before .before .before .before .args in
+    Nothing (a .input .now) (l .p) (a .signed) (drop (l .k) (l .out)) (x .read-run .last .1 .1 .1 .0)
+ended-is m = rw (m .enum-told .given .1) at (step (m .before .before .before))
+
+loop-holds : tie.Need-loop-holds Inv-loop μ-loop
+loop-holds c = walked-first _ _ _ _
+
+mul-read-run : tie.Need-mul-read-run Inv-loop μ-loop
+mul-read-run c = omega arith
+
+sub-read-run : tie.Need-sub-read-run Inv-loop μ-loop
+sub-read-run c = omega arith
+
+part-read-run-start : tie.Need-part-read-run-start Inv-loop μ-loop
+part-read-run-start c = omega arith
+
+part-read-run-end : tie.Need-part-read-run-end Inv-loop μ-loop
+part-read-run-end c = omega arith
+
+read-run-requires : tie.Need-read-run-requires Inv-loop μ-loop
+read-run-requires c κs = search needs
+
+enum-known-a : tie.Need-enum-known-a Inv-loop μ-loop
+enum-known-a c = search needs
+
+add-k : tie.Need-add-k Inv-loop μ-loop
+add-k c =
+    let m = c .before .before .before .before in
+    let l = m .before .before .before .before .before .before .loop in
+    omega (arith, ran-is m .fits, length-drop (l .k) (l .out), l .inv .fits, l .inv .long)
+
+add-p : tie.Need-add-p Inv-loop μ-loop
+add-p c = omega (arith, ran-is (c .before .before .before .before .before) .within)
+
+loop-less : tie.Need-loop-less Inv-loop μ-loop
+loop-less c =
+    let m = c .before .before .before .before .before in
+    let o = ran-is m in
+    omega (arith, o .within, o .bytes-are, layout-pos (o .run), m .before .before .before .before .before .loop-test .taken)
+
+loop-again : tie.Need-loop-again Inv-loop μ-loop
+loop-again c =
+    let m = c .before .before .before .before .before in
+    let x = m .before .before .before in
+    let l = x .before .before .before .loop in
+    let a = x .before .before .before .before .before .args in
+    walked-run (a .input .now) (a .at .bytes) (a .signed) (a .out .now) (l .out) (l .p) (l .k) (l .inv) _ _ _ (x .before .before .loop-test .taken) (ran-is m)
+
+enum-known-a-2 : tie.Need-enum-known-a-2 Inv-loop μ-loop
+enum-known-a-2 c = search needs
+
+sub-refused : tie.Need-sub-refused Inv-loop μ-loop
+sub-refused c = omega arith
+
+refused-requires : tie.Need-refused-requires Inv-loop μ-loop
+refused-requires c κs = search needs
+
+same-length : tie.Need-same-length Inv-loop μ-loop
+same-length c =
+    let m = c .before .before in
+    let x = m .before .before .before in
+    let l = x .before .before .before .loop in
+    let a = x .before .before .before .before .before .args in
+    ap length (back-same (a .input .now) (a .at .bytes) (a .signed) (a .out .now) (l .out) (l .p) (l .k) (l .inv) _ (refused-is m .same)) ∙ l .inv .long
+
+returns : tie.Need-returns Inv-loop μ-loop
+returns c =
+    let m = c .before .before in
+    let x = m .before .before .before in
+    let l = x .before .before .before .loop in
+    let a = x .before .before .before .before .before .args in
+    rw (c .refused .ensures, back-same (a .input .now) (a .at .bytes) (a .signed) (a .out .now) (l .out) (l .p) (l .k) (l .inv) _ (refused-is m .same))
+    (walked-refused (a .input .now) (a .at .bytes) (a .signed) (a .out .now) (l .out) (l .p) (l .k) (l .inv) _ (refused-is m .read))
+
+enum-told : tie.Need-enum-told Inv-loop μ-loop
+enum-told c = search needs
+
+sub-whole : tie.Need-sub-whole Inv-loop μ-loop
+sub-whole c = omega arith
+
+whole-requires : tie.Need-whole-requires Inv-loop μ-loop
+whole-requires c κs = search needs
+
+same-length-2 : tie.Need-same-length-2 Inv-loop μ-loop
+same-length-2 c =
+    let m = c .before in
+    let x = m .before .before .before in
+    let l = x .before .before .before .loop in
+    let a = x .before .before .before .before .before .args in
+    ap length (back-same (a .input .now) (a .at .bytes) (a .signed) (a .out .now) (l .out) (l .p) (l .k) (l .inv) _ (ended-is m .same)) ∙ l .inv .long
+
+returns-2 : tie.Need-returns-2 Inv-loop μ-loop
+returns-2 c =
+    let m = c .before in
+    let x = m .before .before .before in
+    let l = x .before .before .before .loop in
+    let a = x .before .before .before .before .before .args in
+    rw (c .whole .ensures, back-same (a .input .now) (a .at .bytes) (a .signed) (a .out .now) (l .out) (l .p) (l .k) (l .inv) _ (ended-is m .same))
+    (walked-whole (a .input .now) (a .at .bytes) (a .signed) (a .out .now) (l .out) (l .p) (l .k) (l .inv) (ended-is m .none))
+
+sub-whole-2 : tie.Need-sub-whole-2 Inv-loop μ-loop
+sub-whole-2 c = omega arith
+
+whole-requires-2 : tie.Need-whole-requires-2 Inv-loop μ-loop
+whole-requires-2 c κs = search needs
+
+same-length-3 : tie.Need-same-length-3 Inv-loop μ-loop
+same-length-3 c = c .before .before .loop .inv .long
+
+returns-3 : tie.Need-returns-3 Inv-loop μ-loop
+returns-3 c =
+    let l = c .before .before .loop in
+    let a = c .before .before .before .before .args in
+    rw (c .whole2 .ensures)
+    (walked-whole (a .input .now) (a .at .bytes) (a .signed) (a .out .now) (l .out) (l .p) (l .k) (l .inv) (drop-of-length-le (a .input .now) (c .before .loop-test .left)))
+
+pub read-stream-spec : {M : Type 1} → statement M
+read-stream-spec =
+    tie.close
+    (tie.spec
+    Inv-loop
+    μ-loop
+    loop-holds
+    mul-read-run
+    sub-read-run
+    part-read-run-start
+    part-read-run-end
+    read-run-requires
+    enum-known-a
+    add-k
+    add-p
+    loop-less
+    loop-again
+    enum-known-a-2
+    sub-refused
+    refused-requires
+    same-length
+    returns
+    enum-told
+    sub-whole
+    whole-requires
+    same-length-2
+    returns-2
+    sub-whole-2
+    whole-requires-2
+    same-length-3
+    returns-3)

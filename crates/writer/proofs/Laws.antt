@@ -1,0 +1,129 @@
+-- The laws that the writer's loops and tests cite. Assumes nothing.
+use mathlib.Core.Path.{_≡_, refl, sym, _∙_}
+use Prim.Native.Nat.{ℕ, zero, suc, _+_, _*_, _/_, _^_, _<_, _≤_}
+use native.Mathlib.Nat.{div-lt-iff-lt-mul, mul-le-mul}
+use native.Mathlib.Numerals.{add-one}
+use native.Mathlib.Decide.{decLt}
+use native.Mathlib.Omega.{arith}
+use mathlib.Core.Bool.{Bool, true, false, _&&_}
+use mathlib.Core.List.{List, [], _∷_, _++_, map}
+use mathlib.Core.Logic.{_↔_}
+use lib.Dec.{ltb, eqb}
+use lib.IntN.{ℤ, pos}
+use lib.ListN.{length, getD, drop, take, List·getD-map, drop-of-length-le, set, length-append}
+use lib.Seq.{slice, slice-cons, slice-empty, drop-cons, take-at, drop-append-add, drop-drop}
+use lib.Pow.{pow-pos}
+use borrow.Author.Tests.{lt-ltb, le-ltb, eq-eqb, ne-eqb}
+use Rattle.format.specs.Fields.{width, bytesFor}
+use Rattle.format.specs.Rows.{asU64}
+use Rattle.format.specs.Writing.{minus, stepTo, stepsOf, baseDelta, every, between}
+use Rattle.format.proofs.Writing.{between-le}
+use Rattle.format.proofs.Widths.{IsWidth, width-is}
+
+-- ---- a loop that tests n numbers: the whole passes exactly if what is left of it passes
+
+abbrev pub Left : (ℕ → Bool) → List ℕ → ℕ → ℕ → Type 0
+Left test l n i = every test (take n l) ≡ every test (slice i n l)
+
+module _ (test : ℕ → Bool) (l : List ℕ) (n i : ℕ) (left : Left test l n i) where
+  next : i < n → n ≤ length l → every test (take n l) ≡ test (getD l i 0) && every test (slice (i + 1) n l)
+  unfolding every
+  next h k = left ∙ rw (add-one, slice-cons i n l 0 h k)
+
+  pub stops : i < n → n ≤ length l → test (getD l i 0) ≡ false → false ≡ every test (take n l)
+  stops h k e = sym (next h k ∙ rw e)
+
+  pub goes : i < n → n ≤ length l → test (getD l i 0) ≡ true → Left test l n (i + 1)
+  goes h k e = next h k ∙ rw e
+
+  pub done : i ≤ n → n ≤ i → true ≡ every test (take n l)
+  unfolding every
+  done h k =
+      let e : i ≡ n = omega arith in
+      sym (left ∙ rw (e, slice-empty n l))
+
+-- ---- bits that a shift leaves
+
+pub shifted-out : (x bits : ℕ) → eqb (x / 2 ^ bits) 0 ≡ ltb x (2 ^ bits)
+shifted-out x bits = by (decLt x (2 ^ bits))
+  where
+    iff : (x / 2 ^ bits < 1) ↔ (x < 1 * 2 ^ bits)
+    iff = div-lt-iff-lt-mul (pow-pos bits)
+
+    by : Dec (x < 2 ^ bits) → eqb (x / 2 ^ bits) 0 ≡ ltb x (2 ^ bits)
+    by (yes h) = rw (lt-ltb x (2 ^ bits) h) (eq-eqb (x / 2 ^ bits) 0 (omega (arith, iff .1 (omega arith))))
+    by (no h) = rw (le-ltb x (2 ^ bits) (omega arith)) (ne-eqb (x / 2 ^ bits) 0 (λ e. h (omega (arith, iff .0 (omega arith)))))
+
+-- ---- a loop over rows: what is stored of them, and the steps between them
+
+pub pattern-at : (rows : List ℤ) (i : ℕ) → getD (map asU64 rows) i 0 ≡ asU64 (getD rows i (pos 0))
+pattern-at rows i = List·getD-map asU64 rows i (pos 0)
+
+pub map-next : (f : ℕ → ℕ) (l : List ℕ) (i : ℕ) → i < length l → map f (drop i l) ≡ f (getD l i 0) ∷ map f (drop (i + 1) l)
+map-next f l i h = rw (add-one, drop-cons l i 0 h)
+
+pub map-end : (f : ℕ → ℕ) (l : List ℕ) (i : ℕ) → length l ≤ i → map f (drop i l) ≡ []
+map-end f l i h = rw (drop-of-length-le l h)
+
+pub steps-next : (falling : Bool) (l : List ℕ) (i : ℕ) → i + 1 < length l
+    → stepsOf falling (drop i l) ≡ stepTo falling (getD l i 0) (getD l (i + 1) 0) ∷ stepsOf falling (drop (i + 1) l)
+unfolding stepsOf
+steps-next falling [] i h = absurd (omega arith)
+steps-next falling (x ∷ []) i h = absurd (omega arith)
+steps-next falling (x ∷ y ∷ l) zero h = refl
+steps-next falling (x ∷ y ∷ l) (suc i) h =
+    let e : suc i + 1 ≡ suc (i + 1) = omega arith in
+    rw e (steps-next falling (y ∷ l) i (omega arith))
+
+pub steps-end : (falling : Bool) (l : List ℕ) (i : ℕ) → length l ≤ i + 1 → stepsOf falling (drop i l) ≡ []
+unfolding stepsOf
+steps-end falling [] zero h = refl
+steps-end falling [] (suc i) h = refl
+steps-end falling (x ∷ []) zero h = refl
+steps-end falling (x ∷ y ∷ l) zero h = absurd (omega arith)
+steps-end falling (x ∷ l) (suc i) h = steps-end falling l i (omega arith)
+
+pub base-none : (l : List ℕ) → length l < 2 → 0 ≡ baseDelta l
+unfolding baseDelta stepsOf
+base-none [] h = refl
+base-none (x ∷ []) h = refl
+base-none (x ∷ y ∷ l) h = absurd (omega arith)
+
+pub base-some : (l : List ℕ) → 2 ≤ length l → minus (getD l 1 0) (getD l 0 0) ≡ baseDelta l
+unfolding baseDelta stepsOf
+base-some [] h = absurd (omega arith)
+base-some (x ∷ []) h = absurd (omega arith)
+base-some (x ∷ y ∷ l) h = refl
+
+-- ---- bytes written one piece after another
+
+pub one-set : (l : List ℕ) (a : ℕ) → 1 ≤ length l → set l 0 a ≡ a ∷ drop 1 l
+one-set [] a h = absurd (omega arith)
+one-set (x ∷ l) a h = refl
+
+pub two-set : (l : List ℕ) (a b : ℕ) → 2 ≤ length l → set (set l 0 a) 1 b ≡ a ∷ b ∷ drop 2 l
+two-set [] a b h = absurd (omega arith)
+two-set (x ∷ []) a b h = absurd (omega arith)
+two-set (x ∷ y ∷ l) a b h = refl
+
+-- a piece of k bytes, written behind what stands in front
+pub behind : (p q before out out′ : List ℕ) (at k : ℕ) → at ≡ length p → length q ≡ k → out ≡ p ++ drop (length p) before
+    → out′ ≡ take at out ++ q ++ drop (at + k) out → out′ ≡ (p ++ q) ++ drop (length (p ++ q)) before
+behind p q before out out′ at k n l e f =
+    let front : take at out ≡ p = rw e (take-at p (drop (length p) before) at (sym n)) in
+    let back : drop (at + k) out ≡ drop (length (p ++ q)) before =
+    rw (e, n, drop-append-add p (drop (length p) before) k, drop-drop k (length p) before, length-append p q, l) in
+    f ∙ rw (front, back)
+
+-- ---- the size of a block
+
+pub width-known : {bits : ℕ} (code : ℕ) → bits ≡ width code → IsWidth bits
+width-known code e = rw e (width-is code)
+
+pub block-small : (n bits : ℕ) → n ≤ 512 → bits ≤ 64 → bytesFor (n * bits) ≤ 4096
+block-small n bits a b = omega (arith, mul-le-mul {n₂ = 512} {m₂ = 64} a b)
+
+-- ---- what a form allows, in numbers
+
+pub within : (low high n : ℕ) → between low high n ≡ true → (low ≤ n) × (n ≤ high)
+within low high n e = between-le low high n (rw e tt)

@@ -1,0 +1,36 @@
+-- `delta::base_delta` meets its contract. Assumes nothing.
+use mathlib.Core.Path.{ap₂, _∙_}
+use mathlib.Core.List.{map}
+use lib.ListN.{length-map}
+use native.Mathlib.Omega.{arith}
+use denote.Ref.{now}
+use Rattle.format.specs.Rows.{asU64}
+use Rattle.format.specs.Writing.{minus}
+use Rattle.writer.proofs.Laws.{base-none, base-some}
+use borrow.Author.Needs.{needs}
+use Rattle.writer.proofs.delta.base_delta.Statement.{statement}
+use Rattle.writer.proofs.delta.base_delta.Tie as tie
+
+returns : tie.Need-returns
+returns c =
+    let rows = now (c .before .args .rows) in
+    base-none (map asU64 rows) (rw (length-map rows asU64) (omega arith))
+
+pattern-of-requires : tie.Need-pattern-of-requires
+pattern-of-requires c κs = search needs
+
+pattern-of-requires-2 : tie.Need-pattern-of-requires-2
+pattern-of-requires-2 c κs = search needs
+
+sub-requires : tie.Need-sub-requires
+sub-requires c κs = search needs
+
+returns-2 : tie.Need-returns-2
+returns-2 c =
+    let rows = now (c .before .before .before .before .args .rows) in
+    c .sub .ensures ∙ ap₂ minus (c .before .before .pattern-of .ensures) (c .before .pattern-of2 .ensures)
+    ∙ base-some (map asU64 rows) (rw (length-map rows asU64) (omega arith))
+
+pub base-delta-spec : {M : Type 1} → statement M
+base-delta-spec =
+    tie.close (tie.spec returns pattern-of-requires pattern-of-requires-2 sub-requires returns-2)

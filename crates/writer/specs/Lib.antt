@@ -1,0 +1,2 @@
+-- The definitions that the writer's inner functions cite.
+pub mod Start

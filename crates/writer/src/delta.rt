@@ -1,0 +1,88 @@
+// Delta: the header, the first row and the base delta as varints; a packed delta's magnitudes follow in a packed block.
+ghost use mathlib.Core.Path.{_≡_};
+ghost use mathlib.Core.List.{_++_, map};
+ghost use Prim.Native.Nat.{_+_, _<_, _≤_};
+ghost use lib.ListN.{length, drop};
+ghost use Rattle.format.specs.Fields.{shortest};
+ghost use Rattle.format.specs.Rows.{asU64};
+ghost use Rattle.format.specs.Writing.{baseDelta, Written};
+ghost use Rattle.writer.specs.Start.{start, Started};
+use crate::head;
+use crate::values;
+use format::Answer;
+use format::Form;
+use format::Kind;
+use util::packed;
+use util::pattern;
+use util::varint;
+use util::width;
+
+// Row 1 less row 0; one row has delta 0.
+fn base_delta(rows: &[i64]) -> u64
+    ensures { λ r. ⌜ r ≡ baseDelta (map asU64 (now (rows .entry))) ⌝ }
+{
+    if rows.len() < 2 {
+        return 0;
+    }
+    pattern::sub(values::pattern_of(rows, 1), values::pattern_of(rows, 0))
+}
+
+// The bytes of the header and of both varints.
+fn start_size(first: u64, base: u64) -> usize
+    ensures { λ r. ⌜ r ≡ 2 + length (shortest first) + length (shortest base) ⌝ }
+{
+    2 + varint::size(first) + varint::size(base)
+}
+
+fn write_start(code: u8, rows: usize, first: u64, base: u64, out: &mut [u8]) -> usize
+    requires { ⌜ (code < 32) × (1 ≤ rows) × (rows ≤ 512) × (2 + length (shortest first) + length (shortest base) ≤ length (now out)) ⌝ }
+    ensures { λ r. ⌜ Started (start code rows first base) (now (out .entry)) (now (out .exit)) r ⌝ }
+{
+    head::write(3, code, rows, out);
+    let at = varint::write(first, out, 2);
+    varint::write(base, out, at)
+}
+
+pub(crate) fn write_fixed(rows: &[i64], signed: bool, code: u8, out: &mut [u8]) -> Answer
+    requires { ⌜ (1 ≤ length (now rows)) × (length (now rows) ≤ 512) × (code ≡ 0) ⌝ }
+    ensures { λ r. ⌜ Written (now (rows .entry)) signed Form.FixedDelta code (now (out .entry)) (now (out .exit)) r ⌝ }
+{
+    let n = rows.len();
+    let step = base_delta(rows);
+    let mut steps = values::scratch();
+    values::steps(rows, false, &mut steps);
+    if !values::all_are(&steps, n - 1, step) {
+        return Answer::refused(10, 0);
+    }
+    let first = values::stored(signed, values::pattern_of(rows, 0));
+    let base = pattern::zigzag_of(step);
+    let size = start_size(first, base);
+    if out.len() < size {
+        return Answer::refused(8, 0);
+    }
+    write_start(0, n, first, base, out);
+    Answer::run(Kind::Delta, n, size)
+}
+
+pub(crate) fn write_packed(rows: &[i64], signed: bool, code: u8, out: &mut [u8]) -> Answer
+    requires { ⌜ (2 ≤ length (now rows)) × (length (now rows) ≤ 512) × (1 ≤ code) × (code ≤ 31) ⌝ }
+    ensures { λ r. ⌜ Written (now (rows .entry)) signed Form.PackedDelta code (now (out .entry)) (now (out .exit)) r ⌝ }
+{
+    let n = rows.len();
+    let bits = width::bits_of(code);
+    let step = base_delta(rows);
+    let mut magnitudes = values::scratch();
+    values::steps(&rows[1..], 9223372036854775808 <= step, &mut magnitudes);
+    if !values::all_fit(&magnitudes, n - 2, bits) {
+        return Answer::refused(11, 0);
+    }
+    let first = values::stored(signed, values::pattern_of(rows, 0));
+    let base = pattern::zigzag_of(step);
+    let size = start_size(first, base) + packed::block_size(bits, n - 2);
+    if out.len() < size {
+        return Answer::refused(8, 0);
+    }
+    let at = write_start(code, n, first, base, out);
+    packed::pack(&magnitudes, n - 2, bits, out, at);
+    Answer::run(Kind::Delta, n, size)
+}

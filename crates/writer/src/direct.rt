@@ -1,0 +1,31 @@
+// Direct: the header, then every row, zigzagged if signed, in a packed block.
+ghost use Prim.Native.Nat.{_≤_};
+ghost use lib.ListN.{length};
+ghost use Rattle.format.specs.Writing.{Written};
+use crate::head;
+use crate::values;
+use format::Answer;
+use format::Form;
+use format::Kind;
+use util::packed;
+use util::width;
+
+pub(crate) fn write(rows: &[i64], signed: bool, code: u8, out: &mut [u8]) -> Answer
+    requires { ⌜ (1 ≤ length (now rows)) × (length (now rows) ≤ 512) × (code ≤ 31) ⌝ }
+    ensures { λ r. ⌜ Written (now (rows .entry)) signed Form.Direct code (now (out .entry)) (now (out .exit)) r ⌝ }
+{
+    let n = rows.len();
+    let bits = width::bits_of(code);
+    let mut stored = values::scratch();
+    values::store(rows, signed, &mut stored);
+    if !values::all_fit(&stored, n, bits) {
+        return Answer::refused(11, 0);
+    }
+    let size = 2 + packed::block_size(bits, n);
+    if out.len() < size {
+        return Answer::refused(8, 0);
+    }
+    head::write(1, code, n, out);
+    packed::pack(&stored, n, bits, out, 2);
+    Answer::run(Kind::Direct, n, size)
+}

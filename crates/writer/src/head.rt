@@ -1,0 +1,15 @@
+// The two bytes that open a direct or delta run: 2 bits kind, 5 bits width code, 9 bits rows less 1.
+ghost use mathlib.Core.Path.{_≡_};
+ghost use mathlib.Core.List.{_++_};
+ghost use Prim.Native.Nat.{_<_, _≤_};
+ghost use lib.ListN.{length, drop};
+ghost use Rattle.format.specs.Runs as Runs;
+
+pub(crate) fn write(kind: u8, code: u8, rows: usize, out: &mut [u8])
+    requires { ⌜ (kind < 4) × (code < 32) × (1 ≤ rows) × (rows ≤ 512) × (2 ≤ length (now out)) ⌝ }
+    ensures { λ _. ⌜ now (out .exit) ≡ Runs.head kind code rows ++ drop 2 (now (out .entry)) ⌝ }
+{
+    let less = rows - 1;
+    out[0] = kind * 64 + code * 2 + (less / 256) as u8;
+    out[1] = (less % 256) as u8;
+}
