@@ -18,9 +18,10 @@ use Rattle.format.specs.Promises.{RunRead, answerOf, placesOf}
 use Rattle.format.specs.declared.Answer.{Answer}
 use Rattle.format.specs.declared.Answer.the-variants.{End, Run, Refused}
 use Rattle.format.proofs.Rows.{rows-count}
+use Rattle.text.specs.Ascii.{ascii}
 use Rattle.text.specs.Hexadecimal.{allHex, hexBytes}
 use Rattle.text.specs.Decimal.{decimal, rowText, rowsText}
-use Rattle.lines.specs.Line.{badWord, badLine, frameOf, frameText, answerText, answerLine, answerWords, rowsIn, wordsOf, Framed, Answered}
+use Rattle.lines.specs.Line.{badLine, frameOf, frameText, answerText, ended, answerLine, answerWords, rowsIn, wordsOf, Framed, Answered}
 use Rattle.text.specs.Written.{Written}
 use Rattle.text.proofs.Texts.{decimal-length, row-length}
 
@@ -87,11 +88,11 @@ module _ (line frame : List ℕ) (n : ℕ) (f : Framed line frame n) where
   unfolding answerText
   text-of = ap frameText (f .bytes)
 
-  pub text-bad : n ≡ 0 → answerText line ≡ badWord
+  pub text-bad : n ≡ 0 → answerText line ≡ ascii "bad line"
   unfolding frameText answerText
   text-bad e = by (frameOf line) (sym (f .count) ∙ e)
     where
-      by : (l : List ℕ) → length l ≡ 0 → frameText l ≡ badWord
+      by : (l : List ℕ) → length l ≡ 0 → frameText l ≡ ascii "bad line"
       by [] h = refl
       by (c ∷ l) h = absurd (omega arith)
 
@@ -102,11 +103,15 @@ module _ (line out out′ : List ℕ) where
   unfolding answerLine
   answered-none h = record { count = rw (lt-ltb (length out) 11310 h); places = rw (lt-ltb (length out) 11310 h) }
 
-  pub answered : (r : ℕ) → 11310 ≤ length out → Written (answerText line ++ (10 ∷ [])) out 0 out′ r → Answered line out out′ r
+  pub answered : (r : ℕ) → 11310 ≤ length out → Written (ended (answerText line)) out 0 out′ r → Answered line out out′ r
   unfolding answerLine
   answered r h w =
-      let z : 0 + length (answerText line ++ (10 ∷ [])) ≡ length (answerText line ++ (10 ∷ [])) = omega arith in
+      let z : 0 + length (ended (answerText line)) ≡ length (ended (answerText line)) = omega arith in
       record { count = rw (le-ltb (length out) 11310 h) (w .next ∙ z); places = rw (le-ltb (length out) 11310 h) (rw z at (w .places)) }
+
+-- any two outcomes that the promise allows are equal
+pub answered-unique : {line out o o′ : List ℕ} {r r′ : ℕ} → Answered line out o r → Answered line out o′ r′ → (r ≡ r′) × (o ≡ o′)
+answered-unique a b = (a .count ∙ sym (b .count), a .places ∙ sym (b .places))
 
 -- ---- the run reader's answer
 

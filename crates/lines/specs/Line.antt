@@ -18,19 +18,6 @@ use Rattle.text.specs.Ascii.{ascii}
 use Rattle.text.specs.Hexadecimal.{allHex, hexBytes}
 use Rattle.text.specs.Decimal.{decimal, rowsText}
 
--- The fixed words.
-abbrev pub runWord : List ℕ
-runWord = ascii "run "
-
-abbrev pub refusedWord : List ℕ
-refusedWord = ascii "refused "
-
-abbrev pub endWord : List ℕ
-endWord = ascii "end"
-
-abbrev pub badWord : List ℕ
-badWord = ascii "bad line"
-
 -- A line that is empty, odd, over 8,800 characters, not hexadecimal or with another flag (00 unsigned, 01 signed) is bad.
 unfoldable pub badLine : List ℕ → Bool
 badLine line =
@@ -41,10 +28,14 @@ badLine line =
     || ltb 1 (getD (hexBytes line) 0 0)
 
 -- The numbers after `run` are rows, bytes consumed, then the rows as i64.
+abbrev pub runWords : ℕ → ℕ → List ℤ → List ℕ
+runWords rows bytes values = ascii "run " ++ decimal rows ++ (ascii " " ++ decimal bytes) ++ rowsText values
+
+-- the run reader's answer in words
 unfoldable pub answerWords : Answer → List ℤ → List ℕ
-answerWords End rows = endWord
-answerWords (Run r) rows = runWord ++ decimal (r .rows .rows) ++ (ascii " " ++ decimal (r .consumed .bytes)) ++ rowsText rows
-answerWords (Refused f) rows = refusedWord ++ decimal (f .number)
+answerWords End values = ascii "end"
+answerWords (Run r) values = runWords (r .rows .rows) (r .consumed .bytes) values
+answerWords (Refused f) values = ascii "refused " ++ decimal (f .number)
 
 -- the rows of what was read
 abbrev pub rowsIn : Bool → Parsed Description → List ℤ
@@ -62,16 +53,24 @@ frameOf line = pick (badLine line) [] (hexBytes line)
 
 -- The first byte is the flag, the rest one run; bytes after it aren't read. No run has more than 512 rows, so that 512 places are room for any.
 unfoldable pub frameText : List ℕ → List ℕ
-frameText [] = badWord
+frameText [] = ascii "bad line"
 frameText (flag ∷ run) = wordsOf (eqb flag 1) (into 512 (parse run))
 
 -- the answer to a line, without its newline
 unfoldable pub answerText : List ℕ → List ℕ
 answerText line = frameText (frameOf line)
 
--- the line that is written: the answer and a newline; none where fewer than 11,310 bytes are lent, which is room for any
+-- with its newline
+abbrev pub ended : List ℕ → List ℕ
+ended text = text ++ ascii "\n"
+
+-- room for any answer line
+abbrev pub answerRoom : ℕ
+answerRoom = 11310
+
+-- the answer line: none where there is less room
 unfoldable pub answerLine : ℕ → List ℕ → List ℕ
-answerLine room line = pick (ltb room 11310) [] (answerText line ++ ascii "\n")
+answerLine room line = pick (ltb room answerRoom) [] (ended (answerText line))
 
 -- the first n places hold the bytes of a line
 pub record Framed (line frame : List ℕ) (n : ℕ) : Type 0 where

@@ -1,11 +1,9 @@
 // One line of hexadecimal in, one answer line out: document 01's program, without its input and output.
 ghost use mathlib.Core.Path.{_≡_};
-ghost use mathlib.Core.List.{_++_, _∷_, []};
 ghost use Prim.Native.Nat.{_≤_, _<_};
 ghost use lib.ListN.{length, take};
 ghost use Rattle.format.specs.Answers.{answerRows};
-ghost use Rattle.text.specs.Decimal.{decimal, rowsText};
-ghost use Rattle.lines.specs.Line.{runWord, answerWords, frameText, Framed, Answered};
+ghost use Rattle.lines.specs.Line.{runWords, answerWords, frameText, ended, answerRoom, Framed, Answered};
 ghost use Rattle.text.specs.Written.{Written};
 use format::Answer;
 use format::ByteOffset;
@@ -25,17 +23,17 @@ const END: [u8; 3] = *b"end";
 const BAD_LINE: [u8; 9] = *b"bad line\n";
 
 // The most characters of a line, and the bytes that they write.
-const MAX_LINE: usize = 8800;
+pub const MAX_LINE: usize = 8800;
 
-const MAX_FRAME: usize = 4400;
+const MAX_FRAME: usize = MAX_LINE / 2;
 
 // Room for any answer line: `run `, two numbers of at most 20 digits, 512 rows of at most 21 characters, the spaces and the newline.
 pub const ANSWER_ROOM: usize = 11310;
 
 // A run's rows, its bytes consumed, and then the rows.
 fn put_run(rows: usize, consumed: usize, values: &[i64], out: &mut [u8]) -> usize
-    requires { ⌜ (rows ≤ 512) × (rows ≤ length (now values)) × (11310 ≤ length (now out)) ⌝ }
-    ensures { λ r. ⌜ Written (runWord ++ decimal rows ++ (32 ∷ decimal consumed) ++ rowsText (take rows (now (values .entry)))) (now (out .entry)) 0 (now (out .exit)) r ⌝ }
+    requires { ⌜ (rows ≤ 512) × (rows ≤ length (now values)) × (answerRoom ≤ length (now out)) ⌝ }
+    ensures { λ r. ⌜ Written (runWords rows consumed (take rows (now (values .entry)))) (now (out .entry)) 0 (now (out .exit)) r ⌝ }
 {
     let mut at = put_word(&RUN, out, 0);
     at = put_decimal(rows as u64, out, at);
@@ -46,7 +44,7 @@ fn put_run(rows: usize, consumed: usize, values: &[i64], out: &mut [u8]) -> usiz
 
 // What the run reader answered, in words.
 fn put_answer(answer: Answer, values: &[i64], out: &mut [u8]) -> usize
-    requires { ⌜ (answerRows answer ≤ 512) × (answerRows answer ≤ length (now values)) × (11310 ≤ length (now out)) ⌝ }
+    requires { ⌜ (answerRows answer ≤ 512) × (answerRows answer ≤ length (now values)) × (answerRoom ≤ length (now out)) ⌝ }
     ensures { λ r. ⌜ Written (answerWords answer (take (answerRows answer) (now (values .entry)))) (now (out .entry)) 0 (now (out .exit)) r ⌝ }
 {
     match answer {
@@ -98,8 +96,8 @@ fn frame_of(line: &[u8], frame: &mut [u8]) -> usize
 
 // The answer line to a frame that has a flag.
 fn put_frame(frame: &[u8], out: &mut [u8]) -> usize
-    requires { ⌜ (0 < length (now frame)) × (11310 ≤ length (now out)) ⌝ }
-    ensures { λ r. ⌜ Written (frameText (now (frame .entry)) ++ (10 ∷ [])) (now (out .entry)) 0 (now (out .exit)) r ⌝ }
+    requires { ⌜ (0 < length (now frame)) × (answerRoom ≤ length (now out)) ⌝ }
+    ensures { λ r. ⌜ Written (ended (frameText (now (frame .entry)))) (now (out .entry)) 0 (now (out .exit)) r ⌝ }
 {
     let mut rows = row_places();
     let signed = frame[0] == 1;

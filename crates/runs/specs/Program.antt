@@ -7,14 +7,13 @@ use mathlib.Core.List.{List, [], _∷_, _++_}
 use lib.ListN.{length, take, drop}
 use lib.Dec.{eqb}
 use Rattle.format.specs.Fields.{pick}
-use Rattle.text.specs.Ascii.{ascii}
-use Rattle.lines.specs.Line.{answerText}
+use Rattle.lines.specs.Line.{answerText, ended, answerRoom}
 use Rattle.runs.specs.declared.Left.{Left}
 use Rattle.runs.specs.declared.Left.the-variants.{Begun, Done}
 
 -- a line's answer, with its newline
 abbrev pub answered : List ℕ → List ℕ
-answered line = answerText line ++ ascii "\n"
+answered line = ended (answerText line)
 
 -- the answers to the lines of s that a newline ends; the first of them has begun as `line`
 unfoldable pub answersFrom : List ℕ → List ℕ → List ℕ
@@ -49,11 +48,15 @@ pub record Cut (input out out′ : List ℕ) (taken written : ℕ) : Type 0 wher
   pub rest : drop written out′ ≡ drop written out
   pub begun : begunFrom [] (drop taken input) ≡ begunFrom [] input
   pub some : taken ≡ 0 → written ≡ 0
-  pub all : written + 11310 ≤ length out → answersFrom [] (drop taken input) ≡ []
+  pub all : written + answerRoom ≤ length out → answersFrom [] (drop taken input) ≡ []
+
+-- as many characters of a line as show that it is over 8,800
+abbrev pub tooLong : ℕ
+tooLong = 8801
 
 -- what is left after a block stands at the front of the input: all of it, or as much as shows that its line is over 8,800 characters
 pub record Kept (from end : ℕ) (input input′ : List ℕ) (n : ℕ) : Type 0 where
-  pub count : n ≡ min (end - from) 8801
+  pub count : n ≡ min (end - from) tooLong
   pub bytes : take n input′ ≡ take n (drop from input)
 
 -- what is left of a block: from a place on, the beginning of a line
@@ -61,6 +64,23 @@ abbrev pub LeftIn : List ℕ → Left → Type 0
 LeftIn input (Begun from) = (from ≤ length input) × (answersFrom [] (drop from input) ≡ []) × (begunFrom [] (drop from input) ≡ begunFrom [] input)
 LeftIn input Done = Unit {0}
 
-abbrev pub Holds : ℕ → Left → Type 0
-Holds most (Begun n) = n ≤ most
-Holds most Done = Unit {0}
+-- no more of a line is held
+abbrev pub Holds : Left → Type 0
+Holds (Begun n) = n ≤ tooLong
+Holds Done = Unit {0}
+
+-- ---- an input that comes in blocks
+
+-- the beginning of a line, as far as it is kept
+abbrev pub kept : List ℕ → List ℕ
+kept line = take tooLong line
+
+-- what is written for the blocks that come, with a line's beginning held: the whole lines' answers after each block, and at the end the last line's
+unfoldable pub blockText : List ℕ → List (List ℕ) → List ℕ
+blockText held [] = lastAnswer held
+blockText held (b ∷ bs) = answersFrom [] (held ++ b) ++ blockText (kept (begunFrom [] (held ++ b))) bs
+
+-- the blocks as one input
+unfoldable pub joinedBlocks : List (List ℕ) → List ℕ
+joinedBlocks [] = []
+joinedBlocks (b ∷ bs) = b ++ joinedBlocks bs

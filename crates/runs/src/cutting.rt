@@ -4,6 +4,9 @@ ghost use Prim.Native.Nat.{_+_, _≤_, min};
 ghost use lib.ListN.{length, drop};
 ghost use Rattle.runs.specs.Program.{lineLength, Cut, Kept};
 
+// As many characters of a line as show that it is too long.
+pub(crate) const MAX_HELD: usize = lines::MAX_LINE + 1;
+
 // How many bytes of the input are answered, and how many bytes the answers take.
 pub(crate) struct Progress {
     pub taken: usize,
@@ -42,13 +45,13 @@ pub(crate) fn answer_lines(input: &[u8], out: &mut [u8]) -> Progress
     Progress { taken, written }
 }
 
-// Moves what is left of a block, the beginning of a line, to the front of the input: how much it is. A line that is over 8,800 characters is
-// bad however it goes on, so that no more than 8,801 of them are kept.
+// Moves what is left of a block, the beginning of a line, to the front of the input: how much it is. A line that is too long is bad however it
+// goes on, so that no more of it is kept than shows that.
 pub(crate) fn keep(input: &mut [u8], from: usize, end: usize) -> usize
     requires { ⌜ (from ≤ end) × (end ≤ length (now input)) ⌝ }
     ensures { λ r. ⌜ Kept from end (now (input .entry)) (now (input .exit)) r ⌝ }
 {
-    let n = least(end - from, 8801);
+    let n = least(end - from, MAX_HELD);
     let mut i = 0;
     while i < n {
         input[i] = input[from + i];

@@ -2,12 +2,14 @@
 // blocks. What was read and is not answered yet is the beginning of one line, so that a line of any length takes no more room.
 mod cutting;
 
+use cutting::MAX_HELD;
 use libc::STDIN_FILENO;
 use libc::STDOUT_FILENO;
 ghost use mathlib.Core.Path.{_≡_};
 ghost use Prim.Native.Nat.{_+_, _≤_};
 ghost use lib.ListN.{length};
-ghost use Rattle.runs.specs.Program.{LeftIn, Holds};
+ghost use Rattle.lines.specs.Line.{answerRoom};
+ghost use Rattle.runs.specs.Program.{tooLong, LeftIn, Holds};
 
 // How many bytes at the front of the input begin a line; or that nothing more is to be read or can be written.
 enum Left {
@@ -15,11 +17,14 @@ enum Left {
     Done,
 }
 
-// A block of 65,536 bytes, after the 8,801 that a line's beginning can take.
-fn input_places() -> [u8; 74337]
+// How much is read at once.
+const BLOCK: usize = 65536;
+
+// A block, after as much as a line's beginning can take.
+fn input_places() -> [u8; MAX_HELD + BLOCK]
     ensures { λ r. ⌜ length r ≡ 74337 ⌝ }
 {
-    [0; 74337]
+    [0; MAX_HELD + BLOCK]
 }
 
 // Reads once, into the places after those that are held: how many bytes came, none at the end or where reading fails.
@@ -33,7 +38,7 @@ fn read_after(input: &mut [u8], held: usize) -> usize
 
 // Answers the whole lines of a block and writes the answers: where the line after them begins.
 fn answer_block(input: &[u8], output: &mut [u8]) -> Left
-    requires { ⌜ 11310 ≤ length (now output) ⌝ }
+    requires { ⌜ answerRoom ≤ length (now output) ⌝ }
     ensures { λ r. ⌜ LeftIn (now (input .entry)) r ⌝ }
 {
     let mut from = 0;
@@ -62,8 +67,8 @@ fn answer_last(line: &[u8], output: &mut [u8]) {
 
 // One block.
 fn turn(input: &mut [u8], held: usize, output: &mut [u8]) -> Left
-    requires { ⌜ (8801 ≤ length (now input)) × (held ≤ 8801) × (11310 ≤ length (now output)) ⌝ }
-    ensures { λ r. ⌜ Holds 8801 r ⌝ }
+    requires { ⌜ (tooLong ≤ length (now input)) × (held ≤ tooLong) × (answerRoom ≤ length (now output)) ⌝ }
+    ensures { λ r. ⌜ Holds r ⌝ }
 {
     let got = read_after(input, held);
     let end = held + got;
