@@ -14,27 +14,19 @@ use crate::tally::{Hex, Tally};
 /// How many lines one child process is given.
 const BATCH: usize = 20_000;
 
-/// The program, and the lines that wait for it.
-pub struct Probe {
-    program: PathBuf,
+/// Lines for the program, each with the line that document 01 answers by the model.
+#[derive(Default)]
+pub struct Requests {
     lines: Vec<(String, String)>,
 }
 
-impl Probe {
-    /// The program that `PROBE` names, or the repository's own.
-    pub fn find() -> Result<Self, String> {
-        let own = concat!(env!("CARGO_MANIFEST_DIR"), "/../../target/bin/probe");
-        let program = env::var_os("PROBE").map_or_else(|| PathBuf::from(own), PathBuf::from);
-        if program.is_file() {
-            return Ok(Probe { program, lines: Vec::new() });
-        }
-        Err(format!(
-            "the probe program {} is missing: build it with `rt check probe` in the repository's root, \
-             or set PROBE to its path",
-            program.display()
-        ))
-    }
+/// The program, and the lines that wait for it.
+pub struct Probe {
+    program: PathBuf,
+    pub requests: Requests,
+}
 
+impl Requests {
     pub fn run(&mut self, input: &[u8], at: u64, signed: bool, places: u16) {
         let expected = match model::read_run(input, at as usize, signed, places.into()) {
             Answer::End => "end".into(),
@@ -109,16 +101,37 @@ impl Probe {
         self.lines.push((line, expected));
     }
 
+    /// Every line, and the line that answers it.
+    pub fn lines(&self) -> impl Iterator<Item = (&str, &str)> {
+        self.lines.iter().map(|(line, answer)| (line.as_str(), answer.as_str()))
+    }
+}
+
+impl Probe {
+    /// The program that `PROBE` names, or the repository's own.
+    pub fn find() -> Result<Self, String> {
+        let own = concat!(env!("CARGO_MANIFEST_DIR"), "/../../target/bin/probe");
+        let program = env::var_os("PROBE").map_or_else(|| PathBuf::from(own), PathBuf::from);
+        if program.is_file() {
+            return Ok(Probe { program, requests: Requests::default() });
+        }
+        Err(format!(
+            "the probe program {} is missing: build it with `rt check probe` in the repository's root, \
+             or set PROBE to its path",
+            program.display()
+        ))
+    }
+
     /// Runs the program on the lines that wait, if they are a batch.
     pub fn batch(&mut self, tally: &mut Tally) {
-        if self.lines.len() >= BATCH {
+        if self.requests.lines.len() >= BATCH {
             self.flush(tally);
         }
     }
 
     /// Runs the program on all lines that wait.
     pub fn flush(&mut self, tally: &mut Tally) {
-        let lines = std::mem::take(&mut self.lines);
+        let lines = std::mem::take(&mut self.requests.lines);
         if lines.is_empty() {
             return;
         }
