@@ -9,7 +9,7 @@ use native.Mathlib.Numerals.{add-one}
 use mathlib.Core.Bool.{Bool, true, false}
 use mathlib.Core.List.{List, [], _∷_, _++_, append-assoc, append-nil}
 use lib.ListN.{length, take, drop, set, getD, length-append}
-use lib.Seq.{drop-drop, set-split, take-suc, append-snoc}
+use lib.Seq.{length-take-le, drop-drop, set-split, take-suc, append-snoc}
 use lib.Dec.{ltb}
 use lib.IntN.{ℤ, pos, negsuc}
 use mir.Syntax.{w64}
@@ -42,6 +42,18 @@ then-written {t} {u} {out} {out₁} {out₂} {at} {r} {s} h w v =
       next = omega (arith, n, w .next, v .next);
       places = v .places ∙ rw (w .next, f, d, n, append-assoc (take at out) t u);
     }
+
+-- what was written stands within the bytes
+pub written-fits : {t out out′ : List ℕ} {at r : ℕ} → at ≤ length out → Written t out at out′ r → r ≤ length out′
+written-fits {t} {out} {out′} {at} {r} h w =
+    omega (
+      arith,
+      w .next,
+      ap length (w .places),
+      length-append (take at out ++ t) (drop (at + length t) out),
+      length-append (take at out) t,
+      length-take-le at out h,
+    )
 
 -- ---- decimal
 
