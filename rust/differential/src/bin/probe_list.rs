@@ -76,6 +76,12 @@ fn bytes(hex: &str) -> Vec<u8> {
     digits.chunks(2).map(|two| (two[0] * 16 + two[1]) as u8).collect()
 }
 
+/// What document 01 says of the last line that was added is what the model says.
+fn document_says(requests: &Requests, answer: &str) {
+    let (line, said) = requests.lines().last().expect("a line was added");
+    assert_eq!(said, answer, "document 01 and the model: {line}");
+}
+
 /// A run under both flags. The Rust decoders must read it as the model does, or differ as docs/DIFFERENCES.md says.
 fn run(requests: &mut Requests, frame: &[u8]) {
     for signed in [false, true] {
@@ -123,7 +129,11 @@ fn streams(requests: &mut Requests) {
 fn booleans(requests: &mut Requests) {
     // "32 booleans: 24 true, 8 false. With 33: refusal 6."
     let line = bytes("00FFFF00");
-    for n in [0, 1, 8, 24, 31, 32, 33, 64, u64::MAX] {
+    requests.booleans(&line, 0, 32, 512);
+    document_says(requests, "booleans 32 4 11111111111111111111111100000000");
+    requests.booleans(&line, 0, 33, 512);
+    document_says(requests, "refused 6 0");
+    for n in [0, 1, 8, 24, 31, 64, u64::MAX] {
         requests.booleans(&line, 0, n, 512);
     }
     for (hex, n) in [
@@ -254,8 +264,7 @@ fn list() -> Requests {
     for (flags, hex, answer) in DOCUMENT {
         for flag in flags {
             requests.run(&bytes(hex), 0, *flag == 1, 512);
-            let (line, said) = requests.lines().last().expect("a line was added");
-            assert_eq!(said, answer, "document 01 and the model: {line}");
+            document_says(&requests, answer);
         }
     }
     for hex in SPECIFICATION.into_iter().chain(FRAMES) {
