@@ -11,8 +11,8 @@ use format::Kind;
 use util::big_endian;
 
 // Room for a short repeat's rows.
-fn scratch() -> [u64; 10] {
-    [0u64; 10]
+fn scratch() -> [u64; Kind::MAX_REPEAT] {
+    [0u64; Kind::MAX_REPEAT]
 }
 
 fn write_head(bytes: usize, rows: usize, out: &mut [u8])

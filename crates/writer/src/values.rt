@@ -7,11 +7,12 @@ ghost use lib.Dec.{ltb, eqb};
 ghost use Rattle.format.specs.Rows.{asU64};
 ghost use Rattle.format.specs.Writing as Writing;
 ghost use Rattle.format.specs.Writing.{stepTo, stepsOf, every};
+use format::Kind;
 use util::pattern;
 
 // Room for a run's values.
-pub(crate) fn scratch() -> [u64; 512] {
-    [0u64; 512]
+pub(crate) fn scratch() -> [u64; Kind::MAX_ROWS] {
+    [0u64; Kind::MAX_ROWS]
 }
 
 // A row's 64 bits.
