@@ -2,20 +2,18 @@
 -- Assumes nothing.
 use mathlib.Core.Path.{_≡_, refl, sym, ap, _∙_}
 use Prim.Native.Nat.{ℕ, suc, _+_, _-_, _*_, _/_, _%_, _^_, _≤_, _<_}
-use native.Mathlib.Nat.{le-refl, le-of-eq, lt-of-not-le, mul-le-mul-right, zero-lt-suc}
+use native.Mathlib.Nat.{le-refl, lt-of-not-le, mul-le-mul-right, zero-lt-suc}
 use native.Mathlib.Decide.{decLe}
 use native.Mathlib.Numerals.{add-one, towards-suc}
 use native.Mathlib.Omega.{arith}
-use mathlib.Core.List.{List, [], _∷_, _++_, map, append-assoc, append-nil, reverse, reverseAux, reverse-reverse}
+use mathlib.Core.List.{List, [], _∷_, _++_, map, append-assoc, reverse, reverseAux, reverse-reverse}
 use lib.ListN.{length, getD, take, drop, drop-of-length-le, length-append, length-drop, length-reverse, take-append-drop}
 use lib.Seq.{take-at, drop-at, drop-cons, take-append-le, drop-append-le, drop-append-add, length-take-le}
 use lib.Pow.{shr-shr, high, ones-split, ones-lt}
 use Rattle.format.specs.Digits.{AllBelow, number, digits, spread}
-use Rattle.format.specs.Fields.{bytesFor, padBits, Block, IsBlock, blockBytes}
-use Rattle.format.specs.Parse.{got}
+use Rattle.format.specs.Fields.{bytesFor, padBits}
 use Rattle.format.proofs.Digits.{spread-number, digits-add, length-digits, number-low, digits-number, getD-digits, pow-pow}
-use Rattle.format.proofs.Fields.{below-take, below-drop, length-block, block-below, block-complete}
-use Rattle.format.proofs.Reading.{blockAt, block-here}
+use Rattle.format.proofs.Fields.{below-take, below-drop}
 use Rattle.format.proofs.Widths.{IsWidth}
 use Rattle.util.specs.Packed.{fields, bits, fieldAt, Width, lowFirst, swap}
 
@@ -77,21 +75,6 @@ field-at w n k s d h l =
 
 pub length-fields : (w n : ℕ) (s : List ℕ) → length (fields w n s) ≡ n
 length-fields w n s = length-digits (2 ^ w) n _
-
--- a block's own fields are read back, and so is each by its bits
-pub fields-block : (w n : ℕ) (b : Block) (rest : List ℕ) → IsBlock w n b → fields w n (blockBytes w n b ++ rest) ≡ b .values
-fields-block w n b rest v =
-    let s = blockBytes w n b ++ rest in
-    let e : got (blockAt s 0 w n) (drop (0 + bytesFor (n * w)) s) ≡ got b rest
-    = sym (block-here s 0 6 w n (omega (arith, length-append (blockBytes w n b) rest, length-block w n b))) ∙ block-complete w n b v 6 rest in
-    let u : blockAt s 0 w n ≡ b = cc in
-    ap (λ (y : Block). y .values) u
-
-pub block-field : (w n k : ℕ) (b : Block) → IsBlock w n b → k < n → getD (b .values) k 0 ≡ fieldAt w k (blockBytes w n b)
-block-field w n k b v h =
-    let s = blockBytes w n b in
-    let e : fields w n s ≡ b .values = rw append-nil at (fields-block w n b [] v) in
-    sym (ap (λ (l : List ℕ). getD l k 0) e) ∙ field-at w n k s (block-below w n b v) h (le-of-eq (sym (length-block w n b)))
 
 -- the turn of a loop over the fields: field k, and then the rest
 pub next-field : {A : Type 0} (f : ℕ → A) (w n k : ℕ) (s : List ℕ) → AllBelow 256 s → k < n → bytesFor (n * w) ≤ length s
