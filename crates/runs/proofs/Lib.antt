@@ -1,3 +1,4 @@
 -- The laws that the proofs cite.
-pub mod Lines
 pub mod Blocks
+pub mod Lines
+pub mod Pieces

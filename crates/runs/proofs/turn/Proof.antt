@@ -1,97 +1,94 @@
--- `runs::turn` meets its contract. Assumes nothing.
-use mathlib.Core.Path.{sym}
-use native.Mathlib.Omega.{arith}
-use lib.Seq.{length-take-le}
 use borrow.Author.Needs.{needs}
 use Rattle.runs.proofs.turn.Statement.{statement}
 use Rattle.runs.proofs.turn.Tie as tie
+use Rattle.runs.proofs.turn.Reads as reads
+use Rattle.runs.proofs.turn.Lts as lts
+use Rattle.io.proofs.count.Reads as count-reads
+use Rattle.libc.proofs.read.Reads as read-reads
+use Rattle.runs.proofs.answer_came.Reads as answer-came-reads
+use Rattle.runs.proofs.cutting.keep.Reads as keep-reads
 
-read-after-requires : tie.Need-read-after-requires
-read-after-requires c κs = search needs
+-- src/main.rt:110:9
+keep-requires : tie.Need-keep-requires
+keep-requires c κs = search needs
 
-add-end : tie.Need-add-end
-add-end c = search needs
+-- src/main.rt:111:40
+sub-read : tie.Need-sub-read
+sub-read c = ?
 
-slice-reshare-prefix-answer-last : tie.Need-slice-reshare-prefix-answer-last
-slice-reshare-prefix-answer-last c = search needs
+-- src/main.rt:111:40
+part-read-start : tie.Need-part-read-start
+part-read-start c = ?
 
-slice-aggregate-answer-last : tie.Need-slice-aggregate-answer-last
-slice-aggregate-answer-last c = let k = c .before .before .before .before in sym (length-take-le _ (k .read-after .last .0) (k .read-after .ensures))
+-- src/main.rt:111:40
+part-read-end : tie.Need-part-read-end
+part-read-end c = search needs
 
-answer-last-requires : tie.Need-answer-last-requires
-answer-last-requires c κs = search needs
+-- src/main.rt:111:9
+read-requires : tie.Need-read-requires
+read-requires c κs = search needs
 
+-- src/main.rt:112:38
+sub-count : tie.Need-sub-count
+sub-count c = ?
+
+-- src/main.rt:112:38
+part-count-start : tie.Need-part-count-start
+part-count-start c = ?
+
+-- src/main.rt:112:38
+part-count-end : tie.Need-part-count-end
+part-count-end c = search needs
+
+-- src/main.rt:112:23
+count-requires : tie.Need-count-requires
+count-requires c κs = search needs
+
+-- src/main.rt:112:16
+add-stop : tie.Need-add-stop
+add-stop c = search needs
+
+-- src/main.rt:113:17
+slice-reshare-prefix-answer-came : tie.Need-slice-reshare-prefix-answer-came
+slice-reshare-prefix-answer-came c = ?
+
+-- src/main.rt:113:17
+slice-aggregate-answer-came : tie.Need-slice-aggregate-answer-came
+slice-aggregate-answer-came c = ?
+
+-- src/main.rt:113:5
+answer-came-requires : tie.Need-answer-came-requires
+answer-came-requires c κs = ?
+
+-- src/main.rt:106:1
 same-length : tie.Need-same-length
 same-length c = search needs
 
+-- src/main.rt:106:1
 same-length-2 : tie.Need-same-length-2
 same-length-2 c = search needs
 
+-- src/main.rt:106:1
 returns : tie.Need-returns
-returns c = search needs
-
-slice-reshare-prefix-answer-block : tie.Need-slice-reshare-prefix-answer-block
-slice-reshare-prefix-answer-block c = search needs
-
-slice-aggregate-answer-block : tie.Need-slice-aggregate-answer-block
-slice-aggregate-answer-block c = let k = c .before .before .before .before in sym (length-take-le _ (k .read-after .last .0) (k .read-after .ensures))
-
-answer-block-requires : tie.Need-answer-block-requires
-answer-block-requires c κs = search needs
-
-enum-known-from : tie.Need-enum-known-from
-enum-known-from c = search needs
-
-enum-told : tie.Need-enum-told
-enum-told c = search needs
-
-same-length-3 : tie.Need-same-length-3
-same-length-3 c = search needs
-
-same-length-4 : tie.Need-same-length-4
-same-length-4 c = search needs
-
-returns-2 : tie.Need-returns-2
-returns-2 c = search needs
-
-keep-requires : tie.Need-keep-requires
-keep-requires c κs =
-    let f = c .before .before in
-    let b = f .before .before .before .before in
-    let k = b .before .before .before .before .before .before in
-    let t = rw (f .from .given .1) at (b .answer-block .ensures) in
-    (omega (arith, t .0, length-take-le _ (k .read-after .last .0) (k .read-after .ensures)), k .read-after .ensures)
-
-same-length-5 : tie.Need-same-length-5
-same-length-5 c = search needs
-
-same-length-6 : tie.Need-same-length-6
-same-length-6 c = search needs
-
-returns-3 : tie.Need-returns-3
-returns-3 c = search needs
+returns c = ?
 
 pub turn-spec : {M : Type 1} → statement M
 turn-spec =
     tie.close
     (tie.spec
-    read-after-requires
-    add-end
-    slice-reshare-prefix-answer-last
-    slice-aggregate-answer-last
-    answer-last-requires
+    keep-requires
+    sub-read
+    part-read-start
+    part-read-end
+    read-requires
+    sub-count
+    part-count-start
+    part-count-end
+    count-requires
+    add-stop
+    slice-reshare-prefix-answer-came
+    slice-aggregate-answer-came
+    answer-came-requires
     same-length
     same-length-2
-    returns
-    slice-reshare-prefix-answer-block
-    slice-aggregate-answer-block
-    answer-block-requires
-    enum-known-from
-    enum-told
-    same-length-3
-    same-length-4
-    returns-2
-    keep-requires
-    same-length-5
-    same-length-6
-    returns-3)
+    returns)
