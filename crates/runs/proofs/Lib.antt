@@ -2,3 +2,4 @@
 pub mod Blocks
 pub mod Lines
 pub mod Pieces
+pub mod Turns

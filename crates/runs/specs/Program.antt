@@ -111,3 +111,11 @@ blockText held (b ∷ bs) = answersFrom [] (held ++ b) ++ blockText (kept (begun
 unfoldable pub joinedBlocks : List (List ℕ) → List ℕ
 joinedBlocks [] = []
 joinedBlocks (b ∷ bs) = b ++ joinedBlocks bs
+
+-- WHAT THE PROGRAM HANDS OVER to be written from a line's beginning on, turn by turn. A turn keeps that beginning as far as it is kept, its block is
+-- what came behind it, and it hands over the text of the whole lines; what it leaves is the next turn's. Where the input ends, it is the text of the last line.
+pub data HandsOver : List ℕ → List (List ℕ) → List ℕ → Type 0 where
+  ends : {line : List ℕ} → HandsOver line [] (programText (kept line))
+  turns : {line input : List ℕ} {from end : ℕ} {blocks : List (List ℕ)} {later : List ℕ} → Carried line input from end
+      → HandsOver (part from end input) blocks later
+      → HandsOver line (part (length (kept line)) end input ∷ blocks) (programText (take from (take end input)) ++ later)

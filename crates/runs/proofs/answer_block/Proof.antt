@@ -43,8 +43,7 @@ returns c =
     let k = c .before .before .before in
     let l = k .before .before .before .loop in
     let a = k .before .before .before .before .before .before .args in
-    let t = rw (rest-is (now (a .input)) (l .from)) at (k .answer-lines .ensures) in
-    (
+    let t = rw (rest-is (now (a .input)) (l .from)) at (k .answer-lines .ensures) in (
       refl,
       l .inv .0,
       l .inv .2,
@@ -118,8 +117,7 @@ loop-again c =
     let k = c .before .before .before .before .before .before .before in
     let l = k .before .before .before .loop in
     let a = k .before .before .before .before .before .before .args in
-    let t = rw (rest-is (now (a .input)) (l .from)) at (k .answer-lines .ensures) in
-    (
+    let t = rw (rest-is (now (a .input)) (l .from)) at (k .answer-lines .ensures) in (
       omega (arith, t .within, length-drop (l .from) (now (a .input))),
       k .answer-lines .kept .1 .0 ∙ l .inv .1,
       whole-more (l .from) (k .answer-lines .result .taken) (now (a .input)) (l .inv .2) (t .whole),

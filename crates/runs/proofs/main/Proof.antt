@@ -1,68 +1,62 @@
+-- `runs::main` is safe and ends. The loop's invariant: the arrays are as long as they were, and what is left is a line's beginning. Assumes nothing.
+use mathlib.Core.Path.{_≡_, sym, _∙_}
+use Prim.Native.Nat.{_≤_}
+use native.Mathlib.Omega.{arith}
+use borrow.Author.Needs.{needs}
+use lib.ListN.{length}
+use Rattle.runs.specs.Program.{NoNewline, part}
 use Rattle.runs.proofs.main.Statement.{statement}
 use Rattle.runs.proofs.main.Tie as tie
-use Rattle.runs.proofs.main.Reads as reads
-use Rattle.runs.proofs.main.Lts as lts
-use Rattle.io.proofs.large_buffer.Reads as large-buffer-reads
-use Rattle.runs.proofs.input_places.Reads as input-places-reads
-use Rattle.runs.proofs.turn.Reads as turn-reads
 
 abbrev Inv-loop : tie.InvT-loop
-Inv-loop input₀ output₀ from₀ end₀ turns₀ input output from end turns = ?
+Inv-loop input₀ output₀ from₀ end₀ turns₀ input output from end turns =
+    (74337 ≡ length input) × (65536 ≡ length output) × (from ≤ end) × (end ≤ length input) × NoNewline (part from end input)
 
 abbrev μ-loop : tie.MeasureT-loop
-μ-loop input₀ output₀ from₀ end₀ turns₀ input output from end turns = ?
+μ-loop input₀ output₀ from₀ end₀ turns₀ input output from end turns = turns
 
--- src/main.rt:118:21
 input-places-requires : tie.Need-input-places-requires Inv-loop μ-loop
-input-places-requires c κs = ?
+input-places-requires c κs = tt
 
--- src/main.rt:119:22
 large-buffer-requires : tie.Need-large-buffer-requires Inv-loop μ-loop
-large-buffer-requires c κs = ?
+large-buffer-requires c κs = tt
 
--- src/main.rt:123:5
 loop-holds : tie.Need-loop-holds Inv-loop μ-loop
-loop-holds c = ?
+loop-holds c = (sym (c .before .input-places .ensures), c .large-buffer .ensures, omega arith, omega arith, tt)
 
--- src/main.rt:124:38
 slice-aggregate-turn : tie.Need-slice-aggregate-turn Inv-loop μ-loop
-slice-aggregate-turn c = ?
+slice-aggregate-turn c = c .before .before .loop .inv .0
 
--- src/main.rt:124:61
 slice-aggregate-turn-2 : tie.Need-slice-aggregate-turn-2 Inv-loop μ-loop
-slice-aggregate-turn-2 c = ?
+slice-aggregate-turn-2 c = c .before .before .before .loop .inv .1
 
--- src/main.rt:124:33
 turn-requires : tie.Need-turn-requires Inv-loop μ-loop
-turn-requires c κs = ?
+turn-requires c κs = let l = c .before .before .before .loop in (l .inv .2, l .inv .3, omega arith, omega arith, l .inv .4)
 
--- src/main.rt:124:25
 enum-known-f : tie.Need-enum-known-f Inv-loop μ-loop
-enum-known-f c = ?
+enum-known-f c = search needs
 
--- src/main.rt:125:13
 enum-told : tie.Need-enum-told Inv-loop μ-loop
-enum-told c = ?
+enum-told c = search needs
 
--- src/main.rt:125:13
 returns : tie.Need-returns Inv-loop μ-loop
-returns c = ?
+returns c = tt
 
--- src/main.rt:129:9
 sub-turns : tie.Need-sub-turns Inv-loop μ-loop
-sub-turns c = ?
+sub-turns c = omega arith
 
--- src/main.rt:123:5
 loop-less : tie.Need-loop-less Inv-loop μ-loop
-loop-less c = ?
+loop-less c = omega arith
 
--- src/main.rt:123:5
 loop-again : tie.Need-loop-again Inv-loop μ-loop
-loop-again c = ?
+loop-again c =
+    let t = c .before .before .before .before .before in
+    let l = t .before .before .before .before .loop in
+    let r = rw (c .before .f .given .1) at (t .turn .ensures) in
+    (l .inv .0 ∙ sym (t .turn .kept .0), l .inv .1 ∙ sym (t .turn .kept .1 .1 .1 .0), r .order, r .within, r .begun)
 
--- src/main.rt:117:1
 returns-2 : tie.Need-returns-2 Inv-loop μ-loop
-returns-2 c = ?
+returns-2 c = tt
 
 pub main-spec : {M : Type 1} → statement M
 main-spec =

@@ -1,76 +1,144 @@
-use borrow.Author.Needs.{needs}
+-- `runs::turn` meets its contract. Assumes nothing.
+use mathlib.Core.Path.{_≡_, sym, ap, _∙_}
+use Prim.Native.Nat.{ℕ, _+_, _-_, _≤_}
+use native.Mathlib.Omega.{arith}
+use denote.Ref.{now}
+use mir.Syntax.{w64}
+use mir.Val.{toZ, ofZ}
+use mir.Facts.{toZ-ofZ}
+use lib.ListN.{length, take, drop}
+use lib.Seq.{length-take-le}
+use borrow.Author.Needs.{needs, sfits-of}
+use Rattle.libc.specs.Io.{Moved}
+use Rattle.runs.specs.Program.{part, came}
+use Rattle.runs.proofs.Turns.{kept-le, came-is, whole-length, room-is, stop-le, held-is, turned}
 use Rattle.runs.proofs.turn.Statement.{statement}
 use Rattle.runs.proofs.turn.Tie as tie
-use Rattle.runs.proofs.turn.Reads as reads
-use Rattle.runs.proofs.turn.Lts as lts
-use Rattle.io.proofs.count.Reads as count-reads
-use Rattle.libc.proofs.read.Reads as read-reads
-use Rattle.runs.proofs.answer_came.Reads as answer-came-reads
-use Rattle.runs.proofs.cutting.keep.Reads as keep-reads
 
--- src/main.rt:110:9
 keep-requires : tie.Need-keep-requires
 keep-requires c κs = search needs
 
--- src/main.rt:111:40
 sub-read : tie.Need-sub-read
-sub-read c = ?
+sub-read c =
+    let k = c .before .before in
+    let s = k .before .before .before .before in
+    let line = part (s .args .from) (s .args .end) (now (s .args .input)) in
+    let n = k .keep .result in
+    let x = k .keep .last .0 in
+    let h : n ≤ length x = omega (arith, kept-le line (now (s .args .input)) x n (k .keep .ensures), k .keep .kept .0, s .pre .2) in
+    h
 
--- src/main.rt:111:40
 part-read-start : tie.Need-part-read-start
-part-read-start c = ?
+part-read-start c =
+    let k = c .before .before in
+    let s = k .before .before .before .before in
+    let line = part (s .args .from) (s .args .end) (now (s .args .input)) in
+    let n = k .keep .result in
+    let x = k .keep .last .0 in
+    let h : n ≤ length x = omega (arith, kept-le line (now (s .args .input)) x n (k .keep .ensures), k .keep .kept .0, s .pre .2) in
+    omega (arith, h)
 
--- src/main.rt:111:40
 part-read-end : tie.Need-part-read-end
 part-read-end c = search needs
 
--- src/main.rt:111:9
 read-requires : tie.Need-read-requires
 read-requires c κs = search needs
 
--- src/main.rt:112:38
 sub-count : tie.Need-sub-count
-sub-count c = ?
+sub-count c =
+    let r = c .before .before in
+    let k = r .before .before .before .before in
+    let s = k .before .before .before .before in
+    let line = part (s .args .from) (s .args .end) (now (s .args .input)) in
+    let n = k .keep .result in
+    let x = k .keep .last .0 in
+    let h : n ≤ length x = omega (arith, kept-le line (now (s .args .input)) x n (k .keep .ensures), k .keep .kept .0, s .pre .2) in
+    omega (arith, h, whole-length line (now (s .args .input)) x (r .read .last .1 .0) n (k .keep .ensures) h (r .read .kept .1 .0))
 
--- src/main.rt:112:38
 part-count-start : tie.Need-part-count-start
-part-count-start c = ?
+part-count-start c =
+    let r = c .before .before .before in
+    let k = r .before .before .before .before in
+    let s = k .before .before .before .before in
+    let line = part (s .args .from) (s .args .end) (now (s .args .input)) in
+    let n = k .keep .result in
+    let x = k .keep .last .0 in
+    let h : n ≤ length x = omega (arith, kept-le line (now (s .args .input)) x n (k .keep .ensures), k .keep .kept .0, s .pre .2) in
+    omega (arith, h, whole-length line (now (s .args .input)) x (r .read .last .1 .0) n (k .keep .ensures) h (r .read .kept .1 .0))
 
--- src/main.rt:112:38
 part-count-end : tie.Need-part-count-end
 part-count-end c = search needs
 
--- src/main.rt:112:23
 count-requires : tie.Need-count-requires
 count-requires c κs = search needs
 
--- src/main.rt:112:16
 add-stop : tie.Need-add-stop
 add-stop c = search needs
 
--- src/main.rt:113:17
 slice-reshare-prefix-answer-came : tie.Need-slice-reshare-prefix-answer-came
-slice-reshare-prefix-answer-came c = ?
+slice-reshare-prefix-answer-came c =
+    let d = c in
+    let r = d .before .before .before .before .before in
+    let k = r .before .before .before .before in
+    let s = k .before .before .before .before in
+    let line = part (s .args .from) (s .args .end) (now (s .args .input)) in
+    let n = k .keep .result in
+    let x = k .keep .last .0 in
+    let h : n ≤ length x = omega (arith, kept-le line (now (s .args .input)) x n (k .keep .ensures), k .keep .kept .0, s .pre .2) in
+    stop-le line (now (s .args .input)) x (r .read .last .1 .0) n (k .keep .ensures) h (r .read .kept .1 .0) (d .count .result) (d .count .ensures .0 .0)
 
--- src/main.rt:113:17
 slice-aggregate-answer-came : tie.Need-slice-aggregate-answer-came
-slice-aggregate-answer-came c = ?
+slice-aggregate-answer-came c =
+    let d = c .before in
+    let r = d .before .before .before .before .before in
+    let k = r .before .before .before .before in
+    let s = k .before .before .before .before in
+    let line = part (s .args .from) (s .args .end) (now (s .args .input)) in
+    let n = k .keep .result in
+    let x = k .keep .last .0 in
+    let h : n ≤ length x = omega (arith, kept-le line (now (s .args .input)) x n (k .keep .ensures), k .keep .kept .0, s .pre .2) in
+    let m = d .count .result in
+    sym (length-take-le (n + m) _ (stop-le line (now (s .args .input)) x (r .read .last .1 .0) n (k .keep .ensures) h (r .read .kept .1 .0) m (d .count .ensures .0 .0)))
 
--- src/main.rt:113:5
 answer-came-requires : tie.Need-answer-came-requires
-answer-came-requires c κs = ?
+answer-came-requires c κs =
+    let d = c .before .before in
+    let r = d .before .before .before .before .before in
+    let k = r .before .before .before .before in
+    let s = k .before .before .before .before in
+    let line = part (s .args .from) (s .args .end) (now (s .args .input)) in
+    let n = k .keep .result in
+    let x = k .keep .last .0 in
+    let h : n ≤ length x = omega (arith, kept-le line (now (s .args .input)) x n (k .keep .ensures), k .keep .kept .0, s .pre .2) in
+    let m = d .count .result in
+    let q = stop-le line (now (s .args .input)) x (r .read .last .1 .0) n (k .keep .ensures) h (r .read .kept .1 .0) m (d .count .ensures .0 .0) in
+    let room = length (take (length x - n) (drop n x)) in
+    let z = toZ w64 (ofZ w64 (r .read .result)) in
+    let v : Moved room z = rw (toZ-ofZ (sfits-of (r .read .ok))) (r .read .ensures) in
+    let e : m ≡ came z = (rw (room-is line (now (s .args .input)) x (r .read .last .1 .0) n (k .keep .ensures) h (r .read .kept .1 .0)) at (d .count .ensures .1)) ∙ came-is z room v in (
+      length-take-le (n + m) _ q ∙ ap (λ (i : ℕ). n + i) e,
+      held-is line (now (s .args .input)) x (r .read .last .1 .0) n (k .keep .ensures) h (r .read .kept .1 .0) m q (s .pre .4),
+      s .pre .3,
+    )
 
--- src/main.rt:106:1
 same-length : tie.Need-same-length
 same-length c = search needs
 
--- src/main.rt:106:1
 same-length-2 : tie.Need-same-length-2
 same-length-2 c = search needs
 
--- src/main.rt:106:1
 returns : tie.Need-returns
-returns c = ?
+returns c =
+    let d = c .before .before .before .before .before in
+    let r = d .before .before .before .before .before in
+    let k = r .before .before .before .before in
+    let s = k .before .before .before .before in
+    let line = part (s .args .from) (s .args .end) (now (s .args .input)) in
+    let n = k .keep .result in
+    let x = k .keep .last .0 in
+    let h : n ≤ length x = omega (arith, kept-le line (now (s .args .input)) x n (k .keep .ensures), k .keep .kept .0, s .pre .2) in
+    let m = d .count .result in
+    turned line (now (s .args .input)) x (r .read .last .1 .0) n (k .keep .ensures) h (r .read .kept .1 .0) m (stop-le line (now (s .args .input)) x (r .read .last .1 .0) n (k .keep .ensures) h (r .read .kept .1 .0) m (d .count .ensures .0 .0)) (c .before .before .answer-came .result) (c .before .before .answer-came .ensures)
 
 pub turn-spec : {M : Type 1} → statement M
 turn-spec =
