@@ -16,7 +16,7 @@ use Rattle.runs.proofs.turn.Statement.{statement}
 use Rattle.runs.proofs.turn.Tie as tie
 
 keep-requires : tie.Need-keep-requires
-keep-requires c κs = search needs
+keep-requires c κs = omega arith
 
 sub-read : tie.Need-sub-read
 sub-read c =
@@ -85,7 +85,7 @@ slice-reshare-prefix-answer-came c =
     let n = k .keep .result in
     let x = k .keep .last .0 in
     let h : n ≤ length x = omega (arith, kept-le line (now (s .args .input)) x n (k .keep .ensures), k .keep .kept .0, s .pre .2) in
-    stop-le line (now (s .args .input)) x (r .read .last .1 .0) n (k .keep .ensures) h (r .read .kept .1 .0) (d .count .result) (d .count .ensures .0 .0)
+    omega (arith, stop-le line (now (s .args .input)) x (r .read .last .1 .0) n (k .keep .ensures) h (r .read .kept .1 .0) (d .count .result) (d .count .ensures .0 .0))
 
 slice-aggregate-answer-came : tie.Need-slice-aggregate-answer-came
 slice-aggregate-answer-came c =
@@ -98,7 +98,7 @@ slice-aggregate-answer-came c =
     let x = k .keep .last .0 in
     let h : n ≤ length x = omega (arith, kept-le line (now (s .args .input)) x n (k .keep .ensures), k .keep .kept .0, s .pre .2) in
     let m = d .count .result in
-    sym (length-take-le (n + m) _ (stop-le line (now (s .args .input)) x (r .read .last .1 .0) n (k .keep .ensures) h (r .read .kept .1 .0) m (d .count .ensures .0 .0)))
+    sym (length-take-le _ _ (omega (arith, stop-le line (now (s .args .input)) x (r .read .last .1 .0) n (k .keep .ensures) h (r .read .kept .1 .0) m (d .count .ensures .0 .0))))
 
 answer-came-requires : tie.Need-answer-came-requires
 answer-came-requires c κs =
