@@ -1,15 +1,14 @@
 -- What the program hands over to be written, piece by piece: the text of whole lines, and of the last line.
 -- Assumes nothing.
-use mathlib.Core.Path.{_≡_, refl, sym, ap, _∙_}
-use Prim.Native.Nat.{ℕ, _+_, _<_, _≤_}
-use native.Mathlib.Omega.{arith}
-use mathlib.Core.List.{List, [], _∷_, _++_, append-nil}
+use mathlib.Core.Path.{_≡_, sym, ap, _∙_}
+use Prim.Native.Nat.{ℕ, _+_, _≤_}
+use mathlib.Core.List.{List, [], _++_, append-nil}
 use lib.ListN.{length, take, drop}
 use lib.Seq.{take-add, take-at}
 use borrow.Author.Tests.{ne-eqb, le-ltb}
 use Rattle.lines.specs.Line.{answerLine, answerRoom, Answered}
 use Rattle.runs.specs.Program.{answered, answersFrom, begunFrom, lastAnswer, programText, NoNewline}
-use Rattle.runs.proofs.Blocks.{begun-append, no-open}
+use Rattle.runs.proofs.Blocks.{answers-append, begun-append, no-open}
 
 -- ---- whole lines
 
@@ -19,6 +18,14 @@ whole-text s h = rw (h, append-nil (answersFrom [] s))
 
 pub whole-more : (n m : ℕ) (s : List ℕ) → begunFrom [] (take n s) ≡ [] → begunFrom [] (take m (drop n s)) ≡ [] → begunFrom [] (take (n + m) s) ≡ []
 whole-more n m s h k = rw (take-add n m s, begun-append [] (take n s) (take m (drop n s)), h, k)
+
+-- the pieces that are handed over in a turn, joined, are the text of all its whole lines
+pub pieces-join : (n m : ℕ) (s : List ℕ) → begunFrom [] (take n s) ≡ [] → begunFrom [] (take m (drop n s)) ≡ []
+    → programText (take n s) ++ programText (take m (drop n s)) ≡ programText (take (n + m) s)
+pieces-join n m s h k =
+    let p = take n s in
+    let q = take m (drop n s) in
+    rw (whole-text p h, whole-text q k, whole-text (take (n + m) s) (whole-more n m s h k), take-add n m s, answers-append [] p q, h)
 
 -- ---- a line that no newline ends
 

@@ -1,14 +1,12 @@
 -- A turn, and all turns: what stands in the input after a read, and that all that is handed over is what the program writes for the whole input.
 -- Assumes nothing.
 use mathlib.Core.Path.{_≡_, refl, sym, ap, _∙_}
-use Prim.Native.Nat.{ℕ, zero, suc, _+_, _-_, _<_, _≤_, min}
+use Prim.Native.Nat.{ℕ, zero, suc, _+_, _-_, _≤_}
 use native.Mathlib.Omega.{arith}
-use native.Mathlib.Decide.{decLt}
-use mathlib.Core.Bool.{Bool, true, false}
-use mathlib.Core.List.{List, [], _∷_, _++_, append-nil}
+use mathlib.Core.Bool.{false}
+use mathlib.Core.List.{List, [], _++_, append-nil}
 use lib.ListN.{length, take, drop, take-append-drop, length-take, length-drop}
 use lib.Seq.{take-all, take-take, length-take-le}
-use lib.Dec.{ltb}
 use lib.IntN.{ℤ, pos, negsuc}
 use lib.Signed.{ltZ}
 use borrow.Author.Tests.{lt-ltb}
@@ -40,16 +38,23 @@ pub came-is : (z : ℤ) (n : ℕ) → Moved n z → clamped z n ≡ came z
 came-is (pos k) n h = omega arith
 came-is (negsuc k) n h = refl
 
-pub kept-le : (line x₀ x : List ℕ) (n : ℕ) → Kept line x₀ x n → n ≤ 8801
-kept-le line x₀ x n k = omega (arith, k .count, length-take 8801 line)
+-- what is kept has room before a block
+pub kept-le : (line x₀ x : List ℕ) (n : ℕ) → Kept line x₀ x n → 8801 ≤ length x₀ → length x ≡ length x₀ → n ≤ length x
+kept-le line x₀ x n k w e = omega (arith, k .count, length-take 8801 line, w, e)
 
 -- ---- a turn: `x` after what is kept was moved, and the bytes `new` in the places behind it
-module _ (line x₀ x new : List ℕ) (n : ℕ) (k : Kept line x₀ x n) (h : n ≤ length x) (l : length new ≡ length (take (length x - n) (drop n x))) where
+module _ (line x₀ x new : List ℕ) (n : ℕ) (k : Kept line x₀ x n) (w : 8801 ≤ length x₀) (e : length x ≡ length x₀) (l : length new ≡ length (take (length x - n) (drop n x))) where
+  h : n ≤ length x
+  h = kept-le line x₀ x n k w e
+
   abbrev whole : List ℕ
   whole = putMid n (length x - n) x new
 
-  pub whole-length : length whole ≡ length x
+  whole-length : length whole ≡ length x
   whole-length = same-len-mid n (length x - n) x new l
+
+  pub held-le : n ≤ length whole
+  held-le = omega (arith, h, whole-length)
 
   pub room-is : length (take (length whole - n) (drop n whole)) ≡ length (take (length x - n) (drop n x))
   room-is = rw (rest-is whole n, rest-is x n, length-drop, length-drop, whole-length)

@@ -27,7 +27,8 @@ fn input_places() -> [u8; MAX_HELD + BLOCK]
     [0; MAX_HELD + BLOCK]
 }
 
-// Every byte that the program writes goes through here, beside the bytes that it answers: it is what the definition writes for them.
+// Every byte that the program writes to its output goes through here, beside the bytes that it answers, and is what the definition writes for
+// them. No contract can say what the system writes, so that it is said here of what is handed over.
 fn say(asked: &[u8], text: &[u8]) -> bool
     requires { ⌜ now text ≡ programText (now asked) ⌝ }
 {
@@ -102,7 +103,8 @@ fn answer_came(input: &[u8], held: usize, got: isize, output: &mut [u8]) -> Left
     Left::Begun(0, held)
 }
 
-// One block: what is left of the one before is moved to the front, and what is read stands behind it.
+// One block: what is left of the one before is moved to the front, and what is read stands behind it. What the system answers goes on as it is: no
+// contract can name it before.
 fn turn(input: &mut [u8], from: usize, end: usize, output: &mut [u8]) -> Left
     requires { ⌜ (from ≤ end) × (end ≤ length (now input)) × (tooLong ≤ length (now input)) × (answerRoom ≤ length (now output)) × NoNewline (part from end (now input)) ⌝ }
     ensures { λ r. ⌜ Turned (part from end (now (input .entry))) (now (input .exit)) r ⌝ }

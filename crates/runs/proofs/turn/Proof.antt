@@ -1,8 +1,7 @@
--- `runs::turn` meets its contract. Assumes nothing.
+-- `runs::turn` meets its contract, and hands on as many bytes as the system says that came. Assumes nothing.
 use mathlib.Core.Path.{_≡_, sym, ap, _∙_}
-use Prim.Native.Nat.{ℕ, _+_, _-_, _≤_}
+use Prim.Native.Nat.{ℕ, _+_, _-_}
 use native.Mathlib.Omega.{arith}
-use denote.Ref.{now}
 use mir.Syntax.{w64}
 use mir.Val.{toZ, ofZ}
 use mir.Facts.{toZ-ofZ}
@@ -10,8 +9,8 @@ use lib.ListN.{length, take, drop}
 use lib.Seq.{length-take-le}
 use borrow.Author.Needs.{needs, sfits-of}
 use Rattle.libc.specs.Io.{Moved}
-use Rattle.runs.specs.Program.{part, came}
-use Rattle.runs.proofs.Turns.{kept-le, came-is, whole-length, room-is, stop-le, held-is, turned}
+use Rattle.runs.specs.Program.{came}
+use Rattle.runs.proofs.Turns.{kept-le, came-is, held-le, room-is, stop-le, held-is, turned}
 use Rattle.runs.proofs.turn.Statement.{statement}
 use Rattle.runs.proofs.turn.Tie as tie
 
@@ -22,21 +21,13 @@ sub-read : tie.Need-sub-read
 sub-read c =
     let k = c .before .before in
     let s = k .before .before .before .before in
-    let line = part (s .args .from) (s .args .end) (now (s .args .input)) in
-    let n = k .keep .result in
-    let x = k .keep .last .0 in
-    let h : n ≤ length x = omega (arith, kept-le line (now (s .args .input)) x n (k .keep .ensures), k .keep .kept .0, s .pre .2) in
-    h
+    kept-le _ _ _ _ (k .keep .ensures) (s .pre .2) (k .keep .kept .0)
 
 part-read-start : tie.Need-part-read-start
 part-read-start c =
     let k = c .before .before in
     let s = k .before .before .before .before in
-    let line = part (s .args .from) (s .args .end) (now (s .args .input)) in
-    let n = k .keep .result in
-    let x = k .keep .last .0 in
-    let h : n ≤ length x = omega (arith, kept-le line (now (s .args .input)) x n (k .keep .ensures), k .keep .kept .0, s .pre .2) in
-    omega (arith, h)
+    omega (arith, kept-le _ _ _ _ (k .keep .ensures) (s .pre .2) (k .keep .kept .0))
 
 part-read-end : tie.Need-part-read-end
 part-read-end c = search needs
@@ -49,22 +40,14 @@ sub-count c =
     let r = c .before .before in
     let k = r .before .before .before .before in
     let s = k .before .before .before .before in
-    let line = part (s .args .from) (s .args .end) (now (s .args .input)) in
-    let n = k .keep .result in
-    let x = k .keep .last .0 in
-    let h : n ≤ length x = omega (arith, kept-le line (now (s .args .input)) x n (k .keep .ensures), k .keep .kept .0, s .pre .2) in
-    omega (arith, h, whole-length line (now (s .args .input)) x (r .read .last .1 .0) n (k .keep .ensures) h (r .read .kept .1 .0))
+    held-le _ _ _ (r .read .last .1 .0) _ (k .keep .ensures) (s .pre .2) (k .keep .kept .0) (r .read .kept .1 .0)
 
 part-count-start : tie.Need-part-count-start
 part-count-start c =
     let r = c .before .before .before in
     let k = r .before .before .before .before in
     let s = k .before .before .before .before in
-    let line = part (s .args .from) (s .args .end) (now (s .args .input)) in
-    let n = k .keep .result in
-    let x = k .keep .last .0 in
-    let h : n ≤ length x = omega (arith, kept-le line (now (s .args .input)) x n (k .keep .ensures), k .keep .kept .0, s .pre .2) in
-    omega (arith, h, whole-length line (now (s .args .input)) x (r .read .last .1 .0) n (k .keep .ensures) h (r .read .kept .1 .0))
+    omega (arith, held-le _ _ _ (r .read .last .1 .0) _ (k .keep .ensures) (s .pre .2) (k .keep .kept .0) (r .read .kept .1 .0))
 
 part-count-end : tie.Need-part-count-end
 part-count-end c = search needs
@@ -81,11 +64,7 @@ slice-reshare-prefix-answer-came c =
     let r = d .before .before .before .before .before in
     let k = r .before .before .before .before in
     let s = k .before .before .before .before in
-    let line = part (s .args .from) (s .args .end) (now (s .args .input)) in
-    let n = k .keep .result in
-    let x = k .keep .last .0 in
-    let h : n ≤ length x = omega (arith, kept-le line (now (s .args .input)) x n (k .keep .ensures), k .keep .kept .0, s .pre .2) in
-    omega (arith, stop-le line (now (s .args .input)) x (r .read .last .1 .0) n (k .keep .ensures) h (r .read .kept .1 .0) (d .count .result) (d .count .ensures .0 .0))
+    omega (arith, stop-le _ _ _ (r .read .last .1 .0) _ (k .keep .ensures) (s .pre .2) (k .keep .kept .0) (r .read .kept .1 .0) (d .count .result) (d .count .ensures .0 .0))
 
 slice-aggregate-answer-came : tie.Need-slice-aggregate-answer-came
 slice-aggregate-answer-came c =
@@ -93,12 +72,7 @@ slice-aggregate-answer-came c =
     let r = d .before .before .before .before .before in
     let k = r .before .before .before .before in
     let s = k .before .before .before .before in
-    let line = part (s .args .from) (s .args .end) (now (s .args .input)) in
-    let n = k .keep .result in
-    let x = k .keep .last .0 in
-    let h : n ≤ length x = omega (arith, kept-le line (now (s .args .input)) x n (k .keep .ensures), k .keep .kept .0, s .pre .2) in
-    let m = d .count .result in
-    sym (length-take-le _ _ (omega (arith, stop-le line (now (s .args .input)) x (r .read .last .1 .0) n (k .keep .ensures) h (r .read .kept .1 .0) m (d .count .ensures .0 .0))))
+    sym (length-take-le _ _ (omega (arith, stop-le _ _ _ (r .read .last .1 .0) _ (k .keep .ensures) (s .pre .2) (k .keep .kept .0) (r .read .kept .1 .0) (d .count .result) (d .count .ensures .0 .0))))
 
 answer-came-requires : tie.Need-answer-came-requires
 answer-came-requires c κs =
@@ -106,20 +80,13 @@ answer-came-requires c κs =
     let r = d .before .before .before .before .before in
     let k = r .before .before .before .before in
     let s = k .before .before .before .before in
-    let line = part (s .args .from) (s .args .end) (now (s .args .input)) in
     let n = k .keep .result in
-    let x = k .keep .last .0 in
-    let h : n ≤ length x = omega (arith, kept-le line (now (s .args .input)) x n (k .keep .ensures), k .keep .kept .0, s .pre .2) in
     let m = d .count .result in
-    let q = stop-le line (now (s .args .input)) x (r .read .last .1 .0) n (k .keep .ensures) h (r .read .kept .1 .0) m (d .count .ensures .0 .0) in
-    let room = length (take (length x - n) (drop n x)) in
+    let q = stop-le _ _ _ (r .read .last .1 .0) _ (k .keep .ensures) (s .pre .2) (k .keep .kept .0) (r .read .kept .1 .0) m (d .count .ensures .0 .0) in
     let z = toZ w64 (ofZ w64 (r .read .result)) in
-    let v : Moved room z = rw (toZ-ofZ (sfits-of (r .read .ok))) (r .read .ensures) in
-    let e : m ≡ came z = (rw (room-is line (now (s .args .input)) x (r .read .last .1 .0) n (k .keep .ensures) h (r .read .kept .1 .0)) at (d .count .ensures .1)) ∙ came-is z room v in (
-      length-take-le (n + m) _ q ∙ ap (λ (i : ℕ). n + i) e,
-      held-is line (now (s .args .input)) x (r .read .last .1 .0) n (k .keep .ensures) h (r .read .kept .1 .0) m q (s .pre .4),
-      s .pre .3,
-    )
+    let v : Moved (length (take (length (k .keep .last .0) - n) (drop n (k .keep .last .0)))) z = rw (toZ-ofZ (sfits-of (r .read .ok))) (r .read .ensures) in
+    let e : m ≡ came z = (rw (room-is _ _ _ (r .read .last .1 .0) _ (k .keep .ensures) (s .pre .2) (k .keep .kept .0) (r .read .kept .1 .0)) at (d .count .ensures .1)) ∙ came-is z _ v in
+    (length-take-le (n + m) _ q ∙ ap (λ (i : ℕ). n + i) e, held-is _ _ _ (r .read .last .1 .0) _ (k .keep .ensures) (s .pre .2) (k .keep .kept .0) (r .read .kept .1 .0) m q (s .pre .4), s .pre .3)
 
 same-length : tie.Need-same-length
 same-length c = search needs
@@ -133,12 +100,8 @@ returns c =
     let r = d .before .before .before .before .before in
     let k = r .before .before .before .before in
     let s = k .before .before .before .before in
-    let line = part (s .args .from) (s .args .end) (now (s .args .input)) in
-    let n = k .keep .result in
-    let x = k .keep .last .0 in
-    let h : n ≤ length x = omega (arith, kept-le line (now (s .args .input)) x n (k .keep .ensures), k .keep .kept .0, s .pre .2) in
     let m = d .count .result in
-    turned line (now (s .args .input)) x (r .read .last .1 .0) n (k .keep .ensures) h (r .read .kept .1 .0) m (stop-le line (now (s .args .input)) x (r .read .last .1 .0) n (k .keep .ensures) h (r .read .kept .1 .0) m (d .count .ensures .0 .0)) (c .before .before .answer-came .result) (c .before .before .answer-came .ensures)
+    turned _ _ _ (r .read .last .1 .0) _ (k .keep .ensures) (s .pre .2) (k .keep .kept .0) (r .read .kept .1 .0) m (stop-le _ _ _ (r .read .last .1 .0) _ (k .keep .ensures) (s .pre .2) (k .keep .kept .0) (r .read .kept .1 .0) m (d .count .ensures .0 .0)) (c .before .before .answer-came .result) (c .before .before .answer-came .ensures)
 
 pub turn-spec : {M : Type 1} → statement M
 turn-spec =
