@@ -1,10 +1,10 @@
 //! The program itself, held to the model: its input in pieces of odd sizes, and what it says where it
 //! cannot go on.
 use std::fs::File;
-use std::io::{pipe, Write};
+use std::io::Write;
 use std::os::fd::OwnedFd;
 use std::os::unix::net::{UnixDatagram, UnixStream};
-use std::process::{Command, Output, Stdio};
+use std::process::{ChildStdin, Command, Output, Stdio};
 use std::thread::{scope, sleep};
 use std::time::Duration;
 
@@ -25,12 +25,13 @@ fn command() -> Command {
     Command::new(program::find().unwrap_or_else(|missing| panic!("{missing}")))
 }
 
-/// What the program does with that standard input while it is fed.
-fn run(stdin: impl Into<Stdio>, feed: impl FnOnce() + Send) -> Output {
+/// What the program does with that standard input while it is fed: through a pipe, or by other means.
+fn run(stdin: impl Into<Stdio>, feed: impl FnOnce(Option<ChildStdin>) + Send) -> Output {
     let child = command().stdin(stdin).stdout(Stdio::piped()).stderr(Stdio::piped()).spawn();
-    let child = child.expect("the program can be started");
+    let mut child = child.expect("the program can be started");
+    let pipe = child.stdin.take();
     scope(|scope| {
-        scope.spawn(feed);
+        scope.spawn(|| feed(pipe));
         child.wait_with_output().expect("the program ends")
     })
 }
@@ -59,10 +60,11 @@ fn cut(output: &Output, what: &str) {
 fn pieces_through_a_pipe() {
     for piece in [1, 7, 4_095, 65_535, 65_537] {
         let input = sample(piece);
-        let (read, mut write) = pipe().expect("a pipe");
-        // A program that ends early closes its end: its missing lines say so.
-        let output =
-            run(read, move || drop(input.chunks(piece).try_for_each(|piece| write.write_all(piece))));
+        let output = run(Stdio::piped(), |pipe| {
+            // A program that ends early closes its end: its missing lines say so.
+            let mut pipe = pipe.expect("a pipe");
+            drop(input.chunks(piece).try_for_each(|piece| pipe.write_all(piece)));
+        });
         whole(&output, input, &format!("a pipe, in pieces of {piece}"));
     }
 }
@@ -73,7 +75,7 @@ fn pieces_that_are_the_blocks() {
     for piece in [1, 7, 4_095, 8_801, 65_535, 65_536] {
         let input = sample(piece);
         let (send, receive) = UnixDatagram::pair().expect("two sockets");
-        let output = run(OwnedFd::from(receive), move || {
+        let output = run(OwnedFd::from(receive), move |_| {
             drop(input.chunks(piece).chain([&[][..]]).try_for_each(|piece| send.send(piece).map(drop)));
         });
         whole(&output, input, &format!("blocks of {piece}"));
@@ -85,7 +87,7 @@ fn an_input_that_is_not_ready_is_no_end() {
     let (mut write, read) = UnixStream::pair().expect("two sockets");
     read.set_nonblocking(true).expect("a socket can be so");
     let input: &[u8] = b"000A012C\n0046021230\n00";
-    let output = run(OwnedFd::from(read), move || {
+    let output = run(OwnedFd::from(read), move |_| {
         for piece in input.chunks(9) {
             sleep(Duration::from_millis(30));
             drop(write.write_all(piece));
@@ -96,7 +98,7 @@ fn an_input_that_is_not_ready_is_no_end() {
 
 #[test]
 fn an_input_that_cannot_be_read_is_told() {
-    let output = run(File::open("/").expect("a folder"), || ());
+    let output = run(File::open("/").expect("a folder"), |_| ());
     cut(&output, "standard input cannot be read");
     assert!(output.stdout.is_empty());
     cut(&closed("<&-"), "standard input cannot be read");
