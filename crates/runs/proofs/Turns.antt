@@ -82,6 +82,15 @@ module _ (line x₀ x new : List ℕ) (n : ℕ) (k : Kept line x₀ x n) (w : 88
         }
     turned Done t = tt
 
+-- what is left is what a turn may be given
+abbrev pub Ready : List ℕ → Left → Type 0
+Ready input (Begun from end) = (from ≤ end) × (end ≤ length input) × NoNewline (part from end input)
+Ready input Done = Unit {0}
+
+pub turned-ready : (line input : List ℕ) (r : Left) → Turned line input r → Ready input r
+turned-ready line input (Begun from end) t = (t .order, t .within, t .begun)
+turned-ready line input Done t = tt
+
 -- ---- all turns
 
 -- whole lines, and the beginning of one

@@ -119,15 +119,13 @@ fn turn(input: &mut [u8], from: usize, end: usize, output: &mut [u8]) -> Left
 fn main() {
     let mut input = input_places();
     let mut output = io::large_buffer();
-    let mut from = 0;
-    let mut end = 0;
+    let mut left = Left::Begun(0, 0);
     let mut turns = u64::MAX;
     while 0 < turns {
-        let Left::Begun(f, e) = turn(&mut input, from, end, &mut output) else {
+        let Left::Begun(from, end) = left else {
             return;
         };
-        from = f;
-        end = e;
+        left = turn(&mut input, from, end, &mut output);
         turns -= 1;
     }
 }
