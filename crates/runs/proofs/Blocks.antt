@@ -1,13 +1,13 @@
 -- An input in blocks, cut anywhere, is answered as the whole input is, though no more is held than 8,801 characters of a line.
 -- Assumes nothing.
 use mathlib.Core.Path.{_≡_, refl, sym, ap, ap₂, _∙_}
-use Prim.Native.Nat.{ℕ, zero, suc, _+_, _<_, _≤_, _%_}
+use Prim.Native.Nat.{ℕ, zero, suc, _+_, _<_, _%_}
 use Prim.Native.Char.{code}
 use native.Mathlib.Omega.{arith}
 use native.Mathlib.Decide.{decLt}
 use mathlib.Core.Bool.{Bool, true, false, _||_, not}
 use mathlib.Core.List.{List, [], _∷_, _++_, append-assoc, append-nil}
-use lib.ListN.{length, take, drop, getD, length-append, length-take}
+use lib.ListN.{length, take, getD, length-append, length-take}
 use lib.Seq.{take-all}
 use lib.Dec.{eqb, ltb}
 use borrow.Author.Tests.{lt-ltb, ne-eqb}
@@ -15,7 +15,7 @@ use Rattle.format.specs.Fields.{pick}
 use Rattle.text.specs.Ascii.{ascii}
 use Rattle.text.specs.Hexadecimal.{allHex, hexBytes}
 use Rattle.lines.specs.Line.{badLine, frameOf, frameText, answerText}
-use Rattle.runs.specs.Program.{answered, answersFrom, begunFrom, lastAnswer, programText, kept, blockText, joinedBlocks}
+use Rattle.runs.specs.Program.{answered, answersFrom, begunFrom, lastAnswer, programText, NoNewline, kept, blockText, joinedBlocks}
 
 -- ---- two blocks
 
@@ -43,11 +43,7 @@ begun-append line (c ∷ a) b = by (eqb c (code "\n")) (begun-append [] a b) (be
 
 -- ---- a line has no newline in it
 
-abbrev NoNewline : List ℕ → Type 0
-NoNewline [] = Unit {0}
-NoNewline (c ∷ s) = (eqb c (code "\n") ≡ false) × NoNewline s
-
-no-take : (n : ℕ) (s : List ℕ) → NoNewline s → NoNewline (take n s)
+pub no-take : (n : ℕ) (s : List ℕ) → NoNewline s → NoNewline (take n s)
 no-take zero s h = tt
 no-take (suc n) [] h = tt
 no-take (suc n) (c ∷ s) h = (h .0, no-take n s (h .1))
@@ -66,7 +62,7 @@ no-begun line (c ∷ s) h = by (eqb c (code "\n")) refl (no-begun [] s tt) (no-b
     by true e f g = f
     by false e f g = g (no-more line c h e)
 
-no-open : (line s : List ℕ) → NoNewline s → (answersFrom line s ≡ []) × (begunFrom line s ≡ line ++ s)
+pub no-open : (line s : List ℕ) → NoNewline s → (answersFrom line s ≡ []) × (begunFrom line s ≡ line ++ s)
 unfolding answersFrom begunFrom
 no-open line [] h = (refl, sym (append-nil line))
 no-open line (c ∷ s) h =

@@ -1,3 +1,5 @@
 -- The laws that the proofs cite.
-pub mod Lines
 pub mod Blocks
+pub mod Lines
+pub mod Pieces
+pub mod Turns

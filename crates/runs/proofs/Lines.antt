@@ -1,12 +1,13 @@
--- Lines of an input, one by one: the first line is answered, and the others as if they stood alone; and an input in blocks is answered as one.
+-- Lines of an input, one by one: where they end, and their answers in the bytes that were lent.
 -- Assumes nothing.
 use mathlib.Core.Path.{_≡_, refl, sym, ap, _∙_}
-use Prim.Native.Nat.{ℕ, zero, suc, _+_, _-_, _<_, _≤_}
+use Prim.Native.Nat.{ℕ, suc, _+_, _-_, _<_, _≤_, min}
 use native.Mathlib.Omega.{arith}
+use native.Mathlib.Decide.{decLt}
 use mathlib.Core.Bool.{Bool, true, false}
 use mathlib.Core.List.{List, [], _∷_, _++_, append-assoc, append-nil}
-use lib.ListN.{length, take, drop, getD, set, length-drop, length-append}
-use lib.Seq.{getD-drop, take-suc, take-suc-set, drop-set-lt, drop-drop}
+use lib.ListN.{length, take, drop, getD, set, length-take, length-drop, length-append}
+use lib.Seq.{getD-drop, take-all, take-suc, take-suc-set, take-take, take-add, drop-at, length-take-le}
 use native.Mathlib.Numerals.{add-one}
 use borrow.Author.Tests.{eq-eqb, ne-eqb, le-ltb}
 use Rattle.format.proofs.Reading.{byte-here}
@@ -14,7 +15,8 @@ use lib.Dec.{eqb}
 use Rattle.format.specs.Fields.{pick}
 use Rattle.lines.specs.Line.{answerLine, Answered}
 use Rattle.util.proofs.Grow.{back-is, front-is, kept-by, long-by}
-use Rattle.runs.specs.Program.{answered, answersFrom, begunFrom, lastAnswer, programText, lineLength, Cut}
+use Rattle.runs.specs.Program.{answered, answersFrom, begunFrom, lineLength, NoNewline, tooLong, kept, part, Cut}
+use Rattle.runs.proofs.Blocks.{answers-append, begun-append}
 
 pub line-le : (s : List ℕ) → lineLength s ≤ length s
 unfolding lineLength
@@ -25,46 +27,31 @@ line-le (c ∷ s) = by (eqb c 10) (line-le s)
     by true h = omega arith
     by false h = omega arith
 
--- a line that its newline ends
-pub line-answered : (line s : List ℕ) → lineLength s < length s
-    → answersFrom line s ≡ answered (line ++ take (lineLength s) s) ++ answersFrom [] (drop (lineLength s + 1) s)
-unfolding lineLength answersFrom
-line-answered line [] h = absurd (omega arith)
-line-answered line (c ∷ s) h = by (eqb c 10) h (line-answered (line ++ (c ∷ [])) s)
+-- a line and its newline
+pub line-whole : (line s : List ℕ) → lineLength s < length s
+    → (answersFrom line (take (suc (lineLength s)) s) ≡ answered (line ++ take (lineLength s) s)) × (begunFrom line (take (suc (lineLength s)) s) ≡ [])
+unfolding lineLength answersFrom begunFrom
+line-whole line [] h = absurd (omega arith)
+line-whole line (c ∷ s) h = by (eqb c 10) h (line-whole (line ++ (c ∷ [])) s)
   where
     by : (t : Bool) → pick t 0 (suc (lineLength s)) < suc (length s)
-        → (lineLength s < length s → answersFrom (line ++ (c ∷ [])) s ≡ answered ((line ++ (c ∷ [])) ++ take (lineLength s) s) ++ answersFrom [] (drop (lineLength s + 1) s))
-        → pick t (answered line ++ answersFrom [] s) (answersFrom (line ++ (c ∷ [])) s)
-        ≡ answered (line ++ take (pick t 0 (suc (lineLength s))) (c ∷ s)) ++ answersFrom [] (drop (pick t 0 (suc (lineLength s)) + 1) (c ∷ s))
-    by true h f = rw append-nil
-    by false h f =
-        let e : suc (lineLength s) + 1 ≡ suc (lineLength s + 1) = omega arith in
-        f (omega arith) ∙ rw (e, append-assoc line (c ∷ []) (take (lineLength s) s))
-
-pub line-passed : (line s : List ℕ) → lineLength s < length s → begunFrom line s ≡ begunFrom [] (drop (lineLength s + 1) s)
-unfolding lineLength begunFrom
-line-passed line [] h = absurd (omega arith)
-line-passed line (c ∷ s) h = by (eqb c 10) h (line-passed (line ++ (c ∷ [])) s)
-  where
-    by : (t : Bool) → pick t 0 (suc (lineLength s)) < suc (length s)
-        → (lineLength s < length s → begunFrom (line ++ (c ∷ [])) s ≡ begunFrom [] (drop (lineLength s + 1) s))
-        → pick t (begunFrom [] s) (begunFrom (line ++ (c ∷ [])) s) ≡ begunFrom [] (drop (pick t 0 (suc (lineLength s)) + 1) (c ∷ s))
-    by true h f = refl
-    by false h f =
-        let e : suc (lineLength s) + 1 ≡ suc (lineLength s + 1) = omega arith in
-        f (omega arith) ∙ rw e
+        → (lineLength s < length s → (answersFrom (line ++ (c ∷ [])) (take (suc (lineLength s)) s) ≡ answered ((line ++ (c ∷ [])) ++ take (lineLength s) s))
+        × (begunFrom (line ++ (c ∷ [])) (take (suc (lineLength s)) s) ≡ []))
+        → (pick t (answered line ++ answersFrom [] (take (pick t 0 (suc (lineLength s))) s)) (answersFrom (line ++ (c ∷ [])) (take (pick t 0 (suc (lineLength s))) s))
+        ≡ answered (line ++ take (pick t 0 (suc (lineLength s))) (c ∷ s)))
+        × (pick t (begunFrom [] (take (pick t 0 (suc (lineLength s))) s)) (begunFrom (line ++ (c ∷ [])) (take (pick t 0 (suc (lineLength s))) s)) ≡ [])
+    by true h f = (rw (append-nil line, append-nil (answered line)), refl)
+    by false h f = let (a, b) = f (omega arith) in (a ∙ rw (append-assoc line (c ∷ []) (take (lineLength s) s)), b)
 
 -- a line that has no newline yet
-pub line-open : (line s : List ℕ) → length s ≤ lineLength s → (answersFrom line s ≡ []) × (begunFrom line s ≡ line ++ s)
-unfolding lineLength answersFrom begunFrom
-line-open line [] h = (refl, sym (append-nil line))
-line-open line (c ∷ s) h = by (eqb c 10) h (line-open (line ++ (c ∷ [])) s)
+pub line-open : (s : List ℕ) → length s ≤ lineLength s → NoNewline s
+unfolding lineLength
+line-open [] h = tt
+line-open (c ∷ s) h = by (eqb c 10) h (line-open s)
   where
-    by : (t : Bool) → suc (length s) ≤ pick t 0 (suc (lineLength s))
-        → (length s ≤ lineLength s → (answersFrom (line ++ (c ∷ [])) s ≡ []) × (begunFrom (line ++ (c ∷ [])) s ≡ (line ++ (c ∷ [])) ++ s))
-        → (pick t (answered line ++ answersFrom [] s) (answersFrom (line ++ (c ∷ [])) s) ≡ []) × (pick t (begunFrom [] s) (begunFrom (line ++ (c ∷ [])) s) ≡ line ++ (c ∷ s))
+    by : (t : Bool) → suc (length s) ≤ pick t 0 (suc (lineLength s)) → (length s ≤ lineLength s → NoNewline s) → (t ≡ false) × NoNewline s
     by true h f = absurd (omega arith)
-    by false h f = let (a, b) = f (omega arith) in (a, b ∙ append-assoc line (c ∷ []) s)
+    by false h f = (refl, f (omega arith))
 
 -- the line that begins at a place: its newline is there, or a byte that is none
 module _ (s : List ℕ) (i : ℕ) (h : i < length s) where
@@ -77,24 +64,41 @@ module _ (s : List ℕ) (i : ℕ) (h : i < length s) where
   newline-later n = rw (byte-here s i h, ne-eqb (getD s i 0) 10 n)
 
 -- one byte more is moved to the front
-module _ (x x₀ : List ℕ) (from i : ℕ) (l : length x ≡ length x₀) (h : from + i < length x) (f : take i x ≡ take i (drop from x₀)) (d : drop (from + i) x ≡ drop (from + i) x₀) where
-  abbrev moved : ℕ
-  moved = getD x (from + i) 0
-
-  moved-is : moved ≡ getD (drop from x₀) i 0
+module _ (x x₀ : List ℕ) (from i : ℕ) (h : from + i < length x) (l : length x ≡ length x₀) (f : take i x ≡ take i (drop from x₀)) (d : drop i x ≡ drop i x₀) where
+  moved-is : getD x (from + i) 0 ≡ getD (drop from x₀) i 0
   moved-is =
-      let z : from + i + 0 ≡ from + i = omega arith in
-      rw z at (sym (getD-drop (from + i) x 0 0) ∙ ap (λ (s : List ℕ). getD s 0 0) d ∙ getD-drop (from + i) x₀ 0 0) ∙ sym (getD-drop from x₀ i 0)
+      let z : from + i ≡ i + from = omega arith in
+      rw (getD-drop from x₀ i 0, z, ← getD-drop i x from 0, ← getD-drop i x₀ from 0, d)
 
-  pub moved-front : take (i + 1) (set x i moved) ≡ take (i + 1) (drop from x₀)
+  pub moved-front : take (i + 1) (set x i (getD x (from + i) 0)) ≡ take (i + 1) (drop from x₀)
   moved-front =
-      rw (add-one, take-suc-set x i moved (omega arith), take-suc (drop from x₀) i 0 (rw length-drop (omega arith)), f) (ap (λ (c : ℕ). take i (drop from x₀) ++ (c ∷ [])) moved-is)
+      rw (add-one, take-suc-set x i (getD x (from + i) 0) (omega arith), take-suc (drop from x₀) i 0 (rw length-drop (omega arith)), f)
+      (ap (λ (c : ℕ). take i (drop from x₀) ++ (c ∷ [])) moved-is)
 
-  pub moved-rest : drop (from + (i + 1)) (set x i moved) ≡ drop (from + (i + 1)) x₀
-  moved-rest =
-      let z : from + (i + 1) ≡ from + i + 1 = omega arith in
-      rw (z, drop-set-lt (from + i + 1) x i moved (omega arith))
-      (sym (drop-drop 1 (from + i) x) ∙ ap (λ (s : List ℕ). drop 1 s) d ∙ drop-drop 1 (from + i) x₀)
+-- the bytes from a place on, as many as there are to another place
+pub slice-is : (from m : ℕ) (s : List ℕ) → from + m ≤ length s → part from (from + m) s ≡ take m (drop from s)
+slice-is from m s h = rw (take-add from m s) (drop-at (take from s) (take m (drop from s)) from (length-take-le from s (omega arith)))
+
+-- as many of them as are kept
+module _ (from end n : ℕ) (s : List ℕ) (h : from ≤ end) (l : end ≤ length s) (is : n ≡ min (end - from) tooLong) where
+  line-is : part from end s ≡ take (end - from) (drop from s)
+  line-is =
+      let z : from + (end - from) ≡ end = omega arith in
+      rw z at (slice-is from (end - from) s (omega arith))
+
+  pub kept-count : n ≡ length (kept (part from end s))
+  kept-count = rw (line-is, length-take, length-take, length-drop) (omega arith)
+
+  pub kept-front : take n (drop from s) ≡ kept (part from end s)
+  kept-front = rw line-is (by (decLt (end - from) 8802))
+    where
+      by : Dec (end - from < 8802) → take n (drop from s) ≡ kept (take (end - from) (drop from s))
+      by (yes q) =
+          let e : n ≡ end - from = omega arith in
+          rw (e, take-all 8801 (take (end - from) (drop from s)) (rw length-take (omega arith)))
+      by (no q) =
+          let e : n ≡ 8801 = omega arith in
+          rw (e, take-take 8801 (end - from) (drop from s) (omega arith))
 
 -- an answer line stands within the bytes that were lent
 pub answered-le : (line out out′ : List ℕ) (r : ℕ) → Answered line out out′ r → r ≤ length out′
@@ -109,14 +113,15 @@ pub record Going (input out₀ out : List ℕ) (taken written : ℕ) : Type 0 wh
   pub within : taken ≤ length input
   pub fits : written ≤ length out₀
   pub long : length out ≡ length out₀
-  pub text : take written out ++ answersFrom [] (drop taken input) ≡ answersFrom [] input
+  pub whole : begunFrom [] (take taken input) ≡ []
+  pub text : take written out ≡ answersFrom [] (take taken input)
   pub rest : drop written out ≡ drop written out₀
-  pub begun : begunFrom [] (drop taken input) ≡ begunFrom [] input
   pub some : taken ≡ 0 → written ≡ 0
 
 module _ (input out₀ : List ℕ) where
   pub going-first : Going input out₀ out₀ 0 0
-  going-first = record { within = omega arith; fits = omega arith; long = refl; text = refl; rest = refl; begun = refl; some = λ e. refl }
+  unfolding answersFrom begunFrom
+  going-first = record { within = omega arith; fits = omega arith; long = refl; whole = refl; text = refl; rest = refl; some = λ e. refl }
 
   module _ (out : List ℕ) (taken written : ℕ) (g : Going input out₀ out taken written) where
     -- no room for an answer
@@ -124,9 +129,9 @@ module _ (input out₀ : List ℕ) where
     going-full h = record {
       within = g .within;
       fits = g .fits;
+      whole = g .whole;
       text = g .text;
       rest = g .rest;
-      begun = g .begun;
       some = g .some;
       all = λ l. absurd (omega (arith, g .long, g .fits));
     }
@@ -137,11 +142,11 @@ module _ (input out₀ : List ℕ) where
       going-open h = record {
         within = g .within;
         fits = g .fits;
+        whole = g .whole;
         text = g .text;
         rest = g .rest;
-        begun = g .begun;
         some = g .some;
-        all = λ l. line-open [] (drop taken input) (rw length-drop (omega arith)) .0;
+        all = λ l. line-open (drop taken input) (rw length-drop (omega arith));
       }
 
       pub end-le : end ≤ length input
@@ -167,14 +172,17 @@ module _ (input out₀ : List ℕ) where
         answer-fits =
             omega (arith, l, ap length part-is, length-append (answered line) (drop r (drop written out)), count-is, length-drop r (drop written out), length-drop written out)
 
-        lines-are : (answersFrom [] (drop taken input) ≡ answered line ++ answersFrom [] (drop (end + 1) input)) × (begunFrom [] (drop (end + 1) input) ≡ begunFrom [] (drop taken input))
-        lines-are =
+        -- the lines that were taken before, and this one
+        taken-are : (answersFrom [] (take (end + 1) input) ≡ answersFrom [] (take taken input) ++ answered line) × (begunFrom [] (take (end + 1) input) ≡ [])
+        taken-are =
             let n = lineLength (drop taken input) in
-            let h : n < length (drop taken input) = rw length-drop (omega (arith, end-le)) in
+            let (a, b) = line-whole [] (drop taken input) (rw length-drop (omega (arith, end-le))) in
             let e : end - taken ≡ n = omega arith in
-            let z : taken + (n + 1) ≡ end + 1 = omega arith in (
-              rw e (rw (drop-drop (n + 1) taken input, z) at (line-answered [] (drop taken input) h)),
-              sym (rw (drop-drop (n + 1) taken input, z) at (line-passed [] (drop taken input) h)),
+            let z : end + 1 ≡ taken + suc n = omega arith in
+            let p = take taken input in
+            let q = take (suc n) (drop taken input) in (
+              rw (z, take-add taken (suc n) input, answers-append [] p q, g .whole, a, e),
+              rw (z, take-add taken (suc n) input, begun-append [] p q, g .whole, b),
             )
 
         pub going-on : Going input out₀ (take written out ++ (part ++ drop (length out - written) (drop written out))) (end + 1) (written + r)
@@ -186,8 +194,8 @@ module _ (input out₀ : List ℕ) where
               within = omega (arith, end-le);
               fits = omega (arith, answer-fits, g .long);
               long = long-by out out′ (answered line) written r h count-is e answer-fits ∙ g .long;
-              text = rw (front-is out out′ (answered line) written r h count-is e, append-assoc (take written out) (answered line) (answersFrom [] (drop (end + 1) input)), ← lines-are .0) (g .text);
+              whole = taken-are .1;
+              text = front-is out out′ (answered line) written r h count-is e ∙ rw (g .text, taken-are .0);
               rest = kept-by out out′ (answered line) written r h count-is e out₀ (g .rest);
-              begun = lines-are .1 ∙ g .begun;
               some = λ z. absurd (omega arith);
             }

@@ -1,11 +1,13 @@
 -- THE PROGRAM (document 01): what it writes for its input, line by line, and the same for an input that comes in blocks.
 -- Assumes nothing.
 use mathlib.Core.Path.{_≡_}
-use Prim.Native.Nat.{ℕ, suc, _+_, _-_, _≤_, min}
+use Prim.Native.Nat.{ℕ, suc, _+_, _≤_}
 use Prim.Native.Char.{code}
+use mathlib.Core.Bool.{false}
 use mathlib.Core.List.{List, [], _∷_, _++_}
 use lib.ListN.{length, take, drop}
 use lib.Dec.{eqb}
+use lib.IntN.{ℤ, pos, negsuc}
 use Rattle.format.specs.Fields.{pick}
 use Rattle.lines.specs.Line.{answerText, ended, answerRoom}
 use Rattle.runs.specs.declared.Left.{Left}
@@ -40,40 +42,65 @@ unfoldable pub lineLength : List ℕ → ℕ
 lineLength [] = 0
 lineLength (c ∷ s) = pick (eqb c (code "\n")) 0 (suc (lineLength s))
 
--- the whole lines in the first bytes taken are answered in the first bytes written; it stops where no whole line is left or no room for its answer
+-- no newline stands in it: it begins a line and ends none
+abbrev pub NoNewline : List ℕ → Type 0
+NoNewline [] = Unit {0}
+NoNewline (c ∷ s) = (eqb c (code "\n") ≡ false) × NoNewline s
+
+-- the first bytes taken are whole lines, and their answers stand in the first bytes written; it stops where no whole line is left or no room for
+-- its answer
 pub record Cut (input out out′ : List ℕ) (taken written : ℕ) : Type 0 where
   pub within : taken ≤ length input
   pub fits : written ≤ length out
-  pub text : take written out′ ++ answersFrom [] (drop taken input) ≡ answersFrom [] input
+  pub whole : begunFrom [] (take taken input) ≡ []
+  pub text : take written out′ ≡ answersFrom [] (take taken input)
   pub rest : drop written out′ ≡ drop written out
-  pub begun : begunFrom [] (drop taken input) ≡ begunFrom [] input
   pub some : taken ≡ 0 → written ≡ 0
-  pub all : written + answerRoom ≤ length out → answersFrom [] (drop taken input) ≡ []
+  pub all : written + answerRoom ≤ length out → NoNewline (drop taken input)
 
 -- as many characters of a line as show that it is over 8,800
 abbrev pub tooLong : ℕ
 tooLong = 8801
 
--- what is left after a block stands at the front of the input: all of it, or as much as shows that its line is over 8,800 characters
-pub record Kept (from end : ℕ) (input input′ : List ℕ) (n : ℕ) : Type 0 where
-  pub count : n ≡ min (end - from) tooLong
-  pub bytes : take n input′ ≡ take n (drop from input)
-
--- what is left of a block: from a place on, the beginning of a line
-abbrev pub LeftIn : List ℕ → Left → Type 0
-LeftIn input (Begun from) = (from ≤ length input) × (answersFrom [] (drop from input) ≡ []) × (begunFrom [] (drop from input) ≡ begunFrom [] input)
-LeftIn input Done = Unit {0}
-
--- no more of a line is held
-abbrev pub Holds : Left → Type 0
-Holds (Begun n) = n ≤ tooLong
-Holds Done = Unit {0}
-
--- ---- an input that comes in blocks
-
 -- the beginning of a line, as far as it is kept
 abbrev pub kept : List ℕ → List ℕ
 kept line = take tooLong line
+
+-- the bytes from a place to a place
+abbrev pub part : ℕ → ℕ → List ℕ → List ℕ
+part from end s = drop from (take end s)
+
+-- a line's beginning stands at the front of the input, all of it or as much as shows that it is over 8,800 characters; other places keep their content
+pub record Kept (line input input′ : List ℕ) (n : ℕ) : Type 0 where
+  pub count : n ≡ length (kept line)
+  pub front : take n input′ ≡ kept line
+  pub rest : drop n input′ ≡ drop n input
+
+-- how many bytes came, by what the system answered: none where reading failed
+abbrev pub came : ℤ → ℕ
+came (pos k) = k
+came (negsuc k) = 0
+
+-- WHAT IS LEFT OF A BLOCK: after its whole lines, from a place to its end, the beginning of a line
+abbrev pub LeftIn : List ℕ → Left → Type 0
+LeftIn input (Begun from end) = (end ≡ length input) × (from ≤ end) × (begunFrom [] (take from input) ≡ []) × NoNewline (drop from input)
+LeftIn input Done = Unit {0}
+
+-- WHAT IS LEFT OF A TURN that a line's beginning was left for: what is kept of it stands at the front of the input; what came stands behind it, up to
+-- `end`; the whole lines of both are answered, and the beginning of a line is left
+pub record Carried (line input : List ℕ) (from end : ℕ) : Type 0 where
+  pub front : take (length (kept line)) input ≡ kept line
+  pub behind : length (kept line) ≤ end
+  pub within : end ≤ length input
+  pub order : from ≤ end
+  pub whole : begunFrom [] (take from (take end input)) ≡ []
+  pub begun : NoNewline (part from end input)
+
+abbrev pub Turned : List ℕ → List ℕ → Left → Type 0
+Turned line input (Begun from end) = Carried line input from end
+Turned line input Done = Unit {0}
+
+-- ---- an input that comes in blocks
 
 -- what is written for the blocks that come, with a line's beginning held: the whole lines' answers after each block, and at the end the last line's
 unfoldable pub blockText : List ℕ → List (List ℕ) → List ℕ
@@ -84,3 +111,11 @@ blockText held (b ∷ bs) = answersFrom [] (held ++ b) ++ blockText (kept (begun
 unfoldable pub joinedBlocks : List (List ℕ) → List ℕ
 joinedBlocks [] = []
 joinedBlocks (b ∷ bs) = b ++ joinedBlocks bs
+
+-- WHAT THE PROGRAM HANDS OVER to be written from a line's beginning on, turn by turn. A turn keeps that beginning as far as it is kept, its block is
+-- what came behind it, and it hands over the text of the whole lines; what it leaves is the next turn's. Where the input ends, it is the text of the last line.
+pub data HandsOver : List ℕ → List (List ℕ) → List ℕ → Type 0 where
+  ends : {line : List ℕ} → HandsOver line [] (programText (kept line))
+  turns : {line input : List ℕ} {from end : ℕ} {blocks : List (List ℕ)} {later : List ℕ} → Carried line input from end
+      → HandsOver (part from end input) blocks later
+      → HandsOver line (part (length (kept line)) end input ∷ blocks) (programText (take from (take end input)) ++ later)

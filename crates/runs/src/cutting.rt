@@ -2,7 +2,7 @@
 ghost use mathlib.Core.Path.{_≡_};
 ghost use Prim.Native.Nat.{_+_, _≤_, min};
 ghost use lib.ListN.{length, drop};
-ghost use Rattle.runs.specs.Program.{lineLength, Cut, Kept};
+ghost use Rattle.runs.specs.Program.{lineLength, part, Cut, Kept};
 
 // As many characters of a line as show that it is too long.
 pub(crate) const MAX_HELD: usize = lines::MAX_LINE + 1;
@@ -49,7 +49,7 @@ pub(crate) fn answer_lines(input: &[u8], out: &mut [u8]) -> Progress
 // goes on, so that no more of it is kept than shows that.
 pub(crate) fn keep(input: &mut [u8], from: usize, end: usize) -> usize
     requires { ⌜ (from ≤ end) × (end ≤ length (now input)) ⌝ }
-    ensures { λ r. ⌜ Kept from end (now (input .entry)) (now (input .exit)) r ⌝ }
+    ensures { λ r. ⌜ Kept (part from end (now (input .entry))) (now (input .entry)) (now (input .exit)) r ⌝ }
 {
     let n = least(end - from, MAX_HELD);
     let mut i = 0;

@@ -7,13 +7,13 @@ use libc::STDIN_FILENO;
 use libc::STDOUT_FILENO;
 ghost use mathlib.Core.Path.{_≡_};
 ghost use Prim.Native.Nat.{_+_, _≤_};
-ghost use lib.ListN.{length};
+ghost use lib.ListN.{length, take};
 ghost use Rattle.lines.specs.Line.{answerRoom};
-ghost use Rattle.runs.specs.Program.{tooLong, LeftIn, Holds};
+ghost use Rattle.runs.specs.Program.{programText, tooLong, part, came, NoNewline, LeftIn, Turned};
 
-// How many bytes at the front of the input begin a line; or that nothing more is to be read or can be written.
+// From where to where in the input a line has begun; or that nothing more is to be read or can be written.
 enum Left {
-    Begun(usize),
+    Begun(usize, usize),
     Done,
 }
 
@@ -27,13 +27,16 @@ fn input_places() -> [u8; MAX_HELD + BLOCK]
     [0; MAX_HELD + BLOCK]
 }
 
-// Reads once, into the places after those that are held: how many bytes came, none at the end or where reading fails.
-fn read_after(input: &mut [u8], held: usize) -> usize
-    requires { ⌜ held ≤ length (now input) ⌝ }
-    ensures { λ r. ⌜ held + r ≤ length (now (input .exit)) ⌝ }
+// Every byte that the program writes to its output goes through here, beside the bytes that it answers, and is what the definition writes for
+// them. No contract can say what the system writes, so that it is said here of what is handed over.
+fn say(asked: &[u8], text: &[u8]) -> bool
+    requires { ⌜ now text ≡ programText (now asked) ⌝ }
 {
-    let got = libc::read(STDIN_FILENO, &mut input[held..]);
-    io::count(got, &input[held..])
+    let is_written = io::write_all(STDOUT_FILENO, text);
+    if !is_written {
+        os::fail(b"runs: the output is cut, standard output cannot be written");
+    }
+    is_written
 }
 
 // Answers the whole lines of a block and writes the answers: where the line after them begins.
@@ -47,52 +50,82 @@ fn answer_block(input: &[u8], output: &mut [u8]) -> Left
         let taken = p.taken;
         let written = p.written;
         if taken == 0 {
-            return Left::Begun(from);
+            return Left::Begun(from, input.len());
         }
-        if !io::write_all(STDOUT_FILENO, &output[..written]) {
+        let next = from + taken;
+        if !say(&input[from..next], &output[..written]) {
             return Left::Done;
         }
-        from += taken;
+        from = next;
     }
 }
 
 // A last line that no newline ends is answered too.
-fn answer_last(line: &[u8], output: &mut [u8]) {
+fn answer_last(line: &[u8], output: &mut [u8])
+    requires { ⌜ NoNewline (now line) × (answerRoom ≤ length (now output)) ⌝ }
+{
     if line.len() == 0 {
         return;
     }
     let written = lines::answer_line(line, output);
-    io::write_all(STDOUT_FILENO, &output[..written]);
+    say(line, &output[..written]);
 }
 
-// One block.
-fn turn(input: &mut [u8], held: usize, output: &mut [u8]) -> Left
-    requires { ⌜ (tooLong ≤ length (now input)) × (held ≤ tooLong) × (answerRoom ≤ length (now output)) ⌝ }
-    ensures { λ r. ⌜ Holds r ⌝ }
+// A read that a signal broke off, or that found nothing ready, is no end: it is tried again. Any other failure is told.
+fn is_not_ready() -> bool {
+    let error = os::errno();
+    if error == libc::EINTR {
+        return true;
+    }
+    if error == libc::EAGAIN {
+        libc::sched_yield();
+        return true;
+    }
+    os::fail(b"runs: the output is cut, standard input cannot be read");
+    false
+}
+
+// What to do with what is held and what came behind it, by what the system answered.
+fn answer_came(input: &[u8], held: usize, got: isize, output: &mut [u8]) -> Left
+    requires { ⌜ (length (now input) ≡ held + came got) × NoNewline (take held (now input)) × (answerRoom ≤ length (now output)) ⌝ }
+    ensures { λ r. ⌜ LeftIn (now (input .entry)) r ⌝ }
 {
-    let got = read_after(input, held);
-    let end = held + got;
+    if got > 0 {
+        return answer_block(input, output);
+    }
     if got == 0 {
-        answer_last(&input[..end], output);
+        answer_last(input, output);
         return Left::Done;
     }
-    let Left::Begun(from) = answer_block(&input[..end], output) else {
+    if !is_not_ready() {
         return Left::Done;
-    };
-    Left::Begun(cutting::keep(input, from, end))
+    }
+    Left::Begun(0, held)
+}
+
+// One block: what is left of the one before is moved to the front, and what is read stands behind it. What the system answers goes on as it is: no
+// contract can name it before.
+fn turn(input: &mut [u8], from: usize, end: usize, output: &mut [u8]) -> Left
+    requires { ⌜ (from ≤ end) × (end ≤ length (now input)) × (tooLong ≤ length (now input)) × (answerRoom ≤ length (now output)) × NoNewline (part from end (now input)) ⌝ }
+    ensures { λ r. ⌜ Turned (part from end (now (input .entry))) (now (input .exit)) r ⌝ }
+{
+    let held = cutting::keep(input, from, end);
+    let got = libc::read(STDIN_FILENO, &mut input[held..]);
+    let stop = held + io::count(got, &input[held..]);
+    answer_came(&input[..stop], held, got, output)
 }
 
 // A proved loop has to end, and nothing says that the input does: the loop counts its turns down, from a number that no input uses up.
 fn main() {
     let mut input = input_places();
     let mut output = io::large_buffer();
-    let mut held = 0;
+    let mut left = Left::Begun(0, 0);
     let mut turns = u64::MAX;
     while 0 < turns {
-        let Left::Begun(n) = turn(&mut input, held, &mut output) else {
+        let Left::Begun(from, end) = left else {
             return;
         };
-        held = n;
+        left = turn(&mut input, from, end, &mut output);
         turns -= 1;
     }
 }

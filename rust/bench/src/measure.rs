@@ -25,6 +25,18 @@ pub fn measure(case: &Case) -> Times {
     let expected: Vec<u8> = case.rows.iter().flat_map(|row| row.to_le_bytes()).collect();
     let check = |given: bool| assert!(given, "{}: other rows", case.name);
 
+    if case.in_rust {
+        oracle::decode_into(&case.bytes, case.signed, &mut rows);
+        check(rows == case.rows);
+    }
+    #[cfg(feature = "ours")]
+    let mut lent = vec![0u8; expected.len()];
+    #[cfg(feature = "ours")]
+    {
+        crate::ours::decode_into(case, &mut lent);
+        check(lent == expected);
+    }
+
     let mut rust = |case: &Case| {
         oracle::decode_into(black_box(&case.bytes), case.signed, black_box(&mut rows));
     };
@@ -36,8 +48,6 @@ pub fn measure(case: &Case) -> Times {
         candidates.push(&mut rust);
     }
     #[cfg(feature = "ours")]
-    let mut lent = vec![0u8; expected.len()];
-    #[cfg(feature = "ours")]
     let mut ours = |case: &Case| crate::ours::decode_into(black_box(case), black_box(&mut lent));
     #[cfg(feature = "ours")]
     candidates.push(&mut ours);
@@ -46,11 +56,6 @@ pub fn measure(case: &Case) -> Times {
     let copy = times.next().expect("the copy is timed");
     let rust = if case.in_rust { times.next() } else { None };
     let ours = times.next();
-    if case.in_rust {
-        check(rows == case.rows);
-    }
-    #[cfg(feature = "ours")]
-    check(lent == expected);
     Times { ours, rust, copy }
 }
 

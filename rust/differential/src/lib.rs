@@ -11,6 +11,7 @@ pub mod listed;
 #[cfg(feature = "ours")]
 pub mod ours;
 pub mod probe;
+pub mod program;
 pub mod random;
 pub mod stages;
 pub mod tally;

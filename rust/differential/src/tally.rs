@@ -157,7 +157,8 @@ impl Tally {
         );
     }
 
-    /// Prints the counts, and answers whether all is well: nothing unlisted.
+    /// Prints the counts, and answers whether all is well: nothing unlisted, and every listed difference
+    /// met (one that is no longer met is not a difference, and the list is wrong).
     pub fn report(&self) -> bool {
         println!("{:<48} {:>12}  smallest input", "outcome", "answers");
         for (sort, count) in &self.counts {
@@ -175,10 +176,14 @@ impl Tally {
                 println!("{name:<48} {answers:>12}");
             }
         }
+        let mut all_met = true;
         for entry in &LIST {
             let count = self.counts.get(&Sort::Listed(entry.difference));
             match count.and_then(|count| count.smallest.as_ref()) {
-                None => println!("not met: {}", entry.name),
+                None => {
+                    println!("not met: {}", entry.name);
+                    all_met = false;
+                }
                 Some(seen) if (seen.length, &seen.bytes) < (entry.bytes().len(), &entry.bytes()) => {
                     println!("smaller than the input listed for {}: {}", entry.name, Hex(&seen.bytes));
                 }
@@ -192,6 +197,6 @@ impl Tally {
             self.answers(),
             self.started.elapsed().as_secs_f64()
         );
-        self.unlisted == 0
+        self.unlisted == 0 && all_met
     }
 }

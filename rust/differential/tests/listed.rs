@@ -1,5 +1,5 @@
 //! The list itself: each smallest input shows its difference. And a small run of every stage.
-use differential::listed::{of_booleans, of_run, of_stream, of_value, Call, Sort, LIST};
+use differential::listed::{of_booleans, of_run, of_stream, of_value, Call, Entry, Sort, LIST};
 use differential::random::Random;
 use differential::stages::{Session, Size};
 use differential::tally::Tally;
@@ -38,6 +38,23 @@ fn what_is_not_listed_is_found() {
     assert_eq!(of_run(&bytes, &Answer::End, &rust), None);
     for number in [1, 4, 6, 8] {
         assert_eq!(of_run(&bytes, &Answer::Refused(Refusal { number, place: 0 }), &rust), None);
+    }
+}
+
+#[test]
+fn a_listed_difference_that_is_not_met_fails_the_report() {
+    for missing in &LIST {
+        let mut tally = Tally::start();
+        let meet = |tally: &mut Tally, entry: &Entry| {
+            let sort = Some(Sort::Listed(entry.difference));
+            tally.record(sort, &entry.bytes(), entry.call, || unreachable!("it is listed"));
+        };
+        LIST.iter()
+            .filter(|entry| entry.difference != missing.difference)
+            .for_each(|entry| meet(&mut tally, entry));
+        assert!(!tally.report(), "{}", missing.name);
+        meet(&mut tally, missing);
+        assert!(tally.report(), "{}", missing.name);
     }
 }
 

@@ -1,24 +1,26 @@
--- `runs::answer_block` meets its contract. The loop's invariant: the line that is left of the rest is the one that is left of the block. Assumes nothing.
+-- `runs::answer_block` meets its contract, and each piece that it hands over is the definition's text of its lines. The loop's invariant: what stands
+-- before `from` are whole lines. Assumes nothing.
 use mathlib.Core.Path.{_≡_, refl, sym, _∙_}
-use Prim.Native.Nat.{_-_, _≤_}
+use Prim.Native.Nat.{_+_, _-_, _≤_}
 use native.Mathlib.Omega.{arith}
 use denote.Ref.{now}
-use lib.ListN.{length, drop, length-drop}
-use lib.Seq.{length-take-le, drop-drop}
+use lib.ListN.{length, take, drop, length-drop}
+use lib.Seq.{length-take-le}
 use Rattle.util.proofs.Grow.{rest-is}
 use mathlib.Core.List.{[]}
 use Rattle.runs.specs.Program.{begunFrom}
+use Rattle.runs.proofs.Pieces.{whole-text, whole-more}
 use Rattle.runs.proofs.answer_block.Statement.{statement}
 use Rattle.runs.proofs.answer_block.Tie as tie
 
 abbrev Inv-loop : tie.InvT-loop
-Inv-loop input output₀ from₀ output from =
-    (from ≤ length input) × (length output ≡ length output₀) × (begunFrom [] (drop from input) ≡ begunFrom [] input)
+Inv-loop input output₀ from₀ output from = (from ≤ length input) × (length output ≡ length output₀) × (begunFrom [] (take from input) ≡ [])
 
 abbrev μ-loop : tie.MeasureT-loop
 μ-loop input output₀ from₀ output from = length input - from
 
 loop-holds : tie.Need-loop-holds Inv-loop μ-loop
+unfolding begunFrom
 loop-holds c = (omega arith, refl, refl)
 
 sub-answer-lines : tie.Need-sub-answer-lines Inv-loop μ-loop
@@ -41,45 +43,70 @@ returns c =
     let k = c .before .before .before in
     let l = k .before .before .before .loop in
     let a = k .before .before .before .before .before .before .args in
-    let t = rw (rest-is (now (a .input)) (l .from)) at (k .answer-lines .ensures) in
-    (l .inv .0, rw (c .if1 .taken) at (t .all (omega (arith, t .some (c .if1 .taken), l .inv .1, k .before .before .before .before .before .before .pre))), l .inv .2)
+    let t = rw (rest-is (now (a .input)) (l .from)) at (k .answer-lines .ensures) in (
+      refl,
+      l .inv .0,
+      l .inv .2,
+      rw (c .if1 .taken) at (t .all (omega (arith, t .some (c .if1 .taken), l .inv .1, k .before .before .before .before .before .before .pre))),
+    )
 
-slice-reshare-prefix-write-all : tie.Need-slice-reshare-prefix-write-all Inv-loop μ-loop
-slice-reshare-prefix-write-all c =
+add-next : tie.Need-add-next Inv-loop μ-loop
+add-next c =
     let k = c .before .before .before in
-    let l = k .before .before .before .loop in
-    let a = k .before .before .before .before .before .before .args in
-    let t = rw (rest-is (now (a .input)) (l .from)) at (k .answer-lines .ensures) in
-    omega (arith, t .fits, k .answer-lines .kept .1 .0)
-
-slice-aggregate-write-all : tie.Need-slice-aggregate-write-all Inv-loop μ-loop
-slice-aggregate-write-all c =
-    let k = c .before .before .before .before in
-    let l = k .before .before .before .loop in
-    let a = k .before .before .before .before .before .before .args in
-    let t = rw (rest-is (now (a .input)) (l .from)) at (k .answer-lines .ensures) in
-    sym (length-take-le (k .answer-lines .result .written) (k .answer-lines .last .1 .0) (omega (arith, t .fits, k .answer-lines .kept .1 .0)))
-
-write-all-requires : tie.Need-write-all-requires Inv-loop μ-loop
-write-all-requires c κs = tt
-
-same-length-2 : tie.Need-same-length-2 Inv-loop μ-loop
-same-length-2 c = let k = c .before .before .before .before .before .before in k .answer-lines .kept .1 .0 ∙ k .before .before .before .loop .inv .1
-
-returns-2 : tie.Need-returns-2 Inv-loop μ-loop
-returns-2 c = tt
-
-add-from : tie.Need-add-from Inv-loop μ-loop
-add-from c =
-    let k = c .before .before .before .before .before .before in
     let l = k .before .before .before .loop in
     let a = k .before .before .before .before .before .before .args in
     let t = rw (rest-is (now (a .input)) (l .from)) at (k .answer-lines .ensures) in
     omega (arith, t .within, length-drop (l .from) (now (a .input)))
 
+sub-say : tie.Need-sub-say Inv-loop μ-loop
+sub-say c = omega arith
+
+part-say-start : tie.Need-part-say-start Inv-loop μ-loop
+part-say-start c = omega arith
+
+part-say-end : tie.Need-part-say-end Inv-loop μ-loop
+part-say-end c =
+    let k = c .before .before .before in
+    let l = k .before .before .before .loop in
+    let a = k .before .before .before .before .before .before .args in
+    let t = rw (rest-is (now (a .input)) (l .from)) at (k .answer-lines .ensures) in
+    omega (arith, t .within, length-drop (l .from) (now (a .input)))
+
+slice-reshare-prefix-say : tie.Need-slice-reshare-prefix-say Inv-loop μ-loop
+slice-reshare-prefix-say c =
+    let k = c .before .before .before .before in
+    let l = k .before .before .before .loop in
+    let a = k .before .before .before .before .before .before .args in
+    let t = rw (rest-is (now (a .input)) (l .from)) at (k .answer-lines .ensures) in
+    omega (arith, t .fits, k .answer-lines .kept .1 .0)
+
+slice-aggregate-say : tie.Need-slice-aggregate-say Inv-loop μ-loop
+slice-aggregate-say c =
+    let k = c .before .before .before .before .before in
+    let l = k .before .before .before .loop in
+    let a = k .before .before .before .before .before .before .args in
+    let t = rw (rest-is (now (a .input)) (l .from)) at (k .answer-lines .ensures) in
+    sym (length-take-le (k .answer-lines .result .written) (k .answer-lines .last .1 .0) (omega (arith, t .fits, k .answer-lines .kept .1 .0)))
+
+say-requires : tie.Need-say-requires Inv-loop μ-loop
+say-requires c κs =
+    let k = c .before .before .before .before .before in
+    let l = k .before .before .before .loop in
+    let a = k .before .before .before .before .before .before .args in
+    let t = rw (rest-is (now (a .input)) (l .from)) at (k .answer-lines .ensures) in
+    let n = k .answer-lines .result .taken in
+    let z : l .from + n - l .from ≡ n = omega arith in
+    rw z (t .text ∙ sym (whole-text (take n (drop (l .from) (now (a .input)))) (t .whole)))
+
+same-length-2 : tie.Need-same-length-2 Inv-loop μ-loop
+same-length-2 c = let k = c .before .before .before .before .before .before .before in k .answer-lines .kept .1 .0 ∙ k .before .before .before .loop .inv .1
+
+returns-2 : tie.Need-returns-2 Inv-loop μ-loop
+returns-2 c = tt
+
 loop-less : tie.Need-loop-less Inv-loop μ-loop
 loop-less c =
-    let k = c .before .before .before .before .before .before in
+    let k = c .before .before .before .before .before .before .before in
     let l = k .before .before .before .loop in
     let a = k .before .before .before .before .before .before .args in
     let t = rw (rest-is (now (a .input)) (l .from)) at (k .answer-lines .ensures) in
@@ -87,13 +114,13 @@ loop-less c =
 
 loop-again : tie.Need-loop-again Inv-loop μ-loop
 loop-again c =
-    let k = c .before .before .before .before .before .before in
+    let k = c .before .before .before .before .before .before .before in
     let l = k .before .before .before .loop in
     let a = k .before .before .before .before .before .before .args in
     let t = rw (rest-is (now (a .input)) (l .from)) at (k .answer-lines .ensures) in (
       omega (arith, t .within, length-drop (l .from) (now (a .input))),
       k .answer-lines .kept .1 .0 ∙ l .inv .1,
-      rw (drop-drop (k .answer-lines .result .taken) (l .from) (now (a .input))) at (t .begun) ∙ l .inv .2,
+      whole-more (l .from) (k .answer-lines .result .taken) (now (a .input)) (l .inv .2) (t .whole),
     )
 
 pub answer-block-spec : {M : Type 1} → statement M
@@ -109,11 +136,14 @@ answer-block-spec =
     answer-lines-requires
     same-length
     returns
-    slice-reshare-prefix-write-all
-    slice-aggregate-write-all
-    write-all-requires
+    add-next
+    sub-say
+    part-say-start
+    part-say-end
+    slice-reshare-prefix-say
+    slice-aggregate-say
+    say-requires
     same-length-2
     returns-2
-    add-from
     loop-less
     loop-again)

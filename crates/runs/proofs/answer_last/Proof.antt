@@ -1,8 +1,9 @@
--- `runs::answer_last` is safe: an answer line stands within the bytes that were lent. Assumes nothing.
+-- `runs::answer_last` hands over the definition's text: an answer line stands within the bytes that were lent. Assumes nothing.
 use mathlib.Core.Path.{sym}
 use lib.Seq.{length-take-le}
-use Rattle.runs.proofs.Lines.{answered-le}
 use borrow.Author.Needs.{needs}
+use Rattle.runs.proofs.Lines.{answered-le}
+use Rattle.runs.proofs.Pieces.{last-text}
 use Rattle.runs.proofs.answer_last.Statement.{statement}
 use Rattle.runs.proofs.answer_last.Tie as tie
 
@@ -12,14 +13,18 @@ returns c = search needs
 answer-line-requires : tie.Need-answer-line-requires
 answer-line-requires c κs = search needs
 
-slice-reshare-prefix-write-all : tie.Need-slice-reshare-prefix-write-all
-slice-reshare-prefix-write-all c = answered-le _ _ _ _ (c .before .before .answer-line .ensures)
+slice-reshare-prefix-say : tie.Need-slice-reshare-prefix-say
+slice-reshare-prefix-say c = answered-le _ _ _ _ (c .before .before .answer-line .ensures)
 
-slice-aggregate-write-all : tie.Need-slice-aggregate-write-all
-slice-aggregate-write-all c = let k = c .before .before .before in sym (length-take-le (k .answer-line .result) (k .answer-line .last .1 .0) (answered-le _ _ _ _ (k .answer-line .ensures)))
+slice-aggregate-say : tie.Need-slice-aggregate-say
+slice-aggregate-say c = let k = c .before .before .before in sym (length-take-le (k .answer-line .result) (k .answer-line .last .1 .0) (answered-le _ _ _ _ (k .answer-line .ensures)))
 
-write-all-requires : tie.Need-write-all-requires
-write-all-requires c κs = search needs
+say-requires : tie.Need-say-requires
+say-requires c κs =
+    let k = c .before .before .before in
+    let e = k .before .before in
+    let h = e .before .before .before .pre in
+    last-text _ _ _ _ (k .answer-line .ensures) (h .1) (h .0) (e .if1 .left)
 
 same-length : tie.Need-same-length
 same-length c = search needs
@@ -33,8 +38,8 @@ answer-last-spec =
     (tie.spec
     returns
     answer-line-requires
-    slice-reshare-prefix-write-all
-    slice-aggregate-write-all
-    write-all-requires
+    slice-reshare-prefix-say
+    slice-aggregate-say
+    say-requires
     same-length
     returns-2)

@@ -1,17 +1,18 @@
--- `runs::main` is safe and ends. The loop's invariant: the arrays are as long as they were, and no more is held than a line may have. Assumes nothing.
+-- `runs::main` is safe and ends. The loop's invariant: the arrays are as long as they were, and what is left is a line's beginning. Assumes nothing.
 use mathlib.Core.Path.{_≡_, sym, _∙_}
-use Prim.Native.Nat.{_≤_}
 use native.Mathlib.Omega.{arith}
 use borrow.Author.Needs.{needs}
 use lib.ListN.{length}
+use Rattle.runs.specs.Program.{part}
+use Rattle.runs.proofs.Turns.{Ready, turned-ready}
 use Rattle.runs.proofs.main.Statement.{statement}
 use Rattle.runs.proofs.main.Tie as tie
 
 abbrev Inv-loop : tie.InvT-loop
-Inv-loop input₀ output₀ held₀ turns₀ input output held turns = (74337 ≡ length input) × (65536 ≡ length output) × (held ≤ 8801)
+Inv-loop input₀ output₀ left₀ turns₀ input output left turns = (74337 ≡ length input) × (65536 ≡ length output) × Ready input left
 
 abbrev μ-loop : tie.MeasureT-loop
-μ-loop input₀ output₀ held₀ turns₀ input output held turns = turns
+μ-loop input₀ output₀ left₀ turns₀ input output left turns = turns
 
 input-places-requires : tie.Need-input-places-requires Inv-loop μ-loop
 input-places-requires c κs = tt
@@ -20,25 +21,28 @@ large-buffer-requires : tie.Need-large-buffer-requires Inv-loop μ-loop
 large-buffer-requires c κs = tt
 
 loop-holds : tie.Need-loop-holds Inv-loop μ-loop
-loop-holds c = (sym (c .before .input-places .ensures), c .large-buffer .ensures, omega arith)
+loop-holds c = (sym (c .before .input-places .ensures), c .large-buffer .ensures, (omega arith, omega arith, tt))
 
-slice-aggregate-turn : tie.Need-slice-aggregate-turn Inv-loop μ-loop
-slice-aggregate-turn c = c .before .before .loop .inv .0
-
-slice-aggregate-turn-2 : tie.Need-slice-aggregate-turn-2 Inv-loop μ-loop
-slice-aggregate-turn-2 c = c .before .before .before .loop .inv .1
-
-turn-requires : tie.Need-turn-requires Inv-loop μ-loop
-turn-requires c κs = omega arith
-
-enum-known-n : tie.Need-enum-known-n Inv-loop μ-loop
-enum-known-n c = search needs
+enum-known-left : tie.Need-enum-known-left Inv-loop μ-loop
+enum-known-left c = search needs
 
 enum-told : tie.Need-enum-told Inv-loop μ-loop
 enum-told c = search needs
 
 returns : tie.Need-returns Inv-loop μ-loop
 returns c = tt
+
+slice-aggregate-turn : tie.Need-slice-aggregate-turn Inv-loop μ-loop
+slice-aggregate-turn c = c .before .before .before .before .before .loop .inv .0
+
+slice-aggregate-turn-2 : tie.Need-slice-aggregate-turn-2 Inv-loop μ-loop
+slice-aggregate-turn-2 c = c .before .before .before .before .before .before .loop .inv .1
+
+turn-requires : tie.Need-turn-requires Inv-loop μ-loop
+turn-requires c κs =
+    let l = c .before .before .before .before .before .before .loop in
+    let r = rw (c .before .before .before .left .given .1) at (l .inv .2) in
+    (r .0, r .1, omega arith, omega arith, r .2)
 
 sub-turns : tie.Need-sub-turns Inv-loop μ-loop
 sub-turns c = omega arith
@@ -48,9 +52,13 @@ loop-less c = omega arith
 
 loop-again : tie.Need-loop-again Inv-loop μ-loop
 loop-again c =
-    let t = c .before .before .before .before .before in
-    let l = t .before .before .before .before .loop in
-    (l .inv .0 ∙ sym (t .turn .kept .0), l .inv .1 ∙ sym (t .turn .kept .1 .1 .0), rw (c .before .n .given .1) at (t .turn .ensures))
+    let t = c .before .before in
+    let l = t .before .before .before .before .before .before .before .loop in
+    let g = t .before .before .before .before .left .given .0 in (
+      l .inv .0 ∙ sym (t .turn .kept .0),
+      l .inv .1 ∙ sym (t .turn .kept .1 .1 .1 .0),
+      turned-ready (part (g .0) (g .1 .0) (l .input)) (t .turn .last .0) (t .turn .result) (t .turn .ensures),
+    )
 
 returns-2 : tie.Need-returns-2 Inv-loop μ-loop
 returns-2 c = tt
@@ -64,12 +72,12 @@ main-spec =
     input-places-requires
     large-buffer-requires
     loop-holds
+    enum-known-left
+    enum-told
+    returns
     slice-aggregate-turn
     slice-aggregate-turn-2
     turn-requires
-    enum-known-n
-    enum-told
-    returns
     sub-turns
     loop-less
     loop-again

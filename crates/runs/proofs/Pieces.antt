@@ -1,0 +1,46 @@
+-- What the program hands over to be written, piece by piece: the text of whole lines, and of the last line.
+-- Assumes nothing.
+use mathlib.Core.Path.{_≡_, sym, ap, _∙_}
+use Prim.Native.Nat.{ℕ, _+_, _≤_}
+use mathlib.Core.List.{List, [], _++_, append-nil}
+use lib.ListN.{length, take, drop}
+use lib.Seq.{take-add, take-at}
+use borrow.Author.Tests.{ne-eqb, le-ltb}
+use Rattle.lines.specs.Line.{answerLine, answerRoom, Answered}
+use Rattle.runs.specs.Program.{answered, answersFrom, begunFrom, lastAnswer, programText, NoNewline}
+use Rattle.runs.proofs.Blocks.{answers-append, begun-append, no-open}
+
+-- ---- whole lines
+
+pub whole-text : (s : List ℕ) → begunFrom [] s ≡ [] → programText s ≡ answersFrom [] s
+unfolding programText lastAnswer
+whole-text s h = rw (h, append-nil (answersFrom [] s))
+
+pub whole-more : (n m : ℕ) (s : List ℕ) → begunFrom [] (take n s) ≡ [] → begunFrom [] (take m (drop n s)) ≡ [] → begunFrom [] (take (n + m) s) ≡ []
+whole-more n m s h k = rw (take-add n m s, begun-append [] (take n s) (take m (drop n s)), h, k)
+
+-- the pieces that are handed over in a turn, joined, are the text of all its whole lines
+pub pieces-join : (n m : ℕ) (s : List ℕ) → begunFrom [] (take n s) ≡ [] → begunFrom [] (take m (drop n s)) ≡ []
+    → programText (take n s) ++ programText (take m (drop n s)) ≡ programText (take (n + m) s)
+pieces-join n m s h k =
+    let p = take n s in
+    let q = take m (drop n s) in
+    rw (whole-text p h, whole-text q k, whole-text (take (n + m) s) (whole-more n m s h k), take-add n m s, answers-append [] p q, h)
+
+-- ---- a line that no newline ends
+
+pub open-text : (line : List ℕ) → NoNewline line → programText line ≡ lastAnswer line
+unfolding programText
+open-text line h = let (a, b) = no-open [] line h in rw (a, b)
+
+module _ (line out out′ : List ℕ) (r : ℕ) (a : Answered line out out′ r) (room : answerRoom ≤ length out) where
+  answer-is : answerLine (length out) line ≡ answered line
+  unfolding answerLine
+  answer-is = rw (le-ltb (length out) 11310 room)
+
+  pub last-text : NoNewline line → (length line ≡ 0 → ⊥) → take r out′ ≡ programText line
+  unfolding lastAnswer
+  last-text h n =
+      let e : out′ ≡ answered line ++ drop (length (answered line)) out = rw answer-is at (a .places) in
+      let k : r ≡ length (answered line) = rw answer-is at (a .count) in
+      ap (λ (l : List ℕ). take r l) e ∙ take-at (answered line) (drop (length (answered line)) out) r (sym k) ∙ sym (open-text line h ∙ rw (ne-eqb (length line) 0 n))
