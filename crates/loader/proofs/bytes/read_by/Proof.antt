@@ -8,8 +8,8 @@ use Rattle.format.specs.Answers.{answerPacked}
 use Rattle.format.proofs.Fields.{below-all}
 use Rattle.loader.proofs.Reading.{Reads, reads}
 use borrow.Author.Needs.{needs}
-use Rattle.loader.proofs.read_by.Statement.{statement}
-use Rattle.loader.proofs.read_by.Tie as tie
+use Rattle.loader.proofs.bytes.read_by.Statement.{statement}
+use Rattle.loader.proofs.bytes.read_by.Tie as tie
 
 least-requires : tie.Need-least-requires
 least-requires c κs = search needs

@@ -7,8 +7,8 @@ use borrow.Author.Tests.{ltb-true, eqb-true}
 use Rattle.format.proofs.Fields.{below-all}
 use Rattle.loader.proofs.Room.{enough-short, enough-ten}
 use borrow.Author.Needs.{needs}
-use Rattle.loader.proofs.is_short.Statement.{statement}
-use Rattle.loader.proofs.is_short.Tie as tie
+use Rattle.loader.proofs.bytes.is_short.Statement.{statement}
+use Rattle.loader.proofs.bytes.is_short.Tie as tie
 
 returns : tie.Need-returns
 returns c = λ e. let z : _≡_ {A = ℕ} 0 1 = cc in absurd (omega arith)

@@ -9,9 +9,9 @@ use lib.ListN.{length, take, drop, length-set}
 use denote.Ref.{now}
 use Rattle.format.specs.Loader.{lowestFirst}
 use Rattle.util.proofs.Grow.{grow, kept, filled}
-use Rattle.loader.proofs.Bytes.{byte-more}
-use Rattle.loader.proofs.put_row.Statement.{statement}
-use Rattle.loader.proofs.put_row.Tie as tie
+use Rattle.loader.proofs.RowBytes.{byte-more}
+use Rattle.loader.proofs.bytes.put_row.Statement.{statement}
+use Rattle.loader.proofs.bytes.put_row.Tie as tie
 
 abbrev Inv-loop : tie.InvT-loop
 Inv-loop x out₀ at left₀ j₀ out left j =

@@ -13,10 +13,10 @@ use denote.Ref.{now}
 use Rattle.format.specs.Rows.{asU64}
 use Rattle.format.specs.Loader.{lowestFirst, rowBytes}
 use Rattle.util.proofs.Grow.{front-is, kept-by, long-by, filled}
-use Rattle.loader.proofs.Bytes.{row-more, bytes-long}
+use Rattle.loader.proofs.RowBytes.{row-more, bytes-long}
 use borrow.Author.Needs.{needs, sfits-of}
-use Rattle.loader.proofs.put_rows.Statement.{statement}
-use Rattle.loader.proofs.put_rows.Tie as tie
+use Rattle.loader.proofs.bytes.put_rows.Statement.{statement}
+use Rattle.loader.proofs.bytes.put_rows.Tie as tie
 
 abbrev Inv-loop : tie.InvT-loop
 Inv-loop rows n out₀ i₀ out i =
