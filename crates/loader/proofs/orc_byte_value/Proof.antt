@@ -1,11 +1,12 @@
 -- The answer for a byte value is put into the words, or there are too few of them. Assumes nothing.
+use native.Mathlib.Omega.{arith}
 use borrow.Author.Needs.{needs}
 use Rattle.loader.proofs.Telling.{answer-long, few, put}
 use Rattle.loader.proofs.orc_byte_value.Statement.{statement}
 use Rattle.loader.proofs.orc_byte_value.Tie as tie
 
 returns : tie.Need-returns
-returns c = few answer-long (c .if1 .taken)
+returns c = few answer-long (omega arith)
 
 read-value-requires : tie.Need-read-value-requires
 read-value-requires c κs = search needs

@@ -1,11 +1,12 @@
 -- The boolean reader's answer is put into the words, or there are too few of them. Assumes nothing.
+use native.Mathlib.Omega.{arith}
 use borrow.Author.Needs.{needs}
 use Rattle.loader.proofs.Telling.{answer-long, few-of, put-of}
 use Rattle.loader.proofs.orc_read_booleans.Statement.{statement}
 use Rattle.loader.proofs.orc_read_booleans.Tie as tie
 
 returns : tie.Need-returns
-returns c = few-of answer-long (c .if1 .taken)
+returns c = few-of answer-long (omega arith)
 
 read-booleans-requires : tie.Need-read-booleans-requires
 read-booleans-requires c κs = search needs

@@ -1,11 +1,12 @@
 -- The run reader's answer is put into the words, or there are too few of them. Assumes nothing.
+use native.Mathlib.Omega.{arith}
 use borrow.Author.Needs.{needs}
 use Rattle.loader.proofs.Telling.{answer-long, few-of, put-of}
 use Rattle.loader.proofs.orc_read_run_at.Statement.{statement}
 use Rattle.loader.proofs.orc_read_run_at.Tie as tie
 
 returns : tie.Need-returns
-returns c = few-of answer-long (c .if1 .taken)
+returns c = few-of answer-long (omega arith)
 
 read-run-requires : tie.Need-read-run-requires
 read-run-requires c κs = search needs

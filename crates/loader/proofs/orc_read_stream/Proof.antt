@@ -1,11 +1,12 @@
 -- The stream reader's answer is put into the words, or there are too few of them. Assumes nothing.
+use native.Mathlib.Omega.{arith}
 use borrow.Author.Needs.{needs}
 use Rattle.loader.proofs.Telling.{stream-long, few-of, put-of}
 use Rattle.loader.proofs.orc_read_stream.Statement.{statement}
 use Rattle.loader.proofs.orc_read_stream.Tie as tie
 
 returns : tie.Need-returns
-returns c = few-of stream-long (c .if1 .taken)
+returns c = few-of stream-long (omega arith)
 
 read-stream-requires : tie.Need-read-stream-requires
 read-stream-requires c κs = search needs

@@ -1,11 +1,12 @@
 -- The writer's answer is put into the words, or there are too few of them. Assumes nothing.
+use native.Mathlib.Omega.{arith}
 use borrow.Author.Needs.{needs}
 use Rattle.loader.proofs.Telling.{answer-long, few-of, put-of}
 use Rattle.loader.proofs.orc_write_run.Statement.{statement}
 use Rattle.loader.proofs.orc_write_run.Tie as tie
 
 returns : tie.Need-returns
-returns c = few-of answer-long (c .if1 .taken)
+returns c = few-of answer-long (omega arith)
 
 write-requires : tie.Need-write-requires
 write-requires c κs = search needs
