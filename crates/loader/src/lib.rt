@@ -1,6 +1,6 @@
 // What the loader calls, which stays in Rust or C: slices in and out, numbers, and one number back. `orc_read_run` answers by that number alone and
-// lays its rows out as bytes; every other function writes its answer into words that the caller lends (`format/specs/Loader.antt` says what each
-// word means), and reads or writes the caller's rows where they stand.
+// lays its rows out as bytes. The readers after it and the writer tell their answer in words that the caller lends (`format/specs/Loader.antt` says
+// what each word means), and read and write the caller's rows where they stand; the number is then the refusal's.
 ghost use mathlib.Core.Path.{_≡_};
 ghost use Rattle.format.specs.Fields.{Narrowest};
 ghost use Rattle.format.specs.Loader.{Loaded, faceVersion, RunTold, StreamTold, BooleansTold, ValueTold, WriteTold};
