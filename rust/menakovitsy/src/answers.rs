@@ -27,7 +27,6 @@ pub enum Kind {
 }
 
 /// What was read or written: a run, booleans or a byte value.
-#[must_use]
 #[derive(Debug, Clone, Copy, PartialEq, Eq, Hash)]
 #[non_exhaustive]
 pub struct Run {
