@@ -1,5 +1,5 @@
-//! Ours: one call of the exported function a run.
-use menakovitsy::{read_run_bytes, Answer, Sign};
+//! Ours: one call of the exported function a run, and the others.
+use menakovitsy::{read_run_bytes, Sign};
 
 use crate::cases::Case;
 
@@ -7,8 +7,8 @@ use crate::cases::Case;
 pub fn decode_into(case: &Case, out: &mut [u8]) {
     let sign = if case.signed { Sign::Signed } else { Sign::Unsigned };
     let (mut at, mut row) = (0, 0);
-    while let Answer::Run(run) = read_run_bytes(&case.bytes[at..], sign, &mut out[8 * row..]) {
-        at += run.consumed.0;
+    while let Ok(Some(run)) = read_run_bytes(&case.bytes[at..], sign, &mut out[8 * row..]) {
+        at += run.bytes.0;
         row += run.rows.0;
     }
 }
