@@ -1,6 +1,6 @@
 //! Says which call it was, where one touches a fence.
+use std::cell::Cell;
 use std::ffi::c_void;
-use std::sync::atomic::{AtomicU64, Ordering::Relaxed};
 
 extern "C" {
     fn signal(number: i32, handler: extern "C" fn(i32)) -> usize;
@@ -14,9 +14,10 @@ const SIGSEGV: i32 = 11;
 /// The status of a process that touched a fence.
 pub const TOUCHED: i32 = 3;
 
-static SEED: AtomicU64 = AtomicU64::new(0);
-/// The call's number and 1; 0 outside a call.
-static CALL: AtomicU64 = AtomicU64::new(0);
+thread_local! {
+    /// The seed and the number of the call that this thread makes.
+    static CALL: Cell<Option<(u64, u64)>> = const { Cell::new(None) };
+}
 
 /// Has a touched fence end the process with [`TOUCHED`] and a line that names the call.
 pub fn start() {
@@ -28,25 +29,24 @@ pub fn start() {
 }
 
 pub fn begin(seed: u64, number: u64) {
-    SEED.store(seed, Relaxed);
-    CALL.store(number.wrapping_add(1), Relaxed);
+    CALL.with(|call| call.set(Some((seed, number))));
 }
 
 pub fn end() {
-    CALL.store(0, Relaxed);
+    CALL.with(|call| call.set(None));
 }
 
-/// A handler may neither allocate nor lock.
+/// A handler may neither allocate nor lock. It runs in the thread that touched the page.
 extern "C" fn touched(_: i32) {
-    let call = CALL.load(Relaxed);
-    if call == 0 {
-        say(b"a page was touched outside of any call\n");
-    } else {
-        say(b"a call touched a fence: make it again with --seed ");
-        say_number(SEED.load(Relaxed));
-        say(b" --from ");
-        say_number(call.wrapping_sub(1));
-        say(b" --calls 1\n");
+    match CALL.with(Cell::get) {
+        None => say(b"a page was touched outside of any call\n"),
+        Some((seed, number)) => {
+            say(b"a call touched a fence: make it again with --seed ");
+            say_number(seed);
+            say(b" --from ");
+            say_number(number);
+            say(b" --calls 1\n");
+        }
     }
     // SAFETY: it ends the process.
     unsafe { _exit(TOUCHED) }

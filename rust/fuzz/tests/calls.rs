@@ -1,16 +1,16 @@
-//! A million calls behind fences; and the fences hold.
+//! A few million calls behind fences, in as many threads as there are tests of them; and the fences hold.
 use std::process::Command;
 
 use fuzz::{watch, Session};
 
 const CALLS: u64 = 1_000_000;
 
-#[test]
-fn a_million_calls() {
+/// A million calls under a seed.
+fn a_million_calls(seed: u64) {
     watch::start();
     let mut session = Session::default();
     for number in 0..CALLS {
-        session.call(1, number).unwrap_or_else(|wrong| panic!("{wrong}"));
+        session.call(seed, number).unwrap_or_else(|wrong| panic!("{wrong}"));
     }
     // Each function gave each answer that it can give.
     let readers = [0, 1, 2, 3, 4, 5, 6, 7, 8];
@@ -29,6 +29,16 @@ fn a_million_calls() {
             session.tally.keys().filter(|(name, _)| *name == function).map(|(_, number)| *number).collect();
         assert_eq!(given, numbers, "{function}");
     }
+}
+
+#[test]
+fn the_first_million() {
+    a_million_calls(1);
+}
+
+#[test]
+fn the_second_million() {
+    a_million_calls(2);
 }
 
 #[test]

@@ -73,14 +73,20 @@ pub struct StreamRefused {
 
 /// The words that a call lends: more than an answer has now, so that a later library, which appends
 /// some, finds room for them.
-#[derive(Default)]
 pub(crate) struct Words {
     pub lent: [u64; 16],
     /// What the call returned.
     pub number: u64,
+    /// The most rows and bytes that an answer may count: what was lent. So whatever library is
+    /// linked, its counts are within the caller's slices.
+    most: (usize, usize),
 }
 
 impl Words {
+    pub fn lent(most_rows: usize, most_bytes: usize) -> Self {
+        Words { lent: [0; 16], number: 0, most: (most_rows, most_bytes) }
+    }
+
     /// The answer of a run reader.
     pub fn run_or_end(&self) -> Result<Option<Run>, Refused> {
         match self.case() {
@@ -108,9 +114,12 @@ impl Words {
         }
     }
 
-    /// The case. None where the library wants more words than were lent: then it wrote none.
+    /// The case. None where the library wants more words than were lent, and so wrote none, or counts
+    /// more than there is.
     fn case(&self) -> Option<u64> {
-        (self.number != TOO_FEW_WORDS).then_some(self.lent[word::CASE])
+        let (rows, bytes) = self.most;
+        let counts = self.rows().0 <= rows && self.bytes().0 <= bytes;
+        (self.number != TOO_FEW_WORDS && counts).then_some(self.lent[word::CASE])
     }
 
     fn run(&self) -> Run {
@@ -174,7 +183,7 @@ mod tests {
     use super::*;
 
     fn words(number: u64, first: [u64; 6]) -> Words {
-        let mut words = Words { number, ..Words::default() };
+        let mut words = Words { number, ..Words::lent(2, 3) };
         words.lent[..6].copy_from_slice(&first);
         words
     }
@@ -192,5 +201,17 @@ mod tests {
         assert_eq!(wants_more.stream().unwrap_err().refused.refusal, Refusal::Unknown(TOO_FEW_WORDS));
         let run = Run { kind: Kind::Unknown(6), rows: RowNumber(2), bytes: ByteOffset(3) };
         assert_eq!(words(0, [1, 0, 0, 6, 2, 3]).one_run(), Ok(run));
+    }
+
+    /// Counts that pass what was lent are never handed on.
+    #[test]
+    fn counts_are_within_what_was_lent() {
+        for counts in [[3, 3], [2, 4], [u64::MAX, 0]] {
+            let words = words(0, [1, 0, 0, 1, counts[0], counts[1]]);
+            assert_eq!(words.one_run().unwrap_err().refusal, Refusal::Unknown(0));
+            assert_eq!(words.run_or_end().unwrap_err().refusal, Refusal::Unknown(0));
+            let stream = words.stream().unwrap_err();
+            assert_eq!((stream.refused.refusal, stream.before), (Refusal::Unknown(0), Stream::default()));
+        }
     }
 }

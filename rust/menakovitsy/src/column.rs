@@ -85,13 +85,11 @@ impl<'a> Column<'a> {
     }
 
     /// The runs, one after another.
-    #[must_use]
     pub fn runs(&self) -> Runs<'a> {
         Runs { column: *self, read: Stream::default(), ended: false, places: [0; MAX_ROWS] }
     }
 
     /// The rows, one after another: a refusal is given once, and ends them.
-    #[must_use]
     pub fn rows(&self) -> Rows<'a> {
         Rows { runs: self.runs(), given: 0, held: 0 }
     }
@@ -115,6 +113,7 @@ impl fmt::Debug for Column<'_> {
 
 /// A walk over a column's runs. It holds the places for one run, and allocates nothing; so each run
 /// is lent until the next is asked for.
+#[must_use]
 #[derive(Debug, Clone)]
 pub struct Runs<'a> {
     column: Column<'a>,
@@ -178,6 +177,7 @@ impl Runs<'_> {
 }
 
 /// An iterator over a column's rows. It holds the rows of one run, and allocates nothing.
+#[must_use]
 #[derive(Debug, Clone)]
 pub struct Rows<'a> {
     runs: Runs<'a>,

@@ -19,7 +19,7 @@ pub fn library_version() -> u64 {
 /// or it is refused, all are. Bytes after the run are not read. A position past the end is empty
 /// input.
 pub fn read_run(input: &[u8], at: ByteOffset, sign: Sign, rows: &mut [i64]) -> Result<Option<Run>, Refused> {
-    let mut words = Words::default();
+    let mut words = Words::lent(rows.len(), input.len());
     // SAFETY: here and below: each pointer is of a live slice of this length, those that are written
     // are lent exclusively, and the function is proved to stay within them and to keep none.
     words.number = unsafe {
@@ -48,7 +48,7 @@ pub fn read_stream(
     sign: Sign,
     rows: &mut [i64],
 ) -> Result<Stream, StreamRefused> {
-    let mut words = Words::default();
+    let mut words = Words::lent(rows.len(), input.len());
     // SAFETY: as in `read_run`.
     words.number = unsafe {
         exported::orc_read_stream(
@@ -80,7 +80,7 @@ pub fn read_stream(
 /// # Ok::<(), menakovitsy::Refused>(())
 /// ```
 pub fn read_booleans(input: &[u8], at: ByteOffset, n: RowNumber, out: &mut [u8]) -> Result<Run, Refused> {
-    let mut words = Words::default();
+    let mut words = Words::lent(out.len(), input.len());
     // SAFETY: as in `read_run`.
     words.number = unsafe {
         exported::orc_read_booleans(
@@ -108,7 +108,7 @@ pub fn read_booleans(input: &[u8], at: ByteOffset, n: RowNumber, out: &mut [u8])
 /// # Ok::<(), menakovitsy::Refused>(())
 /// ```
 pub fn byte_value(input: &[u8], at: ByteOffset, n: usize) -> Result<&[u8], Refused> {
-    let mut words = Words::default();
+    let mut words = Words::lent(n, input.len());
     // SAFETY: as in `read_run`.
     words.number = unsafe {
         exported::orc_byte_value(
@@ -141,7 +141,7 @@ pub fn byte_value(input: &[u8], at: ByteOffset, n: usize) -> Result<&[u8], Refus
 /// # Ok::<(), menakovitsy::Refused>(())
 /// ```
 pub fn write_run(rows: &[i64], sign: Sign, form: Form, width: u8, out: &mut [u8]) -> Result<Run, Refused> {
-    let mut words = Words::default();
+    let mut words = Words::lent(rows.len(), out.len());
     // SAFETY: as in `read_run`.
     words.number = unsafe {
         exported::orc_write_run(
