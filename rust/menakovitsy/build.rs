@@ -13,10 +13,12 @@ const LIBRARY: &str = "libloader.a";
 fn main() {
     println!("cargo:rerun-if-changed=build.rs");
     println!("cargo:rerun-if-env-changed=MENAKOVITSY_LIB_DIR");
+    let target = env::var("CARGO_CFG_TARGET_ARCH").unwrap_or_default();
     let folder = match env::var_os("MENAKOVITSY_LIB_DIR") {
         Some(named) => PathBuf::from(named),
-        None => build(),
+        None => build(&target),
     };
+    let folder = fs::canonicalize(&folder).unwrap_or(folder);
     let library = folder.join(LIBRARY);
     if !library.is_file() {
         fail(&format!(
@@ -24,12 +26,12 @@ fn main() {
             library.display()
         ));
     }
-    let target = env::var("CARGO_CFG_TARGET_ARCH").unwrap_or_default();
     match machine(&library) {
         Ok(made_for) if made_for == target => {}
         Ok(made_for) => fail(&format!(
-            "{} is for {made_for}, and this build is for {target}: build for {made_for}",
-            library.display()
+            "{} is for {made_for}, and this build is for {target}: build for {made_for}{}",
+            library.display(),
+            on_arm(&target)
         )),
         Err(error) => fail(&format!("{} cannot be read: {error}", library.display())),
     }
@@ -41,11 +43,11 @@ fn main() {
 }
 
 /// Proves and builds the library, and answers the folder that holds it.
-fn build() -> PathBuf {
-    let target = env::var("CARGO_CFG_TARGET_ARCH").unwrap_or_default();
+fn build(target: &str) -> PathBuf {
     if target != "x86_64" {
         fail(&format!(
-            "the library is built for x86-64, and this build is for {target}: choose an x86-64 target"
+            "the library is built for x86-64, and this build is for {target}: choose an x86-64 target{}",
+            on_arm(target)
         ));
     }
     let here = PathBuf::from(env::var_os("CARGO_MANIFEST_DIR").expect("cargo sets CARGO_MANIFEST_DIR"));
@@ -72,6 +74,15 @@ fn build() -> PathBuf {
         Err(error) => fail(&format!("`rt` cannot be run: {error}")),
     }
     out.join("target/staticlib")
+}
+
+/// What else there is on Arm.
+fn on_arm(target: &str) -> &'static str {
+    if target == "aarch64" {
+        ", or run the tests through rust/emulated/build"
+    } else {
+        ""
+    }
 }
 
 /// Copies what a proof reads: the list of crates, and each crate's sources, specifications and
