@@ -79,7 +79,7 @@ fn build(target: &str) -> PathBuf {
 /// What else there is on Arm.
 fn on_arm(target: &str) -> &'static str {
     if target == "aarch64" {
-        ", or run the tests through rust/emulated/build"
+        ", or under an emulator as .ci/x86 says"
     } else {
         ""
     }
