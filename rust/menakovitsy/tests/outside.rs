@@ -57,7 +57,9 @@ fn builds_and_runs_outside_the_workspace() {
     let project = Project::new("outside");
     let built = project.cargo().env("MENAKOVITSY_LIB_DIR", env!("MENAKOVITSY_LINKED")).output().unwrap();
     assert!(built.status.success(), "{}", String::from_utf8_lossy(&built.stderr));
-    let ran = Command::new(project.0.join("target/debug/outside")).output().unwrap();
+    // a target that is named has a folder of its own
+    let folder = Path::new("target").join(env::var_os("CARGO_BUILD_TARGET").unwrap_or_default());
+    let ran = Command::new(project.0.join(folder).join("debug/outside")).output().unwrap();
     assert_eq!((String::from_utf8_lossy(&ran.stdout).as_ref(), ran.status.success()), ("1 0\n", true));
 }
 
