@@ -1,7 +1,25 @@
-/* The proved run reader for the integer runs (RLEv2) of Apache ORC files.
+/* Proved readers and a writer for the integer runs (RLEv2), booleans and byte values of Apache ORC
+ * files.
  *
  * Build the library with `rt staticlib loader` in the repository's root and link
- * target/staticlib/libloader.a (x86-64). */
+ * target/staticlib/libloader.a (x86-64, little endian, 64-bit size_t).
+ *
+ * Slices. A slice is a pointer and, behind it, its length in elements (bytes, int64_t or uint64_t).
+ * A null pointer is allowed where the length is 0. A slice that is read must hold its elements; one
+ * that is written is lent for the call, and keeps its content wherever the answer does not say
+ * otherwise. Pointers to int64_t and uint64_t are aligned as C aligns them.
+ *
+ * Overlap. Nothing that is written (rows of a reader, out, words) may overlap another argument. Two
+ * arguments that are only read may.
+ *
+ * State. Calls share none: nothing is kept from one to the next, nothing is allocated, and threads
+ * may call at the same time, each with slices of its own to write to.
+ *
+ * Positions, counts and n are uint64_t. A position past the end is empty input. A flag is 0 where
+ * rows are unsigned and any other number where they are signed (zigzag).
+ *
+ * Every call is answered, whatever the bytes are. A refused call leaves every lent place as it was;
+ * of the stream reader, every place behind the rows of the runs that were read. */
 #ifndef MENAKOVITSY_H
 #define MENAKOVITSY_H
 
@@ -12,51 +30,133 @@
 extern "C" {
 #endif
 
-/* Reads the run at the start of input.
- *
- * input, input_len  the bytes; those after the run are not read. With input_len 0 nothing is read.
- * out, out_len      the places for rows: eight bytes each, lowest byte first. A trailing part of
- *                   fewer than eight bytes is no place and keeps its content. 4096 bytes, which are
- *                   512 places, hold any run.
- * flag              0: rows are unsigned; any other number: signed (zigzag).
- *
- * Answers one number: an orc_answer below, or, from ORC_RUN on, a run that was read. A run's rows
- * stand from the first place on, and the places after them keep their content. Any other answer
- * leaves every byte of out as it was. */
-uint64_t orc_read_run(const uint8_t *input, size_t input_len, uint8_t *out, size_t out_len,
-                      uint64_t flag);
+/* The version of these functions: each change of them makes it one more. A program compares what
+ * orc_version answers with the header that it was compiled with. */
+#define ORC_VERSION UINT64_C(1)
 
+uint64_t orc_version(void);
+
+/* The answer. A function that is lent words writes its whole answer into the first ORC_WORDS of
+ * them and leaves the others as they were. It returns the refusal's number (the word ORC_NUMBER), 0
+ * where nothing is refused. Later versions append words: none changes its meaning. */
+#define ORC_WORDS 6
+
+/* What it returns where it was lent fewer: then it has touched nothing, no word, row or byte. */
+#define ORC_TOO_FEW_WORDS UINT64_MAX
+
+enum orc_word {
+    /* The case: an orc_case. */
+    ORC_CASE = 0,
+    /* The refusal's number, an orc_answer; 0 unless refused. */
+    ORC_NUMBER = 1,
+    /* The byte where the refused run begins (booleans, byte values: the call's position; writer: 0);
+     * 0 unless refused. */
+    ORC_PLACE = 2,
+    /* The kind of a run: an orc_kind. 0 at the end, where refused, and always for a stream. */
+    ORC_KIND = 3,
+    /* Rows: of the run (booleans and byte values: n); of a stream, in both its cases, of the runs
+     * that were read. 0 at the end and for a refused call. */
+    ORC_ROWS = 4,
+    /* Bytes consumed, likewise; of the writer, bytes written. */
+    ORC_BYTES = 5
+};
+
+enum orc_case {
+    /* The input is empty: there is no run. orc_read_run_at only. */
+    ORC_CASE_END = 0,
+    /* A run, booleans or a byte value; of the stream: it was read whole. */
+    ORC_CASE_READ = 1,
+    ORC_CASE_REFUSED = 2
+};
+
+enum orc_kind {
+    ORC_SHORT_REPEAT = 0,
+    ORC_DIRECT = 1,
+    ORC_PATCHED_BASE = 2,
+    ORC_DELTA = 3,
+    ORC_BOOLEANS = 4,
+    ORC_BYTE_VALUE = 5
+};
+
+/* The refusals' numbers, and, with ORC_END and ORC_RUN, what orc_read_run answers. */
 enum orc_answer {
     /* The input is empty: there is no run. */
     ORC_END = 0,
-    /* A run has begun and its fixed header is not all there. Call again with more bytes. */
+    /* A run has begun and its fixed header is not all there. Call again with more bytes; if there are
+     * none, the stream is cut. */
     ORC_HEADER_CUT = 1,
-    /* Patched base: patch width and gap width are over 64 bits together. No run begins like this. */
+    /* Patched base: patch width and gap width are over 64 bits together. No run begins like this: the
+     * bytes are damaged, or the position is no run's. The same of 3, 4, 5 and 7. */
     ORC_ENTRY_OVER_64 = 2,
-    /* Patched base: value width and patch width are over 64 bits together. No run begins like this. */
+    /* Patched base: value width and patch width are over 64 bits together. */
     ORC_VALUE_OVER_64 = 3,
-    /* Delta: a width, and one row. No run begins like this. */
+    /* Delta: a width, and one row. */
     ORC_ONE_ROW_DELTA = 4,
-    /* A varint's first ten bytes all have the top bit set. No run begins like this. */
+    /* A varint's first ten bytes all have the top bit set. */
     ORC_VARINT_TOO_LONG = 5,
-    /* The input ends before the run does. Call again with more bytes. */
+    /* The input ends before the run or value does, or before the booleans asked for are there. Call
+     * again with more bytes; if there are none, the stream is cut. */
     ORC_INPUT_ENDS = 6,
     /* Patched base: a patch is outside the run or at another's place, or the list ends with a skip. */
     ORC_PATCH_OUT_OF_PLACE = 7,
-    /* The output has fewer places than the run has rows. Lend more: 512 hold any run. */
+    /* The output has too few places. Lend more: 512 rows hold any run, 4102 bytes any that is
+     * written. */
     ORC_TOO_FEW_PLACES = 8,
-    /* Writer: the form does not allow this many rows. Not given by orc_read_run. */
+    /* Writer: the form does not allow this many rows. */
     ORC_ROW_COUNT = 9,
-    /* Writer: the rows do not have the form, or the width is none of its widths. Not given by
-     * orc_read_run. */
+    /* Writer: the rows do not have the form, the width is none of its widths, or the form is none. */
     ORC_NOT_THE_FORM = 10,
-    /* Writer: a row or a magnitude needs more bits than the width. Not given by orc_read_run. */
+    /* Writer: a row or a magnitude needs more bits than the width. */
     ORC_TOO_NARROW = 11,
-    /* From here on: 65536 times the bytes consumed, plus the rows. */
+    /* Of orc_read_run, from here on: 65536 times the bytes consumed, plus the rows. */
     ORC_RUN = 65536
 };
 
-/* How many rows an answer stands for: 0 unless it is a run. */
+/* Reads the run at byte at of input into rows: the run's stand in the first places. */
+uint64_t orc_read_run_at(const uint8_t *input, size_t input_len, uint64_t at, uint64_t flag,
+                         int64_t *rows, size_t rows_len, uint64_t *words, size_t words_len);
+
+/* Reads all runs from byte at of input to its end into rows, one behind the other. It stops at the
+ * first that is refused; ORC_ROWS and ORC_BYTES count the runs before it. No bytes are a whole stream
+ * of no rows. */
+uint64_t orc_read_stream(const uint8_t *input, size_t input_len, uint64_t at, uint64_t flag,
+                         int64_t *rows, size_t rows_len, uint64_t *words, size_t words_len);
+
+/* Reads n booleans from byte at of input on into the first n bytes of out, each as 0 or 1. */
+uint64_t orc_read_booleans(const uint8_t *input, size_t input_len, uint64_t at, uint64_t n,
+                           uint8_t *out, size_t out_len, uint64_t *words, size_t words_len);
+
+/* The byte value of length n at byte at of input. Where the case is ORC_CASE_READ it is the bytes
+ * input[at] to input[at + n - 1]; of length 0 it has none, also past the end. */
+uint64_t orc_byte_value(const uint8_t *input, size_t input_len, uint64_t at, uint64_t n,
+                        uint64_t *words, size_t words_len);
+
+enum orc_form {
+    /* 3 to 10 equal rows; the width is 1 to 8 bytes. */
+    ORC_FORM_SHORT_REPEAT = 0,
+    /* 1 to 512 rows; the width is a code, 0 to 31. */
+    ORC_FORM_DIRECT = 1,
+    /* 1 to 512 rows with one step; the width is the code 0. */
+    ORC_FORM_FIXED_DELTA = 2,
+    /* 2 to 512 rows that all rise, or all fall; the width, of the steps, is a code, 1 to 31. */
+    ORC_FORM_PACKED_DELTA = 3
+};
+
+/* Writes rows as one run into the first bytes of out. */
+uint64_t orc_write_run(const int64_t *rows, size_t rows_len, uint64_t flag, uint64_t form,
+                       uint64_t width, uint8_t *out, size_t out_len, uint64_t *words,
+                       size_t words_len);
+
+/* The narrowest width code that holds x: 0 to 31. */
+uint64_t orc_narrowest_code(uint64_t x);
+
+/* Reads the run at the start of input, and answers by one number: an orc_answer, or, from ORC_RUN on,
+ * a run. Rows are laid into out as eight bytes each, lowest first; a trailing part of fewer than eight
+ * bytes is no place and keeps its content. 4096 bytes, which are 512 places, hold any run. */
+uint64_t orc_read_run(const uint8_t *input, size_t input_len, uint8_t *out, size_t out_len,
+                      uint64_t flag);
+
+/* How many rows a number of orc_read_run stands for: 0 unless it is a run. */
 static inline size_t orc_rows(uint64_t answer)
 {
     return answer < ORC_RUN ? 0 : (size_t)(answer % 65536);

@@ -1,17 +1,28 @@
--- What the loader's function promises: its one number, and every lent byte at exit, for every input, flag and output.
+-- What the loader's functions promise: the number that comes back, and every lent row, byte and word at exit, for every input and all lent places.
 -- Assumes nothing.
 use mathlib.Core.Path.{_≡_}
-use Prim.Native.Nat.{ℕ, zero, suc, _*_, _/_, _%_}
+use Prim.Native.Nat.{ℕ, zero, suc, _-_, _*_, _/_, _%_}
 use mathlib.Core.Bool.{Bool, not}
-use mathlib.Core.List.{List, [], _∷_, _++_}
+use mathlib.Core.List.{List, [], _∷_, _++_, map}
 use lib.ListN.{length, drop}
-use lib.Dec.{eqb}
+use lib.Dec.{leb, ltb, eqb}
 use lib.IntN.{ℤ}
+use Rattle.format.specs.declared.Answer.{Answer}
+use Rattle.format.specs.declared.Answer.the-variants.{End, Run, Refused}
+use Rattle.format.specs.declared.Stream as stream
+use Rattle.format.specs.declared.Stream.{Stream}
+use Rattle.format.specs.declared.Form.{Form}
+use Rattle.format.specs.declared.Form.the-variants.{ShortRepeat, Direct, FixedDelta, PackedDelta}
+use Rattle.format.specs.Fields.{pick, two64}
 use Rattle.format.specs.Runs.{Description, rowCount}
 use Rattle.format.specs.Rows.{asU64, i64Rows}
-use Rattle.format.specs.Parse.{Parsed, end, got, refused, parse, into}
-use Rattle.format.specs.Answers.{answerPacked}
-use Rattle.format.specs.Promises.{answerOf}
+use Rattle.format.specs.Parse.{Parsed, end, got, refused, parse, into, unless}
+use Rattle.format.specs.Streams.{Reading, readAll, runsOf, totalRows, joinedRows}
+use Rattle.format.specs.Answers.{kindNumber, answerNumber, answerPlace, answerRows, answerBytes, answerPacked}
+use Rattle.format.specs.Promises.{answerOf, placesOf, streamAnswer}
+use Rattle.format.specs.Booleans.{booleansInto, booleansAnswer, booleansPlaces}
+use Rattle.format.specs.ByteValues.{byteValue, valueAnswer}
+use Rattle.format.specs.Writing.{writing, bytesIn}
 
 -- "its flag is a number: 0 unsigned, any other signed"
 abbrev pub isSigned : ℕ → Bool
@@ -42,6 +53,153 @@ pub record LoadedAs (input : List ℕ) (signed : Bool) (out out′ : List ℕ) (
   pub number : r ≡ answerPacked (answerOf 0 (into (placesIn out) (parse input)))
   pub bytes : out′ ≡ bytesOf signed out (into (placesIn out) (parse input))
 
--- THE LOADER'S FUNCTION
+-- THE FUNCTION THAT ANSWERS BY A NUMBER
 abbrev pub Loaded : List ℕ → ℕ → List ℕ → List ℕ → ℕ → Type 0
 Loaded input flag out out′ r = LoadedAs input (isSigned flag) out out′ r
+
+-- ---- AN ANSWER AS WORDS: a word's meaning never changes, and what is added later stands behind the last
+
+-- the case: end, a run (or booleans, or a value), refused
+abbrev pub answerCase : Answer → ℕ
+answerCase End = 0
+answerCase (Run r) = 1
+answerCase (Refused f) = 2
+
+abbrev pub answerKind : Answer → ℕ
+answerKind End = 0
+answerKind (Run r) = kindNumber (r .kind)
+answerKind (Refused f) = 0
+
+unfoldable pub answerWords : Answer → List ℕ
+answerWords a =
+    -- 0: the case: 0 end, 1 a run, 2 refused
+    answerCase a
+    -- 1: the refusal's number, 0 unless refused
+    ∷ answerNumber a
+    -- 2: the refusal's place, 0 unless refused
+    ∷ answerPlace a
+    -- 3: the kind: 0 short repeat, 1 direct, 2 patched base, 3 delta, 4 booleans, 5 byte value; 0 for end and refused
+    ∷ answerKind a
+    -- 4: rows, 0 for end and refused
+    ∷ answerRows a
+    -- 5: bytes consumed, or of the writer, written; 0 for end and refused
+    ∷ answerBytes a
+    ∷ []
+
+-- a stream is whole, or a run of it is refused: in both cases with the counts of the runs that were read
+abbrev pub streamCase : Stream → ℕ
+streamCase (stream.the-variants.Whole n) = 1
+streamCase (stream.the-variants.Refused f n) = 2
+
+abbrev pub streamNumber : Stream → ℕ
+streamNumber (stream.the-variants.Whole n) = 0
+streamNumber (stream.the-variants.Refused f n) = f .number
+
+abbrev pub streamPlace : Stream → ℕ
+streamPlace (stream.the-variants.Whole n) = 0
+streamPlace (stream.the-variants.Refused f n) = f .place .bytes
+
+abbrev pub streamRows : Stream → ℕ
+streamRows (stream.the-variants.Whole n) = n .rows .rows
+streamRows (stream.the-variants.Refused f n) = n .rows .rows
+
+abbrev pub streamBytes : Stream → ℕ
+streamBytes (stream.the-variants.Whole n) = n .consumed .bytes
+streamBytes (stream.the-variants.Refused f n) = n .consumed .bytes
+
+unfoldable pub streamWords : Stream → List ℕ
+streamWords s =
+    -- 0: the case: 1 the whole stream was read, 2 a run was refused
+    streamCase s
+    -- 1: the refusal's number, 0 unless refused
+    ∷ streamNumber s
+    -- 2: the refusal's place, 0 unless refused
+    ∷ streamPlace s
+    -- 3: a stream is of no one kind
+    ∷ 0
+    -- 4: the rows of the runs that were read
+    ∷ streamRows s
+    -- 5: their bytes
+    ∷ streamBytes s
+    ∷ []
+
+-- how many words an answer has, a stream's too
+abbrev pub wordCount : ℕ
+wordCount = 6
+
+-- the number of a call that was lent fewer
+abbrev pub tooFewWords : ℕ
+tooFewWords = two64 - 1
+
+-- ---- WORDS LENT, of any kind of answer: its words are told by one function, and its number by another
+
+module _ {B : Type 0} (wordsOf : B → List ℕ) (numberOf : B → ℕ) where
+  -- the answer's words in the first of the words lent, what stood in the others, and its number
+  pub record Put (b : B) (words words′ : List ℕ) (r : ℕ) : Type 0 where
+    pub number-is : r ≡ numberOf b
+    pub words-are : words′ ≡ wordsOf b ++ drop (length (wordsOf b)) words
+
+  -- that, where there is a word for each of the answer's; and where the words are too few, the number that says so, and no word is touched
+  pub record Told (b : B) (words words′ : List ℕ) (r : ℕ) : Type 0 where
+    pub number-is : r ≡ pick (leb (length (wordsOf b)) (length words)) (numberOf b) tooFewWords
+    pub words-are : words′ ≡ pick (leb (length (wordsOf b)) (length words)) (wordsOf b ++ drop (length (wordsOf b)) words) words
+
+  -- .. and the other lent places: at exit `done`, or, where the words are too few, as they were
+  pub record ToldOf {A : Type 0} (b : B) (words words′ : List ℕ) (r : ℕ) (done places places′ : List A) : Type 0 where
+    pub told : Told b words words′ r
+    pub places-are : places′ ≡ pick (leb (length (wordsOf b)) (length words)) done places
+
+-- ---- THE FUNCTIONS WITH WORDS: the answer's words and number, and the lent places at exit, for every input and all lent places
+
+-- ONE RUN from a position on
+abbrev pub RunTold : List ℕ → ℕ → ℕ → List ℤ → List ℤ → List ℕ → List ℕ → ℕ → Type 0
+RunTold input at flag rows rows′ words words′ r =
+    let m = into (length rows) (parse (drop at input)) in
+    ToldOf answerWords answerNumber (answerOf at m) words words′ r (placesOf (isSigned flag) rows m) rows rows′
+
+-- the rows of the runs that were read, joined, in the first places, and what stood in the others
+abbrev pub streamPlaces : Bool → List ℤ → Reading → List ℤ
+streamPlaces signed rows m = joinedRows signed (runsOf m) ++ drop (totalRows (runsOf m)) rows
+
+-- THE RUNS from a position to the end, or to the first refusal
+abbrev pub StreamTold : List ℕ → ℕ → ℕ → List ℤ → List ℤ → List ℕ → List ℕ → ℕ → Type 0
+StreamTold input at flag rows rows′ words words′ r =
+    let m = readAll (length rows) (drop at input) in
+    ToldOf streamWords streamNumber (streamAnswer at m) words words′ r (streamPlaces (isSigned flag) rows m) rows rows′
+
+-- n BOOLEANS from a position on
+abbrev pub BooleansTold : List ℕ → ℕ → ℕ → List ℕ → List ℕ → List ℕ → List ℕ → ℕ → Type 0
+BooleansTold input at n out out′ words words′ r =
+    let m = booleansInto (length out) n (drop at input) in
+    ToldOf answerWords answerNumber (booleansAnswer at n m) words words′ r (booleansPlaces n out m) out out′
+
+-- A VALUE of n bytes at a position: it is the n bytes there, and nothing but the words is lent
+abbrev pub ValueTold : List ℕ → ℕ → ℕ → List ℕ → List ℕ → ℕ → Type 0
+ValueTold input at n words words′ r =
+    let m = byteValue n (drop at input) in
+    Told answerWords answerNumber (valueAnswer at n m) words words′ r
+
+-- the form that a number stands for
+unfoldable pub formOf : ℕ → Form
+formOf zero = ShortRepeat
+formOf (suc zero) = Direct
+formOf (suc (suc zero)) = FixedDelta
+formOf (suc (suc (suc n))) = PackedDelta
+
+-- a number that is no form's is refused with 10, whatever the rows are
+abbrev pub writingBy : Bool → ℕ → ℕ → List ℕ → ℕ → Parsed Description
+writingBy signed form w rs places = unless (ltb 3 form) 10 (writing signed (formOf form) w rs places)
+
+pub record WrittenBy (rows : List ℤ) (signed : Bool) (form w : ℕ) (out out′ : List ℕ) (r : Answer) : Type 0 where
+  pub answer : r ≡ answerOf 0 (writingBy signed form w (map asU64 rows) (length out))
+  pub places : out′ ≡ bytesIn out (writingBy signed form w (map asU64 rows) (length out))
+
+-- A RUN WRITTEN
+abbrev pub WriteTold : List ℤ → ℕ → ℕ → ℕ → List ℕ → List ℕ → List ℕ → List ℕ → ℕ → Type 0
+WriteTold rows flag form w out out′ words words′ r =
+    let m = writingBy (isSigned flag) form w (map asU64 rows) (length out) in
+    ToldOf answerWords answerNumber (answerOf 0 m) words words′ r (bytesIn out m) out out′
+
+-- the version of the exported functions: one more with each change of what they take or answer
+abbrev pub faceVersion : ℕ
+faceVersion = 1

@@ -1,4 +1,6 @@
 -- The laws that the proofs cite.
-pub mod Bytes
+pub mod RowBytes
 pub mod Room
 pub mod Reading
+pub mod Telling
+pub mod FormNumbers

@@ -1,79 +1,22 @@
-// The run reader for the loader, which stays in Rust: byte buffers in and out, a flag, and one number back.
+// What the loader calls, which stays in Rust or C: slices in and out, numbers, and one number back. `orc_read_run` answers by that number alone and
+// lays its rows out as bytes. The readers after it and the writer tell their answer in words that the caller lends (`format/specs/Loader.antt` says
+// what each word means), and read and write the caller's rows where they stand; the number is then the refusal's.
 ghost use mathlib.Core.Path.{_≡_};
-ghost use mathlib.Core.List.{_++_};
-ghost use Prim.Native.Nat.{_+_, _*_, _≤_};
-ghost use lib.ListN.{length, take, drop};
-ghost use mathlib.Core.Bool.{true};
-ghost use Rattle.loader.specs.Room.{Enough};
-ghost use Rattle.format.specs.Loader.{lowestFirst, rowBytes, Loaded, LoadedAs};
+ghost use Rattle.format.specs.Fields.{Narrowest};
+ghost use Rattle.format.specs.Loader.{Loaded, faceVersion, RunTold, StreamTold, BooleansTold, ValueTold, WriteTold};
 use format::ByteOffset;
-use format::Kind;
-use util::pattern;
+use format::RowNumber;
 
-// The eight bytes of x at a place, lowest first: the eight stores become one.
-fn put_row(x: u64, out: &mut [u8], at: usize)
-    requires { ⌜ at + 8 ≤ length (now out) ⌝ }
-    ensures { λ _. ⌜ now (out .exit) ≡ (take at (now (out .entry)) ++ lowestFirst 8 x) ++ drop (at + 8) (now (out .entry)) ⌝ }
+mod bytes;
+mod forms;
+mod words;
+
+// The version of these functions: one more with each change of what they take or answer.
+#[no_mangle]
+pub extern "C" fn orc_version() -> u64
+    ensures { λ r. ⌜ r ≡ faceVersion ⌝ }
 {
-    let mut left = x;
-    let mut j = 0;
-    while j < 8 {
-        out[at + j] = (left % 256) as u8;
-        left = left / 256;
-        j += 1;
-    }
-}
-
-// The first n rows, eight bytes each.
-fn put_rows(rows: &[i64], n: usize, out: &mut [u8])
-    requires { ⌜ (n ≤ length (now rows)) × (8 * n ≤ length (now out)) ⌝ }
-    ensures { λ _. ⌜ now (out .exit) ≡ rowBytes (take n (now (rows .entry))) ++ drop (8 * n) (now (out .entry)) ⌝ }
-{
-    let mut i = 0;
-    while i < n {
-        let row = rows[i];
-        put_row(pattern::to_u64(row), out, 8 * i);
-        i += 1;
-    }
-}
-
-fn least(a: usize, b: usize) -> usize
-    ensures { λ r. ⌜ r ≡ Prim.Native.Nat.min a b ⌝ }
-{
-    if a <= b { a } else { b }
-}
-
-// Reads a run into the rows, of which there are enough for it, and lays them out as bytes.
-fn read_by(input: &[u8], signed: bool, rows: &mut [i64], out: &mut [u8]) -> u64
-    requires { ⌜ Enough (length (now rows)) (now input) ⌝ }
-    ensures { λ r. ⌜ LoadedAs (now (input .entry)) signed (now (out .entry)) (now (out .exit)) r ⌝ }
-{
-    let places = least(out.len() / 8, rows.len());
-    let answer = rle_v2::read_run(input, ByteOffset::new(0), signed, &mut rows[..places]);
-    put_rows(rows, answer.rows(), out);
-    answer.packed()
-}
-
-// Places for the rows of a short run, and of any. What stands in them is of no account.
-fn few_rows() -> [i64; Kind::MAX_REPEAT] {
-    [0; Kind::MAX_REPEAT]
-}
-
-fn all_rows() -> [i64; Kind::MAX_ROWS] {
-    [0; Kind::MAX_ROWS]
-}
-
-// Whether ten rows are enough for the run that the input begins with: a short repeat, or a header that says ten rows at most.
-fn is_short(input: &[u8]) -> bool
-    ensures { λ r. ⌜ (r ≡ true → Enough 10 (now (input .entry))) ⌝ }
-{
-    if input.len() < 2 {
-        return false;
-    }
-    if input[0] / 64 == 0 {
-        return true;
-    }
-    input[0] % 2 == 0 && input[1] < 10
+    1
 }
 
 // One run at the start of the input, its rows as eight bytes each, lowest first. The flag is 0 for unsigned, and any other number for signed.
@@ -87,10 +30,110 @@ pub extern "C" fn orc_read_run(input: &[u8], out: &mut [u8], flag: u64) -> u64
     }
     let signed = flag != 0;
     // a short run pays for ten places, and not for 512
-    if is_short(input) {
-        let mut rows = few_rows();
-        return read_by(input, signed, &mut rows, out);
+    if bytes::is_short(input) {
+        let mut rows = bytes::few_rows();
+        return bytes::read_by(input, signed, &mut rows, out);
     }
-    let mut rows = all_rows();
-    read_by(input, signed, &mut rows, out)
+    let mut rows = bytes::all_rows();
+    bytes::read_by(input, signed, &mut rows, out)
+}
+
+// One run from a position on, its rows in the first of the rows lent.
+#[no_mangle]
+pub extern "C" fn orc_read_run_at(
+    input: &[u8],
+    at: u64,
+    flag: u64,
+    rows: &mut [i64],
+    words: &mut [u64],
+) -> u64
+    ensures { λ r. ⌜ RunTold (now (input .entry)) at flag (now (rows .entry)) (now (rows .exit)) (now (words .entry)) (now (words .exit)) r ⌝ }
+{
+    if words.len() < words::COUNT {
+        return words::TOO_FEW;
+    }
+    let answer = rle_v2::read_run(input, ByteOffset { bytes: at as usize }, flag != 0, rows);
+    words::put_answer(answer, words)
+}
+
+// The runs from a position to the end of the input, their rows one after another in the rows lent. At the first refusal it stops, and the
+// rows of the runs before it stay.
+#[no_mangle]
+pub extern "C" fn orc_read_stream(
+    input: &[u8],
+    at: u64,
+    flag: u64,
+    rows: &mut [i64],
+    words: &mut [u64],
+) -> u64
+    ensures { λ r. ⌜ StreamTold (now (input .entry)) at flag (now (rows .entry)) (now (rows .exit)) (now (words .entry)) (now (words .exit)) r ⌝ }
+{
+    if words.len() < words::COUNT {
+        return words::TOO_FEW;
+    }
+    let stream = rle_v2::read_stream(input, ByteOffset { bytes: at as usize }, flag != 0, rows);
+    words::put_stream(stream, words)
+}
+
+// n booleans from a position on, as bytes of 0 or 1 in the first n bytes lent.
+#[no_mangle]
+pub extern "C" fn orc_read_booleans(
+    input: &[u8],
+    at: u64,
+    n: u64,
+    out: &mut [u8],
+    words: &mut [u64],
+) -> u64
+    ensures { λ r. ⌜ BooleansTold (now (input .entry)) at n (now (out .entry)) (now (out .exit)) (now (words .entry)) (now (words .exit)) r ⌝ }
+{
+    if words.len() < words::COUNT {
+        return words::TOO_FEW;
+    }
+    let answer = boolean_rle::read_booleans(
+        input,
+        ByteOffset { bytes: at as usize },
+        RowNumber { rows: n as usize },
+        out,
+    );
+    words::put_answer(answer, words)
+}
+
+// A value of n bytes at a position. The caller has the bytes: where this answers with a value, it is the n bytes from the position on.
+#[no_mangle]
+pub extern "C" fn orc_byte_value(input: &[u8], at: u64, n: u64, words: &mut [u64]) -> u64
+    ensures { λ r. ⌜ ValueTold (now (input .entry)) at n (now (words .entry)) (now (words .exit)) r ⌝ }
+{
+    if words.len() < words::COUNT {
+        return words::TOO_FEW;
+    }
+    let answer = variable_length::read_value(input, ByteOffset { bytes: at as usize }, n as usize);
+    words::put_answer(answer, words)
+}
+
+// Writes one run. The form: 0 short repeat, 1 direct, 2 fixed delta, 3 packed delta. The width counts bytes for a short repeat, and is a
+// width code otherwise.
+#[no_mangle]
+pub extern "C" fn orc_write_run(
+    rows: &[i64],
+    flag: u64,
+    form: u64,
+    width: u64,
+    out: &mut [u8],
+    words: &mut [u64],
+) -> u64
+    ensures { λ r. ⌜ WriteTold (now (rows .entry)) flag form width (now (out .entry)) (now (out .exit)) (now (words .entry)) (now (words .exit)) r ⌝ }
+{
+    if words.len() < words::COUNT {
+        return words::TOO_FEW;
+    }
+    let answer = forms::write(rows, flag != 0, form, width, out);
+    words::put_answer(answer, words)
+}
+
+// The narrowest width code that holds x. 0 needs one bit.
+#[no_mangle]
+pub extern "C" fn orc_narrowest_code(x: u64) -> u64
+    ensures { λ r. ⌜ Narrowest x r ⌝ }
+{
+    writer::narrowest_code(x) as u64
 }

@@ -1,6 +1,14 @@
--- The promises of the readers determine the answer and every lent place: each is an equation for either. Assumes nothing.
-use mathlib.Core.Path.{_≡_, refl, sym, _∙_}
-use Rattle.promises.specs.Outcomes.{Determines, RunDetermined, StreamDetermined, BooleansDetermined, ValueDetermined, WriterDetermined, LoaderDetermined}
+-- Each promise determines the answer and every lent place: it is an equation for either. (The narrowest code is no equation: it is there, and it is one.)
+-- Assumes nothing.
+use mathlib.Core.Path.{_≡_, refl, sym, _∙_, ap}
+use Prim.Native.Nat.{ℕ, zero, suc, _+_, _^_, _<_, _≤_}
+use native.Mathlib.Omega.{arith}
+use native.Mathlib.Decide.{decLt}
+use mathlib.Core.List.{List}
+use lib.IntN.{ℤ}
+use Rattle.format.specs.Fields.{width, widths, two64, Narrowest}
+use Rattle.format.proofs.Widths.{narrowest-unique}
+use Rattle.promises.specs.Outcomes.{Determines, RunDetermined, StreamDetermined, BooleansDetermined, ValueDetermined, WriterDetermined, LoaderDetermined, RunToldDetermined, StreamToldDetermined, BooleansToldDetermined, ValueToldDetermined, WriteToldDetermined, VersionDetermined, NarrowestDetermined}
 
 -- a promise that says what the places and the answer are
 determined : {P A : Type 0} (Allows : P → A → Type 0) (p₀ : P) (r₀ : A) → Allows p₀ r₀ → ((p : P) (r : A) → Allows p r → (p ≡ p₀) × (r ≡ r₀)) → Determines P A Allows
@@ -27,3 +35,72 @@ writer-determined rows signed form width out = determined _ _ _ (record { answer
 
 pub loader-determined : LoaderDetermined
 loader-determined input flag out = determined _ _ _ (record { number = refl; bytes = refl }) (λ p r a. (a .bytes, a .number))
+
+-- ---- the loader's functions with words
+
+-- two lent places by their equations
+both : {A B : Type 0} {a a′ : A} {b b′ : B} → a ≡ a′ → b ≡ b′ → _≡_ {A = A × B} (a, b) (a′, b′)
+both e f = rw (e, f)
+
+pub run-told-determined : RunToldDetermined
+run-told-determined input at flag rows words =
+    determined _ (_, _) _ (record { told = record { number-is = refl; words-are = refl }; places-are = refl })
+    (λ p r a. (both (a .places-are) (a .told .words-are), a .told .number-is))
+
+pub stream-told-determined : StreamToldDetermined
+stream-told-determined input at flag rows words =
+    determined _ (_, _) _ (record { told = record { number-is = refl; words-are = refl }; places-are = refl })
+    (λ p r a. (both (a .places-are) (a .told .words-are), a .told .number-is))
+
+pub booleans-told-determined : BooleansToldDetermined
+booleans-told-determined input at n out words =
+    determined _ (_, _) _ (record { told = record { number-is = refl; words-are = refl }; places-are = refl })
+    (λ p r a. (both (a .places-are) (a .told .words-are), a .told .number-is))
+
+pub value-told-determined : ValueToldDetermined
+value-told-determined input at n words = determined _ _ _ (record { number-is = refl; words-are = refl }) (λ p r a. (a .words-are, a .number-is))
+
+pub write-told-determined : WriteToldDetermined
+write-told-determined rows flag form width out words =
+    determined _ (_, _) _ (record { told = record { number-is = refl; words-are = refl }; places-are = refl })
+    (λ p r a. (both (a .places-are) (a .told .words-are), a .told .number-is))
+
+pub version-determined : VersionDetermined
+version-determined = determined _ tt _ refl (λ p r a. (refl, a))
+
+-- no code below c holds x
+abbrev NoneBelow : ℕ → ℕ → Type 0
+NoneBelow x c = (d : ℕ) → d < c → x < 2 ^ width d → ⊥
+
+none-at : (x c : ℕ) → NoneBelow x c → (x < 2 ^ width c → ⊥) → NoneBelow x (c + 1)
+none-at x c f n d b g = by (decLt d c)
+  where
+    by : Dec (d < c) → ⊥
+    by (yes l) = f d l g
+    by (no l) =
+        let q : c ≡ d = omega arith in
+        n (rw q g)
+
+first-holds : (x c : ℕ) → c < 32 → NoneBelow x c → x < 2 ^ width c → Narrowest x c
+first-holds x c b f g = record { isCode = b; holds = g; least = λ d l h. by d h (decLt d c) }
+  where
+    by : (d : ℕ) → x < 2 ^ width d → Dec (d < c) → c ≤ d
+    by d h (yes l) = absurd (f d l h)
+    by d h (no l) = omega arith
+
+-- the first code from c on that holds x: code 31, the last, holds 64 bits
+narrowest-from : (x k c : ℕ) → x < two64 → c + k ≡ 31 → NoneBelow x c → (r : ℕ) × Narrowest x r
+unfolding width widths
+narrowest-from x zero c h e f =
+    let q : c ≡ 31 = omega arith in
+    (c, first-holds x c (omega arith) f (rw q h))
+narrowest-from x (suc k) c h e f = by (decLt x (2 ^ width c)) (λ n. narrowest-from x k (c + 1) h (omega arith) (none-at x c f n))
+  where
+    by : Dec (x < 2 ^ width c) → ((x < 2 ^ width c → ⊥) → (r : ℕ) × Narrowest x r) → (r : ℕ) × Narrowest x r
+    by (yes g) m = (c, first-holds x c (omega arith) f g)
+    by (no n) m = m n
+
+pub narrowest-determined : NarrowestDetermined
+narrowest-determined x h =
+    let n = narrowest-from x 31 0 h refl (λ d l g. omega arith) in
+    determined _ tt (n .0) (n .1) (λ p r a. (refl, narrowest-unique x r (n .0) a (n .1)))

@@ -1,16 +1,17 @@
 -- "Each public promise determines the answer and every lent place, refused inputs too: show that any two outcomes allowed by it are equal."
 -- Assumes nothing.
 use mathlib.Core.Path.{_≡_}
-use Prim.Native.Nat.{ℕ}
+use Prim.Native.Nat.{ℕ, _<_}
 use mathlib.Core.Bool.{Bool}
 use mathlib.Core.List.{List}
 use lib.IntN.{ℤ}
 use Rattle.format.specs.declared.Answer.{Answer}
 use Rattle.format.specs.declared.Stream.{Stream}
+use Rattle.format.specs.Fields.{two64, Narrowest}
 use Rattle.format.specs.Promises.{RunRead, StreamRead}
 use Rattle.format.specs.Booleans.{BooleansRead}
 use Rattle.format.specs.ByteValues.{ValueRead, ValueGiven}
-use Rattle.format.specs.Loader.{Loaded}
+use Rattle.format.specs.Loader.{Loaded, faceVersion, RunTold, StreamTold, BooleansTold, ValueTold, WriteTold}
 use Rattle.format.specs.Writing.{Written}
 use Rattle.format.specs.declared.Form.{Form}
 
@@ -42,3 +43,36 @@ WriterDetermined = (rows : List ℤ) (signed : Bool) (form : Form) (width : ℕ)
 -- the loader's number and bytes: for every input, flag and lent bytes
 abbrev pub LoaderDetermined : Type 0
 LoaderDetermined = (input : List ℕ) (flag : ℕ) (out : List ℕ) → Determines (List ℕ) ℕ (λ p r. Loaded input flag out p r)
+
+-- the loader's functions with words: the lent rows or bytes and the lent words, and the number; for every position, flag or count, with words enough or
+-- too few
+abbrev pub RunToldDetermined : Type 0
+RunToldDetermined =
+    (input : List ℕ) (at flag : ℕ) (rows : List ℤ) (words : List ℕ)
+    → Determines (List ℤ × List ℕ) ℕ (λ p r. RunTold input at flag rows (p .0) words (p .1) r)
+
+abbrev pub StreamToldDetermined : Type 0
+StreamToldDetermined =
+    (input : List ℕ) (at flag : ℕ) (rows : List ℤ) (words : List ℕ)
+    → Determines (List ℤ × List ℕ) ℕ (λ p r. StreamTold input at flag rows (p .0) words (p .1) r)
+
+abbrev pub BooleansToldDetermined : Type 0
+BooleansToldDetermined =
+    (input : List ℕ) (at n : ℕ) (out words : List ℕ)
+    → Determines (List ℕ × List ℕ) ℕ (λ p r. BooleansTold input at n out (p .0) words (p .1) r)
+
+abbrev pub ValueToldDetermined : Type 0
+ValueToldDetermined = (input : List ℕ) (at n : ℕ) (words : List ℕ) → Determines (List ℕ) ℕ (λ p r. ValueTold input at n words p r)
+
+-- for every form and width, those too that no form has
+abbrev pub WriteToldDetermined : Type 0
+WriteToldDetermined =
+    (rows : List ℤ) (flag form width : ℕ) (out words : List ℕ)
+    → Determines (List ℕ × List ℕ) ℕ (λ p r. WriteTold rows flag form width out (p .0) words (p .1) r)
+
+-- and those with no lent place: the version, and the narrowest code of every number of 64 bits
+abbrev pub VersionDetermined : Type 0
+VersionDetermined = Determines (Unit {0}) ℕ (λ p r. r ≡ faceVersion)
+
+abbrev pub NarrowestDetermined : Type 0
+NarrowestDetermined = (x : ℕ) → x < two64 → Determines (Unit {0}) ℕ (λ p r. Narrowest x r)

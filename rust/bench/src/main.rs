@@ -1,7 +1,9 @@
-//! `bench [--print]`: times every case, prints the tables, and writes docs/BENCH.md and
-//! docs/bench.svg of the repository (with `--print` it writes nothing).
+//! `bench [--print | --smoke]`: times every case, prints the tables, and writes docs/BENCH.md and
+//! docs/bench.svg of the repository (with `--print` it writes nothing; `--smoke` takes three samples of
+//! some cases, and writes nothing).
 #![forbid(unsafe_code)]
 
+mod booleans;
 mod cases;
 mod measure;
 #[cfg(feature = "ours")]
@@ -15,13 +17,18 @@ use std::{env, fs};
 
 use table::Row;
 
-const ABOUT: &str = "# How fast the run reader is
+/// How many samples of each candidate are taken.
+const SAMPLES: usize = 31;
+
+const ABOUT: &str = "# How fast the readers are
 
 Nanoseconds a row, the least of 31 samples, the candidates taking turns; less is better.
 
-- **Ours**: one call of `orc_read_run` a run, through the safe wrapper `menakovitsy`, into bytes.
-- **Rust**: the decoders of WenyXu/orc-rs at 3a197fa636, unchanged, through their iterator, as a
-  loader calls them. They have not written the widths 26, 28 and 30.
+- **Ours**: one call of `orc_read_run` a run, through the safe wrapper `menakovitsy`, into bytes; of
+  whole streams one call of `orc_read_stream`, and of booleans one of `orc_read_booleans`.
+- **Rust**: the decoders of WenyXu/orc-rs at 3a197fa636, unchanged, through their iterators, as a
+  loader calls them. They have not written the widths 26, 28 and 30, and of booleans they agree with
+  document 01 within the first run only: so that is what is timed of them.
 - **Copy**: a plain copy of the same output, which no reader beats.
 
 A long buffer has 32,768 rows, in runs of 512 (short repeats: of 10). Of one short run by itself, the Rust's
@@ -32,24 +39,47 @@ this page and the plot.
 ![Nanoseconds a row](bench.svg)
 ";
 
-fn main() -> ExitCode {
+/// How much is timed, and whether it is written.
+#[derive(Clone, Copy, PartialEq, Eq)]
+enum Mode {
+    Write,
+    Print,
+    Smoke,
+}
+
+fn mode() -> Option<Mode> {
     let words: Vec<String> = env::args().skip(1).collect();
-    let print_only = words == ["--print"];
-    if !words.is_empty() && !print_only {
-        eprintln!("usage: bench [--print]");
-        return ExitCode::from(2);
+    match words.iter().map(String::as_str).collect::<Vec<_>>()[..] {
+        [] => Some(Mode::Write),
+        ["--print"] => Some(Mode::Print),
+        ["--smoke"] => Some(Mode::Smoke),
+        _ => None,
     }
-    let cases = cases::all();
+}
+
+fn main() -> ExitCode {
+    let Some(mode) = mode() else {
+        eprintln!("usage: bench [--print | --smoke]");
+        return ExitCode::from(2);
+    };
+    let (samples, step) = if mode == Mode::Smoke { (3, 5) } else { (SAMPLES, 1) };
+    let cases: Vec<_> = cases::all().into_iter().step_by(step).collect();
     let count = cases.len();
     let mut rows = Vec::new();
     for (k, case) in cases.into_iter().enumerate() {
         eprintln!("{:>3} of {count}  {}", k + 1, case.name);
-        let times = measure::measure(&case);
+        let times = measure::measure(&case, samples);
         rows.push(Row { case, times });
     }
-    let tables = table::markdown(&rows);
+    let mut flags = Vec::new();
+    for case in booleans::all() {
+        eprintln!("booleans  {}", case.name);
+        let times = booleans::measure(&case, samples);
+        flags.push((case, times));
+    }
+    let tables = table::markdown(&rows, &flags);
     println!("{tables}");
-    if print_only {
+    if mode != Mode::Write {
         return ExitCode::SUCCESS;
     }
     let docs = Path::new(concat!(env!("CARGO_MANIFEST_DIR"), "/../../docs"));

@@ -1,14 +1,33 @@
-//! Ours: one call of the exported function a run.
-use menakovitsy::{read_run_bytes, Answer, Sign};
+//! Ours, through the safe wrapper.
+use menakovitsy::{read_booleans, read_run_bytes, ByteOffset, Column, RowNumber, Sign};
 
 use crate::cases::Case;
 
-/// Decodes every run of a case into `out`, eight bytes a row.
-pub fn decode_into(case: &Case, out: &mut [u8]) {
-    let sign = if case.signed { Sign::Signed } else { Sign::Unsigned };
+fn sign(case: &Case) -> Sign {
+    if case.signed {
+        Sign::Signed
+    } else {
+        Sign::Unsigned
+    }
+}
+
+/// Decodes every run of a case into `out`, eight bytes a row, by a call of `orc_read_run` each.
+pub fn runs_into(case: &Case, out: &mut [u8]) {
     let (mut at, mut row) = (0, 0);
-    while let Answer::Run(run) = read_run_bytes(&case.bytes[at..], sign, &mut out[8 * row..]) {
-        at += run.consumed.0;
+    while let Ok(Some(run)) = read_run_bytes(&case.bytes[at..], sign(case), &mut out[8 * row..]) {
+        at += run.bytes.0;
         row += run.rows.0;
     }
+}
+
+/// Decodes a case into `rows` by one call of `orc_read_stream`.
+pub fn stream_into(case: &Case, rows: &mut [i64]) {
+    let read = Column::new(&case.bytes, sign(case)).read_into(rows);
+    debug_assert!(read.is_ok());
+}
+
+/// Decodes `n` booleans into `out` by one call of `orc_read_booleans`.
+pub fn booleans_into(bytes: &[u8], n: usize, out: &mut [u8]) {
+    let read = read_booleans(bytes, ByteOffset(0), RowNumber(n), out);
+    debug_assert!(read.is_ok());
 }

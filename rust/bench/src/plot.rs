@@ -15,8 +15,9 @@ const BAR: f64 = 7.0;
 /// A candidate: its name, its colour, and its time.
 type Candidate = (&'static str, &'static str, fn(&Times) -> Option<f64>);
 
-const CANDIDATES: [Candidate; 3] = [
-    ("ours", "#0b6e4f", |times| times.ours),
+const CANDIDATES: [Candidate; 4] = [
+    ("ours, a run a call", "#0b6e4f", |times| times.ours),
+    ("ours, a stream", "#6aa84f", |times| times.stream),
     ("the Rust decoders", "#c8553d", |times| times.rust),
     ("a plain copy", "#8d99ae", |times| Some(times.copy)),
 ];
@@ -47,7 +48,7 @@ impl Plot {
         for (name, colour, _) in timed {
             self.put(format_args!(r#"<rect x="{x:.1}" y="40" width="12" height="12" fill="{colour}"/>"#));
             self.text(x + 18.0, 50.5, "start", 12, name);
-            x += 160.0;
+            x += 130.0;
         }
         self.text(x, 50.5, "start", 12, "dashed: signed");
     }

@@ -1,6 +1,7 @@
 //! The table, in markdown.
 use std::fmt::Write as _;
 
+use crate::booleans::{FlagTimes, Flags};
 use crate::cases::{Case, Group};
 use crate::measure::Times;
 
@@ -55,15 +56,62 @@ fn section(text: &mut String, title: &str, rows: &[&Row]) {
     writeln!(text, "| geometric mean | | | | | {faster} | {over} |").expect("a string takes it");
 }
 
+/// Long buffers by one call of the stream reader.
+fn streams(text: &mut String, rows: &[&Row]) {
+    write!(
+        text,
+        "\n## Whole streams: one call of `orc_read_stream` a long buffer\n\n\
+         | Runs | Flag | Stream | Rust | A call a run | Rust / stream | A call a run / stream |\n\
+         |---|---|---:|---:|---:|---:|---:|\n"
+    )
+    .expect("a string takes it");
+    let faster = |row: &Row| ratio(row.times.rust, row.times.stream);
+    let over_runs = |row: &Row| ratio(row.times.ours, row.times.stream);
+    for row in rows {
+        let flag = if row.case.signed { "signed" } else { "unsigned" };
+        let [stream, rust, ours] = [row.times.stream, row.times.rust, row.times.ours].map(cell);
+        let [faster, over] = [faster(row), over_runs(row)].map(cell);
+        writeln!(text, "| {} | {flag} | {stream} | {rust} | {ours} | {faster} | {over} |", row.case.name)
+            .expect("a string takes it");
+    }
+    let [faster, over] =
+        [mean(rows.iter().map(|row| faster(row))), mean(rows.iter().map(|row| over_runs(row)))];
+    writeln!(text, "| geometric mean | | | | | {} | {} |", cell(faster), cell(over))
+        .expect("a string takes it");
+}
+
+/// Booleans, nanoseconds a boolean.
+fn booleans(text: &mut String, flags: &[(Flags, FlagTimes)]) {
+    write!(
+        text,
+        "\n## Booleans: nanoseconds a boolean\n\n| Byte runs | Ours | Rust | Copy | Rust / ours | Ours / copy |\n\
+         |---|---:|---:|---:|---:|---:|\n"
+    )
+    .expect("a string takes it");
+    let faster = |times: &FlagTimes| ratio(times.rust, times.ours);
+    let over_copy = |times: &FlagTimes| ratio(times.ours, Some(times.copy));
+    for (case, times) in flags {
+        let [ours, rust, copy] = [times.ours, times.rust, Some(times.copy)].map(cell);
+        let [faster, over] = [faster(times), over_copy(times)].map(cell);
+        writeln!(text, "| {} | {ours} | {rust} | {copy} | {faster} | {over} |", case.name)
+            .expect("a string takes it");
+    }
+    let faster = cell(mean(flags.iter().map(|(_, times)| faster(times))));
+    let over = cell(mean(flags.iter().map(|(_, times)| over_copy(times))));
+    writeln!(text, "| geometric mean | | | | {faster} | {over} |").expect("a string takes it");
+}
+
 /// All tables.
-pub fn markdown(rows: &[Row]) -> String {
+pub fn markdown(rows: &[Row], flags: &[(Flags, FlagTimes)]) -> String {
     let mut text = String::new();
     let of = |keep: fn(Group) -> bool| rows.iter().filter(|row| keep(row.case.group)).collect::<Vec<_>>();
     section(&mut text, "Direct runs of 512 rows", &of(|group| matches!(group, Group::Direct(_))));
     section(&mut text, "Other runs in long buffers", &of(|group| group == Group::Long));
     section(&mut text, "One short run by itself", &of(|group| group == Group::Single));
     let all = |number: fn(&Row) -> Option<f64>| cell(mean(rows.iter().map(number)));
-    writeln!(text, "\nOver all lines: Rust / ours {}, ours / copy {}.", all(faster), all(over_copy))
+    writeln!(text, "\nOver all lines above: Rust / ours {}, ours / copy {}.", all(faster), all(over_copy))
         .expect("a string takes it");
+    streams(&mut text, &of(|group| group != Group::Single));
+    booleans(&mut text, flags);
     text
 }

@@ -12,7 +12,8 @@ const USAGE: &str = "usage: differential [--quick | --full] [--model-only] [--se
   --full        at least 50 million answers
   --model-only  the Rust decoders against the model of document 01 only: nothing of ours is run
   --seed N      another seed for what is random (default 1)
-The probe program is target/bin/probe of the repository, or what PROBE names.
+The probe program is the one beside this program (`cargo build --release --offline -p probe`), or what
+PROBE names.
 Status: 0 every difference is a listed one and each listed one was met, 1 not so, 2 it could not run.";
 
 struct Options {

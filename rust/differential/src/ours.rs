@@ -1,9 +1,10 @@
-//! The proved run reader, linked: held to the model's answer, every place included.
-use menakovitsy::{read_run_bytes, Column, Refusal, Sign};
+//! The proved functions, linked: held to the model's answers, every place included.
+use menakovitsy::{read_run_bytes, ByteOffset, Column, Refusal, Sign, MAX_ROWS};
 use model::{Answer, Stream};
 
-/// What lent bytes hold before a call.
+/// What lent bytes and rows hold before a call.
 const BEFORE: u8 = 0xEE;
+const ROW_BEFORE: i64 = 7777;
 
 /// The lent bytes: 512 places and a trailing part that is none.
 const LENT: usize = 8 * 512 + 5;
@@ -46,42 +47,15 @@ impl Ours {
         Ok(3)
     }
 
-    /// Holds the wrapper's walk over a column to the model's stream.
-    pub fn check_column(bytes: &[u8], signed: bool, paper: &Stream) -> Result<(), String> {
-        let mut column = Column::new(bytes, sign(signed));
-        let (mut rows, mut refused) = (Vec::new(), None);
-        for run in &mut column {
-            match run {
-                Ok(run) => rows.extend(run.rows),
-                Err(refusal) => refused = Some(refusal),
-            }
-        }
-        let right = match paper {
-            Stream::Whole { rows: all, consumed } => {
-                rows == *all && column.position().0 == *consumed && refused.is_none()
-            }
-            Stream::Refused { refusal, rows: before, consumed } => refused.is_some_and(|refused| {
-                rows == *before
-                    && (refused.refusal.number(), refused.at.0) == (refusal.number, refusal.place)
-                    && (column.position().0, refused.rows.0) == (*consumed, before.len())
-            }),
-        };
-        if right {
-            Ok(())
-        } else {
-            Err(format!("rows {rows:?}, {refused:?}, to {}", column.position()))
-        }
-    }
-
     fn call(&mut self, bytes: &[u8], signed: bool, paper: &Answer, lent: usize) -> Result<(), String> {
         let answer = read_run_bytes(bytes, sign(signed), &mut self.out[..lent]);
         let (right, rows) = match (&answer, paper) {
-            (menakovitsy::Answer::End, Answer::End) => (true, &[][..]),
-            (menakovitsy::Answer::Refused(refusal), Answer::Refused(paper)) => {
-                (Some(*refusal) == Refusal::of_number(paper.number.into()), &[][..])
+            (Ok(None), Answer::End) => (true, &[][..]),
+            (Err(refusal), Answer::Refused(paper)) => {
+                (*refusal == Refusal::of_number(paper.number.into()), &[][..])
             }
-            (menakovitsy::Answer::Run(run), Answer::Run(paper)) => {
-                (run.rows.0 == paper.rows.len() && run.consumed.0 == paper.consumed, &paper.rows[..])
+            (Ok(Some(run)), Answer::Run(paper)) => {
+                (run.rows.0 == paper.rows.len() && run.bytes.0 == paper.consumed, &paper.rows[..])
             }
             _ => (false, &[][..]),
         };
@@ -95,5 +69,70 @@ impl Ours {
         self.out.fill(BEFORE);
         let touched = if kept_right { "" } else { ", and a place that must keep its content changed" };
         Err(format!("{answer:?}{touched}; {lent} bytes lent"))
+    }
+
+    /// Holds the wrapper's column to the model's stream: read at once, by runs, by rows, and into a
+    /// list of its own. How many answers were right, or what was wrong.
+    pub fn check_column(bytes: &[u8], signed: bool, paper: &Stream) -> Result<u64, String> {
+        let column = Column::new(bytes, sign(signed));
+        let (expected, consumed, refused) = match paper {
+            Stream::Whole { rows, consumed } => (rows, *consumed, None),
+            Stream::Refused { refusal, rows, consumed } => (rows, *consumed, Some(*refusal)),
+        };
+        let right = |given: &[i64], answer: Result<(), menakovitsy::StreamRefused>, how: &str| {
+            let told = answer.err().map(|told| {
+                let counts = (told.before.rows.0, told.before.bytes.0) == (expected.len(), consumed);
+                (told.refused.refusal.number(), told.refused.at.0, counts)
+            });
+            let paper = refused.map(|refusal| (u64::from(refusal.number), refusal.place, true));
+            // Of an error, the list of its own has no rows to look at.
+            let rows = given == expected || how == "to_vec" && refused.is_some();
+            if rows && told == paper {
+                return Ok(());
+            }
+            Err(format!("{how}: rows {given:?}, {answer:?}"))
+        };
+
+        // With a run's places more, none is refused for want of them.
+        let mut rows = vec![ROW_BEFORE; expected.len() + MAX_ROWS];
+        let answer = column.read_into(&mut rows);
+        if answer.is_ok_and(|stream| (stream.rows.0, stream.bytes.0) != (expected.len(), consumed)) {
+            return Err(format!("read_into: {answer:?}"));
+        }
+        if rows[expected.len()..].iter().any(|place| *place != ROW_BEFORE) {
+            return Err("read_into: a place behind the rows changed".into());
+        }
+        right(&rows[..expected.len()], answer.map(drop), "read_into")?;
+
+        rows.clear();
+        let mut runs = column.runs();
+        let mut answer = Ok(());
+        while let Some(run) = runs.next_run() {
+            match run {
+                Ok(run) => rows.extend(run.rows),
+                Err(told) => answer = Err(told),
+            }
+        }
+        right(&rows, answer, "runs")?;
+        if runs.position() != ByteOffset(consumed) {
+            return Err(format!("runs: to {}", runs.position()));
+        }
+
+        rows.clear();
+        let mut answer = Ok(());
+        for row in column {
+            match row {
+                Ok(row) => rows.push(row),
+                Err(told) => answer = Err(told),
+            }
+        }
+        right(&rows, answer, "rows")?;
+
+        let (rows, answer) = match column.to_vec() {
+            Ok(rows) => (rows, Ok(())),
+            Err(told) => (Vec::new(), Err(told)),
+        };
+        right(&rows, answer, "to_vec")?;
+        Ok(4)
     }
 }

@@ -108,16 +108,18 @@ impl Requests {
 }
 
 impl Probe {
-    /// The program that `PROBE` names, or the repository's own.
+    /// The program that `PROBE` names, or the one beside this program.
     pub fn find() -> Result<Self, String> {
-        let own = concat!(env!("CARGO_MANIFEST_DIR"), "/../../target/bin/probe");
-        let program = env::var_os("PROBE").map_or_else(|| PathBuf::from(own), PathBuf::from);
+        let program = match env::var_os("PROBE") {
+            Some(named) => PathBuf::from(named),
+            None => env::current_exe().map_err(|error| error.to_string())?.with_file_name("probe"),
+        };
         if program.is_file() {
             return Ok(Probe { program, requests: Requests::default() });
         }
         Err(format!(
-            "the probe program {} is missing: build it with `rt check probe` in the repository's root, \
-             or set PROBE to its path",
+            "the probe program {} is missing: build it with `cargo build --release --offline -p probe`, or set \
+             PROBE to its path",
             program.display()
         ))
     }

@@ -221,7 +221,7 @@ impl Session {
         if self.ours.is_some() {
             let paper = model::read_stream(bytes, 0, signed, usize::MAX);
             match Ours::check_column(bytes, signed, &paper) {
-                Ok(()) => self.tally.ours(1),
+                Ok(answers) => self.tally.ours(answers),
                 Err(answer) => {
                     self.tally.differs(
                         bytes,

@@ -50,18 +50,62 @@ fn run(bytes: &[u8], signed: bool) -> [String; 2] {
         Run::Panic => "panic".into(),
     };
     #[cfg(feature = "ours")]
-    assert_eq!(ours(bytes, signed), paper);
+    assert_eq!(ours::run(bytes, signed), paper);
     [paper, rust]
 }
 
+/// The linked library's answers, in the same words.
 #[cfg(feature = "ours")]
-fn ours(bytes: &[u8], signed: bool) -> String {
-    use menakovitsy::{read_run, Answer, Sign};
-    let mut places = [0; 512];
-    match read_run(bytes, if signed { Sign::Signed } else { Sign::Unsigned }, &mut places) {
-        Answer::End => "end".into(),
-        Answer::Run(run) => format!("{}, {} bytes", rows(&places[..run.rows.0]), run.consumed.0),
-        Answer::Refused(refusal) => format!("refused {}", refusal.number()),
+mod ours {
+    use menakovitsy::{ByteOffset, RowNumber, Sign};
+
+    use super::{booleans, joined, rows, value};
+
+    const START: ByteOffset = ByteOffset(0);
+
+    fn sign(signed: bool) -> Sign {
+        if signed {
+            Sign::Signed
+        } else {
+            Sign::Unsigned
+        }
+    }
+
+    pub fn run(bytes: &[u8], signed: bool) -> String {
+        let mut places = [0; 512];
+        match menakovitsy::read_run(bytes, START, sign(signed), &mut places) {
+            Ok(None) => "end".into(),
+            Ok(Some(run)) => format!("{}, {} bytes", rows(&places[..run.rows.0]), run.bytes.0),
+            Err(refused) => format!("refused {}", refused.refusal.number()),
+        }
+    }
+
+    pub fn stream(bytes: &[u8], signed: bool) -> String {
+        let mut places = [0; 10_000];
+        let (read, end) = match menakovitsy::read_stream(bytes, START, sign(signed), &mut places) {
+            Ok(read) => (read, format!("{} bytes", read.bytes.0)),
+            Err(told) => (told.before, format!("refused {}", told.refused.refusal.number())),
+        };
+        let given = &places[..read.rows.0];
+        joined([if given.is_empty() { String::new() } else { rows(given) }, end])
+    }
+
+    pub fn some_booleans(bytes: &[u8], n: usize) -> String {
+        let mut places = vec![0; n];
+        match menakovitsy::read_booleans(bytes, START, RowNumber(n), &mut places) {
+            Ok(run) => {
+                let values: Vec<bool> = places.iter().map(|place| *place == 1).collect();
+                format!("{}, {} bytes", booleans(&values), run.bytes.0)
+            }
+            Err(refused) => format!("refused {}", refused.refusal.number()),
+        }
+    }
+
+    pub fn byte_value(bytes: &[u8], n: usize) -> String {
+        match menakovitsy::byte_value(bytes, START, n) {
+            Ok(part) => value(part),
+            Err(refused) => format!("refused {}", refused.refusal.number()),
+        }
     }
 }
 
@@ -71,6 +115,8 @@ fn stream(bytes: &[u8], signed: bool) -> [String; 2] {
         Stream::Whole { rows, consumed } => joined([some(&rows), format!("{consumed} bytes")]),
         Stream::Refused { refusal, rows, .. } => joined([some(&rows), format!("refused {}", refusal.number)]),
     };
+    #[cfg(feature = "ours")]
+    assert_eq!(ours::stream(bytes, signed), paper);
     let iterator = oracle::read_stream(bytes, signed, 10_000);
     let given = iterator.items.chunk_by(|one, other| one.is_ok() && other.is_ok());
     let given = given.map(|items| match items[0] {
@@ -86,6 +132,8 @@ fn some_booleans(bytes: &[u8], n: usize) -> [String; 2] {
         Booleans::Given { values, consumed } => format!("{}, {consumed} bytes", booleans(&values)),
         Booleans::Refused(refusal) => format!("refused {}", refusal.number),
     };
+    #[cfg(feature = "ours")]
+    assert_eq!(ours::some_booleans(bytes, n), paper);
     let rust = match oracle::read_booleans(bytes, n) {
         Outcome::Given { values, consumed } => format!("{}, {consumed} bytes", booleans(&values)),
         Outcome::Error { before, .. } => joined([booleans(&before), "error".into()]),
@@ -99,6 +147,8 @@ fn byte_value(bytes: &[u8], n: usize) -> [String; 2] {
         Value::Given(part) => value(&part),
         Value::Refused(refusal) => format!("refused {}", refusal.number),
     };
+    #[cfg(feature = "ours")]
+    assert_eq!(ours::byte_value(bytes, n), paper);
     let rust = match oracle::read_value(bytes, n) {
         Outcome::Given { values, .. } => value(&values),
         Outcome::Error { .. } => "error".into(),

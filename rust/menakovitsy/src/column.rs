@@ -1,115 +1,208 @@
-//! The runs of a whole column, one after another.
-use std::error::Error;
+//! A column of integer rows: all at once, by runs, or by rows.
 use std::fmt;
 use std::iter::FusedIterator;
 
-use crate::{read_run, Answer, ByteOffset, Refusal, RowNumber, Sign, MAX_ROWS};
+use crate::{read_run, read_stream, MAX_ROWS};
+use crate::{ByteOffset, Refusal, Refused, RowNumber, Run, Sign, Stream, StreamRefused};
 
-/// An iterator over a column's runs: it owns the position, and gives each run's rows with the byte
-/// and the row that the run begins at. A refusal is given once, and ends it.
+/// The bytes of an integer column, from a position on, and whether its rows are signed.
 ///
 /// ```
 /// use menakovitsy::{ByteOffset, Column, Refusal, RowNumber, Sign};
 ///
-/// let bytes = [0x0A, 0x01, 0x2C, 0x46, 0x02, 0x12, 0x30, 0xC2, 0x00];
-/// let mut column = Column::new(&bytes, Sign::Unsigned);
+/// // Five rows of 300; then 1, 2, 3.
+/// let bytes = [0x0A, 0x01, 0x2C, 0x46, 0x02, 0x12, 0x30];
+/// let column = Column::new(&bytes, Sign::Unsigned);
 ///
-/// assert_eq!(column.next().unwrap().unwrap().rows, [300; 5]);
+/// // All at once, into places of the caller's.
+/// let mut rows = [0; 8];
+/// assert_eq!(column.read_into(&mut rows)?.rows, RowNumber(8));
+/// assert_eq!(rows, [300, 300, 300, 300, 300, 1, 2, 3]);
 ///
-/// let second = column.next().unwrap().unwrap();
-/// assert_eq!((second.at, second.first, second.rows), (ByteOffset(3), RowNumber(5), vec![1, 2, 3]));
+/// // Row by row.
+/// assert_eq!(column.rows().sum::<Result<i64, _>>()?, 1506);
 ///
-/// let refused = column.next().unwrap().unwrap_err();
-/// assert_eq!((refused.refusal, refused.at), (Refusal::OneRowDelta, ByteOffset(7)));
-/// assert_eq!(column.next(), None);
+/// // Run by run: where it begins, in bytes and in rows.
+/// let mut runs = column.runs();
+/// while let Some(run) = runs.next_run() {
+///     let run = run?;
+///     println!("{}, {}: {:?}", run.at, run.first, run.rows);
+/// }
+///
+/// // A column that is cut is refused, and never taken for a shorter one.
+/// let cut = Column::new(&bytes[..5], Sign::Unsigned).read_into(&mut rows).unwrap_err();
+/// assert_eq!((cut.refused.refusal, cut.refused.at), (Refusal::InputEnds, ByteOffset(3)));
+/// assert_eq!(cut.before.rows, RowNumber(5));
+/// # Ok::<(), menakovitsy::StreamRefused>(())
 /// ```
-#[derive(Debug, Clone)]
+#[derive(Clone, Copy, PartialEq, Eq)]
 pub struct Column<'a> {
     bytes: &'a [u8],
-    sign: Sign,
     at: ByteOffset,
-    row: RowNumber,
-    ended: bool,
-}
-
-/// A run of a column.
-#[derive(Debug, Clone, PartialEq, Eq)]
-pub struct RunAt {
-    /// The byte that the run begins at.
-    pub at: ByteOffset,
-    /// The number of its first row in the column.
-    pub first: RowNumber,
-    /// Its rows.
-    pub rows: Vec<i64>,
-    /// How many bytes it takes up.
-    pub consumed: ByteOffset,
-}
-
-/// A refused run of a column.
-#[derive(Debug, Clone, Copy, PartialEq, Eq)]
-pub struct RefusedAt {
-    /// Why it is refused.
-    pub refusal: Refusal,
-    /// The byte that the refused run begins at.
-    pub at: ByteOffset,
-    /// How many rows the runs before it have.
-    pub rows: RowNumber,
+    sign: Sign,
 }
 
 impl<'a> Column<'a> {
     /// The runs of these bytes, from the first byte on.
+    #[must_use]
     pub fn new(bytes: &'a [u8], sign: Sign) -> Self {
-        Column { bytes, sign, at: ByteOffset(0), row: RowNumber(0), ended: false }
+        Column { bytes, at: ByteOffset(0), sign }
     }
 
-    /// The byte that the next run begins at; after a refusal, the refused run's.
-    pub fn position(&self) -> ByteOffset {
-        self.at
+    /// The same column from a byte on, which must be a run's first.
+    #[must_use]
+    pub fn starting_at(self, at: ByteOffset) -> Self {
+        Column { at, ..self }
     }
 
-    /// How many rows were given.
-    pub fn rows_given(&self) -> RowNumber {
-        self.row
+    /// Reads all rows to the end of the bytes into `rows`: [`read_stream`].
+    pub fn read_into(&self, rows: &mut [i64]) -> Result<Stream, StreamRefused> {
+        read_stream(self.bytes, self.at, self.sign, rows)
+    }
+
+    /// All rows, in places that are made as they are needed.
+    pub fn to_vec(&self) -> Result<Vec<i64>, StreamRefused> {
+        let mut rows = Vec::new();
+        let mut read = Stream::default();
+        loop {
+            // At least a run's more, and twice as many as before.
+            rows.resize(read.rows.0 + read.rows.0.max(MAX_ROWS), 0);
+            let places = rows.get_mut(read.rows.0..).unwrap_or_default();
+            match read_stream(self.bytes, self.at + read.bytes, self.sign, places) {
+                Ok(rest) => {
+                    rows.truncate((read.rows + rest.rows).0);
+                    return Ok(rows);
+                }
+                Err(StreamRefused { refused, before }) => {
+                    read.rows += before.rows;
+                    read.bytes += before.bytes;
+                    if refused.refusal != Refusal::TooFewPlaces || before.rows.0 == 0 {
+                        return Err(StreamRefused { refused, before: read });
+                    }
+                }
+            }
+        }
+    }
+
+    /// The runs, one after another.
+    pub fn runs(&self) -> Runs<'a> {
+        Runs { column: *self, read: Stream::default(), ended: false, places: [0; MAX_ROWS] }
+    }
+
+    /// The rows, one after another: a refusal is given once, and ends them.
+    pub fn rows(&self) -> Rows<'a> {
+        Rows { runs: self.runs(), given: 0, held: 0 }
     }
 }
 
-impl Iterator for Column<'_> {
-    type Item = Result<RunAt, RefusedAt>;
+impl<'a> IntoIterator for Column<'a> {
+    type Item = Result<i64, StreamRefused>;
+    type IntoIter = Rows<'a>;
 
-    fn next(&mut self) -> Option<Self::Item> {
+    fn into_iter(self) -> Rows<'a> {
+        self.rows()
+    }
+}
+
+impl fmt::Debug for Column<'_> {
+    fn fmt(&self, f: &mut fmt::Formatter) -> fmt::Result {
+        let Column { bytes, at, sign } = self;
+        write!(f, "Column({} bytes, from {at}, {sign:?})", bytes.len())
+    }
+}
+
+/// A walk over a column's runs. It holds the places for one run, and allocates nothing; so each run
+/// is lent until the next is asked for.
+#[must_use]
+#[derive(Debug, Clone)]
+pub struct Runs<'a> {
+    column: Column<'a>,
+    read: Stream,
+    ended: bool,
+    places: [i64; MAX_ROWS],
+}
+
+/// A run of a column.
+#[derive(Debug, Clone, Copy, PartialEq, Eq)]
+#[non_exhaustive]
+pub struct RunAt<'r> {
+    /// The byte that the run begins at.
+    pub at: ByteOffset,
+    /// The number of its first row in the column.
+    pub first: RowNumber,
+    /// Its kind and counts.
+    pub run: Run,
+    /// Its rows.
+    pub rows: &'r [i64],
+}
+
+impl Runs<'_> {
+    /// The next run; nothing at the end. A refusal is given once, and ends the walk.
+    pub fn next_run(&mut self) -> Option<Result<RunAt<'_>, StreamRefused>> {
         if self.ended {
             return None;
         }
-        let mut rows = [0; MAX_ROWS];
-        match read_run(&self.bytes[self.at.0..], self.sign, &mut rows) {
-            Answer::End => {
+        let (at, first) = (self.position(), self.read.rows);
+        let Column { bytes, sign, .. } = self.column;
+        let refused = match read_run(bytes, at, sign, &mut self.places) {
+            Ok(Some(run)) => match self.places.get(..run.rows.0) {
+                Some(rows) if !rows.is_empty() && run.bytes.0 > 0 => {
+                    self.read.rows += run.rows;
+                    self.read.bytes += run.bytes;
+                    return Some(Ok(RunAt { at, first, run, rows }));
+                }
+                // Counts that no run has: not the proved library's.
+                _ => Refused { refusal: Refusal::Unknown(0), at },
+            },
+            Ok(None) => {
                 self.ended = true;
-                None
+                return None;
             }
-            Answer::Refused(refusal) => {
-                self.ended = true;
-                Some(Err(RefusedAt { refusal, at: self.at, rows: self.row }))
-            }
-            Answer::Run(run) => {
-                let (at, first) = (self.at, self.row);
-                self.at += run.consumed;
-                self.row += run.rows;
-                Some(Ok(RunAt { at, first, rows: rows[..run.rows.0].to_vec(), consumed: run.consumed }))
+            Err(refused) => refused,
+        };
+        self.ended = true;
+        Some(Err(StreamRefused { refused, before: self.read }))
+    }
+
+    /// The byte that the next run begins at; after a refusal, the refused run's.
+    #[must_use]
+    pub fn position(&self) -> ByteOffset {
+        self.column.at + self.read.bytes
+    }
+
+    /// How many rows and bytes the runs have that were given.
+    pub fn given(&self) -> Stream {
+        self.read
+    }
+}
+
+/// An iterator over a column's rows. It holds the rows of one run, and allocates nothing.
+#[must_use]
+#[derive(Debug, Clone)]
+pub struct Rows<'a> {
+    runs: Runs<'a>,
+    given: usize,
+    held: usize,
+}
+
+impl Iterator for Rows<'_> {
+    type Item = Result<i64, StreamRefused>;
+
+    fn next(&mut self) -> Option<Self::Item> {
+        if self.given == self.held {
+            match self.runs.next_run()? {
+                Ok(run) => (self.given, self.held) = (0, run.rows.len()),
+                Err(refused) => return Some(Err(refused)),
             }
         }
+        let row = self.runs.places.get(self.given).copied()?;
+        self.given += 1;
+        Some(Ok(row))
+    }
+
+    fn size_hint(&self) -> (usize, Option<usize>) {
+        (self.held - self.given, None)
     }
 }
 
-impl FusedIterator for Column<'_> {}
-
-impl fmt::Display for RefusedAt {
-    fn fmt(&self, f: &mut fmt::Formatter) -> fmt::Result {
-        write!(f, "the run at {}, after {} rows: {}", self.at, self.rows.0, self.refusal)
-    }
-}
-
-impl Error for RefusedAt {
-    fn source(&self) -> Option<&(dyn Error + 'static)> {
-        Some(&self.refusal)
-    }
-}
+impl FusedIterator for Rows<'_> {}

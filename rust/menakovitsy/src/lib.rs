@@ -1,45 +1,64 @@
-//! Reads the integer runs (RLEv2) of Apache ORC files.
+//! Reads and writes the integer runs (RLEv2), booleans and byte values of Apache ORC files.
 //!
-//! The run reader itself is proved, in the crate `loader` of the same repository, and linked from a
-//! static library; this crate is the safe way to it. Each call reads one run from a slice of bytes
-//! into a slice of rows and answers what it read: see [`read_run`]. [`Column`] walks over the runs of
-//! a whole column.
+//! The readers and the writer are proved, in the crate `loader` of the same repository, and linked
+//! from a static library; this crate is the safe way to them. Every call is answered: an input that
+//! is none of the format's is a [`Refused`], with its number, its place, and a text that says what to
+//! do. A refused call leaves every lent place as it was.
+//!
+//! | What | Functions |
+//! |---|---|
+//! | a column of integers | [`Column`]: [`read_into`](Column::read_into), [`rows`](Column::rows), [`runs`](Column::runs) |
+//! | one integer run, or all to the end | [`read_run`], [`read_stream`] |
+//! | a column of flags | [`read_booleans`] |
+//! | a byte value, as a part of the input | [`byte_value`] |
+//! | a run written | [`write_run`], [`narrowest_code`] |
+//! | the library that is linked | [`check_version`], [`library_version`] |
 //!
 //! ```
-//! use menakovitsy::{read_run, Answer, ByteOffset, Refusal, RowNumber, Sign};
+//! use menakovitsy::{Column, RowNumber, Sign};
 //!
-//! // A short repeat of five rows, and a run that is cut after its header.
-//! let column = [0x0A, 0x01, 0x2C, 0x46, 0x02];
-//! let mut rows = [0; 512];
-//!
-//! let Answer::Run(run) = read_run(&column, Sign::Unsigned, &mut rows) else { panic!() };
-//! assert_eq!((run.rows, run.consumed), (RowNumber(5), ByteOffset(3)));
-//! assert_eq!(rows[..5], [300; 5]);
-//!
-//! let rest = &column[run.consumed.0..];
-//! assert_eq!(read_run(rest, Sign::Unsigned, &mut rows), Answer::Refused(Refusal::InputEnds));
-//! assert_eq!(rows[..5], [300; 5]); // a refused call leaves every place as it was
+//! menakovitsy::check_version()?;
+//! let bytes = [0x0A, 0x01, 0x2C, 0x46, 0x02, 0x12, 0x30];
+//! let mut rows = [0; 8];
+//! let read = Column::new(&bytes, Sign::Unsigned).read_into(&mut rows)?;
+//! assert_eq!(read.rows, RowNumber(8));
+//! assert_eq!(rows, [300, 300, 300, 300, 300, 1, 2, 3]);
+//! # Ok::<(), Box<dyn std::error::Error>>(())
 //! ```
 //!
 //! # Building
 //!
-//! The build script runs `rt staticlib loader` in the repository's root. Where `MENAKOVITSY_LIB_DIR`
-//! is set, it takes `libloader.a` from that folder and runs nothing. The static library is for
-//! x86-64. Programs in C link the same library: see `menakovitsy.h` beside this crate.
+//! The build script proves and builds the library in its own output folder (`rt staticlib loader`).
+//! Where `MENAKOVITSY_LIB_DIR` is set, it takes `libloader.a` from that folder and runs nothing. The
+//! library is for x86-64. Programs in C link the same one: see `menakovitsy.h` beside this crate.
 #![warn(missing_docs)]
 
+// Which processor the library is for, the build script finds in it.
+#[cfg(not(all(target_endian = "little", target_pointer_width = "64")))]
+compile_error!("libloader.a is for a little-endian processor with 64-bit pointers (x86-64): build for one");
+
+mod answers;
 mod column;
+pub mod exported;
 mod library;
 mod refusal;
 mod units;
+mod version;
 
-pub use column::{Column, RefusedAt, RunAt};
-pub use library::{read_run, read_run_bytes};
+pub use answers::{Kind, Refused, Run, Stream, StreamRefused};
+pub use column::{Column, Rows, RunAt, Runs};
+pub use exported::MAX_ROWS;
+pub use library::{
+    byte_value, library_version, narrowest_code, read_booleans, read_run, read_run_bytes, read_stream,
+    unpack, write_run, Counts,
+};
 pub use refusal::Refusal;
 pub use units::{ByteOffset, RowNumber};
+pub use version::{check_version, OtherVersion};
 
-/// The most rows that one run holds: with so many places, no run is refused for want of them.
-pub const MAX_ROWS: usize = 512;
+/// The most bytes that one written run takes up: with so many places, none is refused for want of
+/// them.
+pub const MAX_WRITTEN: usize = 4102;
 
 /// Whether a column's rows are signed.
 #[derive(Debug, Clone, Copy, PartialEq, Eq, Hash)]
@@ -50,40 +69,36 @@ pub enum Sign {
     Signed,
 }
 
-/// How many rows and bytes a run has.
-#[derive(Debug, Clone, Copy, PartialEq, Eq, Hash)]
-pub struct Run {
-    /// How many rows were written, from the first place on.
-    pub rows: RowNumber,
-    /// How many bytes the run takes up: the next run begins there.
-    pub consumed: ByteOffset,
+impl Sign {
+    fn flag(self) -> u64 {
+        match self {
+            Sign::Unsigned => 0,
+            Sign::Signed => 1,
+        }
+    }
 }
 
-/// What a call answers.
+/// The form that rows are written in.
 #[derive(Debug, Clone, Copy, PartialEq, Eq, Hash)]
-pub enum Answer {
-    /// The input is empty: there is no run.
-    End,
-    /// A run was read.
-    Run(Run),
-    /// The run is refused: no place has changed.
-    Refused(Refusal),
+#[non_exhaustive]
+pub enum Form {
+    /// 3 to 10 equal rows.
+    ShortRepeat,
+    /// 1 to 512 rows, packed.
+    Direct,
+    /// 1 to 512 rows with one step.
+    FixedDelta,
+    /// 2 to 512 rows that all rise, or all fall, by steps that are packed.
+    PackedDelta,
 }
 
-impl Answer {
-    /// The answer that the library's one number stands for: 0 the end, 1 to 11 a refusal, and
-    /// otherwise 65,536 times the bytes consumed, plus the rows. Nothing for a number that stands for
-    /// no answer.
-    pub fn unpack(packed: u64) -> Option<Self> {
-        if packed == 0 {
-            return Some(Answer::End);
+impl Form {
+    fn number(self) -> u64 {
+        match self {
+            Form::ShortRepeat => 0,
+            Form::Direct => 1,
+            Form::FixedDelta => 2,
+            Form::PackedDelta => 3,
         }
-        if let Some(refusal) = Refusal::of_number(packed) {
-            return Some(Answer::Refused(refusal));
-        }
-        let rows = (packed % 65_536) as usize;
-        let consumed = usize::try_from(packed / 65_536).ok()?;
-        let run = Run { rows: RowNumber(rows), consumed: ByteOffset(consumed) };
-        (consumed > 0 && rows > 0 && rows <= MAX_ROWS).then_some(Answer::Run(run))
     }
 }

@@ -1,75 +1,208 @@
 //! The calls into the static library: all of this crate's unsafe code.
-use crate::{Answer, Sign};
+use std::mem;
 
-extern "C" {
-    /// The run reader. A slice passes as its pointer, then its length in bytes.
-    fn orc_read_run(input: *const u8, input_len: usize, out: *mut u8, out_len: usize, flag: u64) -> u64;
+use crate::answers::Words;
+use crate::exported;
+use crate::{ByteOffset, Form, Refusal, Refused, RowNumber, Run, Sign, Stream, StreamRefused};
+
+/// The version of the linked library's functions.
+#[must_use]
+pub fn library_version() -> u64 {
+    // SAFETY: it takes nothing.
+    unsafe { exported::orc_version() }
 }
 
-/// Reads the run at the start of `input` into `rows`.
+/// Reads the run that begins at byte `at` of `input` into `rows`; nothing where there are no bytes
+/// from there on.
 ///
-/// On [`Answer::Run`] the first rows are the run's and the others are as they were; on
-/// [`Answer::End`] and [`Answer::Refused`] all are as they were. Bytes after the run are not read.
-///
-/// # Panics
-///
-/// Where the library's number stands for no answer: then it is another library than the proved one.
-pub fn read_run(input: &[u8], sign: Sign, rows: &mut [i64]) -> Answer {
-    if cfg!(target_endian = "little") {
-        let bytes = std::mem::size_of_val(rows);
-        // SAFETY: the bytes are those of `rows`, borrowed as exclusively and as long, any bytes make
-        // rows, and a byte needs no alignment.
-        let out = unsafe { std::slice::from_raw_parts_mut(rows.as_mut_ptr().cast::<u8>(), bytes) };
-        read_run_bytes(input, sign, out)
-    } else {
-        read_run_copied(input, sign, rows)
-    }
-}
-
-/// The same on any machine: the rows go through a buffer of bytes, lowest first.
-fn read_run_copied(input: &[u8], sign: Sign, rows: &mut [i64]) -> Answer {
-    let mut out = vec![0; 8 * rows.len().min(crate::MAX_ROWS)];
-    let answer = read_run_bytes(input, sign, &mut out);
-    if let Answer::Run(run) = answer {
-        for (row, eight) in rows.iter_mut().zip(out.chunks_exact(8)).take(run.rows.0) {
-            *row = i64::from_le_bytes(eight.try_into().expect("eight bytes"));
-        }
-    }
-    answer
-}
-
-/// Reads the run at the start of `input` into bytes: eight to a row, lowest first. A trailing part
-/// of fewer than eight bytes is no place, and keeps its content.
-///
-/// # Panics
-///
-/// As [`read_run`].
-pub fn read_run_bytes(input: &[u8], sign: Sign, out: &mut [u8]) -> Answer {
-    let flag = match sign {
-        Sign::Unsigned => 0,
-        Sign::Signed => 1,
+/// The run's rows stand in the first places and the others are as they were; where there is no run,
+/// or it is refused, all are. Bytes after the run are not read. A position past the end is empty
+/// input.
+pub fn read_run(input: &[u8], at: ByteOffset, sign: Sign, rows: &mut [i64]) -> Result<Option<Run>, Refused> {
+    let mut words = Words::lent(rows.len(), input.len());
+    // SAFETY: here and below: each pointer is of a live slice of this length, those that are written
+    // are lent exclusively, and the function is proved to stay within them and to keep none.
+    words.number = unsafe {
+        exported::orc_read_run_at(
+            input.as_ptr(),
+            input.len(),
+            at.0 as u64,
+            sign.flag(),
+            rows.as_mut_ptr(),
+            rows.len(),
+            words.lent.as_mut_ptr(),
+            words.lent.len(),
+        )
     };
-    // SAFETY: both pointers are of live slices of these lengths, `out` is lent exclusively, and the
-    // function is proved to read `input` and write `out` within them and to keep neither.
-    let packed = unsafe { orc_read_run(input.as_ptr(), input.len(), out.as_mut_ptr(), out.len(), flag) };
-    Answer::unpack(packed)
-        .unwrap_or_else(|| panic!("libloader.a answered {packed}, which stands for no answer"))
+    words.run_or_end()
 }
 
-#[cfg(test)]
-mod tests {
-    use super::*;
+/// Reads all runs from byte `at` of `input` to its end into `rows`, one behind the other.
+///
+/// It stops at the first run that is refused: the rows of the runs before it stand in the first
+/// places and are counted in [`StreamRefused::before`], and the places behind them are as they were.
+/// No bytes from the position on are a whole stream of no rows.
+pub fn read_stream(
+    input: &[u8],
+    at: ByteOffset,
+    sign: Sign,
+    rows: &mut [i64],
+) -> Result<Stream, StreamRefused> {
+    let mut words = Words::lent(rows.len(), input.len());
+    // SAFETY: as in `read_run`.
+    words.number = unsafe {
+        exported::orc_read_stream(
+            input.as_ptr(),
+            input.len(),
+            at.0 as u64,
+            sign.flag(),
+            rows.as_mut_ptr(),
+            rows.len(),
+            words.lent.as_mut_ptr(),
+            words.lent.len(),
+        )
+    };
+    words.stream()
+}
 
-    #[test]
-    fn both_ways_agree() {
-        let run = [0xC6, 0x03, 0x64, 0x05, 0x14];
-        for places in 0..6 {
-            for cut in 0..=run.len() {
-                let (mut a, mut b) = (vec![7777; places], vec![7777; places]);
-                let one = read_run(&run[..cut], Sign::Signed, &mut a);
-                let other = read_run_copied(&run[..cut], Sign::Signed, &mut b);
-                assert_eq!((one, a), (other, b), "{places} places, {cut} bytes");
-            }
-        }
+/// Reads `n` booleans from byte `at` of `input` on, each as a byte of 0 or 1, into the first bytes
+/// of `out`. A refused call leaves every byte as it was.
+///
+/// A flag column of 32 rows, the first 24 of them true:
+///
+/// ```
+/// use menakovitsy::{read_booleans, ByteOffset, RowNumber};
+///
+/// let column = [0x00, 0xFF, 0xFF, 0x00];
+/// let mut flags = [0; 32];
+/// read_booleans(&column, ByteOffset(0), RowNumber(32), &mut flags)?;
+/// assert_eq!((flags[23], flags[24]), (1, 0));
+/// # Ok::<(), menakovitsy::Refused>(())
+/// ```
+pub fn read_booleans(input: &[u8], at: ByteOffset, n: RowNumber, out: &mut [u8]) -> Result<Run, Refused> {
+    let mut words = Words::lent(out.len(), input.len());
+    // SAFETY: as in `read_run`.
+    words.number = unsafe {
+        exported::orc_read_booleans(
+            input.as_ptr(),
+            input.len(),
+            at.0 as u64,
+            n.0 as u64,
+            out.as_mut_ptr(),
+            out.len(),
+            words.lent.as_mut_ptr(),
+            words.lent.len(),
+        )
+    };
+    words.one_run()
+}
+
+/// The byte value of length `n` that begins at byte `at` of `input`, as a part of it.
+///
+/// ```
+/// use menakovitsy::{byte_value, ByteOffset};
+///
+/// let labels = b"drumsvocals";
+/// assert_eq!(byte_value(labels, ByteOffset(5), 6)?, b"vocals");
+/// assert!(byte_value(labels, ByteOffset(5), 7).is_err());
+/// # Ok::<(), menakovitsy::Refused>(())
+/// ```
+pub fn byte_value(input: &[u8], at: ByteOffset, n: usize) -> Result<&[u8], Refused> {
+    let mut words = Words::lent(n, input.len());
+    // SAFETY: as in `read_run`.
+    words.number = unsafe {
+        exported::orc_byte_value(
+            input.as_ptr(),
+            input.len(),
+            at.0 as u64,
+            n as u64,
+            words.lent.as_mut_ptr(),
+            words.lent.len(),
+        )
+    };
+    let run = words.one_run()?;
+    // Of no bytes, the position may be past the end, where no part begins.
+    let part = input.get(at.0.min(input.len())..).and_then(|rest| rest.get(..run.bytes.0));
+    part.ok_or(Refused { refusal: Refusal::Unknown(words.number), at })
+}
+
+/// Writes `rows` as one run of a form into the first bytes of `out`. The width is in bytes for a
+/// short repeat, 1 to 8, and otherwise a width code, 0 to 31 (see [`narrowest_code`]); a fixed delta
+/// has the code 0 only, a packed delta 1 to 31.
+///
+/// A refused call leaves every byte as it was.
+///
+/// ```
+/// use menakovitsy::{write_run, ByteOffset, Form, Sign};
+///
+/// let mut out = [0; 16];
+/// let run = write_run(&[10, 12, 14, 16, 18], Sign::Unsigned, Form::FixedDelta, 0, &mut out)?;
+/// assert_eq!(out[..run.bytes.0], [0xC0, 0x04, 0x0A, 0x04]);
+/// # Ok::<(), menakovitsy::Refused>(())
+/// ```
+pub fn write_run(rows: &[i64], sign: Sign, form: Form, width: u8, out: &mut [u8]) -> Result<Run, Refused> {
+    let mut words = Words::lent(rows.len(), out.len());
+    // SAFETY: as in `read_run`.
+    words.number = unsafe {
+        exported::orc_write_run(
+            rows.as_ptr(),
+            rows.len(),
+            sign.flag(),
+            form.number(),
+            u64::from(width),
+            out.as_mut_ptr(),
+            out.len(),
+            words.lent.as_mut_ptr(),
+            words.lent.len(),
+        )
+    };
+    words.one_run()
+}
+
+/// The narrowest width code that holds a number: 0 to 31.
+#[must_use]
+pub fn narrowest_code(number: u64) -> u8 {
+    // SAFETY: it takes a number.
+    let code = unsafe { exported::orc_narrowest_code(number) };
+    // The widest holds any number: so it stands for a code that is none.
+    u8::try_from(code).unwrap_or(31)
+}
+
+/// How many rows and bytes a run has that was read as one number.
+#[must_use]
+#[derive(Debug, Clone, Copy, PartialEq, Eq, Hash)]
+#[non_exhaustive]
+pub struct Counts {
+    /// How many rows were written, from the first place on.
+    pub rows: RowNumber,
+    /// How many bytes the run takes up: the next run begins there.
+    pub bytes: ByteOffset,
+}
+
+/// Reads the run at the start of `input` into bytes, eight to a row, lowest first; nothing where
+/// there are no bytes. A trailing part of fewer than eight bytes is no place, and keeps its content.
+///
+/// This is `orc_read_run`, which answers by one number: it gives no kind and no place.
+pub fn read_run_bytes(input: &[u8], sign: Sign, out: &mut [u8]) -> Result<Option<Counts>, Refusal> {
+    // SAFETY: as in `read_run`.
+    let packed = unsafe {
+        exported::orc_read_run(input.as_ptr(), input.len(), out.as_mut_ptr(), out.len(), sign.flag())
+    };
+    unpack(packed)
+}
+
+/// What the one number of `orc_read_run` stands for: 0 no bytes, 1 to 11 a refusal, and otherwise
+/// 65,536 times the bytes consumed, plus the rows.
+pub fn unpack(packed: u64) -> Result<Option<Counts>, Refusal> {
+    if packed == 0 {
+        return Ok(None);
     }
+    let (rows, bytes) = ((packed % 65_536) as usize, (packed / 65_536) as usize);
+    if bytes > 0 && rows > 0 && rows <= exported::MAX_ROWS {
+        return Ok(Some(Counts { rows: RowNumber(rows), bytes: ByteOffset(bytes) }));
+    }
+    Err(Refusal::of_number(packed))
 }
+
+/// Positions and lengths cross as words of 64 bits.
+const _: () = assert!(mem::size_of::<usize>() == mem::size_of::<u64>());

@@ -1,37 +1,40 @@
-//! Why a run is refused.
+//! Why a call is refused.
 use std::error::Error;
 use std::fmt;
 
-/// A refusal, by its number. The run reader gives 1 to 8; 9 to 11 are the run writer's.
-#[derive(Debug, Clone, Copy, PartialEq, Eq, PartialOrd, Ord, Hash)]
-#[repr(u8)]
+/// A refusal, by its number. Readers give 1 to 8; 9 to 11 are the run writer's.
+#[derive(Debug, Clone, Copy, PartialEq, Eq, Hash)]
+#[non_exhaustive]
 pub enum Refusal {
     /// 1: a run has begun and its fixed header is not all there.
-    HeaderCut = 1,
+    HeaderCut,
     /// 2: patched base, and patch width and gap width are over 64 bits together.
-    EntryOver64 = 2,
+    EntryOver64,
     /// 3: patched base, and value width and patch width are over 64 bits together.
-    ValueOver64 = 3,
+    ValueOver64,
     /// 4: delta with a width, and one row.
-    OneRowDelta = 4,
+    OneRowDelta,
     /// 5: a varint's first ten bytes all have the top bit set.
-    VarintTooLong = 5,
-    /// 6: the input ends before the run does.
-    InputEnds = 6,
+    VarintTooLong,
+    /// 6: the input ends before the run or value does, or before the booleans asked for are there.
+    InputEnds,
     /// 7: patched base, and the patch list is out of place.
-    PatchOutOfPlace = 7,
+    PatchOutOfPlace,
     /// 8: the output has too few places.
-    TooFewPlaces = 8,
+    TooFewPlaces,
     /// 9: writer, a row count that the form does not allow.
-    RowCount = 9,
+    RowCount,
     /// 10: writer, rows that do not have the form, or a width that is not one of the form's.
-    NotTheForm = 10,
+    NotTheForm,
     /// 11: writer, a row or a magnitude that needs more bits than the width.
-    TooNarrow = 11,
+    TooNarrow,
+    /// A number that this version of the wrapper does not know: a later library is linked, or
+    /// another one than the proved one.
+    Unknown(u64),
 }
 
 impl Refusal {
-    /// All of them, in the order of their numbers.
+    /// All that have a number of their own, in the order of the numbers, from 1 on.
     pub const ALL: [Refusal; 11] = [
         Refusal::HeaderCut,
         Refusal::EntryOver64,
@@ -46,17 +49,34 @@ impl Refusal {
         Refusal::TooNarrow,
     ];
 
-    /// Its number, 1 to 11.
-    pub fn number(self) -> u8 {
-        self as u8
+    /// Its number.
+    #[must_use]
+    pub fn number(self) -> u64 {
+        match self {
+            Refusal::HeaderCut => 1,
+            Refusal::EntryOver64 => 2,
+            Refusal::ValueOver64 => 3,
+            Refusal::OneRowDelta => 4,
+            Refusal::VarintTooLong => 5,
+            Refusal::InputEnds => 6,
+            Refusal::PatchOutOfPlace => 7,
+            Refusal::TooFewPlaces => 8,
+            Refusal::RowCount => 9,
+            Refusal::NotTheForm => 10,
+            Refusal::TooNarrow => 11,
+            Refusal::Unknown(number) => number,
+        }
     }
 
-    /// The refusal of that number.
-    pub fn of_number(number: u64) -> Option<Self> {
-        Self::ALL.into_iter().find(|refusal| u64::from(refusal.number()) == number)
+    /// The refusal of that number: [`Refusal::Unknown`] where none has it.
+    #[must_use]
+    pub fn of_number(number: u64) -> Self {
+        let has = |refusal: &Refusal| refusal.number() == number;
+        Self::ALL.into_iter().find(has).unwrap_or(Refusal::Unknown(number))
     }
 
     /// What the number means.
+    #[must_use]
     pub fn meaning(self) -> &'static str {
         match self {
             Refusal::HeaderCut => "the input ends inside the run's header",
@@ -64,20 +84,22 @@ impl Refusal {
             Refusal::ValueOver64 => "patched base: value width and patch width are over 64 bits together",
             Refusal::OneRowDelta => "delta: packed magnitudes announced for a single row",
             Refusal::VarintTooLong => "a varint goes on past ten bytes",
-            Refusal::InputEnds => "the input ends before the run does",
+            Refusal::InputEnds => "the input ends before what was asked for does",
             Refusal::PatchOutOfPlace => {
                 "patched base: a patch is outside the run or at another's place, or the list ends with a skip"
             }
-            Refusal::TooFewPlaces => "the output has fewer places than the run has rows",
+            Refusal::TooFewPlaces => "fewer places were lent than are needed",
             Refusal::RowCount => "writer: the form does not allow this many rows",
             Refusal::NotTheForm => {
                 "writer: the rows do not have the form, or the width is none of its widths"
             }
             Refusal::TooNarrow => "writer: a row or a magnitude needs more bits than the width",
+            Refusal::Unknown(_) => "a number that this wrapper does not know",
         }
     }
 
     /// What to do about it.
+    #[must_use]
     pub fn advice(self) -> &'static str {
         match self {
             Refusal::HeaderCut | Refusal::InputEnds => {
@@ -90,12 +112,15 @@ impl Refusal {
             | Refusal::PatchOutOfPlace => {
                 "no run begins like this: the bytes are damaged, or the offset is not a run's first byte"
             }
-            Refusal::TooFewPlaces => "lend more places; 512 hold any run",
+            Refusal::TooFewPlaces => {
+                "lend more places; 512 rows hold any run, 4,102 bytes any that is written"
+            }
             Refusal::RowCount => {
                 "give the rows in runs of a length that the form holds, or choose another form"
             }
             Refusal::NotTheForm => "choose another form or width",
             Refusal::TooNarrow => "choose a wider width",
+            Refusal::Unknown(_) => "link the library of the wrapper's own revision; check_version compares",
         }
     }
 }

@@ -1,4 +1,5 @@
-//! The loader's two units, kept apart.
+//! The loader's two units, kept apart. A sum that would pass the end of a word stays there: a position
+//! past the end of the input is past it however far.
 use std::fmt;
 use std::ops::{Add, AddAssign};
 
@@ -21,13 +22,13 @@ impl Add for ByteOffset {
     type Output = Self;
 
     fn add(self, other: Self) -> Self {
-        ByteOffset(self.0 + other.0)
+        ByteOffset(self.0.saturating_add(other.0))
     }
 }
 
 impl AddAssign for ByteOffset {
     fn add_assign(&mut self, other: Self) {
-        self.0 += other.0;
+        *self = *self + other;
     }
 }
 
@@ -35,13 +36,13 @@ impl Add for RowNumber {
     type Output = Self;
 
     fn add(self, other: Self) -> Self {
-        RowNumber(self.0 + other.0)
+        RowNumber(self.0.saturating_add(other.0))
     }
 }
 
 impl AddAssign for RowNumber {
     fn add_assign(&mut self, other: Self) {
-        self.0 += other.0;
+        *self = *self + other;
     }
 }
 

@@ -1,46 +1,69 @@
 //! Document 01's lines through the linked library, and what the wrapper adds.
 use menakovitsy::*;
 
+const START: ByteOffset = ByteOffset(0);
+
 fn bytes(hex: &str) -> Vec<u8> {
     let digits: Vec<u32> = hex.chars().filter_map(|c| c.to_digit(16)).collect();
     digits.chunks(2).map(|two| (two[0] * 16 + two[1]) as u8).collect()
 }
 
-fn rows(hex: &str, sign: Sign, expected: &[i64]) {
+/// A run under a flag, by itself, at a position, as one number, and as a stream.
+fn rows(hex: &str, sign: Sign, kind: Kind, expected: &[i64]) {
     let run = bytes(hex);
-    let mut rows = [7777; 512];
-    let whole = Run { rows: RowNumber(expected.len()), consumed: ByteOffset(run.len()) };
-    assert_eq!(read_run(&run, sign, &mut rows), Answer::Run(whole), "{hex}");
-    assert_eq!(&rows[..expected.len()], expected, "{hex}");
-    assert!(rows[expected.len()..].iter().all(|row| *row == 7777), "{hex}: a place after the rows changed");
+    let (count, length) = (RowNumber(expected.len()), ByteOffset(run.len()));
+    for before in [0, 3] {
+        let input = [vec![0xC2; before], run.clone()].concat();
+        let mut rows = [7777; 512];
+        let read = read_run(&input, ByteOffset(before), sign, &mut rows).unwrap().unwrap();
+        assert_eq!((read.kind, read.rows, read.bytes), (kind, count, length), "{hex}");
+        assert_eq!(&rows[..expected.len()], expected, "{hex}");
+        assert!(rows[expected.len()..].iter().all(|row| *row == 7777), "{hex}: a place behind them changed");
+        let mut again = [7777; 512];
+        let stream = read_stream(&input, ByteOffset(before), sign, &mut again).unwrap();
+        assert_eq!((stream.rows, stream.bytes, again), (count, length, rows), "{hex}");
+    }
+    let mut out = [0xEE; 8 * 512];
+    let counts = read_run_bytes(&run, sign, &mut out).unwrap().unwrap();
+    assert_eq!((counts.rows, counts.bytes), (count, length), "{hex}");
+    assert!(out.chunks_exact(8).zip(expected).all(|(eight, row)| eight == row.to_le_bytes()), "{hex}");
 }
 
 fn refused(hex: &str, refusal: Refusal) {
+    let input = bytes(hex);
     for sign in [Sign::Unsigned, Sign::Signed] {
         let mut rows = [7777; 512];
-        assert_eq!(read_run(&bytes(hex), sign, &mut rows), Answer::Refused(refusal), "{hex}");
+        let refused = read_run(&input, START, sign, &mut rows).unwrap_err();
+        assert_eq!((refused.refusal, refused.at), (refusal, START), "{hex}");
+        let stream = read_stream(&input, START, sign, &mut rows).unwrap_err();
+        assert_eq!((stream.refused, stream.before), (refused, Stream::default()), "{hex}");
         assert_eq!(rows, [7777; 512], "{hex}: a refused call changed a place");
+        assert_eq!(read_run_bytes(&input, sign, &mut [0; 4096]), Err(refusal), "{hex}");
     }
 }
 
 #[test]
 fn lines_of_document_01() {
+    use Kind::*;
     use Sign::*;
-    rows("0A012C", Unsigned, &[300; 5]);
-    rows("0A012C", Signed, &[150; 5]);
-    rows("0001", Signed, &[-1; 3]);
-    rows("46021230", Unsigned, &[1, 2, 3]);
-    rows("46021230", Signed, &[-1, 1, -2]);
-    rows("700000000040", Unsigned, &[1]);
-    rows("C0040A04", Unsigned, &[10, 12, 14, 16, 18]);
-    rows("C603640514", Unsigned, &[100, 97, 96, 92]);
-    rows("C001FEFFFFFFFFFFFFFFFF0102", Signed, &[i64::MAX, i64::MIN]);
-    rows("C0000700", Unsigned, &[7]);
+    rows("0A012C", Unsigned, ShortRepeat, &[300; 5]);
+    rows("0A012C", Signed, ShortRepeat, &[150; 5]);
+    rows("0001", Signed, ShortRepeat, &[-1; 3]);
+    rows("46021230", Unsigned, Direct, &[1, 2, 3]);
+    rows("46021230", Signed, Direct, &[-1, 1, -2]);
+    rows("700000000040", Unsigned, Direct, &[1]);
+    rows("C0040A04", Unsigned, Delta, &[10, 12, 14, 16, 18]);
+    rows("C603640514", Unsigned, Delta, &[100, 97, 96, 92]);
+    rows("C001FEFFFFFFFFFFFFFFFF0102", Signed, Delta, &[i64::MAX, i64::MIN]);
+    rows("C0000700", Unsigned, Delta, &[7]);
     refused("C200", Refusal::OneRowDelta);
     for sign in [Unsigned, Signed] {
-        rows("8603032164123494", sign, &[101, 102, 183, 104]);
-        rows("86030320E41234", sign, &[-99, -98, -97, -96]);
-        assert_eq!(read_run(&[], sign, &mut []), Answer::End);
+        rows("8603032164123494", sign, PatchedBase, &[101, 102, 183, 104]);
+        rows("86030320E41234", sign, PatchedBase, &[-99, -98, -97, -96]);
+        assert_eq!(read_run(&[], START, sign, &mut []), Ok(None));
+        assert_eq!(read_run(&[1, 2], ByteOffset(usize::MAX), sign, &mut []), Ok(None));
+        assert_eq!(read_stream(&[], START, sign, &mut []), Ok(Stream::default()));
+        assert_eq!(read_run_bytes(&[], sign, &mut []), Ok(None));
     }
     refused("860303416412348A", Refusal::PatchOutOfPlace);
     refused("86031F21", Refusal::EntryOver64);
@@ -48,13 +71,69 @@ fn lines_of_document_01() {
 
 #[test]
 fn examples_of_the_specification() {
+    use Kind::*;
     use Sign::*;
-    rows("0A2710", Unsigned, &[10_000; 5]);
-    rows("5E035CA1AB1EDEADBEEF", Unsigned, &[23_713, 43_806, 57_005, 48_879]);
-    rows("C609020222424246", Unsigned, &[2, 3, 5, 7, 11, 13, 17, 19, 23, 29]);
+    rows("0A2710", Unsigned, ShortRepeat, &[10_000; 5]);
+    rows("5E035CA1AB1EDEADBEEF", Unsigned, Direct, &[23_713, 43_806, 57_005, 48_879]);
+    rows("C609020222424246", Unsigned, Delta, &[2, 3, 5, 7, 11, 13, 17, 19, 23, 29]);
     let mut patched = vec![2030, 2000, 2020, 1_000_000];
     patched.extend((2040..=2190).step_by(10));
-    rows("8E132B2107D01E00147028323C46505A646E78828C96A0AAB4BEFCE8", Unsigned, &patched);
+    rows("8E132B2107D01E00147028323C46505A646E78828C96A0AAB4BEFCE8", Unsigned, PatchedBase, &patched);
+}
+
+#[test]
+fn booleans_of_document_01() {
+    let line = bytes("00FFFF00");
+    let mut out = [77; 40];
+    let run = read_booleans(&line, START, RowNumber(32), &mut out).unwrap();
+    assert_eq!((run.kind, run.rows, run.bytes), (Kind::Booleans, RowNumber(32), ByteOffset(4)));
+    assert_eq!((&out[..24], &out[24..32], &out[32..]), (&[1; 24][..], &[0; 8][..], &[77; 8][..]));
+    for (n, places, refusal) in [(33, 40, Refusal::InputEnds), (32, 31, Refusal::TooFewPlaces)] {
+        let mut out = [77; 40];
+        let refused = read_booleans(&line, START, RowNumber(n), &mut out[..places]).unwrap_err();
+        assert_eq!((refused.refusal, refused.at, out), (refusal, START, [77; 40]));
+    }
+}
+
+#[test]
+fn byte_values_are_parts_of_the_input() {
+    let input = b"drumsvocals";
+    let part = byte_value(input, ByteOffset(5), 6).unwrap();
+    assert_eq!(part.as_ptr_range(), input[5..].as_ptr_range());
+    assert_eq!(byte_value(input, ByteOffset(11), 0), Ok(&[][..]));
+    assert_eq!(byte_value(input, ByteOffset(usize::MAX), 0), Ok(&[][..]));
+    for (at, n) in [(5, 7), (11, 1), (usize::MAX, 1), (1, usize::MAX)] {
+        let refused = byte_value(input, ByteOffset(at), n).unwrap_err();
+        assert_eq!((refused.refusal, refused.at), (Refusal::InputEnds, ByteOffset(at)));
+    }
+}
+
+#[test]
+fn what_is_written_reads_back() {
+    use Form::*;
+    let written = |rows: &[i64], sign, form, width| {
+        let mut out = [77; MAX_WRITTEN];
+        write_run(rows, sign, form, width, &mut out).map(|run| (run.kind, out[..run.bytes.0].to_vec()))
+    };
+    use Sign::*;
+    assert_eq!(written(&[300; 5], Unsigned, ShortRepeat, 2), Ok((Kind::ShortRepeat, bytes("0A012C"))));
+    assert_eq!(written(&[-1, 1, -2], Signed, Direct, 3), Ok((Kind::Direct, bytes("46021230"))));
+    assert_eq!(written(&[10, 12, 14], Unsigned, FixedDelta, 0), Ok((Kind::Delta, bytes("C0020A04"))));
+    assert_eq!(written(&[100, 97, 96, 92], Unsigned, PackedDelta, 3), Ok((Kind::Delta, bytes("C603640514"))));
+    for (rows, form, width, refusal) in [
+        (&[300; 2][..], ShortRepeat, 2, Refusal::RowCount),
+        (&[300, 300, 301], ShortRepeat, 2, Refusal::NotTheForm),
+        (&[300; 3], ShortRepeat, 9, Refusal::NotTheForm),
+        (&[300; 3], ShortRepeat, 1, Refusal::TooNarrow),
+    ] {
+        assert_eq!(written(rows, Unsigned, form, width).unwrap_err().refusal, refusal);
+    }
+    // The longest run.
+    let longest: Vec<i64> = (0..512).map(|k| if k % 2 == 0 { i64::MIN } else { 0 }).collect();
+    assert_eq!(written(&longest, Signed, PackedDelta, 31).map(|(_, bytes)| bytes.len()), Ok(MAX_WRITTEN));
+    for (number, code) in [(0, 0), (1, 0), (2, 1), (255, 7), (1 << 24, 24), (u64::MAX, 31)] {
+        assert_eq!(narrowest_code(number), code);
+    }
 }
 
 #[test]
@@ -64,10 +143,11 @@ fn a_trailing_part_is_no_place() {
         let mut out = vec![0xEE; places];
         let answer = read_run_bytes(&run, Sign::Unsigned, &mut out);
         if places < 24 {
-            assert_eq!(answer, Answer::Refused(Refusal::TooFewPlaces));
+            assert_eq!(answer, Err(Refusal::TooFewPlaces));
             assert!(out.iter().all(|byte| *byte == 0xEE));
         } else {
-            assert_eq!(answer, Answer::Run(Run { rows: RowNumber(3), consumed: ByteOffset(2) }));
+            let counts = answer.unwrap().unwrap();
+            assert_eq!((counts.rows, counts.bytes), (RowNumber(3), ByteOffset(2)));
             assert_eq!(out[..24], [1, 0, 0, 0, 0, 0, 0, 0].repeat(3));
             assert!(out[24..].iter().all(|byte| *byte == 0xEE));
         }
@@ -75,47 +155,32 @@ fn a_trailing_part_is_no_place() {
 }
 
 #[test]
-fn columns() {
-    let column = bytes("0A012C 46021230 4602");
-    let mut runs = Column::new(&column, Sign::Unsigned);
-    assert_eq!(runs.next().unwrap().unwrap().rows, [300; 5]);
-    let second = runs.next().unwrap().unwrap();
-    assert_eq!((second.at, second.first, second.consumed), (ByteOffset(3), RowNumber(5), ByteOffset(4)));
-    let refused = runs.next().unwrap().unwrap_err();
-    assert_eq!(refused, RefusedAt { refusal: Refusal::InputEnds, at: ByteOffset(7), rows: RowNumber(8) });
-    assert!(refused.to_string().starts_with("the run at byte 7, after 8 rows: refusal 6: "));
-    assert_eq!((runs.next(), runs.position(), runs.rows_given()), (None, ByteOffset(7), RowNumber(8)));
-    assert_eq!(Column::new(&[], Sign::Signed).next(), None);
-}
-
-#[test]
 fn the_one_number() {
-    assert_eq!(Answer::unpack(0), Some(Answer::End));
+    assert_eq!(unpack(0), Ok(None));
     for refusal in Refusal::ALL {
-        assert_eq!(Answer::unpack(refusal.number().into()), Some(Answer::Refused(refusal)));
+        assert_eq!(unpack(refusal.number()), Err(refusal));
     }
-    let run = Run { rows: RowNumber(512), consumed: ByteOffset(4098) };
-    assert_eq!(Answer::unpack(65_536 * 4098 + 512), Some(Answer::Run(run)));
+    let counts = unpack(65_536 * 4098 + 512).unwrap().unwrap();
+    assert_eq!((counts.rows, counts.bytes), (RowNumber(512), ByteOffset(4098)));
     for none in [12, 65_535, 65_536, 65_536 + 513] {
-        assert_eq!(Answer::unpack(none), None);
+        assert_eq!(unpack(none), Err(Refusal::Unknown(none)));
     }
 }
 
-/// The header names each refusal by the number that it has here.
+/// The numbers run from 1 on, and each text says what to do.
 #[test]
-fn the_header_has_the_same_numbers() {
-    let header = include_str!("../menakovitsy.h");
-    for refusal in Refusal::ALL {
-        let mut name = String::from("ORC");
-        let mut before = ' ';
-        for c in format!("{refusal:?}").chars() {
-            if c.is_uppercase() || c.is_ascii_digit() && !before.is_ascii_digit() {
-                name.push('_');
-            }
-            name.push(c.to_ascii_uppercase());
-            before = c;
-        }
-        let line = format!("    {name} = {},\n", refusal.number());
-        assert!(header.contains(&line), "{line}");
+fn refusals_by_their_numbers() {
+    for (number, refusal) in (1..).zip(Refusal::ALL) {
+        assert_eq!((refusal.number(), Refusal::of_number(number)), (number, refusal));
     }
+    let next = Refusal::ALL.len() as u64 + 1;
+    for none in [0, next, u64::MAX] {
+        assert_eq!(Refusal::of_number(none), Refusal::Unknown(none));
+    }
+    let told = read_run(&[0x46], START, Sign::Signed, &mut []).unwrap_err().to_string();
+    assert_eq!(
+        told,
+        "at byte 0: refusal 1: the input ends inside the run's header (call again with more bytes; if there \
+         are none, the stream is cut or the offset is wrong)"
+    );
 }

@@ -202,3 +202,17 @@ pub fn decode_into(bytes: &[u8], signed: bool, out: &mut [i64]) -> usize {
     }
     rows
 }
+
+/// Reads `n` booleans into `out`, each as a byte of 0 or 1, and answers how many it gave. For the
+/// benchmark: an error ends it.
+pub fn booleans_into(bytes: &[u8], n: usize, out: &mut [u8]) -> usize {
+    let mut given = 0;
+    for (place, value) in out.iter_mut().zip(BooleanIter::new(bytes, n)) {
+        match value {
+            Ok(value) => *place = u8::from(value),
+            Err(_) => break,
+        }
+        given += 1;
+    }
+    given
+}

@@ -1,11 +1,11 @@
-//! `probe_list FOLDER`: writes the fixed list of the probe program, FOLDER/stdin and FOLDER/stdout.
+//! `probe_list FOLDER`: writes the fixed list of the probe program, FOLDER/list.in and FOLDER/list.out.
 //!
 //! The answers are the model's, which is an independent reading of document 01: nothing of ours is
 //! asked. Document 01's own lines have their answers written out here from its text, and the model
 //! must agree; and a run that the Rust decoders read must have their rows too.
 //!
 //! ```text
-//! cargo run --offline -p differential --no-default-features --bin probe_list -- ../crates/probe
+//! cargo run --offline -p differential --no-default-features --bin probe_list -- probe/tests
 //! ```
 use std::path::Path;
 use std::process::ExitCode;
@@ -314,7 +314,7 @@ fn main() -> ExitCode {
         asked.extend([line, "\n"]);
         answered.extend([answer, "\n"]);
     }
-    for (name, text) in [("stdin", asked), ("stdout", answered)] {
+    for (name, text) in [("list.in", asked), ("list.out", answered)] {
         if let Err(error) = fs::write(Path::new(&folder).join(name), text) {
             eprintln!("{folder}/{name}: {error}");
             return ExitCode::from(2);

@@ -1,0 +1,37 @@
+-- An answer put into words, and what a call with lent words promises by it. Assumes nothing.
+use mathlib.Core.Path.{_≡_, refl}
+use Prim.Native.Nat.{ℕ, _<_, _≤_}
+use mathlib.Core.List.{List}
+use lib.ListN.{length}
+use borrow.Author.Tests.{le-leb, lt-leb}
+use Rattle.format.specs.declared.Answer.{Answer}
+use Rattle.format.specs.declared.Stream.{Stream}
+use Rattle.format.specs.Loader.{answerWords, streamWords, wordCount, tooFewWords, Put, Told, ToldOf}
+
+-- every answer has as many words
+pub answer-long : (a : Answer) → length (answerWords a) ≡ wordCount
+unfolding answerWords
+answer-long a = refl
+
+pub stream-long : (s : Stream) → length (streamWords s) ≡ wordCount
+unfolding streamWords
+stream-long s = refl
+
+-- over any answers whose words are counted
+module _ {B : Type 0} {wordsOf : B → List ℕ} {numberOf : B → ℕ} {n : ℕ} (long : (b : B) → length (wordsOf b) ≡ n) where
+  -- too few words: nothing is touched
+  pub few : {b : B} {words : List ℕ} → length words < n → Told wordsOf numberOf b words words tooFewWords
+  few {b} {words} h = let e = lt-leb n (length words) h in record { number-is = rw (long b, e); words-are = rw (long b, e) }
+
+  pub few-of : {A : Type 0} {b : B} {words : List ℕ} {done places : List A} → length words < n → ToldOf wordsOf numberOf b words words tooFewWords done places places
+  few-of {A} {b} {words} h = let e = lt-leb n (length words) h in record { told = few h; places-are = rw (long b, e) }
+
+  -- enough: the answer that was put is a callee's
+  pub put : {a b : B} {words words′ : List ℕ} {r : ℕ} → a ≡ b → n ≤ length words → Put wordsOf numberOf a words words′ r → Told wordsOf numberOf b words words′ r
+  put {a} {b} {words} q h p =
+      let e = le-leb n (length words) h in
+      record { number-is = rw (long b, e, ← q) (p .number-is); words-are = rw (long b, e, ← q) (rw (long a) at (p .words-are)) }
+
+  pub put-of : {A : Type 0} {a b : B} {words words′ : List ℕ} {r : ℕ} {done places places′ : List A} → a ≡ b → n ≤ length words → places′ ≡ done
+      → Put wordsOf numberOf a words words′ r → ToldOf wordsOf numberOf b words words′ r done places places′
+  put-of {A} {a} {b} {words} q h d p = let e = le-leb n (length words) h in record { told = put q h p; places-are = rw (long b, e) d }

@@ -1,0 +1,79 @@
+-- `put_row` meets its contract. The loop's invariant: what stands so far, then the bytes of what is left of the number, is the whole.
+-- Assumes nothing.
+use mathlib.Core.List.{_++_}
+use mathlib.Core.Path.{_≡_, refl}
+use Prim.Native.Nat.{_≤_, _-_, _+_, _%_}
+use native.Mathlib.Nat.{add-zero, add-assoc}
+use native.Mathlib.Omega.{arith}
+use lib.ListN.{length, take, drop, length-set}
+use denote.Ref.{now}
+use Rattle.format.specs.Loader.{lowestFirst}
+use Rattle.util.proofs.Grow.{grow, kept, filled}
+use Rattle.loader.proofs.RowBytes.{byte-more}
+use Rattle.loader.proofs.bytes.put_row.Statement.{statement}
+use Rattle.loader.proofs.bytes.put_row.Tie as tie
+
+abbrev Inv-loop : tie.InvT-loop
+Inv-loop x out₀ at left₀ j₀ out left j =
+    (j ≤ 8)
+    × (length out ≡ length out₀)
+    × (take (at + j) out ++ lowestFirst (8 - j) left ≡ take at out₀ ++ lowestFirst 8 x)
+    × (drop (at + j) out ≡ drop (at + j) out₀)
+
+abbrev μ-loop : tie.MeasureT-loop
+μ-loop x out₀ at left₀ j₀ out left j = 8 - j
+
+loop-holds : tie.Need-loop-holds Inv-loop μ-loop
+loop-holds c = (omega arith, refl, rw add-zero, refl)
+
+cast-out : tie.Need-cast-out Inv-loop μ-loop
+cast-out c = omega arith
+
+add-out : tie.Need-add-out Inv-loop μ-loop
+add-out c = omega arith
+
+slice-write-out : tie.Need-slice-write-out Inv-loop μ-loop
+slice-write-out c = omega arith
+
+add-j : tie.Need-add-j Inv-loop μ-loop
+add-j c = omega arith
+
+loop-less : tie.Need-loop-less Inv-loop μ-loop
+loop-less c = omega arith
+
+loop-again : tie.Need-loop-again Inv-loop μ-loop
+loop-again c =
+    let l = c .before .loop in
+    let a = c .before .before .args in (
+      omega arith,
+      simp length-set (l .inv .1),
+      rw (← add-assoc) (grow (l .out) (a .at + l .j) _ _ _ (omega arith) (rw (byte-more (l .j) (l .left) (omega arith)) at (l .inv .2))),
+      rw (← add-assoc) (kept (l .out) (now (a .out)) (a .at + l .j) (l .left % 256) (l .inv .3)),
+    )
+
+same-length : tie.Need-same-length Inv-loop μ-loop
+same-length c = c .before .loop .inv .1
+
+returns : tie.Need-returns Inv-loop μ-loop
+unfolding lowestFirst
+returns c =
+    let l = c .before .loop in
+    let a = c .before .before .args in
+    let d : l .j ≡ 8 = omega arith in
+    filled (l .out) (now (a .out)) _ (a .at + 8) (rw d at (l .inv .2)) (rw d at (l .inv .3))
+
+pub put-row-spec : {M : Type 1} → statement M
+put-row-spec =
+    tie.close
+    (tie.spec
+    Inv-loop
+    μ-loop
+    loop-holds
+    cast-out
+    add-out
+    slice-write-out
+    add-j
+    loop-less
+    loop-again
+    same-length
+    returns)

@@ -1,0 +1,77 @@
+// Rows as bytes: a run is read into rows of our own, and laid out as eight bytes each, lowest first.
+ghost use mathlib.Core.Path.{_≡_};
+ghost use mathlib.Core.List.{_++_};
+ghost use Prim.Native.Nat.{_+_, _*_, _≤_};
+ghost use lib.ListN.{length, take, drop};
+ghost use mathlib.Core.Bool.{true};
+ghost use Rattle.loader.specs.Room.{Enough};
+ghost use Rattle.format.specs.Loader.{lowestFirst, rowBytes, LoadedAs};
+use format::ByteOffset;
+use format::Kind;
+use util::pattern;
+
+// The eight bytes of x at a place, lowest first: the eight stores become one.
+fn put_row(x: u64, out: &mut [u8], at: usize)
+    requires { ⌜ at + 8 ≤ length (now out) ⌝ }
+    ensures { λ _. ⌜ now (out .exit) ≡ (take at (now (out .entry)) ++ lowestFirst 8 x) ++ drop (at + 8) (now (out .entry)) ⌝ }
+{
+    let mut left = x;
+    let mut j = 0;
+    while j < 8 {
+        out[at + j] = (left % 256) as u8;
+        left = left / 256;
+        j += 1;
+    }
+}
+
+// The first n rows, eight bytes each.
+fn put_rows(rows: &[i64], n: usize, out: &mut [u8])
+    requires { ⌜ (n ≤ length (now rows)) × (8 * n ≤ length (now out)) ⌝ }
+    ensures { λ _. ⌜ now (out .exit) ≡ rowBytes (take n (now (rows .entry))) ++ drop (8 * n) (now (out .entry)) ⌝ }
+{
+    let mut i = 0;
+    while i < n {
+        let row = rows[i];
+        put_row(pattern::to_u64(row), out, 8 * i);
+        i += 1;
+    }
+}
+
+fn least(a: usize, b: usize) -> usize
+    ensures { λ r. ⌜ r ≡ Prim.Native.Nat.min a b ⌝ }
+{
+    if a <= b { a } else { b }
+}
+
+// Reads a run into the rows, of which there are enough for it, and lays them out as bytes.
+pub fn read_by(input: &[u8], signed: bool, rows: &mut [i64], out: &mut [u8]) -> u64
+    requires { ⌜ Enough (length (now rows)) (now input) ⌝ }
+    ensures { λ r. ⌜ LoadedAs (now (input .entry)) signed (now (out .entry)) (now (out .exit)) r ⌝ }
+{
+    let places = least(out.len() / 8, rows.len());
+    let answer = rle_v2::read_run(input, ByteOffset::new(0), signed, &mut rows[..places]);
+    put_rows(rows, answer.rows(), out);
+    answer.packed()
+}
+
+// Places for the rows of a short run, and of any. What stands in them is of no account.
+pub fn few_rows() -> [i64; Kind::MAX_REPEAT] {
+    [0; Kind::MAX_REPEAT]
+}
+
+pub fn all_rows() -> [i64; Kind::MAX_ROWS] {
+    [0; Kind::MAX_ROWS]
+}
+
+// Whether ten rows are enough for the run that the input begins with: a short repeat, or a header that says ten rows at most.
+pub fn is_short(input: &[u8]) -> bool
+    ensures { λ r. ⌜ (r ≡ true → Enough 10 (now (input .entry))) ⌝ }
+{
+    if input.len() < 2 {
+        return false;
+    }
+    if input[0] / 64 == 0 {
+        return true;
+    }
+    input[0] % 2 == 0 && input[1] < 10
+}

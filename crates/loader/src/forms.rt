@@ -1,0 +1,34 @@
+// The writer, with its form and width as numbers of any size.
+ghost use mathlib.Core.Path.{_≡_};
+ghost use Prim.Native.Nat.{min};
+ghost use Rattle.format.specs.Loader.{formOf, WrittenBy};
+use format::Answer;
+use format::Form;
+
+fn form_of(form: u64) -> Form
+    ensures { λ r. ⌜ r ≡ formOf form ⌝ }
+{
+    match form {
+        0 => Form::ShortRepeat,
+        1 => Form::Direct,
+        2 => Form::FixedDelta,
+        _ => Form::PackedDelta,
+    }
+}
+
+// A width above 255 is no form's, and 255 is none either.
+fn byte_width(width: u64) -> u8
+    ensures { λ r. ⌜ r ≡ min width 255 ⌝ }
+{
+    if width <= 255 { width as u8 } else { 255 }
+}
+
+// Writes one run; a form that is none of the four is refused, whatever the rows are.
+pub fn write(rows: &[i64], signed: bool, form: u64, width: u64, out: &mut [u8]) -> Answer
+    ensures { λ r. ⌜ WrittenBy (now (rows .entry)) signed form width (now (out .entry)) (now (out .exit)) r ⌝ }
+{
+    if 3 < form {
+        return Answer::refused(10, 0);
+    }
+    writer::write_run(rows, signed, form_of(form), byte_width(width), out)
+}

@@ -1,0 +1,110 @@
+// An answer as words: the case, the refusal's number and place, the kind, rows and bytes.
+ghost use mathlib.Core.Path.{_≡_};
+ghost use Prim.Native.Nat.{_≤_};
+ghost use lib.ListN.{length};
+ghost use Rattle.format.specs.Loader.{answerCase, answerKind, answerWords, streamCase, streamNumber, streamPlace, streamRows, streamBytes, streamWords, wordCount, Put};
+ghost use Rattle.format.specs.Answers.{answerNumber};
+use format::Answer;
+use format::Stream;
+
+// How many words an answer has.
+pub const COUNT: usize = 6;
+
+// What a call with fewer words answers.
+pub const TOO_FEW: u64 = 18446744073709551615;
+
+fn case(answer: Answer) -> u64
+    ensures { λ r. ⌜ r ≡ answerCase answer ⌝ }
+{
+    match answer {
+        Answer::End => 0,
+        Answer::Run(_) => 1,
+        Answer::Refused(_) => 2,
+    }
+}
+
+fn kind(answer: Answer) -> u8
+    ensures { λ r. ⌜ r ≡ answerKind answer ⌝ }
+{
+    match answer {
+        Answer::Run(r) => {
+            let kind = r.kind;
+            kind.number()
+        }
+        Answer::Refused(_) => 0,
+        Answer::End => 0,
+    }
+}
+
+// The words of a call's answer, in the first of the words lent. Answers the refusal's number.
+pub fn put_answer(answer: Answer, words: &mut [u64]) -> u64
+    requires { ⌜ wordCount ≤ length (now words) ⌝ }
+    ensures { λ r. ⌜ Put answerWords answerNumber answer (now (words .entry)) (now (words .exit)) r ⌝ }
+{
+    words[0] = case(answer);
+    words[1] = answer.number() as u64;
+    words[2] = answer.place() as u64;
+    words[3] = kind(answer) as u64;
+    words[4] = answer.rows() as u64;
+    words[5] = answer.consumed() as u64;
+    answer.number() as u64
+}
+
+fn stream_case(stream: Stream) -> u64
+    ensures { λ r. ⌜ r ≡ streamCase stream ⌝ }
+{
+    match stream {
+        Stream::Whole(_) => 1,
+        Stream::Refused(_, _) => 2,
+    }
+}
+
+fn stream_number(stream: Stream) -> u8
+    ensures { λ r. ⌜ r ≡ streamNumber stream ⌝ }
+{
+    match stream {
+        Stream::Whole(_) => 0,
+        Stream::Refused(f, _) => f.number,
+    }
+}
+
+fn stream_place(stream: Stream) -> usize
+    ensures { λ r. ⌜ r ≡ streamPlace stream ⌝ }
+{
+    match stream {
+        Stream::Whole(_) => 0,
+        Stream::Refused(f, _) => f.place.bytes,
+    }
+}
+
+fn stream_rows(stream: Stream) -> usize
+    ensures { λ r. ⌜ r ≡ streamRows stream ⌝ }
+{
+    match stream {
+        Stream::Whole(c) => c.rows.rows,
+        Stream::Refused(_, c) => c.rows.rows,
+    }
+}
+
+fn stream_consumed(stream: Stream) -> usize
+    ensures { λ r. ⌜ r ≡ streamBytes stream ⌝ }
+{
+    match stream {
+        Stream::Whole(c) => c.consumed.bytes,
+        Stream::Refused(_, c) => c.consumed.bytes,
+    }
+}
+
+// The words of a stream's answer: of no one kind, with the counts of the runs that were read, also where a run is refused.
+pub fn put_stream(stream: Stream, words: &mut [u64]) -> u64
+    requires { ⌜ wordCount ≤ length (now words) ⌝ }
+    ensures { λ r. ⌜ Put streamWords streamNumber stream (now (words .entry)) (now (words .exit)) r ⌝ }
+{
+    words[0] = stream_case(stream);
+    words[1] = stream_number(stream) as u64;
+    words[2] = stream_place(stream) as u64;
+    words[3] = 0;
+    words[4] = stream_rows(stream) as u64;
+    words[5] = stream_consumed(stream) as u64;
+    stream_number(stream) as u64
+}

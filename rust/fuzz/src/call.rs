@@ -1,0 +1,203 @@
+//! A call, and what the model of document 01 answers it.
+use differential::frames;
+use differential::random::Random;
+use menakovitsy::exported::{case, kind, TOO_FEW_WORDS, WORDS};
+use model::{Answer, Booleans, Form, Kind, Refusal, Stream, Value, Written};
+
+/// The most places that are lent for rows, and for bytes.
+pub const MOST: usize = 5000;
+
+/// One call of an exported function: what it is given, and how many places it is lent.
+#[derive(Debug, Clone, PartialEq, Eq)]
+pub enum Call {
+    Run { input: Vec<u8>, flag: u64, bytes: usize },
+    RunAt { input: Vec<u8>, at: u64, flag: u64, places: usize },
+    Stream { input: Vec<u8>, at: u64, flag: u64, places: usize },
+    Booleans { input: Vec<u8>, at: u64, n: u64, places: usize },
+    Value { input: Vec<u8>, at: u64, n: u64 },
+    Write { rows: Vec<i64>, flag: u64, form: u64, width: u64, places: usize },
+    Narrowest { number: u64 },
+}
+
+/// What a call comes to: what it returns, its words (none where it is lent too few, or takes none),
+/// and what stands in the first places.
+#[derive(Debug, Clone, Default, PartialEq, Eq)]
+pub struct Outcome {
+    pub returned: u64,
+    pub words: Vec<u64>,
+    pub rows: Vec<i64>,
+    pub bytes: Vec<u8>,
+}
+
+impl Outcome {
+    fn of(words: [u64; WORDS]) -> Self {
+        Outcome { returned: words[1], words: words.to_vec(), ..Outcome::default() }
+    }
+
+    fn refused(refusal: Refusal, rows: usize, bytes: usize) -> Self {
+        let number = u64::from(refusal.number);
+        Self::of([case::REFUSED, number, refusal.place as u64, 0, rows as u64, bytes as u64])
+    }
+
+    fn read(kind: u64, rows: usize, bytes: usize) -> Self {
+        Self::of([case::READ, 0, 0, kind, rows as u64, bytes as u64])
+    }
+}
+
+fn number(kind: Kind) -> u64 {
+    match kind {
+        Kind::ShortRepeat => kind::SHORT_REPEAT,
+        Kind::Direct => kind::DIRECT,
+        Kind::PatchedBase => kind::PATCHED_BASE,
+        Kind::Delta => kind::DELTA,
+    }
+}
+
+impl Call {
+    /// Any call.
+    pub fn any(random: &mut Random) -> Self {
+        let flag = if random.once_in(8) { random.any() } else { random.below(2) as u64 };
+        let places = random.pick(&[0, 1, 5, 12, 64, 512, 1000]);
+        match random.below(16) {
+            0..=1 => {
+                let bytes = 8 * places + if random.once_in(2) { random.below(8) } else { 0 };
+                Call::Run { input: frames::any_frame(random), flag, bytes: bytes.min(MOST) }
+            }
+            2..=4 => {
+                let input = frames::any_frame(random);
+                Call::RunAt { at: frames::any_position(input.len(), random), input, flag, places }
+            }
+            5..=7 => {
+                let input = frames::any_stream(random);
+                Call::Stream { at: frames::any_position(input.len(), random), input, flag, places }
+            }
+            8..=9 => {
+                let input = frames::any_booleans(random);
+                let most = 8 * input.len() + 40;
+                let n = if random.once_in(32) { random.any() } else { random.below(most) as u64 };
+                let places = random.pick(&[0, 8, 64, 2000, MOST]);
+                Call::Booleans { at: frames::any_position(input.len(), random), input, n, places }
+            }
+            10..=11 => {
+                let input = frames::any_frame(random);
+                let most = input.len() + 3;
+                let n = if random.once_in(8) { random.any() } else { random.below(most) as u64 };
+                Call::Value { at: frames::any_position(input.len(), random), input, n }
+            }
+            12..=14 => Self::any_writing(flag, random),
+            _ => {
+                let shift = random.below(64);
+                Call::Narrowest { number: random.any() >> shift }
+            }
+        }
+    }
+
+    fn any_writing(flag: u64, random: &mut Random) -> Self {
+        let (rows, form, width) = frames::any_rows(random);
+        let form = match form {
+            _ if random.once_in(32) => random.any(),
+            Form::ShortRepeat => 0,
+            Form::Direct => 1,
+            Form::FixedDelta => 2,
+            Form::PackedDelta => 3,
+        };
+        let width = if random.once_in(32) { random.any() >> random.below(64) } else { u64::from(width) };
+        Call::Write { rows, flag, form, width, places: random.pick(&[0, 2, 9, 40, MOST]) }
+    }
+
+    /// The function's name.
+    pub fn function(&self) -> &'static str {
+        match self {
+            Call::Run { .. } => "orc_read_run",
+            Call::RunAt { .. } => "orc_read_run_at",
+            Call::Stream { .. } => "orc_read_stream",
+            Call::Booleans { .. } => "orc_read_booleans",
+            Call::Value { .. } => "orc_byte_value",
+            Call::Write { .. } => "orc_write_run",
+            Call::Narrowest { .. } => "orc_narrowest_code",
+        }
+    }
+
+    /// What the call comes to, lent so many words.
+    pub fn expected(&self, words: usize) -> Outcome {
+        let takes_words = !matches!(self, Call::Run { .. } | Call::Narrowest { .. });
+        if takes_words && words < WORDS {
+            return Outcome { returned: TOO_FEW_WORDS, ..Outcome::default() };
+        }
+        match self {
+            Call::Run { input, flag, bytes } => packed(&model::read_run(input, 0, *flag != 0, bytes / 8)),
+            Call::RunAt { input, at, flag, places } => {
+                match model::read_run(input, *at as usize, *flag != 0, *places) {
+                    Answer::End => Outcome::of([0; WORDS]),
+                    Answer::Refused(refusal) => Outcome::refused(refusal, 0, 0),
+                    Answer::Run(run) => Outcome {
+                        rows: run.rows.clone(),
+                        ..Outcome::read(number(run.kind), run.rows.len(), run.consumed)
+                    },
+                }
+            }
+            Call::Stream { input, at, flag, places } => {
+                match model::read_stream(input, *at as usize, *flag != 0, *places) {
+                    Stream::Whole { rows, consumed } => {
+                        let counts = Outcome::read(0, rows.len(), consumed);
+                        Outcome { rows, ..counts }
+                    }
+                    Stream::Refused { refusal, rows, consumed } => {
+                        let counts = Outcome::refused(refusal, rows.len(), consumed);
+                        Outcome { rows, ..counts }
+                    }
+                }
+            }
+            Call::Booleans { input, at, n, places } => {
+                match model::read_booleans(input, *at as usize, *n as usize, *places) {
+                    Booleans::Refused(refusal) => Outcome::refused(refusal, 0, 0),
+                    Booleans::Given { values, consumed } => Outcome {
+                        bytes: values.iter().map(|value| u8::from(*value)).collect(),
+                        ..Outcome::read(kind::BOOLEANS, values.len(), consumed)
+                    },
+                }
+            }
+            Call::Value { input, at, n } => match model::read_value(input, *at as usize, *n as usize) {
+                Value::Refused(refusal) => Outcome::refused(refusal, 0, 0),
+                Value::Given(part) => Outcome::read(kind::BYTE_VALUE, part.len(), part.len()),
+            },
+            Call::Write { rows, flag, form, width, places } => {
+                written(rows, *flag != 0, *form, *width, *places)
+            }
+            Call::Narrowest { number } => {
+                Outcome { returned: u64::from(model::narrowest_code(*number)), ..Outcome::default() }
+            }
+        }
+    }
+}
+
+/// The one number of `orc_read_run`, and the rows as bytes.
+fn packed(answer: &Answer) -> Outcome {
+    match answer {
+        Answer::End => Outcome::default(),
+        Answer::Refused(refusal) => Outcome { returned: refusal.number.into(), ..Outcome::default() },
+        Answer::Run(run) => Outcome {
+            returned: 65_536 * run.consumed as u64 + run.rows.len() as u64,
+            bytes: run.rows.iter().flat_map(|row| row.to_le_bytes()).collect(),
+            ..Outcome::default()
+        },
+    }
+}
+
+/// A form that is none is refused with 10, whatever the rows; a width above 255 is none of any form's.
+fn written(rows: &[i64], signed: bool, form: u64, width: u64, places: usize) -> Outcome {
+    let form = match form {
+        0 => Form::ShortRepeat,
+        1 => Form::Direct,
+        2 => Form::FixedDelta,
+        3 => Form::PackedDelta,
+        _ => return Outcome::refused(Refusal { number: 10, place: 0 }, 0, 0),
+    };
+    match model::write_run(rows, signed, form, u8::try_from(width).unwrap_or(255), places) {
+        Written::Refused(refusal) => Outcome::refused(refusal, 0, 0),
+        Written::Run { kind, rows, bytes } => {
+            let counts = Outcome::read(number(kind), rows, bytes.len());
+            Outcome { bytes, ..counts }
+        }
+    }
+}

@@ -1,0 +1,144 @@
+//! Random calls of the exported functions, as the loader links them, each held to the model of
+//! document 01: what is returned, every word, every row and byte, and what must keep its content.
+//!
+//! Each slice that a call is lent stands against a page that nobody may touch ([`fence`]), so a call
+//! that reads or writes one element too far ends the process, which says which call it was.
+pub mod call;
+pub mod fence;
+pub mod watch;
+
+use std::collections::BTreeMap;
+use std::ptr;
+
+use call::{Call, Outcome, MOST};
+use differential::random::Random;
+use fence::{Fenced, Side};
+use menakovitsy::exported::{self, WORDS};
+
+/// The longest input that is made, and the most rows that are written.
+const LONGEST: usize = 1 << 16;
+
+/// The pages that calls are lent.
+pub struct Session {
+    input: Fenced<u8>,
+    given: Fenced<i64>,
+    rows: Fenced<i64>,
+    bytes: Fenced<u8>,
+    words: Fenced<u64>,
+    /// How many calls of each function came to each number (of `orc_read_run` a run is number 0, as
+    /// of the others).
+    pub tally: BTreeMap<(&'static str, u64), u64>,
+}
+
+impl Default for Session {
+    fn default() -> Self {
+        Session {
+            input: Fenced::new(LONGEST),
+            given: Fenced::new(LONGEST / 8),
+            rows: Fenced::new(MOST),
+            bytes: Fenced::new(MOST),
+            words: Fenced::new(WORDS + 8),
+            tally: BTreeMap::new(),
+        }
+    }
+}
+
+/// A slice's pointer and length. An empty one may be null.
+fn lent<T: fence::Mark>(slice: &Fenced<T>, null: bool) -> (*mut T, usize) {
+    let pointer = if null && slice.is_empty() { ptr::null_mut() } else { slice.pointer() };
+    (pointer, slice.len())
+}
+
+impl Session {
+    /// Makes the call of this number under a seed, and holds it to the model: or what was wrong.
+    pub fn call(&mut self, seed: u64, number: u64) -> Result<(), String> {
+        // Each call has a seed of its own, so that it can be made again by itself.
+        let mut random = Random::new(seed ^ number.wrapping_mul(0xD134_2543_DE82_EF95));
+        let mut random = Random::new(random.any());
+        let call = Call::any(&mut random);
+        let words = match random.below(16) {
+            0 => random.below(WORDS),
+            1 => WORDS + random.below(8),
+            _ => WORDS,
+        };
+        let expected = call.expected(words);
+        watch::begin(seed, number);
+        let returned = self.made(&call, words, &mut random);
+        watch::end();
+        let tallied = if returned < 65_536 || returned == u64::MAX { returned } else { 0 };
+        let tallied = if call.function() == "orc_narrowest_code" { 0 } else { tallied };
+        *self.tally.entry((call.function(), tallied)).or_default() += 1;
+        self.held(&call, returned, &expected).map_err(|wrong| {
+            format!("seed {seed}, call {number}: {wrong}\n  {call:?}, {words} words\n  expected {expected:?}")
+        })
+    }
+
+    /// Lends the slices, each against the fence of a random side, and makes the call.
+    fn made(&mut self, call: &Call, words: usize, random: &mut Random) -> u64 {
+        let mut side = || if random.once_in(4) { Side::Before } else { Side::Behind };
+        let (input, rows, places, bytes): (&[u8], &[i64], usize, usize) = match call {
+            Call::Run { input, bytes, .. } => (input, &[], 0, *bytes),
+            Call::RunAt { input, places, .. } | Call::Stream { input, places, .. } => {
+                (input, &[], *places, 0)
+            }
+            Call::Booleans { input, places, .. } => (input, &[], 0, *places),
+            Call::Value { input, .. } => (input, &[], 0, 0),
+            Call::Write { rows, places, .. } => (&[], rows, 0, *places),
+            Call::Narrowest { .. } => (&[], &[], 0, 0),
+        };
+        self.input.holding(input, side());
+        self.given.holding(rows, side());
+        self.rows.places(places, side());
+        self.bytes.places(bytes, side());
+        self.words.places(words, side());
+        let null = random.once_in(2);
+        let (i, il) = lent(&self.input, null);
+        let (g, gl) = lent(&self.given, null);
+        let (r, rl) = lent(&self.rows, null);
+        let (b, bl) = lent(&self.bytes, null);
+        let (w, wl) = lent(&self.words, null);
+        // SAFETY: the pointers are of mapped pages, of these lengths, and none is borrowed meanwhile.
+        unsafe {
+            match *call {
+                Call::Run { flag, .. } => exported::orc_read_run(i, il, b, bl, flag),
+                Call::RunAt { at, flag, .. } => exported::orc_read_run_at(i, il, at, flag, r, rl, w, wl),
+                Call::Stream { at, flag, .. } => exported::orc_read_stream(i, il, at, flag, r, rl, w, wl),
+                Call::Booleans { at, n, .. } => exported::orc_read_booleans(i, il, at, n, b, bl, w, wl),
+                Call::Value { at, n, .. } => exported::orc_byte_value(i, il, at, n, w, wl),
+                Call::Write { flag, form, width, .. } => {
+                    exported::orc_write_run(g, gl, flag, form, width, b, bl, w, wl)
+                }
+                Call::Narrowest { number } => exported::orc_narrowest_code(number),
+            }
+        }
+    }
+
+    /// Holds what a call left behind to what it must.
+    fn held(&self, call: &Call, returned: u64, expected: &Outcome) -> Result<(), String> {
+        let kept = match call {
+            Call::Run { input, .. }
+            | Call::RunAt { input, .. }
+            | Call::Stream { input, .. }
+            | Call::Booleans { input, .. }
+            | Call::Value { input, .. } => self.input.is(input) && self.given.is(&[]),
+            Call::Write { rows, .. } => self.given.is(rows) && self.input.is(&[]),
+            Call::Narrowest { .. } => true,
+        };
+        let right = [
+            (returned == expected.returned, "what it returned"),
+            (self.words.is(&expected.words), "its words"),
+            (self.rows.is(&expected.rows), "its rows"),
+            (self.bytes.is(&expected.bytes), "its bytes"),
+            (kept, "what it was given to read"),
+        ];
+        match right.iter().find(|(right, _)| !right) {
+            None => Ok(()),
+            Some((_, what)) => Err(format!(
+                "{what} differs: returned {returned}, words {:?}, rows {:?}, bytes {:?}",
+                self.words.content(),
+                self.rows.content(),
+                self.bytes.content()
+            )),
+        }
+    }
+}

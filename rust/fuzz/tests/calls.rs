@@ -1,0 +1,59 @@
+//! A few million calls behind fences, in as many threads as there are tests of them; and the fences hold.
+use std::os::unix::process::ExitStatusExt;
+use std::process::Command;
+
+use fuzz::{watch, Session};
+
+const CALLS: u64 = 1_000_000;
+
+/// A million calls under a seed.
+fn a_million_calls(seed: u64) {
+    watch::start();
+    let mut session = Session::default();
+    for number in 0..CALLS {
+        session.call(seed, number).unwrap_or_else(|wrong| panic!("{wrong}"));
+    }
+    // Each function gave each answer that it can give.
+    let readers = [0, 1, 2, 3, 4, 5, 6, 7, 8];
+    let too_few = u64::MAX;
+    let answers: [(&str, &[u64]); 7] = [
+        ("orc_read_run", &readers),
+        ("orc_read_run_at", &[&readers[..], &[too_few]].concat()),
+        ("orc_read_stream", &[&readers[..], &[too_few]].concat()),
+        ("orc_read_booleans", &[0, 6, 8, too_few]),
+        ("orc_byte_value", &[0, 6, too_few]),
+        ("orc_write_run", &[0, 8, 9, 10, 11, too_few]),
+        ("orc_narrowest_code", &[0]),
+    ];
+    for (function, numbers) in answers {
+        let given: Vec<u64> =
+            session.tally.keys().filter(|(name, _)| *name == function).map(|(_, number)| *number).collect();
+        assert_eq!(given, numbers, "{function}");
+    }
+}
+
+#[test]
+fn the_first_million() {
+    a_million_calls(1);
+}
+
+#[test]
+fn the_second_million() {
+    a_million_calls(2);
+}
+
+const SIGSEGV: i32 = 11;
+
+#[test]
+fn the_fences_hold() {
+    for side in ["before", "behind"] {
+        let output = Command::new(env!("CARGO_BIN_EXE_fuzz")).args(["--touch", side]).output().unwrap();
+        let said = String::from_utf8_lossy(&output.stderr);
+        // An emulator may lose the handler's stack: then the process has begun to say it, and dies.
+        if output.status.signal() != Some(SIGSEGV) {
+            assert_eq!(output.status.code(), Some(watch::TOUCHED), "{side}");
+            assert_eq!(said, "a call touched a fence: make it again with --seed 0 --from 0 --calls 1\n");
+        }
+        assert!(said.starts_with("a call touched a fence"), "{side}: {said}");
+    }
+}

@@ -1,0 +1,45 @@
+/* A flag column, an integer column and a cut copy of it, from C.
+ *
+ *     cc -std=c11 -Wall -Wextra -Werror -pedantic -I.. flags.c libloader.a -o flags
+ */
+#include <inttypes.h>
+#include <stdio.h>
+
+#include "menakovitsy.h"
+
+int main(void)
+{
+    /* 32 flags: 24 true, 8 false. */
+    static const uint8_t flags[] = {0x00, 0xFF, 0xFF, 0x00};
+    /* Five rows of 300; then 1, 2, 3. */
+    static const uint8_t column[] = {0x0A, 0x01, 0x2C, 0x46, 0x02, 0x12, 0x30};
+    uint64_t words[ORC_WORDS];
+    uint8_t flag[32];
+    int64_t rows[512];
+
+    if (orc_version() != ORC_VERSION) {
+        fprintf(stderr, "libloader.a is not of this header's version\n");
+        return 1;
+    }
+
+    if (orc_read_booleans(flags, sizeof flags, 0, 32, flag, sizeof flag, words, ORC_WORDS) != 0)
+        return 1;
+    printf("flag 23 is %d, flag 24 is %d\n", flag[23], flag[24]);
+
+    if (orc_read_stream(column, sizeof column, 0, 0, rows, 512, words, ORC_WORDS) != 0)
+        return 1;
+    printf("%" PRIu64 " rows from %" PRIu64 " bytes:", words[ORC_ROWS], words[ORC_BYTES]);
+    for (uint64_t k = 0; k < words[ORC_ROWS]; k++)
+        printf(" %" PRId64, rows[k]);
+    printf("\n");
+
+    /* The same column, cut inside its second run. */
+    if (orc_read_stream(column, 5, 0, 0, rows, 512, words, ORC_WORDS) == ORC_INPUT_ENDS)
+        printf("cut: the run at byte %" PRIu64 " is not whole; %" PRIu64 " rows are\n",
+               words[ORC_PLACE], words[ORC_ROWS]);
+
+    /* No words at all: an answer of its own. */
+    if (orc_read_stream(column, sizeof column, 0, 0, rows, 512, NULL, 0) == ORC_TOO_FEW_WORDS)
+        printf("an answer has %d words\n", ORC_WORDS);
+    return 0;
+}

@@ -1,0 +1,126 @@
+//! The exported functions as they stand in the library, for those who lend the words themselves:
+//! the probe and the fuzz program of this repository do. Everyone else has the safe functions.
+//!
+//! A slice passes as its pointer, then its length in elements; a null pointer with length 0 is
+//! allowed. Nothing that is written may overlap another argument. Calls share no state.
+//!
+//! A function that takes words writes its whole answer into the first [`WORDS`] of them, leaves the
+//! others as they were, and returns the refusal's number, 0 where nothing is refused; lent fewer, it
+//! returns [`TOO_FEW_WORDS`] and touches nothing. What each word means stands in [`word`].
+
+/// The version of these functions that this crate is written for.
+pub const VERSION: u64 = 1;
+
+/// How many words an answer has.
+pub const WORDS: usize = 6;
+
+/// What a function returns that was lent fewer words than its answer has.
+pub const TOO_FEW_WORDS: u64 = u64::MAX;
+
+/// The most rows that one run holds: with so many places, no run is refused for want of them.
+pub const MAX_ROWS: usize = 512;
+
+/// The words of an answer, by their place. Later versions append words; none changes its meaning.
+pub mod word {
+    /// The case: see [`case`](super::case).
+    pub const CASE: usize = 0;
+    /// The refusal's number, 0 unless refused.
+    pub const NUMBER: usize = 1;
+    /// The byte where what is refused begins, 0 unless refused.
+    pub const PLACE: usize = 2;
+    /// The kind of a run: see [`kind`](super::kind). 0 where there is none, and for a stream.
+    pub const KIND: usize = 3;
+    /// Rows: of the run; of a stream, in both its cases, of the runs that were read.
+    pub const ROWS: usize = 4;
+    /// Bytes, likewise: consumed, or written by the writer.
+    pub const BYTES: usize = 5;
+}
+
+/// What the word `CASE` may hold.
+pub mod case {
+    /// The input is empty. Run readers only.
+    pub const END: u64 = 0;
+    /// A run, booleans or a byte value; of the stream reader: the whole stream was read.
+    pub const READ: u64 = 1;
+    /// A refusal.
+    pub const REFUSED: u64 = 2;
+}
+
+/// What the word `KIND` may hold.
+pub mod kind {
+    /// An integer run: one value, 3 to 10 times.
+    pub const SHORT_REPEAT: u64 = 0;
+    /// An integer run: packed rows.
+    pub const DIRECT: u64 = 1;
+    /// An integer run: packed rows over a base, some of them patched.
+    pub const PATCHED_BASE: u64 = 2;
+    /// An integer run: a first row and steps.
+    pub const DELTA: u64 = 3;
+    /// Booleans.
+    pub const BOOLEANS: u64 = 4;
+    /// A byte value.
+    pub const BYTE_VALUE: u64 = 5;
+}
+
+#[allow(missing_docs)] // what they do stands at the safe functions of the same names
+extern "C" {
+    pub fn orc_version() -> u64;
+
+    pub fn orc_read_run(input: *const u8, input_len: usize, out: *mut u8, out_len: usize, flag: u64) -> u64;
+
+    pub fn orc_read_run_at(
+        input: *const u8,
+        input_len: usize,
+        at: u64,
+        flag: u64,
+        rows: *mut i64,
+        rows_len: usize,
+        words: *mut u64,
+        words_len: usize,
+    ) -> u64;
+
+    pub fn orc_read_stream(
+        input: *const u8,
+        input_len: usize,
+        at: u64,
+        flag: u64,
+        rows: *mut i64,
+        rows_len: usize,
+        words: *mut u64,
+        words_len: usize,
+    ) -> u64;
+
+    pub fn orc_read_booleans(
+        input: *const u8,
+        input_len: usize,
+        at: u64,
+        n: u64,
+        out: *mut u8,
+        out_len: usize,
+        words: *mut u64,
+        words_len: usize,
+    ) -> u64;
+
+    pub fn orc_byte_value(
+        input: *const u8,
+        input_len: usize,
+        at: u64,
+        n: u64,
+        words: *mut u64,
+        words_len: usize,
+    ) -> u64;
+
+    pub fn orc_write_run(
+        rows: *const i64,
+        rows_len: usize,
+        flag: u64,
+        form: u64,
+        width: u64,
+        out: *mut u8,
+        out_len: usize,
+        words: *mut u64,
+        words_len: usize,
+    ) -> u64;
+
+    pub fn orc_narrowest_code(x: u64) -> u64;
+}

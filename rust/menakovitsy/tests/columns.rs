@@ -1,0 +1,123 @@
+//! Columns: all at once, by runs and by rows, and nothing allocated for a run.
+use std::alloc::{GlobalAlloc, Layout, System};
+use std::cell::Cell;
+
+use menakovitsy::*;
+
+/// Five rows of 300, then 1, 2, 3, then a run that is cut.
+const CUT: [u8; 9] = [0x0A, 0x01, 0x2C, 0x46, 0x02, 0x12, 0x30, 0x46, 0x02];
+
+const ROWS: [i64; 8] = [300, 300, 300, 300, 300, 1, 2, 3];
+
+thread_local! {
+    static ALLOCATIONS: Cell<usize> = const { Cell::new(0) };
+}
+
+struct Counting;
+
+// SAFETY: all is the system's; the count changes nothing of it.
+unsafe impl GlobalAlloc for Counting {
+    unsafe fn alloc(&self, layout: Layout) -> *mut u8 {
+        ALLOCATIONS.with(|count| count.set(count.get() + 1));
+        System.alloc(layout)
+    }
+
+    unsafe fn dealloc(&self, pointer: *mut u8, layout: Layout) {
+        System.dealloc(pointer, layout);
+    }
+}
+
+#[global_allocator]
+static ALLOCATOR: Counting = Counting;
+
+fn whole() -> Column<'static> {
+    Column::new(&CUT[..7], Sign::Unsigned)
+}
+
+fn cut() -> Column<'static> {
+    Column::new(&CUT, Sign::Unsigned)
+}
+
+fn is_the_cut(refused: StreamRefused) {
+    assert_eq!((refused.refused.refusal, refused.refused.at), (Refusal::InputEnds, ByteOffset(7)));
+    assert_eq!((refused.before.rows, refused.before.bytes), (RowNumber(8), ByteOffset(7)));
+    assert!(refused.to_string().starts_with("the run at byte 7, after 8 rows: refusal 6: "));
+}
+
+#[test]
+fn all_at_once() {
+    let mut rows = [7777; 10];
+    let read = whole().read_into(&mut rows).unwrap();
+    assert_eq!((read.rows, read.bytes), (RowNumber(8), ByteOffset(7)));
+    assert_eq!((&rows[..8], &rows[8..]), (&ROWS[..], &[7777; 2][..]));
+    assert_eq!(whole().to_vec().unwrap(), ROWS);
+    assert_eq!(whole().starting_at(ByteOffset(3)).to_vec().unwrap(), [1, 2, 3]);
+    let mut rows = [7777; 10];
+    is_the_cut(cut().read_into(&mut rows).unwrap_err());
+    assert_eq!((&rows[..8], &rows[8..]), (&ROWS[..], &[7777; 2][..]));
+    is_the_cut(cut().to_vec().unwrap_err());
+    // Too few places: the run that has none is refused, those before it stand.
+    let mut rows = [7777; 7];
+    let refused = whole().read_into(&mut rows).unwrap_err();
+    assert_eq!((refused.refused.refusal, refused.before.rows), (Refusal::TooFewPlaces, RowNumber(5)));
+    assert_eq!(rows, [300, 300, 300, 300, 300, 7777, 7777]);
+}
+
+/// More rows than are made places for at first.
+#[test]
+fn long_columns() {
+    let step = [0xC1, 0xFF, 0x00, 0x02]; // 512 rows: 0, 1, 2, ..
+    let bytes = step.repeat(100);
+    let rows = Column::new(&bytes, Sign::Unsigned).to_vec().unwrap();
+    assert_eq!(rows.len(), 51_200);
+    assert!(rows.iter().enumerate().all(|(k, row)| *row == (k % 512) as i64));
+}
+
+#[test]
+fn by_runs() {
+    let mut runs = cut().runs();
+    let first = runs.next_run().unwrap().unwrap();
+    assert_eq!((first.at, first.first, first.run.kind), (ByteOffset(0), RowNumber(0), Kind::ShortRepeat));
+    assert_eq!(first.rows, [300; 5]);
+    let second = runs.next_run().unwrap().unwrap();
+    assert_eq!((second.at, second.first, second.run.bytes), (ByteOffset(3), RowNumber(5), ByteOffset(4)));
+    assert_eq!(second.rows, [1, 2, 3]);
+    is_the_cut(runs.next_run().unwrap().unwrap_err());
+    assert!(runs.next_run().is_none());
+    assert_eq!((runs.position(), runs.given().rows), (ByteOffset(7), RowNumber(8)));
+    assert!(Column::new(&[], Sign::Signed).runs().next_run().is_none());
+}
+
+#[test]
+fn by_rows() {
+    assert_eq!(whole().rows().collect::<Result<Vec<i64>, _>>().unwrap(), ROWS);
+    let mut rows = cut().into_iter();
+    for row in ROWS {
+        assert_eq!(rows.next(), Some(Ok(row)));
+    }
+    is_the_cut(rows.next().unwrap().unwrap_err());
+    assert_eq!((rows.next(), rows.next()), (None, None));
+}
+
+#[test]
+fn nothing_is_allocated_for_a_run() {
+    let bytes = CUT[..7].repeat(1000);
+    let column = Column::new(&bytes, Sign::Unsigned);
+    let mut places = vec![0; 8000];
+    let before = ALLOCATIONS.with(Cell::get);
+    let mut sum = 0;
+    for row in column.rows() {
+        sum += row.unwrap();
+    }
+    let mut runs = column.runs();
+    while let Some(run) = runs.next_run() {
+        sum += run.unwrap().rows.iter().sum::<i64>();
+    }
+    let _ = column.read_into(&mut places).unwrap();
+    sum += places.iter().sum::<i64>();
+    let allocated = ALLOCATIONS.with(Cell::get) - before;
+    assert_eq!((sum, allocated), (3 * 1000 * 1506, 0));
+    // The count counts.
+    drop(column.to_vec());
+    assert!(ALLOCATIONS.with(Cell::get) > before);
+}

@@ -1,0 +1,95 @@
+//! The header says what the library does: its numbers are the wrapper's, and its example in C is
+//! compiled with warnings as errors and run.
+use std::path::{Path, PathBuf};
+use std::process::Command;
+use std::{env, fs};
+
+use menakovitsy::exported::{self, case, kind, word};
+use menakovitsy::Refusal;
+
+const HEADER: &str = include_str!("../menakovitsy.h");
+
+fn has(line: &str) {
+    assert!(HEADER.contains(line), "menakovitsy.h lacks {line:?}");
+}
+
+#[test]
+fn the_header_has_the_same_numbers() {
+    for refusal in Refusal::ALL {
+        let mut name = String::from("ORC");
+        let mut before = ' ';
+        for c in format!("{refusal:?}").chars() {
+            if c.is_uppercase() || c.is_ascii_digit() && !before.is_ascii_digit() {
+                name.push('_');
+            }
+            name.push(c.to_ascii_uppercase());
+            before = c;
+        }
+        has(&format!("    {name} = {},\n", refusal.number()));
+    }
+    has(&format!("#define ORC_VERSION UINT64_C({})\n", exported::VERSION));
+    has(&format!("#define ORC_WORDS {}\n", exported::WORDS));
+    has("#define ORC_TOO_FEW_WORDS UINT64_MAX\n");
+    for (name, place) in [
+        ("CASE", word::CASE),
+        ("NUMBER", word::NUMBER),
+        ("PLACE", word::PLACE),
+        ("KIND", word::KIND),
+        ("ROWS", word::ROWS),
+        ("BYTES", word::BYTES),
+    ] {
+        has(&format!("    ORC_{name} = {place}"));
+    }
+    for (name, number) in
+        [("CASE_END", case::END), ("CASE_READ", case::READ), ("CASE_REFUSED", case::REFUSED)]
+    {
+        has(&format!("    ORC_{name} = {number}"));
+    }
+    for (name, number) in [
+        ("SHORT_REPEAT", kind::SHORT_REPEAT),
+        ("DIRECT", kind::DIRECT),
+        ("PATCHED_BASE", kind::PATCHED_BASE),
+        ("DELTA", kind::DELTA),
+        ("BOOLEANS", kind::BOOLEANS),
+        ("BYTE_VALUE", kind::BYTE_VALUE),
+    ] {
+        has(&format!("    ORC_{name} = {number}"));
+    }
+}
+
+/// Compiles a source of C with the header and the library, and answers the program.
+fn compiled(source: &Path, language: &[&str]) -> PathBuf {
+    let here = Path::new(env!("CARGO_MANIFEST_DIR"));
+    let folder = Path::new(env!("CARGO_TARGET_TMPDIR"));
+    fs::create_dir_all(folder).unwrap();
+    let program = folder.join(format!("flags-{}", language.join("")));
+    let output = Command::new(env::var_os("CC").unwrap_or_else(|| "cc".into()))
+        .args(language)
+        .args(["-Wall", "-Wextra", "-Werror", "-pedantic", "-I"])
+        .arg(here)
+        .arg(source)
+        .args(["-x", "none"])
+        .arg(Path::new(env!("MENAKOVITSY_LINKED")).join("libloader.a"))
+        .arg("-o")
+        .arg(&program)
+        .output()
+        .expect("a C compiler is there: cargo links with one");
+    assert!(output.status.success(), "{}", String::from_utf8_lossy(&output.stderr));
+    program
+}
+
+#[test]
+fn the_example_in_c() {
+    let source = Path::new(env!("CARGO_MANIFEST_DIR")).join("examples/flags.c");
+    for language in [["-x", "c", "-std=c99"], ["-x", "c", "-std=c11"]] {
+        let output = Command::new(compiled(&source, &language)).output().unwrap();
+        assert!(output.status.success());
+        assert_eq!(
+            String::from_utf8_lossy(&output.stdout),
+            "flag 23 is 1, flag 24 is 0\n\
+             8 rows from 7 bytes: 300 300 300 300 300 1 2 3\n\
+             cut: the run at byte 3 is not whole; 5 rows are\n\
+             an answer has 6 words\n"
+        );
+    }
+}

@@ -1,0 +1,53 @@
+//! The exported functions over lent slices: all of this crate's unsafe code.
+//!
+//! SAFETY, of every call below: each pointer is of a live slice of the length beside it, those that
+//! are written are borrowed exclusively, and the function is proved to stay within them. Where it did
+//! not, it would stay within the guards of `Lent`, or be found by the fences of the crate `fuzz`.
+use menakovitsy::exported;
+
+pub fn read_run_at(input: &[u8], at: u64, flag: u64, rows: &mut [i64], words: &mut [u64]) -> u64 {
+    let (rows_len, words_len) = (rows.len(), words.len());
+    let (rows, words) = (rows.as_mut_ptr(), words.as_mut_ptr());
+    unsafe {
+        exported::orc_read_run_at(input.as_ptr(), input.len(), at, flag, rows, rows_len, words, words_len)
+    }
+}
+
+pub fn read_stream(input: &[u8], at: u64, flag: u64, rows: &mut [i64], words: &mut [u64]) -> u64 {
+    let (rows_len, words_len) = (rows.len(), words.len());
+    let (rows, words) = (rows.as_mut_ptr(), words.as_mut_ptr());
+    unsafe {
+        exported::orc_read_stream(input.as_ptr(), input.len(), at, flag, rows, rows_len, words, words_len)
+    }
+}
+
+pub fn read_booleans(input: &[u8], at: u64, n: u64, out: &mut [u8], words: &mut [u64]) -> u64 {
+    let (out_len, words_len) = (out.len(), words.len());
+    let (out, words) = (out.as_mut_ptr(), words.as_mut_ptr());
+    unsafe { exported::orc_read_booleans(input.as_ptr(), input.len(), at, n, out, out_len, words, words_len) }
+}
+
+pub fn byte_value(input: &[u8], at: u64, n: u64, words: &mut [u64]) -> u64 {
+    unsafe { exported::orc_byte_value(input.as_ptr(), input.len(), at, n, words.as_mut_ptr(), words.len()) }
+}
+
+/// How rows are written: the flag, the form and the width.
+#[derive(Clone, Copy)]
+pub struct Writing {
+    pub flag: u64,
+    pub form: u64,
+    pub width: u64,
+}
+
+pub fn write_run(rows: &[i64], writing: Writing, out: &mut [u8], words: &mut [u64]) -> u64 {
+    let Writing { flag, form, width } = writing;
+    let (out_len, words_len) = (out.len(), words.len());
+    let (out, words) = (out.as_mut_ptr(), words.as_mut_ptr());
+    unsafe {
+        exported::orc_write_run(rows.as_ptr(), rows.len(), flag, form, width, out, out_len, words, words_len)
+    }
+}
+
+pub fn narrowest_code(number: u64) -> u64 {
+    unsafe { exported::orc_narrowest_code(number) }
+}

@@ -1,0 +1,43 @@
+//! The kinds of lines: a frame's fields, the call that they ask for, and what it answers.
+//!
+//! A further kind is a function and a line of the table.
+mod booleans;
+mod runs;
+mod value;
+mod write;
+
+use crate::line::Fields;
+
+/// Takes the fields behind the first byte, and answers the line. Nothing for a bad line.
+type Kind = fn(Fields) -> Option<String>;
+
+const KINDS: [(u64, Kind); 6] = [
+    (0x01, runs::run),
+    (0x02, runs::stream),
+    (0x03, booleans::booleans),
+    (0x04, value::value),
+    (0x05, write::write),
+    (0x06, write::narrowest),
+];
+
+/// The answer to a frame. Nothing for a bad line.
+pub fn answer(frame: &[u8]) -> Option<String> {
+    let mut fields = Fields::new(frame);
+    let asked = fields.byte()?;
+    let (_, kind) = KINDS.iter().find(|(number, _)| *number == asked)?;
+    kind(fields)
+}
+
+/// A flag is 0 or 1.
+const FLAGS: u64 = 2;
+
+/// Adds what was seen beside the answer.
+fn ended(mut line: String, fits: bool, touched: bool) -> Option<String> {
+    if !fits {
+        line += " odd";
+    }
+    if touched {
+        line += " touched";
+    }
+    Some(line)
+}

@@ -1,0 +1,36 @@
+//! 05 write: flag, form, width, places, rows. 06 narrowest code: a number.
+use menakovitsy::exported::case;
+
+use super::{ended, FLAGS};
+use crate::answer::{first, hex, Answer};
+use crate::calls::{self, Writing};
+use crate::lent::Lent;
+use crate::line::Fields;
+
+/// Forms 0 to 3.
+const FORMS: u64 = 4;
+
+/// `written KIND ROWS BYTES HEX`, or `refused NUMBER PLACE`.
+pub fn write(mut fields: Fields) -> Option<String> {
+    let writing = Writing { flag: fields.below(FLAGS)?, form: fields.below(FORMS)?, width: fields.byte()? };
+    let places = fields.places()?;
+    let rows = fields.rows()?;
+    let lent = Lent::holding(&rows);
+    let mut out = Lent::places(places);
+    let answer = Answer::of(|words| calls::write_run(lent.content(), writing, out.content_mut(), words));
+    let written = answer.case() == case::READ;
+    let given = if written { answer.bytes() } else { 0 };
+    let mut line = answer.say_other();
+    if written {
+        line = format!("written {} {}", answer.say_info(), hex(first(out.content(), given)));
+    }
+    let touched = lent.altered(&rows) || out.touched(given as usize) || answer.touched();
+    ended(line, answer.fits(false) && given <= places as u64, touched)
+}
+
+/// `code N`.
+pub fn narrowest(mut fields: Fields) -> Option<String> {
+    let number = fields.word()?;
+    fields.end()?;
+    Some(format!("code {}", calls::narrowest_code(number)))
+}
