@@ -50,7 +50,7 @@ bytesOf signed out (refused r) = out
 
 -- the number and the bytes at exit, of the run that the input begins with, in as many places as the output has whole eights of bytes
 pub record LoadedAs (input : List ℕ) (signed : Bool) (out out′ : List ℕ) (r : ℕ) : Type 0 where
-  pub number : r ≡ answerPacked (answerOf 0 (into (placesIn out) (parse input)))
+  pub number : r ≡ answerPacked (answerOf 0 (length input) (into (placesIn out) (parse input)))
   pub bytes : out′ ≡ bytesOf signed out (into (placesIn out) (parse input))
 
 -- THE FUNCTION THAT ANSWERS BY A NUMBER
