@@ -41,7 +41,7 @@ impl Ours {
             return Ok(2);
         };
         // Just enough places, and one too few with all but one byte of another.
-        let refusal = model::Refusal { number: 8, place: 0 };
+        let refusal = model::Refusal::whole(8, 0);
         self.call(bytes, signed, paper, 8 * run.rows.len())?;
         self.call(bytes, signed, &Answer::Refused(refusal), 8 * run.rows.len() - 1)?;
         Ok(3)

@@ -172,8 +172,11 @@ impl Probe {
     }
 }
 
-fn refused(refusal: Refusal) -> String {
-    format!("refused {} {}", refusal.number, refusal.place)
+fn refused(Refusal { number, place, cut }: Refusal) -> String {
+    match cut {
+        None => format!("refused {number} {place}"),
+        Some(byte) => format!("refused {number} {place} cut {byte}"),
+    }
 }
 
 fn kind(kind: Kind) -> &'static str {

@@ -132,7 +132,7 @@ fn booleans(requests: &mut Requests) {
     requests.booleans(&line, 0, 32, 512);
     document_says(requests, "booleans 32 4 11111111111111111111111100000000");
     requests.booleans(&line, 0, 33, 512);
-    document_says(requests, "refused 6 0");
+    document_says(requests, "refused 6 0 cut 4");
     for n in [0, 1, 8, 24, 31, 64, u64::MAX] {
         requests.booleans(&line, 0, n, 512);
     }
