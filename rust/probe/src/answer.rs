@@ -41,10 +41,17 @@ impl Answer {
         self.case() == case::REFUSED
     }
 
-    /// `refused NUMBER PLACE`; `end`; and what a case is that is none.
+    /// `refused NUMBER PLACE`, with ` cut BYTE` behind it where a field is cut; `end`; and what a case
+    /// is that is none.
     pub fn say_other(&self) -> String {
         match self.case() {
-            case::REFUSED => format!("refused {} {}", self.word(word::NUMBER), self.word(word::PLACE)),
+            case::REFUSED => {
+                let refused = format!("refused {} {}", self.word(word::NUMBER), self.word(word::PLACE));
+                match self.word(word::CUT) {
+                    0 => refused,
+                    _ => format!("{refused} cut {}", self.word(word::CUT_AT)),
+                }
+            }
             case::END => "end".into(),
             other => format!("case {other}"),
         }
@@ -70,10 +77,22 @@ impl Answer {
         self.word(word::KIND) == kind
     }
 
+    /// Whether there is a cut field exactly for the refusals that have one.
+    fn cut_fits(&self) -> bool {
+        let has_field = self.refused() && [6, 12, 13, 14].contains(&self.word(word::NUMBER));
+        match has_field {
+            true => self.word(word::CUT) == 1,
+            false => self.word(word::CUT) == 0 && self.word(word::CUT_AT) == 0,
+        }
+    }
+
     /// Whether the words fit together: what is returned is the refusal's number, and the words that
     /// have no meaning in their case are 0. A stream counts in both its cases.
     pub fn fits(&self, stream: bool) -> bool {
         let zero = |places: &[usize]| places.iter().all(|place| self.word(*place) == 0);
+        if !self.cut_fits() {
+            return false;
+        }
         let fits = match self.case() {
             case::END => zero(&[word::NUMBER, word::PLACE, word::KIND, word::ROWS, word::BYTES]),
             case::READ => zero(&[word::NUMBER, word::PLACE]),
