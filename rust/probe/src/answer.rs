@@ -129,3 +129,46 @@ pub fn hex(bytes: &[u8]) -> String {
         hex
     })
 }
+
+#[cfg(test)]
+mod tests {
+    use super::*;
+
+    fn answer(returned: u64, words: &[u64]) -> Answer {
+        Answer::of(|lent| {
+            lent[..WORDS].fill(0);
+            lent[..words.len()].copy_from_slice(words);
+            returned
+        })
+    }
+
+    /// What a wrong library could answer shows.
+    #[test]
+    fn words_that_contradict_each_other_are_odd() {
+        let fits: [(u64, &[u64]); 4] =
+            [(0, &[0]), (0, &[1, 0, 0, 3, 5, 4]), (4, &[2, 4, 9]), (13, &[2, 13, 3, 0, 0, 0, 1, 5])];
+        for (returned, words) in fits {
+            assert!(answer(returned, words).fits(false), "{words:?}");
+        }
+        let odd: [(u64, &[u64]); 11] = [
+            // A case that is none; another number returned; counts, a kind or a place where there is none.
+            (0, &[3]),
+            (1, &[0]),
+            (0, &[0, 0, 0, 0, 1]),
+            (0, &[1, 0, 7, 3, 5, 4]),
+            (0, &[2]),
+            (4, &[2, 4, 9, 1]),
+            (4, &[2, 4, 9, 0, 1]),
+            // A cut field with a number that has none, none with one that has, a byte without a field.
+            (5, &[2, 5, 3, 0, 0, 0, 1, 5]),
+            (13, &[2, 13, 3]),
+            (0, &[1, 0, 0, 3, 5, 4, 0, 5]),
+            (14, &[2, 14, 3, 0, 0, 0, 2, 5]),
+        ];
+        for (returned, words) in odd {
+            assert!(!answer(returned, words).fits(false), "{words:?}");
+        }
+        assert_eq!(answer(13, &[2, 13, 3, 0, 0, 0, 1, 5]).say_other(), "refused 13 3 cut 5");
+        assert_eq!(answer(5, &[2, 5, 3]).say_other(), "refused 5 3");
+    }
+}
