@@ -82,9 +82,10 @@ impl Ours {
         let right = |given: &[i64], answer: Result<(), menakovitsy::StreamRefused>, how: &str| {
             let told = answer.err().map(|told| {
                 let counts = (told.before.rows.0, told.before.bytes.0) == (expected.len(), consumed);
-                (told.refused.refusal.number(), told.refused.at.0, counts)
+                let cut = told.refused.cut.map(|byte| byte.0);
+                (told.refused.refusal.number(), told.refused.at.0, cut, counts)
             });
-            let paper = refused.map(|refusal| (u64::from(refusal.number), refusal.place, true));
+            let paper = refused.map(|refusal| (refusal.number.into(), refusal.place, refusal.cut, true));
             // Of an error, the list of its own has no rows to look at.
             let rows = given == expected || how == "to_vec" && refused.is_some();
             if rows && told == paper {
