@@ -32,14 +32,14 @@ extern "C" {
 
 /* The version of these functions: each change of them makes it one more. A program compares what
  * orc_version answers with the header that it was compiled with. */
-#define ORC_VERSION UINT64_C(1)
+#define ORC_VERSION UINT64_C(2)
 
 uint64_t orc_version(void);
 
 /* The answer. A function that is lent words writes its whole answer into the first ORC_WORDS of
  * them and leaves the others as they were. It returns the refusal's number (the word ORC_NUMBER), 0
  * where nothing is refused. Later versions append words: none changes its meaning. */
-#define ORC_WORDS 6
+#define ORC_WORDS 8
 
 /* What it returns where it was lent fewer: then it has touched nothing, no word, row or byte. */
 #define ORC_TOO_FEW_WORDS UINT64_MAX
@@ -58,7 +58,11 @@ enum orc_word {
      * that were read. 0 at the end and for a refused call. */
     ORC_ROWS = 4,
     /* Bytes consumed, likewise; of the writer, bytes written. */
-    ORC_BYTES = 5
+    ORC_BYTES = 5,
+    /* 1 where the refusal has a cut field (6, 12, 13 and 14, and no other), otherwise 0. */
+    ORC_CUT = 6,
+    /* The byte where the cut field begins, from the input's first on; 0 where there is none. */
+    ORC_CUT_AT = 7
 };
 
 enum orc_case {
@@ -94,9 +98,10 @@ enum orc_answer {
     ORC_ONE_ROW_DELTA = 4,
     /* A varint's first ten bytes all have the top bit set. */
     ORC_VARINT_TOO_LONG = 5,
-    /* The input ends before the run or value does, or before the booleans asked for are there. Call
-     * again with more bytes; if there are none, the stream is cut. */
-    ORC_INPUT_ENDS = 6,
+    /* A short repeat's value, a patched run's base or a byte value is cut, or a boolean control byte
+     * is missing: the input ends before the field at ORC_CUT_AT does. Call again with more bytes; if
+     * there are none, the stream is cut. The same of 12, 13 and 14. */
+    ORC_VALUE_CUT = 6,
     /* Patched base: a patch is outside the run or at another's place, or the list ends with a skip. */
     ORC_PATCH_OUT_OF_PLACE = 7,
     /* The output has too few places. Lend more: 512 rows hold any run, 4102 bytes any that is
@@ -108,6 +113,12 @@ enum orc_answer {
     ORC_NOT_THE_FORM = 10,
     /* Writer: a row or a magnitude needs more bits than the width. */
     ORC_TOO_NARROW = 11,
+    /* A varint is cut. */
+    ORC_VARINT_CUT = 12,
+    /* Packed rows are cut, or a byte run of booleans is behind its control byte. */
+    ORC_ROWS_CUT = 13,
+    /* A patch list is cut. */
+    ORC_LIST_CUT = 14,
     /* Of orc_read_run, from here on: 65536 times the bytes consumed, plus the rows. */
     ORC_RUN = 65536
 };

@@ -1,22 +1,21 @@
 -- A byte run at a place of the input; the runs that some bytes need, run by run; and bits laid into places, byte by byte. Assumes nothing.
 use mathlib.Core.Path.{_≡_, refl, sym, ap, _∙_}
-use Prim.Native.Nat.{ℕ, zero, suc, _+_, _-_, _*_, _/_, _%_, _^_, _<_, _≤_, min}
+use Prim.Native.Nat.{ℕ, zero, suc, _+_, _-_, _*_, _/_, _%_, _^_, _<_, _≤_, min, max}
 use native.Mathlib.Omega.{arith}
 use native.Mathlib.Nat.{sub-zero, add-assoc, add-zero}
 use mathlib.Core.List.{List, [], _∷_, _++_, append-assoc}
 use lib.ListN.{length, getD, take, drop, set, getD-replicate, length-append, length-drop, drop-of-length-le, List·getD-append}
 use lib.Seq.{drop-drop, drop-at, drop-cons, drop-append-le, drop-append-add, set-at, take-suc, append-snoc, length-take-le, getD-drop}
-use lib.Dec.{eqb→eq}
 use borrow.Author.Tests.{lt-ltb, le-ltb, ne-eqb}
 use Rattle.format.specs.Digits.{digits}
 use Rattle.format.specs.Fields.{bytesFor}
-use Rattle.format.specs.Parse.{Parsed, end, got, refused, plain, cutIn, then}
-use Rattle.format.specs.Answers.{ran, refusedAt}
+use Rattle.format.specs.Parse.{Parsed, end, got, refused, cut, cutIn, then}
+use Rattle.format.specs.Answers.{ran, refusedAt, cutAt}
 use Rattle.format.specs.declared.Kind.the-variants.{Booleans}
 use Rattle.format.specs.Booleans.{ByteRun, repeat, literals, ValidRun, runLayout, runBytes, byteCount, joinedRuns, joinedBytes, bits, booleansOf, repeatRun, byteRun, byteRuns, booleans, booleansInto, BooleansRead}
 use Rattle.format.proofs.Digits.{length-digits, getD-digits}
 use Rattle.format.proofs.Fields.{Post, at-got, at-refused, Took, below-all, below-drop}
-use Rattle.format.proofs.Booleans.{Only6, six, run-sound, runs-6, length-run, length-bits, bits-append}
+use Rattle.format.proofs.Booleans.{OnlyCut, any-cut, run-sound, runs-only, length-run, length-bits, bits-append}
 use Rattle.format.proofs.Reading.{byte-here, bytes-here, bytes-cut}
 use Rattle.boolean_rle.specs.declared.ByteRun as code
 use Rattle.boolean_rle.specs.declared.Found.{Found}
@@ -24,6 +23,10 @@ use Rattle.boolean_rle.specs.declared.Found.the-variants as found
 use Rattle.boolean_rle.specs.declared.Span.{Span}
 use Rattle.boolean_rle.specs.declared.Span.the-variants as span
 use Rattle.boolean_rle.specs.Found.{foundIn, bytesIn, spanOf, Wrote, Filled}
+
+-- the field of which `left` bytes are left begins at p
+pub field-is : (s : List ℕ) (p : ℕ) → p ≤ length s → length s - length (drop p s) ≡ p
+field-is s p h = rw length-drop (omega arith)
 
 -- ---- a run at the place p of s, by the tests that the reader makes
 
@@ -33,7 +36,7 @@ module _ (s : List ℕ) (p : ℕ) where
   none-here h = rw (drop-of-length-le s {i = p} h)
 
   module _ (h : p < length s) (l : getD s p 0 < 128) where
-    pub repeat-cut : length s - (p + 1) ≡ 0 → byteRun (drop p s) ≡ refused (cutIn 6 [])
+    pub repeat-cut : length s - (p + 1) ≡ 0 → byteRun (drop p s) ≡ refused (cutIn 13 (drop (p + 1) s))
     unfolding byteRun repeatRun
     repeat-cut e = rw (byte-here s p h, lt-ltb (getD s p 0) 128 l, drop-of-length-le s {i = p + 1} (omega arith))
 
@@ -42,14 +45,14 @@ module _ (s : List ℕ) (p : ℕ) where
     repeat-here e = rw (byte-here s p h, lt-ltb (getD s p 0) 128 l, byte-here s (p + 1) (omega arith))
 
   module _ (h : p < length s) (l : 128 ≤ getD s p 0) where
-    pub literals-cut : length s - (p + 1) < 256 - getD s p 0 → byteRun (drop p s) ≡ refused (cutIn 6 (drop (p + 1) s))
+    pub literals-cut : length s - (p + 1) < 256 - getD s p 0 → byteRun (drop p s) ≡ refused (cutIn 13 (drop (p + 1) s))
     unfolding byteRun
-    literals-cut e = rw (byte-here s p h, le-ltb (getD s p 0) 128 l, bytes-cut s (p + 1) 6 (256 - getD s p 0) e)
+    literals-cut e = rw (byte-here s p h, le-ltb (getD s p 0) 128 l, bytes-cut s (p + 1) 13 (256 - getD s p 0) e)
 
     pub literals-here : 256 - getD s p 0 ≤ length s - (p + 1)
         → byteRun (drop p s) ≡ got (literals (take (256 - getD s p 0) (drop (p + 1) s))) (drop (p + 1 + (256 - getD s p 0)) s)
     unfolding byteRun
-    literals-here e = rw (byte-here s p h, le-ltb (getD s p 0) 128 l, bytes-here s (p + 1) 6 (256 - getD s p 0) e)
+    literals-here e = rw (byte-here s p h, le-ltb (getD s p 0) 128 l, bytes-here s (p + 1) 13 (256 - getD s p 0) e)
 
 -- a run that was found: its description, and where the next begins
 pub record Here (s : List ℕ) (p : ℕ) (e : code.ByteRun) (d : ByteRun) : Type 0 where
@@ -63,22 +66,22 @@ pub record Here (s : List ℕ) (p : ℕ) (e : code.ByteRun) (d : ByteRun) : Type
 
 sizeIn : Found → ℕ
 sizeIn (found.Run e) = e .size
-sizeIn found.Cut = 0
+sizeIn (found.Cut n f) = 0
 
 countIn : Found → ℕ
 countIn (found.Run e) = e .count
-countIn found.Cut = 0
+countIn (found.Cut n f) = 0
 
 layout-pos : (d : ByteRun) → ValidRun d → (1 ≤ length (runLayout d)) × (1 ≤ byteCount d)
 unfolding runLayout byteCount
 layout-pos (repeat count byte) v = (omega arith, omega (arith, v))
 layout-pos (literals bs) v = (omega arith, omega (arith, v))
 
-pub here : (s : List ℕ) (p : ℕ) (e : code.ByteRun) → ((i : ℕ) → getD s i 0 < 256) → foundIn (byteRun (drop p s)) ≡ found.Run e → (d : ByteRun) × Here s p e d
+pub here : (s : List ℕ) (p : ℕ) (e : code.ByteRun) → ((i : ℕ) → getD s i 0 < 256) → foundIn (length s) (byteRun (drop p s)) ≡ found.Run e → (d : ByteRun) × Here s p e d
 unfolding sizeIn countIn
 here s p e b f = go (byteRun (drop p s)) refl (run-sound (drop p s) (below-drop 256 p s (below-all 256 s b))) f
   where
-    go : (m : Parsed ByteRun) → byteRun (drop p s) ≡ m → Post (Took (drop p s) runLayout ValidRun) m → foundIn m ≡ found.Run e → (d : ByteRun) × Here s p e d
+    go : (m : Parsed ByteRun) → byteRun (drop p s) ≡ m → Post (Took (drop p s) runLayout ValidRun) m → foundIn (length s) m ≡ found.Run e → (d : ByteRun) × Here s p e d
     go m g (at-got {a = d} {s = rest} t) f =
         let z : length (runLayout d) ≡ e .size = ap sizeIn f in
         let n : byteCount d ≡ e .count = ap countIn f in
@@ -103,43 +106,44 @@ here s p e b f = go (byteRun (drop p s)) refl (run-sound (drop p s) (below-drop 
 
 abbrev pub further : ℕ → Span → Span
 further n (span.Whole k) = span.Whole (n + k)
-further n span.Cut = span.Cut
+further n (span.Cut r f) = span.Cut r f
 
 further-further : (m n : ℕ) (w : Span) → further m (further n w) ≡ further (m + n) w
 further-further m n (span.Whole k) = ap span.Whole (sym (add-assoc m n k))
-further-further m n span.Cut = refl
+further-further m n (span.Cut r f) = refl
 
 pub further-zero : (n : ℕ) (w : Span) → w ≡ further (n - n) w
 further-zero n (span.Whole k) = ap span.Whole (omega arith)
-further-zero n span.Cut = refl
+further-zero n (span.Cut r f) = refl
 
--- where a run is cut, so are the runs
-pub span-cut : (g m : ℕ) (bs : List ℕ) → 0 < m → foundIn (byteRun bs) ≡ found.Cut → spanOf (byteRuns g m bs) ≡ span.Cut
-unfolding byteRuns
-span-cut zero m bs h f = rw (ne-eqb m 0 (omega arith))
-span-cut (suc g) m bs h f = rw (ne-eqb m 0 (omega arith)) (go (byteRun bs) f)
+-- where a run is cut, so are the runs, in the same field
+pub span-cut : (total g m : ℕ) (bs : List ℕ) (r q : ℕ) → 0 < m → length bs ≤ g → foundIn total (byteRun bs) ≡ found.Cut r q → spanOf total (byteRuns g m bs) ≡ span.Cut r q
+unfolding byteRuns byteRun
+span-cut total zero m [] r q h l f = rw (ne-eqb m 0 (omega arith)) cc
+span-cut total zero m (x ∷ bs) r q h l f = absurd (omega arith)
+span-cut total (suc g) m bs r q h l f = rw (ne-eqb m 0 (omega arith)) (go (byteRun bs) f)
   where
-    go : (r : Parsed ByteRun) → foundIn r ≡ found.Cut → spanOf (then r λ d s. then (byteRuns g (m - byteCount d) s) λ ds rest. got (d ∷ ds) rest) ≡ span.Cut
-    go end f = refl
+    go : (p : Parsed ByteRun) → foundIn total p ≡ found.Cut r q → spanOf total (then p λ d s. then (byteRuns g (m - byteCount d) s) λ ds rest. got (d ∷ ds) rest) ≡ span.Cut r q
+    go end f = cc
     go (got d rest) f =
         let z : _≡_ {A = ℕ} 0 1 = cc in
         absurd (omega arith)
-    go (refused r) f = refl
+    go (refused n) f = cc
 
 -- a run, and then the runs after it
-pub span-run : (g m : ℕ) (bs : List ℕ) (d : ByteRun) (s : List ℕ) → 0 < m → byteRun bs ≡ got d s
-    → spanOf (byteRuns (suc g) m bs) ≡ further (length (runLayout d)) (spanOf (byteRuns g (m - byteCount d) s))
+pub span-run : (total g m : ℕ) (bs : List ℕ) (d : ByteRun) (s : List ℕ) → 0 < m → byteRun bs ≡ got d s
+    → spanOf total (byteRuns (suc g) m bs) ≡ further (length (runLayout d)) (spanOf total (byteRuns g (m - byteCount d) s))
 unfolding byteRuns joinedRuns
-span-run g m bs d s h e = rw (ne-eqb m 0 (omega arith), e) (go (byteRuns g (m - byteCount d) s))
+span-run total g m bs d s h e = rw (ne-eqb m 0 (omega arith), e) (go (byteRuns g (m - byteCount d) s))
   where
-    go : (r : Parsed (List ByteRun)) → spanOf (then r λ ds rest. got (d ∷ ds) rest) ≡ further (length (runLayout d)) (spanOf r)
+    go : (r : Parsed (List ByteRun)) → spanOf total (then r λ ds rest. got (d ∷ ds) rest) ≡ further (length (runLayout d)) (spanOf total r)
     go end = refl
     go (got ds rest) = ap span.Whole (length-append (runLayout d) (joinedRuns ds))
     go (refused r) = refl
 
 -- what the first pass knows at the place p, with `left` bytes still needed: w is the whole answer
 abbrev pub Passed : List ℕ → ℕ → Span → ℕ → ℕ → Type 0
-Passed s at w p left = (at ≤ p) × ((g : ℕ) × (length s - p ≤ g) × (w ≡ further (p - at) (spanOf (byteRuns g left (drop p s)))))
+Passed s at w p left = (at ≤ p) × ((g : ℕ) × (length s - p ≤ g) × (w ≡ further (p - at) (spanOf (length s) (byteRuns g left (drop p s)))))
 
 pub pass : (s : List ℕ) (at : ℕ) (w : Span) (p left : ℕ) (e : code.ByteRun) (d : ByteRun) → Here s p e d → 0 < left → Passed s at w p left
     → Passed s at w (p + e .size) (left - e .count)
@@ -150,7 +154,7 @@ pass s at w p left e d h l (i, (suc g, b, q)) =
       (
         g,
         omega (arith, h .inside, h .size-is, layout-pos d (h .valid)),
-        q ∙ rw (span-run g left (drop p s) d (drop (p + e .size) s) l (h .is-run), h .size-is, h .count-is, further-further (p - at) (e .size), n),
+        q ∙ rw (span-run (length s) g left (drop p s) d (drop (p + e .size) s) l (h .is-run), h .size-is, h .count-is, further-further (p - at) (e .size), n),
       ),
     )
 
@@ -187,11 +191,11 @@ byte-at s p e (literals bs) h i l =
 pub bytes-are : (s : List ℕ) (p : ℕ) (e : code.ByteRun) (d : ByteRun) → Here s p e d → bytesIn (byteRun (drop p s)) ≡ runBytes d
 bytes-are s p e d h = ap bytesIn (h .is-run)
 
-pub length-bytes : (m : Parsed ByteRun) (e : code.ByteRun) → foundIn m ≡ found.Run e → length (bytesIn m) ≡ e .count
+pub length-bytes : (total : ℕ) (m : Parsed ByteRun) (e : code.ByteRun) → foundIn total m ≡ found.Run e → length (bytesIn m) ≡ e .count
 unfolding countIn
-length-bytes end e f = ap countIn f
-length-bytes (got d rest) e f = length-run d ∙ ap countIn f
-length-bytes (refused r) e f = ap countIn f
+length-bytes total end e f = ap countIn f
+length-bytes total (got d rest) e f = length-run d ∙ ap countIn f
+length-bytes total (refused r) e f = ap countIn f
 
 -- ---- bits in places
 
@@ -240,7 +244,7 @@ byte-more bs k i m o out out′ h w v all d more e f =
 
 -- the runs that were read begin with the one at hand
 runs-first : (g m : ℕ) (bs : List ℕ) (ds : List ByteRun) (rest : List ℕ) (d : ByteRun) (s : List ℕ) → 0 < m → byteRun bs ≡ got d s → byteRuns g m bs ≡ got ds rest
-    → (f : ℕ) × ((es : List ByteRun) × (byteRuns f (m - byteCount d) s ≡ got es rest) × (ds ≡ d ∷ es))
+    → (f : ℕ) × ((es : List ByteRun) × (g ≡ suc f) × (byteRuns f (m - byteCount d) s ≡ got es rest) × (ds ≡ d ∷ es))
 unfolding byteRuns
 runs-first zero m bs ds rest d s h e q =
     let z : _≡_ {A = ℕ} 0 1 = cc (rw (ne-eqb m 0 (omega arith)) at q) in
@@ -248,11 +252,11 @@ runs-first zero m bs ds rest d s h e q =
 runs-first (suc g) m bs ds rest d s h e q = go (byteRuns g (m - byteCount d) s) refl (rw (ne-eqb m 0 (omega arith), e) at q)
   where
     go : (r : Parsed (List ByteRun)) → byteRuns g (m - byteCount d) s ≡ r → (then r λ es t. got (d ∷ es) t) ≡ got ds rest
-        → (f : ℕ) × ((es : List ByteRun) × (byteRuns f (m - byteCount d) s ≡ got es rest) × (ds ≡ d ∷ es))
+        → (f : ℕ) × ((es : List ByteRun) × (suc g ≡ suc f) × (byteRuns f (m - byteCount d) s ≡ got es rest) × (ds ≡ d ∷ es))
     go end f q =
         let z : _≡_ {A = ℕ} 0 1 = cc in
         absurd (omega arith)
-    go (got es t) f q = (g, (es, cc, cc))
+    go (got es t) f q = (g, (es, refl, cc, cc))
     go (refused r) f q =
         let z : _≡_ {A = ℕ} 0 1 = cc in
         absurd (omega arith)
@@ -261,6 +265,7 @@ runs-first (suc g) m bs ds rest d s h e q = go (byteRuns g (m - byteCount d) s) 
 pub record Going (s : List ℕ) (n : ℕ) (ds : List ByteRun) (rest out₀ : List ℕ) (p k : ℕ) (out : List ℕ) : Type 0 where
   pub fuel : ℕ
   pub left : List ByteRun
+  pub enough : length s - p ≤ fuel
   pub reading : byteRuns fuel (bytesFor (n - k)) (drop p s) ≡ got left rest
   pub ahead : k < n → drop k (bits (joinedBytes ds)) ≡ bits (joinedBytes left)
   pub filled : out ≡ take k (bits (joinedBytes ds)) ++ drop k out₀
@@ -268,14 +273,14 @@ pub record Going (s : List ℕ) (n : ℕ) (ds : List ByteRun) (rest out₀ : Lis
 module _ (s : List ℕ) (n : ℕ) (ds : List ByteRun) (rest out₀ : List ℕ) where
   pub going-from : (at : ℕ) → booleans n (drop at s) ≡ got ds rest → Going s n ds rest out₀ at 0 out₀
   unfolding booleans
-  going-from at e = record { fuel = length (drop at s); left = ds; reading = rw sub-zero e; ahead = λ h. refl; filled = refl }
+  going-from at e = record { fuel = length (drop at s); left = ds; enough = omega (arith, length-drop at s); reading = rw sub-zero e; ahead = λ h. refl; filled = refl }
 
   -- a turn: the run at p is laid down
   pub going-on : (p k : ℕ) (out out′ : List ℕ) (k′ : ℕ) (e : code.ByteRun) (d : ByteRun) → Here s p e d → k < n → k′ ≡ min n (k + 8 * e .count)
       → Wrote k k′ (bits (runBytes d)) out out′ → Going s n ds rest out₀ p k out → Going s n ds rest out₀ (p + e .size) k′ out′
   unfolding joinedBytes
   going-on p k out out′ k′ e d h l z w g =
-      let (f, (es, r, q)) = runs-first (g .fuel) (bytesFor (n - k)) (drop p s) (g .left) rest d (drop (p + e .size) s) (omega arith) (h .is-run) (g .reading) in
+      let (f, (es, u, r, q)) = runs-first (g .fuel) (bytesFor (n - k)) (drop p s) (g .left) rest d (drop (p + e .size) s) (omega arith) (h .is-run) (g .reading) in
       let m : bytesFor (n - k) - byteCount d ≡ bytesFor (n - k′) = omega (arith, h .count-is) in
       let a : drop k (bits (joinedBytes ds)) ≡ bits (runBytes d) ++ bits (joinedBytes es) =
       g .ahead l ∙ ap (λ (x : List ByteRun). bits (joinedBytes x)) q ∙ bits-append (runBytes d) (joinedBytes es) in
@@ -283,6 +288,7 @@ module _ (s : List ℕ) (n : ℕ) (ds : List ByteRun) (rest out₀ : List ℕ) w
       record {
         fuel = f;
         left = es;
+        enough = omega (arith, u, g .enough, h .size-is, layout-pos d (h .valid));
         reading = rw m at r;
         ahead = λ u.
             let v : k′ ≡ k + 8 * e .count = omega arith in
@@ -292,10 +298,11 @@ module _ (s : List ℕ) (n : ℕ) (ds : List ByteRun) (rest out₀ : List ℕ) w
       }
 
   -- no run that n booleans need is cut
-  pub going-whole : (p k : ℕ) (out : List ℕ) → k < n → Going s n ds rest out₀ p k out → foundIn (byteRun (drop p s)) ≡ found.Cut → ⊥
-  going-whole p k out l g f =
-      let c : spanOf (byteRuns (g .fuel) (bytesFor (n - k)) (drop p s)) ≡ span.Cut = span-cut (g .fuel) (bytesFor (n - k)) (drop p s) (omega arith) f in
-      let w : span.Whole (length (joinedRuns (g .left))) ≡ span.Cut = rw (g .reading) at c in
+  pub going-whole : (p k : ℕ) (out : List ℕ) (r q : ℕ) → k < n → Going s n ds rest out₀ p k out → foundIn (length s) (byteRun (drop p s)) ≡ found.Cut r q → ⊥
+  going-whole p k out r q l g f =
+      let c : spanOf (length s) (byteRuns (g .fuel) (bytesFor (n - k)) (drop p s)) ≡ span.Cut r q =
+      span-cut (length s) (g .fuel) (bytesFor (n - k)) (drop p s) r q (omega arith) (rw length-drop (g .enough)) f in
+      let w : span.Whole (length (joinedRuns (g .left))) ≡ span.Cut r q = rw (g .reading) at c in
       let z : _≡_ {A = ℕ} 0 1 = cc in
       omega arith
 
@@ -306,22 +313,28 @@ module _ (s : List ℕ) (n : ℕ) (ds : List ByteRun) (rest out₀ : List ℕ) w
 -- ---- what the call gives, by what the first pass finds
 
 module _ (input : List ℕ) (at n : ℕ) (out : List ℕ) where
-  pub reads-cut : spanOf (booleans n (drop at input)) ≡ span.Cut → BooleansRead input at n out out (refusedAt 6 at)
+  -- the field's byte, or the call's position where that is past the end
+  pub reads-cut : (r q : ℕ) → spanOf (length input) (booleans n (drop at input)) ≡ span.Cut r q → BooleansRead input at n out out (cutAt r at (max at q))
   unfolding booleansInto booleans
-  reads-cut e = go (booleans n (drop at input)) refl (runs-6 (length (drop at input)) (bytesFor n) (drop at input)) e
+  reads-cut r q e = go (booleans n (drop at input)) refl (runs-only (length (drop at input)) (bytesFor n) (drop at input)) e
     where
-      go : (m : Parsed (List ByteRun)) → booleans n (drop at input) ≡ m → Only6 m → spanOf m ≡ span.Cut → BooleansRead input at n out out (refusedAt 6 at)
+      go : (m : Parsed (List ByteRun)) → booleans n (drop at input) ≡ m → OnlyCut m → spanOf (length input) m ≡ span.Cut r q
+          → BooleansRead input at n out out (cutAt r at (max at q))
       go (got ds rest) f o e =
           let z : _≡_ {A = ℕ} 0 1 = cc in
           absurd (omega arith)
-      go (refused (plain k)) f (six t) e = record { answer = rw f (ap (λ (x : ℕ). refusedAt x at) (sym (eqb→eq k 6 t))); places = rw f }
+      go (refused (cut k left)) f o e =
+          let z : max at (length input - left) ≡ at + (length input - at - left) = omega arith in
+          let i : k ≡ r = cc in
+          let j : length input - left ≡ q = cc in
+          record { answer = rw (f, ← i, ← j, z); places = rw f }
 
-  module _ (k : ℕ) (e : spanOf (booleans n (drop at input)) ≡ span.Whole k) where
+  module _ (k : ℕ) (e : spanOf (length input) (booleans n (drop at input)) ≡ span.Whole k) where
     -- the runs that were found
     whole : (ds : List ByteRun) × ((rest : List ℕ) × (booleans n (drop at input) ≡ got ds rest) × (length (joinedRuns ds) ≡ k))
     whole = go (booleans n (drop at input)) refl e
       where
-        go : (m : Parsed (List ByteRun)) → booleans n (drop at input) ≡ m → spanOf m ≡ span.Whole k
+        go : (m : Parsed (List ByteRun)) → booleans n (drop at input) ≡ m → spanOf (length input) m ≡ span.Whole k
             → (ds : List ByteRun) × ((rest : List ℕ) × (booleans n (drop at input) ≡ got ds rest) × (length (joinedRuns ds) ≡ k))
         go end f e =
             let z : _≡_ {A = ℕ} 0 1 = cc in

@@ -1,7 +1,7 @@
 // Booleans: eight to a byte, highest bit first, in byte runs. A first pass over the controls finds what the booleans take, or the refusal;
 // only then is a place written.
 ghost use mathlib.Core.Path.{_≡_};
-ghost use Prim.Native.Nat.{_+_, _-_, _*_, _≤_, _<_, min};
+ghost use Prim.Native.Nat.{_+_, _-_, _*_, _≤_, _<_, min, max};
 ghost use lib.ListN.{length, drop, getD};
 ghost use Rattle.format.specs.Digits.{digits};
 ghost use Rattle.format.specs.Fields.{bytesFor};
@@ -18,30 +18,31 @@ struct ByteRun {
     count: usize,
 }
 
-// What stands at a place: a run, or too few bytes for one.
+// What stands at a place: a run, or too few bytes for one: the refusal's number, and the byte where the cut field begins.
 enum Found {
     Run(ByteRun),
-    Cut,
+    Cut(u8, usize),
 }
 
-// The bytes that several runs take together, or that the input ends before them.
+// The bytes that several runs take together, or where the input ends before them.
 enum Span {
     Whole(usize),
-    Cut,
+    Cut(u8, usize),
 }
 
-// Control c from 0 to 127: c+3 copies of the next byte. From 128 to 255: 256-c literal bytes.
+// Control c from 0 to 127: c+3 copies of the next byte. From 128 to 255: 256-c literal bytes. A missing control would stand at the input's end.
 fn run_at(input: &[u8], at: usize) -> Found
-    ensures { λ r. ⌜ r ≡ foundIn (byteRun (drop at (now (input .entry)))) ⌝ }
+    ensures { λ r. ⌜ r ≡ foundIn (length (now (input .entry))) (byteRun (drop at (now (input .entry)))) ⌝ }
 {
     if input.len() <= at {
-        return Found::Cut;
+        return Found::Cut(6, input.len());
     }
     let control = input[at] as usize;
-    let left = input.len() - (at + 1);
+    let behind = at + 1;
+    let left = input.len() - behind;
     if control < 128 {
         if left == 0 {
-            return Found::Cut;
+            return Found::Cut(13, behind);
         }
         return Found::Run(ByteRun {
             size: 2,
@@ -50,7 +51,7 @@ fn run_at(input: &[u8], at: usize) -> Found
     }
     let count = 256 - control;
     if left < count {
-        return Found::Cut;
+        return Found::Cut(13, behind);
     }
     Found::Run(ByteRun {
         size: count + 1,
@@ -72,25 +73,36 @@ fn less(a: usize, b: usize) -> usize
     if b <= a { a - b } else { 0 }
 }
 
+// The greater of the two: a field that is missing past the end of the input begins at the call's position.
+fn later(a: usize, b: usize) -> usize
+    ensures { λ r. ⌜ r ≡ max a b ⌝ }
+{
+    if a <= b { b } else { a }
+}
+
 // The first pass: how many bytes the runs take that n booleans need, from a position on.
 fn span_from(input: &[u8], at: usize, n: usize) -> Span
-    ensures { λ r. ⌜ r ≡ spanOf (booleans n (drop at (now (input .entry)))) ⌝ }
+    ensures { λ r. ⌜ r ≡ spanOf (length (now (input .entry))) (booleans n (drop at (now (input .entry)))) ⌝ }
 {
     let mut end = at;
     let mut left = bytes_for(n);
     while 0 < left {
-        let Found::Run(run) = run_at(input, end) else {
-            return Span::Cut;
-        };
-        end = end + run.size;
-        left = less(left, run.count);
+        match run_at(input, end) {
+            Found::Run(run) => {
+                end = end + run.size;
+                left = less(left, run.count);
+            }
+            Found::Cut(number, field) => {
+                return Span::Cut(number, field);
+            }
+        }
     }
     Span::Whole(end - at)
 }
 
 // Byte i of the run at a place.
 fn run_byte(input: &[u8], at: usize, run: ByteRun, i: usize) -> u8
-    requires { ⌜ (foundIn (byteRun (drop at (now input))) ≡ Found.Run run) × (i < run .count) ⌝ }
+    requires { ⌜ (foundIn (length (now input)) (byteRun (drop at (now input))) ≡ Found.Run run) × (i < run .count) ⌝ }
     ensures { λ r. ⌜ r ≡ getD (bytesIn (byteRun (drop at (now (input .entry))))) i 0 ⌝ }
 {
     if input[at] < 128 {
@@ -113,7 +125,7 @@ fn put_bits(byte: u8, m: usize, out: &mut [u8], k: usize)
 
 // The first bytes of the run at a place, in eight places each, from k on.
 fn put_bytes(input: &[u8], at: usize, run: ByteRun, count: usize, out: &mut [u8], k: usize)
-    requires { ⌜ (foundIn (byteRun (drop at (now input))) ≡ Found.Run run) × (count ≤ run .count) × (k + 8 * count ≤ length (now out)) ⌝ }
+    requires { ⌜ (foundIn (length (now input)) (byteRun (drop at (now input))) ≡ Found.Run run) × (count ≤ run .count) × (k + 8 * count ≤ length (now out)) ⌝ }
     ensures { λ _. ⌜ Wrote k (k + 8 * count) (bits (bytesIn (byteRun (drop at (now (input .entry)))))) (now (out .entry)) (now (out .exit)) ⌝ }
 {
     let mut i = 0;
@@ -125,7 +137,7 @@ fn put_bytes(input: &[u8], at: usize, run: ByteRun, count: usize, out: &mut [u8]
 
 // The booleans of the run at a place, from place k on and up to place n: the place after them.
 fn put_run(input: &[u8], at: usize, run: ByteRun, n: usize, out: &mut [u8], k: usize) -> usize
-    requires { ⌜ (foundIn (byteRun (drop at (now input))) ≡ Found.Run run) × (k ≤ n) × (n ≤ length (now out)) ⌝ }
+    requires { ⌜ (foundIn (length (now input)) (byteRun (drop at (now input))) ≡ Found.Run run) × (k ≤ n) × (n ≤ length (now out)) ⌝ }
     ensures { λ r. ⌜ (r ≡ min n (k + 8 * run .count)) × Wrote k r (bits (bytesIn (byteRun (drop at (now (input .entry)))))) (now (out .entry)) (now (out .exit)) ⌝ }
 {
     let whole = (n - k) / 8;
@@ -166,8 +178,11 @@ pub fn read_booleans(input: &[u8], at: ByteOffset, n: RowNumber, out: &mut [u8])
 {
     let position = at.bytes;
     let rows = n.rows;
-    let Span::Whole(consumed) = span_from(input, position, rows) else {
-        return Answer::refused(6, position);
+    let consumed = match span_from(input, position, rows) {
+        Span::Whole(consumed) => consumed,
+        Span::Cut(number, field) => {
+            return Answer::cut(number, position, later(position, field));
+        }
     };
     if out.len() < rows {
         return Answer::refused(8, position);

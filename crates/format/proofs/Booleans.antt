@@ -1,4 +1,4 @@
--- Byte runs and booleans: a valid run's layout reads as that run, nothing else reads, a run that is cut is refused with 6, and no second list of
+-- Byte runs and booleans: a valid run's layout reads as that run, nothing else reads, a run that is cut is refused as cut, and no second list of
 -- runs has the same bytes. Reading n booleans takes exactly the runs that n needs. The starred line of document 01. Assumes nothing.
 use mathlib.Core.Path.{_≡_, refl, sym, ap, _∙_}
 use mathlib.Core.Logic.{_≢_, _↔_}
@@ -16,8 +16,8 @@ use Rattle.format.specs.declared.Kind.the-variants.{Booleans}
 use Rattle.format.specs.declared.Answer.{Answer}
 use Rattle.format.specs.Digits.{AllBelow, digits}
 use Rattle.format.specs.Fields.{pick, bytesFor}
-use Rattle.format.specs.Parse.{Reason, plain, Parsed, got, refused, then, bytes}
-use Rattle.format.specs.Answers.{ran, refusedAt}
+use Rattle.format.specs.Parse.{cut, Parsed, got, refused, then, bytes}
+use Rattle.format.specs.Answers.{ran, cutAt}
 use Rattle.format.specs.Booleans.{ByteRun, repeat, literals, ValidRun, AllValidRuns, Needed, runLayout, runBytes, byteCount, joinedRuns, joinedBytes, bits, booleansOf, repeatRun, byteRun, byteRuns, booleans, booleansInto, booleansAnswer, booleansPlaces}
 use Rattle.format.proofs.Digits.{length-digits, digits-below}
 use Rattle.format.proofs.Fields.{Post, at-got, at-refused, of-got, then-post, pick-post, Took, bytes-complete, bytes-sound, append-below, below-append, below-take}
@@ -60,36 +60,33 @@ run-sound (c ∷ bs) h =
       rest-bytes = k .rest-bytes;
     })
 
--- reading byte runs refuses with 6 and nothing else, and never says "end"
-abbrev pub is6 : Reason → Bool
-is6 (plain n) = eqb n 6
+-- reading byte runs refuses for a field that is cut and nothing else, and never says "end"
+pub data OnlyCut {A : Type 0} : Parsed A → Type 0 where
+  any-got : {a : A} {s : List ℕ} → OnlyCut (got a s)
+  any-cut : {n left : ℕ} → OnlyCut {A = A} (refused (cut n left))
 
-pub data Only6 {A : Type 0} : Parsed A → Type 0 where
-  any-got : {a : A} {s : List ℕ} → Only6 (got a s)
-  six : {r : Reason} → T (is6 r) → Only6 (refused r)
+then-cut : {A B : Type 0} {m : Parsed A} {f : A → List ℕ → Parsed B} → OnlyCut m → ((a : A) (s : List ℕ) → OnlyCut (f a s)) → OnlyCut (then m f)
+then-cut (any-got {a} {s}) h = h a s
+then-cut any-cut h = any-cut
 
-then-6 : {A B : Type 0} {m : Parsed A} {f : A → List ℕ → Parsed B} → Only6 m → ((a : A) (s : List ℕ) → Only6 (f a s)) → Only6 (then m f)
-then-6 (any-got {a} {s}) h = h a s
-then-6 (six t) h = six t
+pick-cut : {A : Type 0} {m m′ : Parsed A} (b : Bool) → OnlyCut m → OnlyCut m′ → OnlyCut (pick b m m′)
+pick-cut true h h′ = h
+pick-cut false h h′ = h′
 
-pick-6 : {A : Type 0} {m m′ : Parsed A} (b : Bool) → Only6 m → Only6 m′ → Only6 (pick b m m′)
-pick-6 true h h′ = h
-pick-6 false h h′ = h′
-
-pub run-6 : (bs : List ℕ) → Only6 (byteRun bs)
+pub run-only : (bs : List ℕ) → OnlyCut (byteRun bs)
 unfolding byteRun repeatRun bytes
-run-6 [] = six tt
-run-6 (c ∷ []) = pick-6 (ltb c 128) (six tt) (then-6 (pick-6 (leb (256 - c) 0) any-got (six tt)) λ v s. any-got)
-run-6 (c ∷ b ∷ bs) = pick-6 (ltb c 128) any-got (then-6 (pick-6 (leb (256 - c) (length (b ∷ bs))) any-got (six tt)) λ v s. any-got)
+run-only [] = any-cut
+run-only (c ∷ []) = pick-cut (ltb c 128) any-cut (then-cut (pick-cut (leb (256 - c) 0) any-got any-cut) λ v s. any-got)
+run-only (c ∷ b ∷ bs) = pick-cut (ltb c 128) any-got (then-cut (pick-cut (leb (256 - c) (length (b ∷ bs))) any-got any-cut) λ v s. any-got)
 
-pub runs-6 : (f m : ℕ) (bs : List ℕ) → Only6 (byteRuns f m bs)
+pub runs-only : (f m : ℕ) (bs : List ℕ) → OnlyCut (byteRuns f m bs)
 unfolding byteRuns
-runs-6 zero m bs = pick-6 (eqb m 0) any-got (six tt)
-runs-6 (suc f) m bs = pick-6 (eqb m 0) any-got (then-6 (run-6 bs) λ d s. then-6 (runs-6 f (m - byteCount d) s) λ ds rest. any-got)
+runs-only zero m bs = pick-cut (eqb m 0) any-got any-cut
+runs-only (suc f) m bs = pick-cut (eqb m 0) any-got (then-cut (run-only bs) λ d s. then-cut (runs-only f (m - byteCount d) s) λ ds rest. any-got)
 
 -- ---- the runs that m bytes need
 
-layout-pos : (d : ByteRun) → 1 ≤ length (runLayout d)
+pub layout-pos : (d : ByteRun) → 1 ≤ length (runLayout d)
 unfolding runLayout
 layout-pos (repeat count byte) = omega arith
 layout-pos (literals bs) = omega arith
@@ -167,21 +164,21 @@ runs-unique (d ∷ ds) (d′ ∷ ds′) v v′ e =
     let r : d ≡ d′ = p .0 in
     cc
 
--- ---- a cut run is refused with 6: a proper part, from the start, of what is to be read
+-- ---- a cut run is refused as cut: a proper part, from the start, of what is to be read
 
--- `read` reads back every layout in front of anything, takes nothing else, and refuses with 6 only
+-- `read` reads back every layout in front of anything, takes nothing else, and refuses for a cut field only
 module _ {A : Type 0} (lay : A → List ℕ) (Ok : A → Type 0) (read : List ℕ → Parsed A)
     (back : (a : A) (rest : List ℕ) → Ok a → read (lay a ++ rest) ≡ got a rest)
     (sound : (bs : List ℕ) → AllBelow 256 bs → Post (Took bs lay Ok) (read bs))
-    (only : (bs : List ℕ) → Only6 (read bs)) where
-  cut-6 : (a : A) (p q : List ℕ) → Ok a → AllBelow 256 p → lay a ≡ p ++ q → q ≢ [] → (r : Reason) × (read p ≡ refused r) × T (is6 r)
-  cut-6 a p q v h e qe = go (read p) refl (sound p h) (only p)
+    (only : (bs : List ℕ) → OnlyCut (read bs)) where
+  cut-only : (a : A) (p q : List ℕ) → Ok a → AllBelow 256 p → lay a ≡ p ++ q → q ≢ [] → (n left : ℕ) × (read p ≡ refused (cut n left))
+  cut-only a p q v h e qe = go (read p) refl (sound p h) (only p)
     where
-      go : (m : Parsed A) → read p ≡ m → Post (Took p lay Ok) m → Only6 m → (r : Reason) × (read p ≡ refused r) × T (is6 r)
+      go : (m : Parsed A) → read p ≡ m → Post (Took p lay Ok) m → OnlyCut m → (n left : ℕ) × (read p ≡ refused (cut n left))
       go m g (at-got {a = a′} {s = rest} t) o =
           let same : lay a ++ [] ≡ lay a′ ++ (rest ++ q) = append-nil (lay a) ∙ e ∙ ap (λ (x : List ℕ). x ++ q) (t .split) ∙ append-assoc (lay a′) rest q in
           absurd (qe (append-empty rest q (sym (got-inj (sym (back a [] v) ∙ ap read same ∙ back a′ (rest ++ q) (t .ok)) .1))))
-      go m g at-refused (six {r} t) = (r, g, t)
+      go m g at-refused (any-cut {n} {left}) = (n, left, g)
 
 layout-below : (d : ByteRun) → ValidRun d → AllBelow 256 (runLayout d)
 unfolding runLayout
@@ -193,19 +190,19 @@ unfolding joinedRuns
 joined-below [] v = tt
 joined-below (d ∷ ds) v = below-append 256 (runLayout d) (joinedRuns ds) (layout-below d (v .0)) (joined-below ds (v .1))
 
-pub run-cut : (d : ByteRun) (p q : List ℕ) → ValidRun d → runLayout d ≡ p ++ q → q ≢ [] → (r : Reason) × (byteRun p ≡ refused r) × T (is6 r)
+pub run-cut : (d : ByteRun) (p q : List ℕ) → ValidRun d → runLayout d ≡ p ++ q → q ≢ [] → (n left : ℕ) × (byteRun p ≡ refused (cut n left))
 run-cut d p q v e qe =
-    cut-6 runLayout ValidRun byteRun run-complete run-sound run-6 d p q v (append-below 256 p q (rw e at (layout-below d v))) e qe
+    cut-only runLayout ValidRun byteRun run-complete run-sound run-only d p q v (append-below 256 p q (rw e at (layout-below d v))) e qe
 
 -- even if the needed bytes are there
 pub booleans-cut : (n : ℕ) (ds : List ByteRun) (p q : List ℕ) → AllValidRuns ds → Needed (bytesFor n) ds → joinedRuns ds ≡ p ++ q → q ≢ []
-    → (r : Reason) × (booleans n p ≡ refused r) × T (is6 r)
+    → (k left : ℕ) × (booleans n p ≡ refused (cut k left))
 unfolding booleans
 booleans-cut n ds p q v k e qe =
-    cut-6 joinedRuns (ValidNeeded (bytesFor n)) (booleans n)
+    cut-only joinedRuns (ValidNeeded (bytesFor n)) (booleans n)
     (λ ds rest v. booleans-complete n ds rest (v .0) (v .1))
     (booleans-sound n)
-    (λ bs. runs-6 (length bs) (bytesFor n) bs)
+    (λ bs. runs-only (length bs) (bytesFor n) bs)
     ds p q (v, k) (append-below 256 p q (rw e at (joined-below ds v))) e qe
 
 -- ---- the booleans: n of them, each 0 or 1
@@ -244,7 +241,7 @@ pub booleans-below : (n : ℕ) (ds : List ByteRun) → AllBelow 2 (booleansOf n 
 unfolding booleansOf
 booleans-below n ds = below-take 2 n (bits (joinedBytes ds)) (bits-below (joinedBytes ds))
 
--- ---- document 01's starred line: 32 booleans of `00 FF FF 00` are 24 true, 8 false, in 4 bytes; with 33 refusal 6
+-- ---- document 01's starred line: 32 booleans of `00 FF FF 00` are 24 true, 8 false, in 4 bytes; with 33 refusal 6, the next control byte missing
 
 abbrev starred : List ℕ
 starred = 0x00 ∷ 0xFF ∷ 0xFF ∷ 0x00 ∷ []
@@ -252,13 +249,13 @@ starred = 0x00 ∷ 0xFF ∷ 0xFF ∷ 0x00 ∷ []
 -- what a call gives of some bytes, which stand at position 1: the answer, and the n places, which held 7
 pub told : ℕ → List ℕ → Answer × List ℕ
 unfolding booleansInto booleans byteRuns byteRun repeatRun bytes byteCount joinedRuns runLayout booleansOf joinedBytes runBytes bits digits
-told n bs = (booleansAnswer 1 n (booleansInto n n bs), booleansPlaces n (replicate n 7) (booleansInto n n bs))
+told n bs = (booleansAnswer 1 (length bs) n (booleansInto n n bs), booleansPlaces n (replicate n 7) (booleansInto n n bs))
 
 pub starred-32 : told 32 starred ≡ (ran Booleans 32 4, replicate 24 1 ++ replicate 8 0)
 unfolding told
 starred-32 = refl
 
-pub starred-33 : told 33 starred ≡ (refusedAt 6 1, replicate 33 7)
+pub starred-33 : told 33 starred ≡ (cutAt 6 1 5, replicate 33 7)
 unfolding told
 starred-33 = refl
 
@@ -272,7 +269,7 @@ unfolding told
 two-literals = refl
 
 -- a last run that is cut, though its needed byte is there; and none asked for, of nothing
-pub cut-literals : told 8 (0xFE ∷ 0x44 ∷ []) ≡ (refusedAt 6 1, replicate 8 7)
+pub cut-literals : told 8 (0xFE ∷ 0x44 ∷ []) ≡ (cutAt 13 1 2, replicate 8 7)
 unfolding told
 cut-literals = refl
 

@@ -1,10 +1,10 @@
--- More input: what was read stays read, and a refusal stays a refusal unless it is one for input that ended too soon (1 or 6).
--- So a run that is cut is refused with 1 or 6. (Change request 4 rests on this law.) Assumes nothing.
+-- More input: what was read stays read, and a refusal stays a refusal unless it is one for input that ended too soon (in a header: 1, or in a field).
+-- So a run that is cut is refused with one of these. (Change request 4 rests on this law.) Assumes nothing.
 use mathlib.Core.Path.{_≡_, refl, sym, ap, _∙_}
 use mathlib.Core.Logic.{_≢_}
 use Prim.Native.Nat.{ℕ, zero, suc, _+_, _-_, _*_, _/_, _%_, _≤_}
 use native.Mathlib.Omega.{arith}
-use mathlib.Core.Bool.{Bool, true, false, not, _||_}
+use mathlib.Core.Bool.{Bool, true, false}
 use mathlib.Core.List.{List, [], _∷_, _++_, append-nil}
 use lib.ListN.{length, take, drop, length-append}
 use lib.Seq.{take-append-le, drop-append-le}
@@ -13,12 +13,13 @@ use borrow.Author.Tests.{le-leb}
 use Rattle.format.specs.Fields.{pick, width, bytesFor}
 use Rattle.format.specs.Runs.{Description, Valid, layout, outOfPlace, entryWidth}
 use Rattle.format.specs.Parse
-use Rattle.format.specs.Parse.{Reason, plain, cutIn, Parsed, got, refused, then, unless, bytes, block, varint, codeOf, rowsLess, parse}
+use Rattle.format.specs.Parse.{Reason, plain, cut, cutIn, Parsed, got, refused, then, unless, bytes, block, varint, codeOf, rowsLess, parse}
 use Rattle.format.proofs.Runs.{parse-complete, cut-refused}
 
 -- the refusals that more input may turn into another answer
 abbrev pub isCut : Reason → Bool
-isCut (plain n) = eqb n 1 || eqb n 6
+isCut (plain n) = eqb n 1
+isCut (cut n left) = true
 
 -- what reading gives with the bytes q behind the input, by what it gave without them
 pub data Extends {A : Type 0} (q : List ℕ) : Parsed A → Parsed A → Type 0 where
@@ -43,7 +44,7 @@ pick-ext : {A : Type 0} {q : List ℕ} {m m′ l l′ : Parsed A} (t : Bool) →
 pick-ext true h k = h
 pick-ext false h k = k
 
-module _ (q : List ℕ) (c : ℕ) (h : (s : List ℕ) → T (isCut (cutIn c s))) where
+module _ (q : List ℕ) (c : ℕ) where
   bytes-ext : (n : ℕ) (bs : List ℕ) → Extends q (bytes c n bs) (bytes c n (bs ++ q))
   unfolding bytes
   bytes-ext n bs = go (leb n (length bs)) refl
@@ -53,7 +54,7 @@ module _ (q : List ℕ) (c : ℕ) (h : (s : List ℕ) → T (isCut (cutIn c s)))
       go true e =
           let l : n ≤ length bs = leb→le n (length bs) (rw e tt) in
           rw (le-leb n (length (bs ++ q)) (omega (arith, length-append bs q)), take-append-le n bs q l, drop-append-le n bs q l) ext-got
-      go false e = ext-cut (h bs)
+      go false e = ext-cut tt
 
   block-ext : (w n : ℕ) (bs : List ℕ) → Extends q (block c w n bs) (block c w n (bs ++ q))
   unfolding block
@@ -75,7 +76,7 @@ module _ (q : List ℕ) where
       (then-ext (varint-ext q _ _ tt 10 bs) λ first s. then-ext (varint-ext q _ _ tt 10 s) λ base rest. ext-got)
       (unless-ext (eqb (rowsLess a b) 0) 4
       (then-ext (varint-ext q _ _ tt 10 bs) λ first s. then-ext (varint-ext q _ _ tt 10 s) λ base t.
-      then-ext (block-ext q _ (λ s. tt) (width (codeOf a)) (rowsLess a b - 1) t) λ k rest. ext-got))
+      then-ext (block-ext q _ (width (codeOf a)) (rowsLess a b - 1) t) λ k rest. ext-got))
 
   patched-ext : (a : ℕ) (bs : List ℕ) → Extends q (Parse.patchedRun a bs) (Parse.patchedRun a (bs ++ q))
   unfolding Parse.patchedRun Parse.patchedBody
@@ -85,27 +86,27 @@ module _ (q : List ℕ) where
   patched-ext a (b ∷ c ∷ e ∷ bs) =
       unless-ext (ltb 64 (width (c % 32) + (e / 32 + 1))) 2
       (unless-ext (ltb 64 (width (codeOf a) + width (c % 32))) 3
-      (then-ext (bytes-ext q _ (λ s. tt) (c / 32 + 1) bs) λ base s.
-      then-ext (block-ext q _ (λ s. tt) (width (codeOf a)) (rowsLess a b + 1) s) λ k t.
-      then-ext (block-ext q _ (λ s. tt) (entryWidth (c % 32) (e / 32 + 1)) (e % 32) t) λ l rest.
+      (then-ext (bytes-ext q _ (c / 32 + 1) bs) λ base s.
+      then-ext (block-ext q _ (width (codeOf a)) (rowsLess a b + 1) s) λ k t.
+      then-ext (block-ext q _ (entryWidth (c % 32) (e / 32 + 1)) (e % 32) t) λ l rest.
       unless-ext (outOfPlace (width (c % 32)) (rowsLess a b + 1) (l .values)) 7 ext-got))
 
   direct-ext : (a : ℕ) (bs : List ℕ) → Extends q (Parse.directRun a bs) (Parse.directRun a (bs ++ q))
   unfolding Parse.directRun
   direct-ext a [] = ext-cut tt
-  direct-ext a (b ∷ bs) = then-ext (block-ext q _ (λ s. tt) (width (codeOf a)) (rowsLess a b + 1) bs) λ k rest. ext-got
+  direct-ext a (b ∷ bs) = then-ext (block-ext q _ (width (codeOf a)) (rowsLess a b + 1) bs) λ k rest. ext-got
 
   pub parse-ext : (a : ℕ) (bs : List ℕ) → Extends q (parse (a ∷ bs)) (parse (a ∷ bs ++ q))
   unfolding parse Parse.byKind Parse.shortRun
   parse-ext a bs = go (a / 64)
     where
       go : (k : ℕ) → Extends q (Parse.byKind k a bs) (Parse.byKind k a (bs ++ q))
-      go zero = then-ext (bytes-ext q _ (λ s. tt) (a / 8 + 1) bs) λ v rest. ext-got
+      go zero = then-ext (bytes-ext q _ (a / 8 + 1) bs) λ v rest. ext-got
       go (suc zero) = direct-ext a bs
       go (suc (suc zero)) = patched-ext a bs
       go (suc (suc (suc k))) = delta-ext a bs
 
--- (d) in full: a proper part of a layout, from its start and not empty, is refused with 1 or 6
+-- (d) in full: a proper part of a layout, from its start and not empty, is refused as one that is cut
 pub cut-number : (d : Description) (p q : List ℕ) → Valid d → layout d ≡ p ++ q → p ≢ [] → q ≢ [] → (n : Reason) × (parse p ≡ refused n) × T (isCut n)
 cut-number d [] q v e pe qe = absurd (pe refl)
 cut-number d (a ∷ p) q v e pe qe =

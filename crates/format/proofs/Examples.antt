@@ -11,7 +11,7 @@ use Rattle.format.specs.declared.Kind.{Kind}
 use Rattle.format.specs.declared.Kind.the-variants.{ShortRepeat, Direct, PatchedBase, Delta}
 use Rattle.format.specs.declared.Answer.{Answer}
 use Rattle.format.specs.declared.Stream.{Stream}
-use Rattle.format.specs.Answers.{ran, refusedAt, readWhole, brokeAt}
+use Rattle.format.specs.Answers.{ran, refusing, cutting, refusedAt, cutAt, readWhole, brokeAt}
 use Rattle.format.specs.Digits
 use Rattle.format.specs.Fields
 use Rattle.format.specs.Runs
@@ -42,7 +42,7 @@ unfolding Digits.number Digits.digits Fields.widths Fields.width Fields.leastOf 
     Rows.steps Rows.walk Rows.baseValue Rows.patchAt Rows.patchedRows Rows.rowsOf Rows.asI64 Rows.i64Rows
     Parse.bytes Parse.block Parse.varint Parse.shortRun Parse.directRun Parse.fixedBody Parse.deltaBody Parse.deltaRun Parse.patchedBody Parse.patchedRun Parse.byKind Parse.parse Parse.into
     Streams.runsFrom Streams.readAll Streams.totalRows Streams.joinedRows
-told signed bs = (answerOf 5 (into 6 (parse bs)), placesOf signed lent (into 6 (parse bs)))
+told signed bs = (answerOf 5 (length bs) (into 6 (parse bs)), placesOf signed lent (into 6 (parse bs)))
 
 -- a repeat of 3 yields 3
 repeat-of-three : told true (0x00 ∷ 0x01 ∷ []) ≡ run ShortRepeat (negsuc 0 ∷ negsuc 0 ∷ negsuc 0 ∷ []) 2
@@ -93,6 +93,42 @@ one-row : told false (0xC2 ∷ 0x00 ∷ 0x07 ∷ 0x00 ∷ []) ≡ refusal 4
 unfolding told
 one-row = refl
 
+-- where the input ends: in a value, a varint of which not one byte is there, a varint, rows, a patched base, its values, its list
+abbrev cut : ℕ → ℕ → Answer × List ℤ
+cut n byte = (cutAt n 5 byte, lent)
+
+cut-value : told false (0x0A ∷ 0x01 ∷ []) ≡ cut 6 6
+unfolding told
+cut-value = refl
+
+cut-first : told false (0xC0 ∷ 0x04 ∷ []) ≡ cut 12 7
+unfolding told
+cut-first = refl
+
+cut-base-delta : told false (0xC0 ∷ 0x04 ∷ 0x80 ∷ 0x01 ∷ 0x80 ∷ []) ≡ cut 12 9
+unfolding told
+cut-base-delta = refl
+
+cut-rows : told false (0x46 ∷ 0x02 ∷ 0x12 ∷ []) ≡ cut 13 7
+unfolding told
+cut-rows = refl
+
+cut-magnitudes : told false (0xC6 ∷ 0x04 ∷ 0x64 ∷ 0x05 ∷ 0x14 ∷ []) ≡ cut 13 9
+unfolding told
+cut-magnitudes = refl
+
+cut-base : told false (0x86 ∷ 0x03 ∷ 0x23 ∷ 0x21 ∷ 0x64 ∷ []) ≡ cut 6 9
+unfolding told
+cut-base = refl
+
+cut-values : told false (0x86 ∷ 0x03 ∷ 0x03 ∷ 0x21 ∷ 0x64 ∷ 0x12 ∷ []) ≡ cut 13 10
+unfolding told
+cut-values = refl
+
+cut-list : told false (0x86 ∷ 0x03 ∷ 0x03 ∷ 0x22 ∷ 0x64 ∷ 0x12 ∷ 0x34 ∷ 0x46 ∷ []) ≡ cut 14 12
+unfolding told
+cut-list = refl
+
 -- a stream goes on after its first run, and stops at the first refusal, where the refused run begins
 abbrev streamed : List ℕ → Stream × List ℤ
 streamed bs = (streamAnswer 5 (readAll 6 bs), joinedRows false (runsOf (readAll 6 bs)))
@@ -101,6 +137,10 @@ two-runs : streamed (0x00 ∷ 0x01 ∷ 0x00 ∷ 0x02 ∷ []) ≡ (readWhole 6 4,
 unfolding told
 two-runs = refl
 
-cut-run : streamed (0x00 ∷ 0x01 ∷ 0x46 ∷ []) ≡ (brokeAt 1 7 3 2, pos 1 ∷ pos 1 ∷ pos 1 ∷ [])
+cut-run : streamed (0x00 ∷ 0x01 ∷ 0x46 ∷ []) ≡ (brokeAt (refusing 1 7) 3 2, pos 1 ∷ pos 1 ∷ pos 1 ∷ [])
 unfolding told
 cut-run = refl
+
+cut-list-later : streamed (0x00 ∷ 0x01 ∷ 0x86 ∷ 0x02 ∷ 0x03 ∷ 0x21 ∷ 0x64 ∷ 0x12 ∷ 0x34 ∷ []) ≡ (brokeAt (cutting 14 7 14) 3 2, pos 1 ∷ pos 1 ∷ pos 1 ∷ [])
+unfolding told
+cut-list-later = refl

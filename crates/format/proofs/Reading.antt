@@ -13,10 +13,11 @@ use Rattle.format.specs.Digits.{number}
 use Rattle.format.specs.Fields.{Block, bytesFor}
 use Rattle.format.specs.Runs.{Description, rowCount, layout}
 use Rattle.format.specs.Rows.{i64Rows}
-use Rattle.format.specs.Parse.{plain, cutIn, Parsed, end, got, refused, bytes, unpack, block, into}
-use Rattle.format.specs.Answers.{ran, refusedAt}
+use Rattle.format.specs.Parse.{Reason, plain, cutIn, Parsed, end, got, refused, bytes, unpack, block, into}
+use Rattle.format.specs.Answers.{ran, refusal, refusedAt, cutAt, cutting}
 use Rattle.format.specs.Promises.{kindOf, answerOf, Gives}
 use Rattle.format.specs.declared.Kind.{Kind}
+use Rattle.format.specs.declared.Answer.the-variants.{Refused}
 use Rattle.format.proofs.Streams.{into-got, into-refused, into-end}
 
 module _ (s : List ℕ) (p : ℕ) where
@@ -52,23 +53,37 @@ module _ (s : List ℕ) (p : ℕ) where
   unfolding block
   block-cut c w n h = rw (bytes-cut c (bytesFor (n * w)) h)
 
+-- the field that begins at p, in a call at `at`, is named by p
+pub field-at : (s : List ℕ) (at p n : ℕ) → at ≤ p → p ≤ length s → refusal at (length s - at) (cutIn n (drop p s)) ≡ cutting n at p
+field-at s at p n h l =
+    let e : at + (length s - at - (length s - p)) ≡ p = omega arith in
+    rw (length-drop, e)
+
 -- ---- what a call gives, by what reading gives
 
-module _ (at : ℕ) (signed : Bool) (m : Parsed Description) (out : List ℤ) where
-  pub gives-end : m ≡ end → Gives at signed m out out (answerOf at end)
+module _ (at total : ℕ) (signed : Bool) (m : Parsed Description) (out : List ℤ) where
+  pub gives-end : m ≡ end → Gives at total signed m out out (answerOf at total end)
   gives-end e = record { answer = rw (e, into-end (length out)); places = rw (e, into-end (length out)) }
 
-  pub gives-refused : (n : ℕ) → m ≡ refused (plain n) → Gives at signed m out out (refusedAt n at)
-  gives-refused n e = record { answer = rw (e, into-refused (length out) (plain n)); places = rw (e, into-refused (length out) (plain n)) }
+  pub gives-reason : (r : Reason) → m ≡ refused r → Gives at total signed m out out (Refused (refusal at total r))
+  gives-reason r e = record { answer = rw (e, into-refused (length out) r); places = rw (e, into-refused (length out) r) }
+
+  pub gives-refused : (n : ℕ) → m ≡ refused (plain n) → Gives at total signed m out out (refusedAt n at)
+  gives-refused n e = gives-reason (plain n) e
 
   module _ (d : Description) (rest : List ℕ) (e : m ≡ got d rest) where
-    pub gives-8 : length out < rowCount d → Gives at signed m out out (refusedAt 8 at)
+    pub gives-8 : length out < rowCount d → Gives at total signed m out out (refusedAt 8 at)
     unfolding into
     gives-8 h = record { answer = rw (e, lt-ltb _ _ h); places = rw (e, lt-ltb _ _ h) }
 
     pub gives-run : (out′ : List ℤ) (k : Kind) (n b : ℕ) → rowCount d ≤ length out → k ≡ kindOf d → n ≡ rowCount d → b ≡ length (layout d)
-        → out′ ≡ i64Rows signed d ++ drop n out → Gives at signed m out out′ (ran k n b)
+        → out′ ≡ i64Rows signed d ++ drop n out → Gives at total signed m out out′ (ran k n b)
     gives-run out′ k n b h ek en eb eo = record {
       answer = rw (e, into-got (length out) d rest h, ek, en, eb);
       places = rw (e, into-got (length out) d rest h, ← en) eo;
     }
+
+-- the input ends in the field that begins at p
+pub gives-cut : (s : List ℕ) (at p n : ℕ) (signed : Bool) (m : Parsed Description) (out : List ℤ) → at ≤ p → p ≤ length s → m ≡ refused (cutIn n (drop p s))
+    → Gives at (length s - at) signed m out out (cutAt n at p)
+gives-cut s at p n signed m out h l e = rw (← (field-at s at p n h l)) (gives-reason at (length s - at) signed m out (cutIn n (drop p s)) e)

@@ -163,7 +163,7 @@ joined-unique (d ∷ ds) (d′ ∷ ds′) v v′ e =
     let r : d ≡ d′ = p .0 in
     cc
 
--- a stream that is cut inside a run is not whole: its runs before that one, and then refusal 1 or 6
+-- a stream that is cut inside a run is not whole: its runs before that one, and then the refusal of a run that is cut
 pub stream-cut : (n : ℕ) (ds : List Description) (d : Description) (p q : List ℕ) → AllValid ds → Valid d → totalRows ds ≤ n → layout d ≡ p ++ q → p ≢ [] → q ≢ []
     → (r : Reason) × (readAll n (joined ds ++ p) ≡ broken ds r p) × T (isCut r)
 stream-cut n ds d p q vs v h e pe qe =

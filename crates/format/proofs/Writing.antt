@@ -382,12 +382,12 @@ pub record Exactly (count form fits few : Bool) (n : ℕ) : Type 0 where
 
 pub exactly : (signed : Bool) (f : Form) (w : ℕ) (rs : List ℕ) (places : ℕ)
     → Exactly (countAllowed f (length rs)) (haveForm f rs && widthAllowed f w) (fitWidth signed f w rs) (ltb places (length (layout (described signed f w rs))))
-    (answerNumber (answerOf 0 (writing signed f w rs places)))
+    (answerNumber (answerOf 0 0 (writing signed f w rs places)))
 unfolding writing
 exactly signed f w rs places =
     go (countAllowed f (length rs)) (haveForm f rs && widthAllowed f w) (fitWidth signed f w rs) (ltb places (length (layout (described signed f w rs))))
   where
-    go : (a b c e : Bool) → Exactly a b c e (answerNumber (answerOf 0 (unless (not a) 9 (unless (not b) 10 (unless (not c) 11 (unless e 8 (got (described signed f w rs) [])))))))
+    go : (a b c e : Bool) → Exactly a b c e (answerNumber (answerOf 0 0 (unless (not a) 9 (unless (not b) 10 (unless (not c) 11 (unless e 8 (got (described signed f w rs) [])))))))
     go false b c e = omega arith
     go true false c e = omega arith
     go true true false e = omega arith
@@ -407,7 +407,7 @@ written signed f w rs places a room =
     )
 
 -- and what is not refused was accepted, with room for its bytes
-pub accepted : (signed : Bool) (f : Form) (w : ℕ) (rs : List ℕ) (places : ℕ) → answerNumber (answerOf 0 (writing signed f w rs places)) ≡ 0
+pub accepted : (signed : Bool) (f : Form) (w : ℕ) (rs : List ℕ) (places : ℕ) → answerNumber (answerOf 0 0 (writing signed f w rs places)) ≡ 0
     → Accepted signed f w rs × (length (layout (described signed f w rs)) ≤ places)
 accepted signed f w rs places e =
     let form : Bool = haveForm f rs && widthAllowed f w in
@@ -425,7 +425,7 @@ pub reads-back : (signed : Bool) (f : Form) (w : ℕ) (rows : List ℤ) (places 
 unfolding i64Rows
 reads-back signed f w rows places {d} h e =
     let rs : List ℕ = map asU64 rows in
-    let a = accepted signed f w rs places (ap (λ (m : Parsed Description). answerNumber (answerOf 0 m)) e) in
+    let a = accepted signed f w rs places (ap (λ (m : Parsed Description). answerNumber (answerOf 0 0 m)) e) in
     let same : described signed f w rs ≡ d = got-inj (sym (written signed f w rs places (a .0) (a .1)) ∙ e) .0 in
     let v : Valid d = rw same at (accepted-valid signed f w rs (patterns-lt rows h) (a .0)) in
     (v, λ rest. parse-complete d rest v, rw (← same, accepted-rows signed f w rs (patterns-lt rows h) (a .0)) (patterns-back rows h))

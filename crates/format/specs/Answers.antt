@@ -1,13 +1,17 @@
--- The answers, case by case: document 01's number and values for each (number, place, rows, bytes, the loader's packed number),
+-- The answers, case by case: document 01's number and values for each (number, place, cut field, rows, bytes, the loader's packed number),
 -- and the case that stands for each thing that document 01 has a call answer.
 -- Assumes nothing.
-use Prim.Native.Nat.{ℕ, _+_, _*_}
+use Prim.Native.Nat.{ℕ, _+_, _-_, _*_}
 use Rattle.format.specs.declared.Kind.{Kind}
 use Rattle.format.specs.declared.Kind.the-variants.{ShortRepeat, Direct, PatchedBase, Delta, Booleans, ByteValues}
+use Rattle.format.specs.declared.CutField.{CutField}
+use Rattle.format.specs.declared.CutField.the-variants as field
+use Rattle.format.specs.declared.Refusal.{Refusal}
 use Rattle.format.specs.declared.Answer.{Answer}
 use Rattle.format.specs.declared.Answer.the-variants.{End, Run, Refused}
 use Rattle.format.specs.declared.Stream as stream
 use Rattle.format.specs.declared.Stream.{Stream}
+use Rattle.format.specs.Parse.{Reason, plain, cut}
 
 -- the two bits of a run's header; booleans and byte values are kinds of their own, with no header
 abbrev pub kindNumber : Kind → ℕ
@@ -22,9 +26,24 @@ kindNumber ByteValues = 5
 abbrev pub ran : Kind → ℕ → ℕ → Answer
 ran kind rows bytes = Run (record { kind = kind; rows = record { rows = rows }; consumed = record { bytes = bytes } })
 
--- .. or a refusal with its number and the byte where the refused run begins
+-- .. or a refusal with its number and the byte where the refused run begins ..
+abbrev pub refusing : ℕ → ℕ → Refusal
+refusing number place = record { number = number; place = record { bytes = place }; cut = field.None }
+
 abbrev pub refusedAt : ℕ → ℕ → Answer
-refusedAt number place = Refused (record { number = number; place = record { bytes = place } })
+refusedAt number place = Refused (refusing number place)
+
+-- .. and, where the input ends in a field, the byte where the field begins
+abbrev pub cutting : ℕ → ℕ → ℕ → Refusal
+cutting number place byte = record { number = number; place = record { bytes = place }; cut = field.At (record { bytes = byte }) }
+
+abbrev pub cutAt : ℕ → ℕ → ℕ → Answer
+cutAt number place byte = Refused (cutting number place byte)
+
+-- Why reading refused, as a refusal at a place: of the `total` bytes from the place on, `left` are left from the cut field's first on.
+abbrev pub refusal : ℕ → ℕ → Reason → Refusal
+refusal place total (plain number) = refusing number place
+refusal place total (cut number left) = cutting number place (place + (total - left))
 
 -- the refusal's number: none is 0
 abbrev pub answerNumber : Answer → ℕ
@@ -37,6 +56,12 @@ answerPlace End = 0
 answerPlace (Run r) = 0
 answerPlace (Refused f) = f .place .bytes
 
+-- the cut field: none where nothing is refused
+abbrev pub answerCut : Answer → CutField
+answerCut End = field.None
+answerCut (Run r) = field.None
+answerCut (Refused f) = f .cut
+
 -- a refused call yields 0 rows and consumes 0 bytes
 abbrev pub answerRows : Answer → ℕ
 answerRows End = 0
@@ -48,7 +73,7 @@ answerBytes End = 0
 answerBytes (Run r) = r .consumed .bytes
 answerBytes (Refused f) = 0
 
--- the loader's one number: 0 for end, 1 to 11 for a refusal, else 65,536·consumed + rows
+-- the loader's one number: 0 for end, 1 to 14 for a refusal, else 65,536·consumed + rows
 abbrev pub answerPacked : Answer → ℕ
 answerPacked End = 0
 answerPacked (Run r) = 65536 * (r .consumed .bytes) + r .rows .rows
@@ -58,8 +83,6 @@ answerPacked (Refused f) = f .number
 abbrev pub readWhole : ℕ → ℕ → Stream
 readWhole rows bytes = stream.the-variants.Whole (record { rows = record { rows = rows }; consumed = record { bytes = bytes } })
 
--- .. or the first refusal, with the byte where the refused run begins, and the counts of the runs before it
-abbrev pub brokeAt : ℕ → ℕ → ℕ → ℕ → Stream
-brokeAt number place rows bytes =
-    stream.the-variants.Refused (record { number = number; place = record { bytes = place } })
-    (record { rows = record { rows = rows }; consumed = record { bytes = bytes } })
+-- .. or the first refusal, and the counts of the runs before it
+abbrev pub brokeAt : Refusal → ℕ → ℕ → Stream
+brokeAt refusal rows bytes = stream.the-variants.Refused refusal (record { rows = record { rows = rows }; consumed = record { bytes = bytes } })

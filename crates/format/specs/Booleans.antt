@@ -7,10 +7,11 @@ use lib.ListN.{length, take, drop, replicate}
 use lib.Dec.{ltb, eqb}
 use Rattle.format.specs.declared.Kind.the-variants.{Booleans}
 use Rattle.format.specs.declared.Answer.{Answer}
+use Rattle.format.specs.declared.Answer.the-variants.{Refused}
 use Rattle.format.specs.Digits.{AllBelow, digits}
 use Rattle.format.specs.Fields.{pick, bytesFor}
-use Rattle.format.specs.Parse.{plain, cutIn, Parsed, end, got, refused, then, unless, bytes}
-use Rattle.format.specs.Answers.{ran, refusedAt}
+use Rattle.format.specs.Parse.{cutIn, Parsed, end, got, refused, then, unless, bytes}
+use Rattle.format.specs.Answers.{ran, cutAt, refusal}
 
 -- ---- BYTE RUNS: copies of one byte, with their count; or literal bytes
 
@@ -76,15 +77,15 @@ bits (b ∷ bs) = digits 2 8 b ++ bits bs
 unfoldable pub booleansOf : ℕ → List ByteRun → List ℕ
 booleansOf n ds = take n (bits (joinedBytes ds))
 
--- ---- READING: a run that is cut, or not there, is refusal 6, even if its needed bytes are there
+-- ---- READING: a missing control byte is refusal 6; a run that is cut after its control byte is 13, even if its needed bytes are there
 
 unfoldable pub repeatRun : ℕ → List ℕ → Parsed ByteRun
-repeatRun c [] = refused (cutIn 6 [])
+repeatRun c [] = refused (cutIn 13 [])
 repeatRun c (b ∷ rest) = got (repeat (c + 3) b) rest
 
 unfoldable pub byteRun : List ℕ → Parsed ByteRun
 byteRun [] = refused (cutIn 6 [])
-byteRun (c ∷ bs) = pick (ltb c 128) (repeatRun c bs) (then (bytes 6 (256 - c) bs) λ v rest. got (literals v) rest)
+byteRun (c ∷ bs) = pick (ltb c 128) (repeatRun c bs) (then (bytes 13 (256 - c) bs) λ v rest. got (literals v) rest)
 
 -- as many runs as m bytes need, and at most `fuel`: every run takes a byte at least, so the length is fuel enough
 unfoldable pub byteRuns : ℕ → ℕ → List ℕ → Parsed (List ByteRun)
@@ -105,11 +106,11 @@ booleansInto places n bs = then (booleans n bs) λ ds rest. unless (ltb places n
 
 -- ---- THE PROMISE
 
--- the kind with its counts: n stands as rows, and each of the runs is consumed whole; or a refusal, with the call's position
-abbrev pub booleansAnswer : ℕ → ℕ → Parsed (List ByteRun) → Answer
-booleansAnswer at n end = refusedAt 6 at
-booleansAnswer at n (got ds rest) = ran Booleans n (length (joinedRuns ds))
-booleansAnswer at n (refused (plain k)) = refusedAt k at
+-- the kind with its counts: n stands as rows, and each of the runs is consumed whole; or a refusal, at the call's position
+abbrev pub booleansAnswer : ℕ → ℕ → ℕ → Parsed (List ByteRun) → Answer
+booleansAnswer at total n end = cutAt 6 at at
+booleansAnswer at total n (got ds rest) = ran Booleans n (length (joinedRuns ds))
+booleansAnswer at total n (refused r) = Refused (refusal at total r)
 
 -- n bytes of 0 or 1 in the first places, and what stood in the others; a refused call leaves every place unchanged
 abbrev pub booleansPlaces : ℕ → List ℕ → Parsed (List ByteRun) → List ℕ
@@ -119,5 +120,5 @@ booleansPlaces n out (refused r) = out
 
 -- THE BOOLEAN READER: the answer r, and the lent places out′ at exit; what stands from the position on is read
 pub record BooleansRead (input : List ℕ) (at n : ℕ) (out out′ : List ℕ) (r : Answer) : Type 0 where
-  pub answer : r ≡ booleansAnswer at n (booleansInto (length out) n (drop at input))
+  pub answer : r ≡ booleansAnswer at (length input - at) n (booleansInto (length out) n (drop at input))
   pub places : out′ ≡ booleansPlaces n out (booleansInto (length out) n (drop at input))

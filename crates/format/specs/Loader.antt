@@ -7,6 +7,8 @@ use mathlib.Core.List.{List, [], _∷_, _++_, map}
 use lib.ListN.{length, drop}
 use lib.Dec.{leb, ltb, eqb}
 use lib.IntN.{ℤ}
+use Rattle.format.specs.declared.CutField.{CutField}
+use Rattle.format.specs.declared.CutField.the-variants as field
 use Rattle.format.specs.declared.Answer.{Answer}
 use Rattle.format.specs.declared.Answer.the-variants.{End, Run, Refused}
 use Rattle.format.specs.declared.Stream as stream
@@ -18,7 +20,7 @@ use Rattle.format.specs.Runs.{Description, rowCount}
 use Rattle.format.specs.Rows.{asU64, i64Rows}
 use Rattle.format.specs.Parse.{Parsed, end, got, refused, parse, into, unless}
 use Rattle.format.specs.Streams.{Reading, readAll, runsOf, totalRows, joinedRows}
-use Rattle.format.specs.Answers.{kindNumber, answerNumber, answerPlace, answerRows, answerBytes, answerPacked}
+use Rattle.format.specs.Answers.{kindNumber, answerNumber, answerPlace, answerCut, answerRows, answerBytes, answerPacked}
 use Rattle.format.specs.Promises.{answerOf, placesOf, streamAnswer}
 use Rattle.format.specs.Booleans.{booleansInto, booleansAnswer, booleansPlaces}
 use Rattle.format.specs.ByteValues.{byteValue, valueAnswer}
@@ -50,7 +52,7 @@ bytesOf signed out (refused r) = out
 
 -- the number and the bytes at exit, of the run that the input begins with, in as many places as the output has whole eights of bytes
 pub record LoadedAs (input : List ℕ) (signed : Bool) (out out′ : List ℕ) (r : ℕ) : Type 0 where
-  pub number : r ≡ answerPacked (answerOf 0 (into (placesIn out) (parse input)))
+  pub number : r ≡ answerPacked (answerOf 0 (length input) (into (placesIn out) (parse input)))
   pub bytes : out′ ≡ bytesOf signed out (into (placesIn out) (parse input))
 
 -- THE FUNCTION THAT ANSWERS BY A NUMBER
@@ -70,6 +72,15 @@ answerKind End = 0
 answerKind (Run r) = kindNumber (r .kind)
 answerKind (Refused f) = 0
 
+-- the cut field: whether there is one, and the byte where it begins
+abbrev pub cutCase : CutField → ℕ
+cutCase field.None = 0
+cutCase (field.At b) = 1
+
+abbrev pub cutByte : CutField → ℕ
+cutByte field.None = 0
+cutByte (field.At b) = b .bytes
+
 unfoldable pub answerWords : Answer → List ℕ
 answerWords a =
     -- 0: the case: 0 end, 1 a run, 2 refused
@@ -84,6 +95,10 @@ answerWords a =
     ∷ answerRows a
     -- 5: bytes consumed, or of the writer, written; 0 for end and refused
     ∷ answerBytes a
+    -- 6: 1 where the input ends in a field, else 0
+    ∷ cutCase (answerCut a)
+    -- 7: the byte where that field begins, 0 where there is none
+    ∷ cutByte (answerCut a)
     ∷ []
 
 -- a stream is whole, or a run of it is refused: in both cases with the counts of the runs that were read
@@ -98,6 +113,10 @@ streamNumber (stream.the-variants.Refused f n) = f .number
 abbrev pub streamPlace : Stream → ℕ
 streamPlace (stream.the-variants.Whole n) = 0
 streamPlace (stream.the-variants.Refused f n) = f .place .bytes
+
+abbrev pub streamCut : Stream → CutField
+streamCut (stream.the-variants.Whole n) = field.None
+streamCut (stream.the-variants.Refused f n) = f .cut
 
 abbrev pub streamRows : Stream → ℕ
 streamRows (stream.the-variants.Whole n) = n .rows .rows
@@ -121,11 +140,15 @@ streamWords s =
     ∷ streamRows s
     -- 5: their bytes
     ∷ streamBytes s
+    -- 6: 1 where the input ends in a field of the refused run, else 0
+    ∷ cutCase (streamCut s)
+    -- 7: the byte where that field begins, 0 where there is none
+    ∷ cutByte (streamCut s)
     ∷ []
 
 -- how many words an answer has, a stream's too
 abbrev pub wordCount : ℕ
-wordCount = 6
+wordCount = 8
 
 -- the number of a call that was lent fewer
 abbrev pub tooFewWords : ℕ
@@ -155,7 +178,7 @@ module _ {B : Type 0} (wordsOf : B → List ℕ) (numberOf : B → ℕ) where
 abbrev pub RunTold : List ℕ → ℕ → ℕ → List ℤ → List ℤ → List ℕ → List ℕ → ℕ → Type 0
 RunTold input at flag rows rows′ words words′ r =
     let m = into (length rows) (parse (drop at input)) in
-    ToldOf answerWords answerNumber (answerOf at m) words words′ r (placesOf (isSigned flag) rows m) rows rows′
+    ToldOf answerWords answerNumber (answerOf at (length input - at) m) words words′ r (placesOf (isSigned flag) rows m) rows rows′
 
 -- the rows of the runs that were read, joined, in the first places, and what stood in the others
 abbrev pub streamPlaces : Bool → List ℤ → Reading → List ℤ
@@ -171,13 +194,13 @@ StreamTold input at flag rows rows′ words words′ r =
 abbrev pub BooleansTold : List ℕ → ℕ → ℕ → List ℕ → List ℕ → List ℕ → List ℕ → ℕ → Type 0
 BooleansTold input at n out out′ words words′ r =
     let m = booleansInto (length out) n (drop at input) in
-    ToldOf answerWords answerNumber (booleansAnswer at n m) words words′ r (booleansPlaces n out m) out out′
+    ToldOf answerWords answerNumber (booleansAnswer at (length input - at) n m) words words′ r (booleansPlaces n out m) out out′
 
 -- A VALUE of n bytes at a position: it is the n bytes there, and nothing but the words is lent
 abbrev pub ValueTold : List ℕ → ℕ → ℕ → List ℕ → List ℕ → ℕ → Type 0
 ValueTold input at n words words′ r =
     let m = byteValue n (drop at input) in
-    Told answerWords answerNumber (valueAnswer at n m) words words′ r
+    Told answerWords answerNumber (valueAnswer at (length input - at) n m) words words′ r
 
 -- the form that a number stands for
 unfoldable pub formOf : ℕ → Form
@@ -191,15 +214,15 @@ abbrev pub writingBy : Bool → ℕ → ℕ → List ℕ → ℕ → Parsed Desc
 writingBy signed form w rs places = unless (ltb 3 form) 10 (writing signed (formOf form) w rs places)
 
 pub record WrittenBy (rows : List ℤ) (signed : Bool) (form w : ℕ) (out out′ : List ℕ) (r : Answer) : Type 0 where
-  pub answer : r ≡ answerOf 0 (writingBy signed form w (map asU64 rows) (length out))
+  pub answer : r ≡ answerOf 0 0 (writingBy signed form w (map asU64 rows) (length out))
   pub places : out′ ≡ bytesIn out (writingBy signed form w (map asU64 rows) (length out))
 
 -- A RUN WRITTEN
 abbrev pub WriteTold : List ℤ → ℕ → ℕ → ℕ → List ℕ → List ℕ → List ℕ → List ℕ → ℕ → Type 0
 WriteTold rows flag form w out out′ words words′ r =
     let m = writingBy (isSigned flag) form w (map asU64 rows) (length out) in
-    ToldOf answerWords answerNumber (answerOf 0 m) words words′ r (bytesIn out m) out out′
+    ToldOf answerWords answerNumber (answerOf 0 0 m) words words′ r (bytesIn out m) out out′
 
 -- the version of the exported functions: one more with each change of what they take or answer
 abbrev pub faceVersion : ℕ
-faceVersion = 1
+faceVersion = 2

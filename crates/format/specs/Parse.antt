@@ -1,5 +1,5 @@
--- Reading one run, as a function on the list of bytes, in document 01's reading order: "end" for empty input; then 1, 2, 3, 4; then 5 and 6 in
--- byte order; then 7; then 8.
+-- Reading one run, as a function on the list of bytes, in document 01's reading order: "end" for empty input; then 1, 2, 3, 4; then 5 and those of a
+-- field that is cut (6 a short repeat value or patched base, 12 a varint, 13 packed rows, 14 a patch list), in byte order; then 7; then 8.
 -- Assumes nothing.
 use Prim.Native.Nat.{ℕ, zero, suc, _+_, _-_, _*_, _/_, _%_, _^_}
 use mathlib.Core.Bool.{Bool, true, false}
@@ -10,15 +10,16 @@ use Rattle.format.specs.Digits.{number, digits}
 use Rattle.format.specs.Fields.{pick, width, Block, bytesFor, padBits}
 use Rattle.format.specs.Runs.{Description, short, direct, fixed, delta, patched, outOfPlace, entryWidth, rowCount}
 
--- a refusal: its number
+-- why reading refuses: by a number alone; or because the input ends in a field: its number, and how many bytes are left from the field's first on
 pub data Reason : Type 0 where
   plain : ℕ → Reason
+  cut : ℕ → ℕ → Reason
 
--- the refusal where the input ends in a field: its number, and the bytes from the field's first on
+-- the input ends in a field: its number, and the bytes from the field's first on
 abbrev pub cutIn : ℕ → List ℕ → Reason
-cutIn n bs = plain n
+cutIn n bs = cut n (length bs)
 
--- what reading gives: nothing was there, a thing and the bytes after it, or a refusal with its number
+-- what reading gives: nothing was there, a thing and the bytes after it, or a refusal
 pub data Parsed (A : Type 0) : Type 0 where
   end : Parsed A
   got : A → List ℕ → Parsed A
@@ -65,21 +66,21 @@ shortRun a bs = then (bytes 6 (a / 8 + 1) bs) λ value rest. got (short (a % 8 +
 
 unfoldable pub directRun : ℕ → List ℕ → Parsed Description
 directRun a [] = refused (plain 1)
-directRun a (b ∷ bs) = then (block 6 (width (codeOf a)) (rowsLess a b + 1) bs) λ k rest. got (direct (codeOf a) k) rest
+directRun a (b ∷ bs) = then (block 13 (width (codeOf a)) (rowsLess a b + 1) bs) λ k rest. got (direct (codeOf a) k) rest
 
 -- a delta run's body with code 0; rows
 unfoldable pub fixedBody : ℕ → List ℕ → Parsed Description
 fixedBody rows bs =
-    then (varint (cutIn 6 bs) 10 bs) λ first s.
-    then (varint (cutIn 6 s) 10 s) λ base rest.
+    then (varint (cutIn 12 bs) 10 bs) λ first s.
+    then (varint (cutIn 12 s) 10 s) λ base rest.
     got (fixed rows first base) rest
 
 -- a delta run's body with another code; rows-2
 unfoldable pub deltaBody : ℕ → ℕ → List ℕ → Parsed Description
 deltaBody code n bs =
-    then (varint (cutIn 6 bs) 10 bs) λ first s.
-    then (varint (cutIn 6 s) 10 s) λ base t.
-    then (block 6 (width code) n t) λ k rest.
+    then (varint (cutIn 12 bs) 10 bs) λ first s.
+    then (varint (cutIn 12 s) 10 s) λ base t.
+    then (block 13 (width code) n t) λ k rest.
     got (delta code first base k) rest
 
 unfoldable pub deltaRun : ℕ → List ℕ → Parsed Description
@@ -93,8 +94,8 @@ patchedBody code rows bw pc gw len bs =
     unless (ltb 64 (width pc + gw)) 2
     (unless (ltb 64 (width code + width pc)) 3
     (then (bytes 6 bw bs) λ base s.
-    then (block 6 (width code) rows s) λ k t.
-    then (block 6 (entryWidth pc gw) len t) λ l rest.
+    then (block 13 (width code) rows s) λ k t.
+    then (block 14 (entryWidth pc gw) len t) λ l rest.
     unless (outOfPlace (width pc) rows (l .values)) 7
     (got (patched code base pc gw k l) rest)))
 

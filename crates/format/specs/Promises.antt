@@ -1,7 +1,7 @@
 -- What the integer readers promise: the answer and every lent place at exit, for every input, position, flag and number of places.
 -- Assumes nothing.
 use mathlib.Core.Path.{_≡_}
-use Prim.Native.Nat.{ℕ, _+_}
+use Prim.Native.Nat.{ℕ, _+_, _-_}
 use mathlib.Core.Bool.{Bool}
 use mathlib.Core.List.{List, _++_}
 use lib.ListN.{length, drop}
@@ -9,12 +9,12 @@ use lib.IntN.{ℤ}
 use Rattle.format.specs.declared.Kind.{Kind}
 use Rattle.format.specs.declared.Kind.the-variants.{ShortRepeat, Direct, PatchedBase, Delta}
 use Rattle.format.specs.declared.Answer.{Answer}
-use Rattle.format.specs.declared.Answer.the-variants.{End}
+use Rattle.format.specs.declared.Answer.the-variants.{End, Refused}
 use Rattle.format.specs.declared.Stream.{Stream}
-use Rattle.format.specs.Answers.{ran, refusedAt, readWhole, brokeAt}
+use Rattle.format.specs.Answers.{ran, refusal, readWhole, brokeAt}
 use Rattle.format.specs.Runs.{Description, short, direct, fixed, delta, patched, rowCount, layout, joined}
 use Rattle.format.specs.Rows.{i64Rows}
-use Rattle.format.specs.Parse.{plain, Parsed, end, got, refused, parse, into}
+use Rattle.format.specs.Parse.{Parsed, end, got, refused, parse, into}
 use Rattle.format.specs.Streams.{Reading, whole, broken, readAll, runsOf, totalRows, joinedRows}
 
 -- ---- one run
@@ -27,11 +27,11 @@ kindOf (fixed rows first base) = Delta
 kindOf (delta code first base k) = Delta
 kindOf (patched code base pc gw k l) = PatchedBase
 
--- the answer: the run's kind with its rows and the bytes of its layout, or the refusal and the byte where the run begins
-abbrev pub answerOf : ℕ → Parsed Description → Answer
-answerOf at end = End
-answerOf at (got d rest) = ran (kindOf d) (rowCount d) (length (layout d))
-answerOf at (refused (plain n)) = refusedAt n at
+-- the answer: the run's kind with its rows and the bytes of its layout, or the refusal at the byte where the run begins; `total` bytes stand there
+abbrev pub answerOf : ℕ → ℕ → Parsed Description → Answer
+answerOf at total end = End
+answerOf at total (got d rest) = ran (kindOf d) (rowCount d) (length (layout d))
+answerOf at total (refused r) = Refused (refusal at total r)
 
 -- the lent places at exit: the rows in the first of them, and what stood in the others; a refused call leaves every place unchanged
 abbrev pub placesOf : Bool → List ℤ → Parsed Description → List ℤ
@@ -39,21 +39,21 @@ placesOf signed out end = out
 placesOf signed out (got d rest) = i64Rows signed d ++ drop (rowCount d) out
 placesOf signed out (refused r) = out
 
--- the answer r and the places out′ at exit are those of m, what reading at the position gives, in the places out
-pub record Gives (at : ℕ) (signed : Bool) (m : Parsed Description) (out out′ : List ℤ) (r : Answer) : Type 0 where
-  pub answer : r ≡ answerOf at (into (length out) m)
+-- the answer r and the places out′ at exit are those of m, what reading the `total` bytes at the position gives, in the places out
+pub record Gives (at total : ℕ) (signed : Bool) (m : Parsed Description) (out out′ : List ℤ) (r : Answer) : Type 0 where
+  pub answer : r ≡ answerOf at total (into (length out) m)
   pub places : out′ ≡ placesOf signed out (into (length out) m)
 
 -- THE RUN READER: what stands from the position on is read; a position past the end is empty input
 abbrev pub RunRead : List ℕ → ℕ → Bool → List ℤ → List ℤ → Answer → Type 0
-RunRead input at signed out out′ r = Gives at signed (parse (drop at input)) out out′ r
+RunRead input at signed out out′ r = Gives at (length input - at) signed (parse (drop at input)) out out′ r
 
 -- ---- the stream
 
--- "whole stream read", or the first refusal at the byte where the refused run begins; with the counts of the runs that were read
+-- "whole stream read", or the first refusal, at the byte where the refused run begins; with the counts of the runs that were read
 abbrev pub streamAnswer : ℕ → Reading → Stream
 streamAnswer at (whole ds) = readWhole (totalRows ds) (length (joined ds))
-streamAnswer at (broken ds (plain n) rest) = brokeAt n (at + length (joined ds)) (totalRows ds) (length (joined ds))
+streamAnswer at (broken ds r rest) = brokeAt (refusal (at + length (joined ds)) (length rest) r) (totalRows ds) (length (joined ds))
 
 -- THE STREAM READER: the runs that were read leave their rows, joined, in the first places; the places after them keep their content
 pub record StreamRead (input : List ℕ) (at : ℕ) (signed : Bool) (out out′ : List ℤ) (r : Stream) : Type 0 where

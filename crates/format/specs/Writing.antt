@@ -127,7 +127,7 @@ abbrev pub AllI64 : List ℤ → Type 0
 AllI64 [] = Unit {0}
 AllI64 (z ∷ zs) = SFits w64 z × AllI64 zs
 
--- ---- THE PROMISE: the answer, whose place is 0 where it refuses, and every lent place at exit
+-- ---- THE PROMISE: the answer, whose place is 0 where it refuses (no field is cut), and every lent place at exit
 
 -- the run's bytes in the first places, and what stood in the others; a refused call leaves every place unchanged
 abbrev pub bytesIn : List ℕ → Parsed Description → List ℕ
@@ -136,7 +136,7 @@ bytesIn out (got d rest) = layout d ++ drop (length (layout d)) out
 bytesIn out (refused r) = out
 
 pub record Written (rows : List ℤ) (signed : Bool) (f : Form) (w : ℕ) (out out′ : List ℕ) (r : Answer) : Type 0 where
-  pub answer : r ≡ answerOf 0 (writing signed f w (map asU64 rows) (length out))
+  pub answer : r ≡ answerOf 0 0 (writing signed f w (map asU64 rows) (length out))
   pub places : out′ ≡ bytesIn out (writing signed f w (map asU64 rows) (length out))
 
 -- ---- A run as the writer lays it down, by its form and width: zero padding, shortest varints with no bits dropped, and delta 0 where there is one row.

@@ -1,7 +1,7 @@
 // The nouns of document 01: units, kinds, answers. What bytes mean stands in specs/, and the laws of that meaning in proofs/.
 ghost use mathlib.Core.Path.{_≡_};
 ghost use Prim.Native.Nat.{_<_};
-ghost use Rattle.format.specs.Answers.{ran, refusedAt, kindNumber, answerNumber, answerPlace, answerRows, answerBytes, answerPacked, readWhole, brokeAt};
+ghost use Rattle.format.specs.Answers.{ran, refusing, cutting, refusedAt, cutAt, kindNumber, answerNumber, answerPlace, answerCut, answerRows, answerBytes, answerPacked, readWhole, brokeAt};
 
 // File offsets count bytes.
 pub struct ByteOffset {
@@ -38,10 +38,17 @@ pub struct Run {
     pub consumed: ByteOffset,
 }
 
-// A refusal: its number in document 01's table, and the byte where the refused run begins.
+// The field that the input ends in: the byte where it begins, or none where no field is cut.
+pub enum CutField {
+    None,
+    At(ByteOffset),
+}
+
+// A refusal: its number in document 01's table, the byte where the refused run begins, and for 6, 12, 13 and 14 the field that was cut.
 pub struct Refusal {
     pub number: u8,
     pub place: ByteOffset,
+    pub cut: CutField,
 }
 
 // What a call answers.
@@ -106,6 +113,29 @@ impl Kind {
     }
 }
 
+impl Refusal {
+    pub fn new(number: u8, place: usize) -> Self
+        ensures { λ r. ⌜ r ≡ refusing number place ⌝ }
+    {
+        Refusal {
+            number,
+            place: ByteOffset { bytes: place },
+            cut: CutField::None,
+        }
+    }
+
+    // The input ends in the field that begins at this byte.
+    pub fn cut(number: u8, place: usize, field: usize) -> Self
+        ensures { λ r. ⌜ r ≡ cutting number place field ⌝ }
+    {
+        Refusal {
+            number,
+            place: ByteOffset { bytes: place },
+            cut: CutField::At(ByteOffset { bytes: field }),
+        }
+    }
+}
+
 impl Answer {
     pub fn end() -> Self
         ensures { λ r. ⌜ r ≡ Answer.End ⌝ }
@@ -126,10 +156,13 @@ impl Answer {
     pub fn refused(number: u8, place: usize) -> Self
         ensures { λ r. ⌜ r ≡ refusedAt number place ⌝ }
     {
-        Answer::Refused(Refusal {
-            number,
-            place: ByteOffset { bytes: place },
-        })
+        Answer::Refused(Refusal::new(number, place))
+    }
+
+    pub fn cut(number: u8, place: usize, field: usize) -> Self
+        ensures { λ r. ⌜ r ≡ cutAt number place field ⌝ }
+    {
+        Answer::Refused(Refusal::cut(number, place, field))
     }
 
     // The number of the refusal: 0 where nothing is refused.
@@ -151,6 +184,17 @@ impl Answer {
             Answer::Refused(f) => f.place.bytes,
             Answer::Run(_) => 0,
             Answer::End => 0,
+        }
+    }
+
+    // The field that the input ends in: none where nothing is refused.
+    pub fn cut_field(self) -> CutField
+        ensures { λ r. ⌜ r ≡ answerCut self ⌝ }
+    {
+        match self {
+            Answer::Refused(f) => f.cut,
+            Answer::Run(_) => CutField::None,
+            Answer::End => CutField::None,
         }
     }
 
@@ -203,14 +247,11 @@ impl Stream {
         })
     }
 
-    pub fn refused(number: u8, place: usize, rows: usize, consumed: usize) -> Self
-        ensures { λ r. ⌜ r ≡ brokeAt number place rows consumed ⌝ }
+    pub fn refused(refusal: Refusal, rows: usize, consumed: usize) -> Self
+        ensures { λ r. ⌜ r ≡ brokeAt refusal rows consumed ⌝ }
     {
         Stream::Refused(
-            Refusal {
-                number,
-                place: ByteOffset { bytes: place },
-            },
+            refusal,
             Counts {
                 rows: RowNumber { rows },
                 consumed: ByteOffset { bytes: consumed },

@@ -12,7 +12,7 @@ use lib.IntN.{ℤ}
 use borrow.Author.Tests.{lt-ltb, le-ltb, eq-eqb, ne-eqb, ltb-false}
 use Rattle.format.specs.Runs.{Description, rowCount}
 use Rattle.format.specs.Rows.{i64Rows, asI64, rowsOf}
-use Rattle.format.specs.Parse.{Parsed, end, got, refused, plain, unless, into, parse}
+use Rattle.format.specs.Parse.{Parsed, end, got, refused, unless, into, parse}
 use Rattle.format.specs.Answers.{answerRows}
 use Rattle.format.specs.Promises.{RunRead, answerOf, placesOf}
 use Rattle.format.specs.declared.Answer.{Answer}
@@ -141,25 +141,27 @@ rows-long signed d = length-map (rowsOf signed d) asI64 ∙ rows-count signed d
 -- what was read at byte 1 of a frame, in words
 pub record Reads (frame : List ℕ) (signed : Bool) (out′ : List ℤ) (r : Answer) : Type 0 where
   pub few : answerRows r ≤ 512
-  pub words : answerWords r (take (answerRows r) out′) ≡ wordsOf signed (into 512 (parse (drop 1 frame)))
+  pub words : answerWords r (take (answerRows r) out′) ≡ wordsOf (length frame - 1) signed (into 512 (parse (drop 1 frame)))
 
 pub reads : (frame : List ℕ) (at : ℕ) (signed : Bool) (out out′ : List ℤ) (r : Answer) → at ≡ 1 → length out ≡ 512 → RunRead frame at signed out out′ r
     → Reads frame signed out′ r
 reads frame at signed out out′ r z l g = by (into 512 (parse (drop 1 frame))) refl (rw (z, l) at (g .answer)) (rw (z, l) at (g .places))
   where
-    by : (x : Parsed Description) → into 512 (parse (drop 1 frame)) ≡ x → r ≡ answerOf 1 x → out′ ≡ placesOf signed out x → Reads frame signed out′ r
+    by : (x : Parsed Description) → into 512 (parse (drop 1 frame)) ≡ x → r ≡ answerOf 1 (length frame - 1) x → out′ ≡ placesOf signed out x → Reads frame signed out′ r
     by end e a p = record { few = rw a (omega arith); words = rw (a, e) }
-    by (refused (plain n)) e a p = record { few = rw a (omega arith); words = rw (a, e) }
+    by (refused n) e a p = record { few = rw a (omega arith); words = rw (a, e) }
     by (got d rest) e a p = record {
       few = rw a (into-rows 512 (parse (drop 1 frame)) d rest e);
       words = rw (a, e, p, take-at (i64Rows signed d) (drop (rowCount d) out) (rowCount d) (rows-long signed d));
     }
 
 -- the frame's first byte and the run after it
-pub frame-text : (frame : List ℕ) → 0 < length frame → frameText frame ≡ wordsOf (eqb (getD frame 0 0) 1) (into 512 (parse (drop 1 frame)))
+pub frame-text : (frame : List ℕ) → 0 < length frame → frameText frame ≡ wordsOf (length frame - 1) (eqb (getD frame 0 0) 1) (into 512 (parse (drop 1 frame)))
 unfolding frameText
 frame-text [] h = absurd (omega arith)
-frame-text (flag ∷ run) h = refl
+frame-text (flag ∷ run) h =
+    let e : suc (length run) - 1 ≡ length run = omega arith in
+    rw e
 
 -- ---- room
 

@@ -43,9 +43,9 @@ rowsIn signed end = []
 rowsIn signed (got d rest) = i64Rows signed d
 rowsIn signed (refused r) = []
 
--- what reading gives, in words; the run stands from byte 1 on
-abbrev pub wordsOf : Bool → Parsed Description → List ℕ
-wordsOf signed m = answerWords (answerOf 1 m) (rowsIn signed m)
+-- what reading gives, in words; the run stands in the `total` bytes from byte 1 on
+abbrev pub wordsOf : ℕ → Bool → Parsed Description → List ℕ
+wordsOf total signed m = answerWords (answerOf 1 total m) (rowsIn signed m)
 
 -- The bytes of a line: none where it is bad.
 unfoldable pub frameOf : List ℕ → List ℕ
@@ -54,7 +54,7 @@ frameOf line = pick (badLine line) [] (hexBytes line)
 -- The first byte is the flag, the rest one run; bytes after it aren't read. No run has more than 512 rows, so that 512 places are room for any.
 unfoldable pub frameText : List ℕ → List ℕ
 frameText [] = ascii "bad line"
-frameText (flag ∷ run) = wordsOf (eqb flag 1) (into 512 (parse run))
+frameText (flag ∷ run) = wordsOf (length run) (eqb flag 1) (into 512 (parse run))
 
 -- the answer to a line, without its newline
 unfoldable pub answerText : List ℕ → List ℕ

@@ -1,6 +1,7 @@
 -- What the run reader gives in the first of the rows, as the loader's number and bytes. Assumes nothing.
 use mathlib.Core.Path.{_≡_, refl}
 use Prim.Native.Nat.{ℕ, _*_, _≤_, min}
+use native.Mathlib.Nat.{sub-zero}
 use native.Mathlib.Omega.{arith}
 use mathlib.Core.Bool.{Bool}
 use mathlib.Core.List.{List, [], _∷_, _++_, append-assoc}
@@ -10,7 +11,7 @@ use lib.IntN.{ℤ}
 use Rattle.format.specs.Digits.{AllBelow}
 use Rattle.format.specs.Runs.{Description, rowCount}
 use Rattle.format.specs.Rows.{i64Rows}
-use Rattle.format.specs.Parse.{Parsed, plain, parse, into}
+use Rattle.format.specs.Parse.{Parsed, parse, into}
 use Rattle.format.specs.Answers.{answerRows, answerBytes}
 use Rattle.format.specs.Promises.{answerOf, placesOf, RunRead}
 use Rattle.format.specs.Loader.{rowBytes, bytesOf, placesIn, LoadedAs}
@@ -23,7 +24,7 @@ use Rattle.loader.specs.Room.{Enough}
 
 -- rows′ begins with the run's rows, if there is one
 pub record Reads (input : List ℕ) (signed : Bool) (out : List ℕ) (rows′ : List ℤ) (k : ℕ) (r : Answer) : Type 0 where
-  pub answer : r ≡ answerOf 0 (into (placesIn out) (parse input))
+  pub answer : r ≡ answerOf 0 (length input) (into (placesIn out) (parse input))
   pub fits : answerRows r ≤ k
   pub few : answerRows r ≤ 512
   pub short : answerBytes r ≤ 4608
@@ -35,17 +36,17 @@ module _ (input : List ℕ) (signed : Bool) (out : List ℕ) (rows part part′ 
   unfolding rowBytes
   reads b e m l z g rest =
       let n : into k (parse input) ≡ into (placesIn out) (parse input) = rw m (least-room (placesIn out) (length rows) (parse input) e) in
-      by (into k (parse input)) n (into-outcome k input b) (rw (l, z) at (g .answer)) (rw (l, z) at (g .places))
+      by (into k (parse input)) n (into-outcome k input b) (rw (l, z, sub-zero) at (g .answer)) (rw (l, z) at (g .places))
     where
       -- nothing was read: no row, no byte, and the output as it was
-      none : (x : Parsed Description) → x ≡ into (placesIn out) (parse input) → r ≡ answerOf 0 x → answerRows (answerOf 0 x) ≡ 0 → answerBytes (answerOf 0 x) ≡ 0
+      none : (x : Parsed Description) → x ≡ into (placesIn out) (parse input) → r ≡ answerOf 0 (length input) x → answerRows (answerOf 0 (length input) x) ≡ 0 → answerBytes (answerOf 0 (length input) x) ≡ 0
           → out ≡ bytesOf signed out x → Reads input signed out (part′ ++ rest) k r
       none x n a c d o = record { answer = rw (← n) a; fits = rw (a, c) (omega arith); few = rw (a, c) (omega arith); short = rw (a, d) (omega arith); bytes = rw (a, c, ← n) o }
 
-      by : (x : Parsed Description) → x ≡ into (placesIn out) (parse input) → Into k input x → r ≡ answerOf 0 x → part′ ≡ placesOf signed part x
+      by : (x : Parsed Description) → x ≡ into (placesIn out) (parse input) → Into k input x → r ≡ answerOf 0 (length input) x → part′ ≡ placesOf signed part x
           → Reads input signed out (part′ ++ rest) k r
       by x n (into-nothing _) a p = none x n a refl refl refl
-      by x n (into-refusal {r = plain _} _) a p = none x n a refl refl refl
+      by x n (into-refusal _) a p = none x n a refl refl refl
       by x n (into-run {d} t f) a p = record {
         answer = rw (← n) a;
         fits = rw a f;

@@ -16,11 +16,11 @@ mod words;
 pub extern "C" fn orc_version() -> u64
     ensures { λ r. ⌜ r ≡ faceVersion ⌝ }
 {
-    1
+    2
 }
 
 // One run at the start of the input, its rows as eight bytes each, lowest first. The flag is 0 for unsigned, and any other number for signed.
-// Answers 0 for end, 1 to 11 for a refusal, else 65,536 times the bytes consumed, plus the rows.
+// Answers 0 for end, 1 to 14 for a refusal, else 65,536 times the bytes consumed, plus the rows.
 #[no_mangle]
 pub extern "C" fn orc_read_run(input: &[u8], out: &mut [u8], flag: u64) -> u64
     ensures { λ r. ⌜ Loaded (now (input .entry)) flag (now (out .entry)) (now (out .exit)) r ⌝ }

@@ -1,14 +1,15 @@
-// An answer as words: the case, the refusal's number and place, the kind, rows and bytes.
+// An answer as words: the case, the refusal's number and place, the kind, rows and bytes, and the field that was cut.
 ghost use mathlib.Core.Path.{_≡_};
 ghost use Prim.Native.Nat.{_≤_};
 ghost use lib.ListN.{length};
-ghost use Rattle.format.specs.Loader.{answerCase, answerKind, answerWords, streamCase, streamNumber, streamPlace, streamRows, streamBytes, streamWords, wordCount, Put};
+ghost use Rattle.format.specs.Loader.{answerCase, answerKind, answerWords, cutCase, cutByte, streamCase, streamNumber, streamPlace, streamCut, streamRows, streamBytes, streamWords, wordCount, Put};
 ghost use Rattle.format.specs.Answers.{answerNumber};
 use format::Answer;
+use format::CutField;
 use format::Stream;
 
 // How many words an answer has.
-pub const COUNT: usize = 6;
+pub const COUNT: usize = 8;
 
 // What a call with fewer words answers.
 pub const TOO_FEW: u64 = 18446744073709551615;
@@ -36,6 +37,24 @@ fn kind(answer: Answer) -> u8
     }
 }
 
+fn cut_case(field: CutField) -> u64
+    ensures { λ r. ⌜ r ≡ cutCase field ⌝ }
+{
+    match field {
+        CutField::None => 0,
+        CutField::At(_) => 1,
+    }
+}
+
+fn cut_byte(field: CutField) -> usize
+    ensures { λ r. ⌜ r ≡ cutByte field ⌝ }
+{
+    match field {
+        CutField::None => 0,
+        CutField::At(b) => b.bytes,
+    }
+}
+
 // The words of a call's answer, in the first of the words lent. Answers the refusal's number.
 pub fn put_answer(answer: Answer, words: &mut [u64]) -> u64
     requires { ⌜ wordCount ≤ length (now words) ⌝ }
@@ -47,6 +66,8 @@ pub fn put_answer(answer: Answer, words: &mut [u64]) -> u64
     words[3] = kind(answer) as u64;
     words[4] = answer.rows() as u64;
     words[5] = answer.consumed() as u64;
+    words[6] = cut_case(answer.cut_field());
+    words[7] = cut_byte(answer.cut_field()) as u64;
     answer.number() as u64
 }
 
@@ -74,6 +95,15 @@ fn stream_place(stream: Stream) -> usize
     match stream {
         Stream::Whole(_) => 0,
         Stream::Refused(f, _) => f.place.bytes,
+    }
+}
+
+fn stream_cut(stream: Stream) -> CutField
+    ensures { λ r. ⌜ r ≡ streamCut stream ⌝ }
+{
+    match stream {
+        Stream::Whole(_) => CutField::None,
+        Stream::Refused(f, _) => f.cut,
     }
 }
 
@@ -106,5 +136,7 @@ pub fn put_stream(stream: Stream, words: &mut [u64]) -> u64
     words[3] = 0;
     words[4] = stream_rows(stream) as u64;
     words[5] = stream_consumed(stream) as u64;
+    words[6] = cut_case(stream_cut(stream));
+    words[7] = cut_byte(stream_cut(stream)) as u64;
     stream_number(stream) as u64
 }

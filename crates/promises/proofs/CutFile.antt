@@ -1,27 +1,31 @@
 -- A file that is cut inside a run is refused there. Assumes nothing.
 use mathlib.Core.Path.{_≡_, refl, sym, ap, _∙_}
-use mathlib.Core.Logic.{_≢_, _⊎_, inl, inr}
+use mathlib.Core.Logic.{_≢_}
 use Prim.Native.Nat.{ℕ, zero, suc, _+_, _-_, _<_, _≤_}
 use native.Mathlib.Nat.{le-refl}
 use native.Mathlib.Decide.{decLt}
 use native.Mathlib.Omega.{arith}
-use mathlib.Core.Bool.{Bool, true, false, _||_}
 use mathlib.Core.List.{List, [], _∷_, _++_, append-assoc}
 use lib.ListN.{length, take, drop, length-append, take-append-drop}
 use lib.Seq.{take-append-le, take-append-add, length-take-le}
-use lib.Dec.{T, eqb, eqb→eq}
+use lib.Dec.{T, eqb→eq}
 use lib.IntN.{ℤ}
 use Rattle.format.specs.declared.Stream.{Stream}
+use Rattle.format.specs.Answers.{refusal}
 use Rattle.format.specs.Digits.{AllBelow}
 use Rattle.format.specs.Runs.{Description, Valid, AllValid, layout, joined}
-use Rattle.format.specs.Parse.{Reason, plain}
+use Rattle.format.specs.Parse.{Reason, into}
 use Rattle.format.specs.Streams.{whole, broken, readAll, totalRows}
 use Rattle.format.specs.Promises.{StreamRead}
-use Rattle.format.proofs.Cut.{isCut}
-use Rattle.format.proofs.Streams.{stream-whole, stream-cut}
+use Rattle.format.proofs.Fields.{append-below}
+use Rattle.format.proofs.Runs.{layout-below}
+use Rattle.format.proofs.Cut.{isCut, cut-number}
+use Rattle.format.proofs.Streams.{into-refused, stream-whole, stream-broken}
 use Rattle.promises.specs.Demand3.{LaidOut, IsWhole}
-use Rattle.promises.specs.CutFile.{EndInside, Refuses, CutFile, CutFileHolds}
+use Rattle.promises.specs.CutFile.{EndInside, CutBetween, in-header, in-field, CutFile, CutFileHolds}
+use Rattle.promises.specs.Refusals.{Given, by-number, by-field}
 use Rattle.promises.proofs.Demand3.{demand3}
+use Rattle.promises.proofs.Refusals.{refusals, field-le, field-pos, field-here}
 
 -- ---- where the cut is: the runs before it, the run that it is in, and the bytes of that run before it
 
@@ -100,28 +104,34 @@ place n (d ∷ ds) v (h, i) = go (decLt n (length (layout d))) (λ j. place (n -
         (ih (omega (arith, length-append (layout d) (joined ds)), λ k e. i (suc k) (omega (arith, l, length-append (layout d) (joined (take k ds))))))
         (omega arith)
 
-number-of : (r : Reason) → T (isCut r) → (k : ℕ) × (r ≡ plain k) × ((k ≡ 1) ⊎ (k ≡ 6))
-number-of (plain k) h = (k, refl, go (eqb k 1) refl)
-  where
-    go : (t : Bool) → eqb k 1 ≡ t → (k ≡ 1) ⊎ (k ≡ 6)
-    go true e = inl (eqb→eq k 1 (rw e tt))
-    go false e = inr (eqb→eq k 6 (rw e at h))
-
 module _ (n : ℕ) (ds : List Description) (p : Place n ds) where
-  -- what reading the rest of the file gives
-  broken-there : (room : ℕ) → totalRows ds ≤ room
-      → (k : ℕ) × (readAll room (take n (joined ds)) ≡ broken (p .before) (plain k) (p .left)) × ((k ≡ 1) ⊎ (k ≡ 6))
-  broken-there room h =
-      let (r, f, c) = stream-cut room (p .before) (p .cut) (p .left) (p .right) (p .valid-before) (p .valid-cut) (omega (arith, p .rows)) (p .bytes) (p .some-left) (p .some-right) in
-      let (k, e, o) = number-of r c in
-      (k, ap (readAll room) (p .kept) ∙ f ∙ ap (λ (x : Reason). broken (p .before) x (p .left)) e, o)
+  -- why the run that is cut is refused, and what reading the rest of the file gives
+  broken-there : (r : Reason) × T (isCut r) × Given 0 (p .left) r
+      × ((room : ℕ) → totalRows ds ≤ room → readAll room (take n (joined ds)) ≡ broken (p .before) r (p .left))
+  broken-there =
+      let (r, f, c) = cut-number (p .cut) (p .left) (p .right) (p .valid-cut) (p .bytes) (p .some-left) (p .some-right) in
+      let below : AllBelow 256 (p .left) = append-below 256 (p .left) (p .right) (rw (p .bytes) at (layout-below (p .cut) (p .valid-cut))) in (
+        r,
+        c,
+        refusals 0 (p .left) below r .0 (ap (into 0) f ∙ into-refused 0 r),
+        λ room h. ap (readAll room) (p .kept) ∙ stream-broken room (p .before) (p .left) r (p .valid-before) (omega (arith, p .rows)) (ap (into _) f ∙ into-refused _ r),
+      )
+
+  -- and where the run that is cut begins, and the file ends
+  cut-between : (at : ℕ) (r : Reason) → Given 0 (p .left) r → T (isCut r)
+      → CutBetween (at + length (joined (p .before))) (at + n) (refusal (at + length (joined (p .before))) (length (p .left)) r)
+  cut-between at r (by-number {n = k} t) c = rw (eqb→eq k 1 c) in-header
+  cut-between at r (by-field {n = k} {field} l) c =
+      rw (field-here 0 (at + length (joined (p .before))) (p .left) k field l)
+      (in-field {byte = at + length (joined (p .before)) + field} (field-pos (p .left) l .1) (omega (arith, field-pos (p .left) l .0)) (omega (arith, p .size, field-le (p .left) l)))
 
 pub cut-file : CutFileHolds
 cut-file input h at signed out out′ r s n ds v i e =
     let p : Place n ds = place n ds v i in
+    let (k, c, t, stops) = broken-there n ds p in
     record {
       refuses = λ room.
-          let (k, f, o) = broken-there n ds p (length out) room in
+          let f : readAll (length out) (take n (joined ds)) ≡ broken (p .before) k (p .left) = stops (length out) room in
           record {
             before = p .before;
             cut = p .cut;
@@ -129,14 +139,14 @@ cut-file input h at signed out out′ r s n ds v i e =
             runs = p .runs;
             begun = omega (arith, p .size, some (p .left) (p .some-left));
             ended = omega (arith, p .size, some (p .right) (p .some-right), length-append (p .left) (p .right), ap length (p .bytes));
-            number = k;
-            one-or-six = o;
+            refusal = _;
+            where-cut = cut-between n ds p at k t c;
             answer = rw (e, f) at (s .answer);
             places = rw (e, f) at (s .places);
           };
       never-whole = λ w.
           let (es, l, room) = demand3 input h at signed out out′ r s .exactly .0 w in
-          let (k, f, o) = broken-there n ds p (totalRows ds + totalRows es) (omega arith) in
+          let f : readAll (totalRows ds + totalRows es) (take n (joined ds)) ≡ broken (p .before) k (p .left) = stops _ (omega arith) in
           let g : readAll (totalRows ds + totalRows es) (take n (joined ds)) ≡ whole es = rw (← e, l .bytes) (stream-whole _ es (l .valid) (omega arith)) in
           let z : _≡_ {A = ℕ} 0 1 = cc in
           omega arith;

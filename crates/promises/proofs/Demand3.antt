@@ -10,7 +10,6 @@ use Rattle.format.specs.declared.Stream.{Stream}
 use Rattle.format.specs.Answers.{readWhole}
 use Rattle.format.specs.Digits.{AllBelow}
 use Rattle.format.specs.Runs.{Description, AllValid, joined}
-use Rattle.format.specs.Parse.{plain}
 use Rattle.format.specs.Streams.{Reading, whole, broken, readAll, runsOf, totalRows, joinedRows}
 use Rattle.format.specs.Promises.{StreamRead, streamAnswer}
 use Rattle.format.proofs.Fields.{below-drop}
@@ -22,7 +21,7 @@ module _ (bs : List ℕ) (at : ℕ) (signed : Bool) (out out′ : List ℤ) (r :
   laid-out : {m : Reading} → Reads (length out) bs m → r ≡ streamAnswer at m → IsWhole r
       → (ds : List Description) × LaidOut bs ds × (totalRows ds ≤ length out)
   laid-out (reads-whole {ds} v e l) a w = (ds, record { valid = v; bytes = e }, l)
-  laid-out (reads-broken {ds} {r = plain n} {rest} v e l f) a (rows, bytes, w) =
+  laid-out (reads-broken v e l f) a (rows, bytes, w) =
       let z : _≡_ {A = ℕ} 0 1 = cc in
       absurd (omega arith)
 

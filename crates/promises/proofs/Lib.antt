@@ -12,5 +12,7 @@ pub mod EachWidth
 pub mod PatchLists
 pub mod Sums
 pub mod CutFile
+-- the change requests of document 02
+pub mod BrokeOff
 -- any two outcomes are equal
 pub mod Outcomes

@@ -1,7 +1,7 @@
 -- The tables hold, by computation: each table is one statement.
 -- Assumes nothing.
 use mathlib.Core.Path.{_≡_, refl, sym, ap}
-use Prim.Native.Nat.{ℕ}
+use Prim.Native.Nat.{ℕ, _-_}
 use mathlib.Core.List.{List, [], _∷_, map}
 use lib.ListN.{length, drop}
 use lib.IntN.{ℤ}
@@ -20,10 +20,10 @@ Seen = Answer × List ℤ × List ℕ
 abbrev given : Line → Seen
 given (integers room at flag input said) =
     let m = into (length (integerPlaces room)) (parse (drop at input)) in
-    (answerOf at m, placesOf flag (integerPlaces room) m, [])
+    (answerOf at (length input - at) m, placesOf flag (integerPlaces room) m, [])
 given (booleans room at n input said) =
     let m = booleansInto (length (bytePlaces room)) n (drop at input) in
-    (booleansAnswer at n m, [], booleansPlaces n (bytePlaces room) m)
+    (booleansAnswer at (length input - at) n m, [], booleansPlaces n (bytePlaces room) m)
 
 abbrev expected : Line → Seen
 expected (integers room at flag input said) = (answerSaid at said, placesSaid (integerPlaces room) said, [])

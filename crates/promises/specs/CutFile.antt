@@ -1,25 +1,33 @@
 -- The user's fourth question: a file that is cut inside a run is never taken for a shorter good one.
 -- Assumes nothing.
 use mathlib.Core.Path.{_≡_}
-use mathlib.Core.Logic.{_≢_, _⊎_}
+use mathlib.Core.Logic.{_≢_}
 use Prim.Native.Nat.{ℕ, _+_, _<_, _≤_}
 use mathlib.Core.Bool.{Bool}
 use mathlib.Core.List.{List, _∷_, _++_}
 use lib.ListN.{length, take, drop}
 use lib.IntN.{ℤ}
+use Rattle.format.specs.declared.Refusal.{Refusal}
 use Rattle.format.specs.declared.Stream.{Stream}
-use Rattle.format.specs.Answers.{brokeAt}
+use Rattle.format.specs.Answers.{refusing, cutting, brokeAt}
 use Rattle.format.specs.Digits.{AllBelow}
 use Rattle.format.specs.Runs.{Description, AllValid, layout, joined}
 use Rattle.format.specs.Streams.{totalRows, joinedRows}
 use Rattle.format.specs.Promises.{StreamRead}
 use Rattle.promises.specs.Demand3.{IsWhole}
+use Rattle.promises.specs.Refusals.{CutNumber}
 
 -- the first n bytes of the joined runs end inside a run: they are not all, and not those of the first k runs, whatever k is
 abbrev pub EndInside : ℕ → List Description → Type 0
 EndInside n ds = (n < length (joined ds)) × ((k : ℕ) → n ≢ length (joined (take k ds)))
 
--- the answer: the refusal of the run that was cut, at the byte where that run begins, with number 1 or 6, and exactly the rows of the runs before it
+-- the refusal of a run that begins at the byte `from`, where the input ends at the byte `to`: 1 in its header, else 6, 12, 13 or 14 with the byte where
+-- the cut field begins, which lies in the run, at or before the end
+pub data CutBetween (from to : ℕ) : Refusal → Type 0 where
+  in-header : CutBetween from to (refusing 1 from)
+  in-field : {n byte : ℕ} → CutNumber n → from < byte → byte ≤ to → CutBetween from to (cutting n from byte)
+
+-- the answer: the refusal of the run that was cut, and exactly the rows of the runs before it
 pub record Refuses (n : ℕ) (ds : List Description) (at : ℕ) (signed : Bool) (out out′ : List ℤ) (r : Stream) : Type 0 where
   pub before : List Description
   pub cut : Description
@@ -27,9 +35,9 @@ pub record Refuses (n : ℕ) (ds : List Description) (at : ℕ) (signed : Bool) 
   pub runs : ds ≡ before ++ (cut ∷ behind)
   pub begun : length (joined before) < n
   pub ended : n < length (joined before) + length (layout cut)
-  pub number : ℕ
-  pub one-or-six : (number ≡ 1) ⊎ (number ≡ 6)
-  pub answer : r ≡ brokeAt number (at + length (joined before)) (totalRows before) (length (joined before))
+  pub refusal : Refusal
+  pub where-cut : CutBetween (at + length (joined before)) (at + n) refusal
+  pub answer : r ≡ brokeAt refusal (totalRows before) (length (joined before))
   pub places : out′ ≡ joinedRows signed before ++ drop (totalRows before) out
 
 -- Of every stream of valid runs, of which the first n bytes are left, at any position: ..

@@ -1,5 +1,5 @@
--- The user's demands, as statements over the definitions that the contracts cite; the theorems stand in proofs/. Document 01 is the text that each
--- of them is checked against.
+-- The user's demands, as statements over the definitions that the contracts cite; the theorems stand in proofs/. Documents 01 and 02 are the text that
+-- each of them is checked against.
 -- document 01's lines and tables
 pub mod Table
 pub mod Refusals
@@ -13,5 +13,7 @@ pub mod EachWidth
 pub mod PatchLists
 pub mod Sums
 pub mod CutFile
+-- the change requests of document 02
+pub mod BrokeOff
 -- any two outcomes are equal
 pub mod Outcomes

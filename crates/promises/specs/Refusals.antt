@@ -1,5 +1,6 @@
--- Document 01's table of numbers, refusals 1 to 8: "given exactly when". Each line is said of the bytes, in the table's words, with what the reading
--- order adds: 1, 2, 3, 4; then 5 and 6 in byte order; then 7; then 8. No other number is given.
+-- The table of numbers of documents 01 and 02 that the run reader gives: "given exactly when". Each line is said of the bytes, in the table's words,
+-- with what the reading order adds: 1, 2, 3, 4; then 5 and the numbers of a cut field (6, 12, 13, 14) in byte order; then 7; then 8. No other number is
+-- given, and a byte exactly with those of a cut field.
 -- Assumes nothing.
 use mathlib.Core.Path.{_≡_}
 use mathlib.Core.Logic.{_↔_, _⊎_}
@@ -9,11 +10,11 @@ use mathlib.Core.List.{List, [], _∷_, _++_}
 use lib.ListN.{length, getD, take, drop}
 use lib.IntN.{ℤ}
 use Rattle.format.specs.declared.Answer.{Answer}
-use Rattle.format.specs.Answers.{refusedAt}
+use Rattle.format.specs.Answers.{refusedAt, cutAt}
 use Rattle.format.specs.Digits.{AllBelow, number}
 use Rattle.format.specs.Fields.{width, bytesFor, Varint}
 use Rattle.format.specs.Runs.{Description, rowCount, Valid, layout, entryWidth}
-use Rattle.format.specs.Parse.{plain, refused, parse, into, unpack}
+use Rattle.format.specs.Parse.{Reason, plain, cutIn, refused, parse, into, unpack}
 use Rattle.format.specs.Promises.{RunRead}
 use Rattle.promises.specs.PatchLists.{OutOfPlace}
 
@@ -133,15 +134,28 @@ pub data Line5 (bs : List ℕ) : Type 0 where
   first-row : DeltaRun bs → TenTop 10 (drop 2 bs) → Line5 bs
   base-delta : (first rest : List ℕ) → DeltaRun bs → drop 2 bs ≡ first ++ rest → Varint 10 first → TenTop 10 rest → Line5 bs
 
--- 6: the input ends before the run does
-pub data Line6 (bs : List ℕ) : Type 0 where
-  in-value : Headed 0 bs → length bs < 1 + size bs → Line6 bs
-  in-direct : Headed 1 bs → length bs < 2 + valueBytes bs → Line6 bs
-  in-first-row : DeltaRun bs → Unended 10 (drop 2 bs) → Line6 bs
-  in-base-delta : (first rest : List ℕ) → DeltaRun bs → drop 2 bs ≡ first ++ rest → Varint 10 first → Unended 10 rest → Line6 bs
+-- 6, 12, 13, 14: the input ends in a field. The number, and the byte of the run where the field begins.
+pub data CutLine (bs : List ℕ) : ℕ → ℕ → Type 0 where
+  -- 6: in a short repeat value, or a patched base
+  in-value : Headed 0 bs → length bs < 1 + size bs → CutLine bs 6 1
+  in-base : PatchedRun bs → length bs < 4 + baseBytes bs → CutLine bs 6 4
+  -- 12: in a varint
+  in-first-row : DeltaRun bs → Unended 10 (drop 2 bs) → CutLine bs 12 2
+  in-base-delta : (first rest : List ℕ) → DeltaRun bs → drop 2 bs ≡ first ++ rest → Varint 10 first → Unended 10 rest → CutLine bs 12 (2 + length first)
+  -- 13: in packed rows
+  in-rows : Headed 1 bs → length bs < 2 + valueBytes bs → CutLine bs 13 2
   in-magnitudes : (first base rest : List ℕ) → DeltaRun bs → drop 2 bs ≡ first ++ (base ++ rest) → Varint 10 first → Varint 10 base
-      → length rest < magnitudeBytes (code bs) (rows bs) → Line6 bs
-  in-patched : PatchedRun bs → length bs < listTo bs → Line6 bs
+      → length rest < magnitudeBytes (code bs) (rows bs) → CutLine bs 13 (2 + (length first + length base))
+  in-values : PatchedRun bs → 4 + baseBytes bs ≤ length bs → length bs < listFrom bs → CutLine bs 13 (4 + baseBytes bs)
+  -- 14: in a patch list
+  in-list : PatchedRun bs → listFrom bs ≤ length bs → length bs < listTo bs → CutLine bs 14 (listFrom bs)
+
+-- the numbers of a cut field
+pub data CutNumber : ℕ → Type 0 where
+  six : CutNumber 6
+  twelve : CutNumber 12
+  thirteen : CutNumber 13
+  fourteen : CutNumber 14
 
 -- 7: patch list out of place
 abbrev pub Line7 : List ℕ → Type 0
@@ -157,16 +171,25 @@ pub data Table (places : ℕ) (bs : List ℕ) : ℕ → Type 0 where
   refusal-3 : Line3 bs → Table places bs 3
   refusal-4 : Line4 bs → Table places bs 4
   refusal-5 : Line5 bs → Table places bs 5
-  refusal-6 : Line6 bs → Table places bs 6
   refusal-7 : Line7 bs → Table places bs 7
   refusal-8 : Line8 places bs → Table places bs 8
 
--- for every list of bytes and number of places: a number is given exactly when its line of the table holds ..
-abbrev pub RefusalsHold : Type 0
-RefusalsHold = (places : ℕ) (bs : List ℕ) → AllBelow 256 bs → (n : ℕ) → (into places (parse bs) ≡ refused (plain n)) ↔ Table places bs n
+-- why a refusal is given: by its number's line, or by the field that the input ends in
+pub data Given (places : ℕ) (bs : List ℕ) : Reason → Type 0 where
+  by-number : {n : ℕ} → Table places bs n → Given places bs (plain n)
+  by-field : {n field : ℕ} → CutLine bs n field → Given places bs (cutIn n (drop field bs))
 
--- .. and so says the run reader's promise, of every input, position, flag and lent places, with the byte where the refused run begins
+-- for every list of bytes and number of places: a refusal is given exactly when its line of the table holds ..
+abbrev pub RefusalsHold : Type 0
+RefusalsHold = (places : ℕ) (bs : List ℕ) → AllBelow 256 bs → (r : Reason) → (into places (parse bs) ≡ refused r) ↔ Given places bs r
+
+-- .. and so says the run reader's promise, of every input, position, flag and lent places: a number with the byte where the refused run begins, and
+-- for a cut field also the byte where the field begins
+pub record Answers (bs : List ℕ) (at places : ℕ) (r : Answer) : Type 0 where
+  pub numbers : (n : ℕ) → (r ≡ refusedAt n at) ↔ Table places bs n
+  pub fields : (n byte : ℕ) → (r ≡ cutAt n at byte) ↔ ((field : ℕ) × CutLine bs n field × (byte ≡ at + field))
+
 abbrev pub AnswersHold : Type 0
 AnswersHold =
     (input : List ℕ) → AllBelow 256 input → (at : ℕ) (signed : Bool) (out out′ : List ℤ) (r : Answer) → RunRead input at signed out out′ r
-    → (n : ℕ) → (r ≡ refusedAt n at) ↔ Table (length out) (drop at input) n
+    → Answers (drop at input) at (length out) r

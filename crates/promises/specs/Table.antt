@@ -11,14 +11,15 @@ use Rattle.format.specs.declared.Kind.{Kind}
 use Rattle.format.specs.declared.Kind.the-variants.{ShortRepeat, Direct, PatchedBase, Delta, Booleans}
 use Rattle.format.specs.declared.Answer.{Answer}
 use Rattle.format.specs.declared.Answer.the-variants.{End}
-use Rattle.format.specs.Answers.{ran, refusedAt}
+use Rattle.format.specs.Answers.{ran, refusedAt, cutAt}
 use Rattle.format.specs.Promises.{RunRead}
 use Rattle.format.specs.Booleans.{BooleansRead}
 
--- what a line says: the run's kind, its rows and the bytes consumed; or the number of a refusal; or "end"
+-- what a line says: the run's kind, its rows and the bytes consumed; or the number of a refusal; or with it the byte where the cut field begins; or "end"
 pub data Said (R : Type 0) : Type 0 where
   run : Kind → List R → ℕ → Said R
   refusal : ℕ → Said R
+  cut : ℕ → ℕ → Said R
   nothing : Said R
 
 -- a line: how many places are lent, the position, the flag or how many booleans are read, the bytes, and what is said of them
@@ -50,12 +51,14 @@ minus n = negsuc (n - 1)
 abbrev pub answerSaid : {R : Type 0} → ℕ → Said R → Answer
 answerSaid at (run kind rows bytes) = ran kind (length rows) bytes
 answerSaid at (refusal n) = refusedAt n at
+answerSaid at (cut n byte) = cutAt n at byte
 answerSaid at nothing = End
 
 -- the rows in the first places; the others, and all where the run is refused, keep their content
 abbrev pub placesSaid : {R : Type 0} → List R → Said R → List R
 placesSaid out (run kind rows bytes) = rows ++ drop (length rows) out
 placesSaid out (refusal n) = out
+placesSaid out (cut n byte) = out
 placesSaid out nothing = out
 
 -- the places lent, each with 7777 in it, or 77 in a byte
@@ -106,13 +109,20 @@ others =
     ++ either (0xC0 ∷ []) (refusal 1)
     ++ either (0x86 ∷ 0x03 ∷ 0x03 ∷ []) (refusal 1)
     -- nine bytes of a varint with the top bit set and then the end; ten of them
-    ++ either (0xC0 ∷ 0x04 ∷ 0x80 ∷ 0x80 ∷ 0x80 ∷ 0x80 ∷ 0x80 ∷ 0x80 ∷ 0x80 ∷ 0x80 ∷ 0x80 ∷ []) (refusal 6)
+    ++ either (0xC0 ∷ 0x04 ∷ 0x80 ∷ 0x80 ∷ 0x80 ∷ 0x80 ∷ 0x80 ∷ 0x80 ∷ 0x80 ∷ 0x80 ∷ 0x80 ∷ []) (cut 12 2)
     ++ either (0xC0 ∷ 0x04 ∷ 0x80 ∷ 0x80 ∷ 0x80 ∷ 0x80 ∷ 0x80 ∷ 0x80 ∷ 0x80 ∷ 0x80 ∷ 0x80 ∷ 0x80 ∷ []) (refusal 5)
     ++ either (0xC0 ∷ 0x04 ∷ 0x00 ∷ 0x80 ∷ 0x80 ∷ 0x80 ∷ 0x80 ∷ 0x80 ∷ 0x80 ∷ 0x80 ∷ 0x80 ∷ 0x80 ∷ 0x80 ∷ 0x01 ∷ []) (refusal 5)
-    -- a value, a block and a list that are cut
-    ++ either (0x0A ∷ 0x01 ∷ []) (refusal 6)
-    ++ either (0x46 ∷ 0x02 ∷ 0x12 ∷ []) (refusal 6)
-    ++ either (0x86 ∷ 0x03 ∷ 0x03 ∷ 0x21 ∷ 0x64 ∷ 0x12 ∷ 0x34 ∷ []) (refusal 6)
+    -- fields that are cut, each with the byte where it begins: a value, a varint of which not one byte is there, a base delta, a block, magnitudes, a
+    -- patched base, its values, its list in its second entry
+    ++ either (0x0A ∷ 0x01 ∷ []) (cut 6 1)
+    ++ either (0xC0 ∷ 0x04 ∷ []) (cut 12 2)
+    ++ either (0xC0 ∷ 0x04 ∷ 0x80 ∷ 0x01 ∷ 0x80 ∷ []) (cut 12 4)
+    ++ either (0x46 ∷ 0x02 ∷ 0x12 ∷ []) (cut 13 2)
+    ++ either (0xC6 ∷ 0x04 ∷ 0x64 ∷ 0x05 ∷ 0x14 ∷ []) (cut 13 4)
+    ++ either (0x86 ∷ 0x03 ∷ 0x23 ∷ 0x21 ∷ 0x64 ∷ []) (cut 6 4)
+    ++ either (0x86 ∷ 0x03 ∷ 0x03 ∷ 0x21 ∷ 0x64 ∷ 0x12 ∷ []) (cut 13 5)
+    ++ either (0x86 ∷ 0x03 ∷ 0x03 ∷ 0x21 ∷ 0x64 ∷ 0x12 ∷ 0x34 ∷ []) (cut 14 7)
+    ++ either (0x86 ∷ 0x03 ∷ 0x03 ∷ 0x22 ∷ 0x64 ∷ 0x12 ∷ 0x34 ∷ 0x46 ∷ []) (cut 14 7)
     -- two patches, whose gaps are counted one from another; and two that share a place
     ++ either (0x86 ∷ 0x03 ∷ 0x03 ∷ 0x22 ∷ 0x64 ∷ 0x12 ∷ 0x34 ∷ 0x46 ∷ 0x20 ∷ []) (run PatchedBase (pos 101 ∷ pos 118 ∷ pos 103 ∷ pos 136 ∷ []) 9)
     ++ either (0x86 ∷ 0x03 ∷ 0x03 ∷ 0x22 ∷ 0x64 ∷ 0x12 ∷ 0x34 ∷ 0x44 ∷ 0x20 ∷ []) (refusal 7)
@@ -140,17 +150,20 @@ others =
     -- the bytes after a run are not read; a run that begins at byte 2, and one that is refused there; and nothing from byte 4 on
     ∷ integers 5 0 true (0x00 ∷ 0x01 ∷ 0x00 ∷ 0x02 ∷ []) (run ShortRepeat (minus 1 ∷ minus 1 ∷ minus 1 ∷ []) 2)
     ∷ integers 5 2 true (0x00 ∷ 0x01 ∷ 0x00 ∷ 0x02 ∷ []) (run ShortRepeat (pos 1 ∷ pos 1 ∷ pos 1 ∷ []) 2)
-    ∷ integers 5 2 true (0x00 ∷ 0x01 ∷ 0x46 ∷ 0x02 ∷ []) (refusal 6)
+    ∷ integers 5 2 true (0x00 ∷ 0x01 ∷ 0x46 ∷ 0x02 ∷ []) (cut 13 4)
     ∷ integers 5 4 true (0x00 ∷ 0x01 ∷ 0x46 ∷ 0x02 ∷ []) nothing
     ∷ integers 5 9 true (0x00 ∷ 0x01 ∷ 0x46 ∷ 0x02 ∷ []) nothing
     ∷ [])
     -- booleans: one more than the runs hold; a run is consumed whole where fewer are asked for; none, at any position
-    ++ bools 33 (0x00 ∷ 0xFF ∷ 0xFF ∷ 0x00 ∷ []) (refusal 6)
+    ++ bools 33 (0x00 ∷ 0xFF ∷ 0xFF ∷ 0x00 ∷ []) (cut 6 4)
     ++ bools 3 (0x00 ∷ 0xFF ∷ 0xFF ∷ 0x00 ∷ []) (run Booleans (replicate 3 1) 2)
     ++ (booleans 0 9 0 (0x00 ∷ 0xFF ∷ []) (run Booleans [] 0) ∷ [])
-    -- control 128 is 128 literal bytes; a literal run that is cut is refused even if the byte that is needed is there; seven places for eight
+    -- control 128 is 128 literal bytes; a literal run that is cut is refused even if the byte that is needed is there, and a
+    -- repeat without its byte; a position past the end; seven places for eight
     ++ bools 1024 (0x80 ∷ replicate 128 0xFF) (run Booleans (replicate 1024 1) 129)
-    ++ bools 8 (0xFE ∷ 0xFF ∷ []) (refusal 6)
+    ++ bools 8 (0xFE ∷ 0xFF ∷ []) (cut 13 1)
+    ++ bools 25 (0x00 ∷ 0xFF ∷ 0x00 ∷ []) (cut 13 3)
+    ++ (booleans 1 9 1 (0x00 ∷ 0xFF ∷ []) (cut 6 9) ∷ [])
     ++ (booleans 7 0 8 (0xFF ∷ 0xFF ∷ []) (refusal 8) ∷ [])
 
 -- ---- THE SPECIFICATION'S OWN EXAMPLES: its four runs; its varints, each as the first row of a run of one row; and its zigzags, as five fields of 3 bits; and its byte runs, as booleans

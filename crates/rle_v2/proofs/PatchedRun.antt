@@ -18,9 +18,10 @@ use Rattle.format.specs.Promises.{Gives}
 use Rattle.format.specs.Answers.{ran, refusedAt}
 use Rattle.format.specs.declared.Kind.the-variants.{PatchedBase}
 use Rattle.format.proofs.Rows.{width-le, bytes-count}
-use Rattle.format.proofs.Reading.{byte-here, bytes-here, bytes-cut, blockAt, block-here, block-cut, gives-refused, gives-8, gives-run}
+use Rattle.format.proofs.Reading.{byte-here, bytes-here, bytes-cut, blockAt, block-here, block-cut, gives-refused, gives-cut, gives-8, gives-run}
 use Rattle.rle_v2.specs.Pass.{based}
 use Rattle.rle_v2.specs.PatchList.{patchAll}
+use Rattle.rle_v2.specs.PatchedHead.{cutBody}
 use Rattle.rle_v2.proofs.Pass.{based-is}
 use Rattle.rle_v2.proofs.PatchList.{patched-is}
 use Rattle.rle_v2.proofs.Blocks.{block-count, block-patterns}
@@ -31,9 +32,9 @@ module _ (s : List ℕ) (at : ℕ) (signed : Bool) (out : List ℤ) where
   abbrev run : Parsed Description
   run = patchedRun (getD s at 0) (drop (at + 1) s)
 
-  pub no-header : at < length s → length s - at < 4 → Gives at signed run out out (refusedAt 1 at)
+  pub no-header : at < length s → length s - at < 4 → Gives at (length s - at) signed run out out (refusedAt 1 at)
   unfolding patchedRun
-  no-header h l = gives-refused at signed run out 1 (few (drop (at + 1) s) (rw length-drop (omega arith)))
+  no-header h l = gives-refused at (length s - at) signed run out 1 (few (drop (at + 1) s) (rw length-drop (omega arith)))
     where
       few : (bs : List ℕ) → length bs < 3 → patchedRun (getD s at 0) bs ≡ refused (plain 1)
       few [] k = refl
@@ -65,38 +66,46 @@ module _ (s : List ℕ) (at : ℕ) (signed : Bool) (out : List ℤ) where
     abbrev listSize : ℕ
     listSize = bytesFor (len * entryWidth pc gw)
 
-    pub refused-2 : 64 < width pc + gw → Gives at signed body out out (refusedAt 2 at)
+    pub refused-2 : 64 < width pc + gw → Gives at (length s - at) signed body out out (refusedAt 2 at)
     unfolding patchedBody
-    refused-2 h = gives-refused at signed body out 2 (rw (lt-ltb 64 (width pc + gw) h))
+    refused-2 h = gives-refused at (length s - at) signed body out 2 (rw (lt-ltb 64 (width pc + gw) h))
 
     module _ (not-2 : width pc + gw ≤ 64) where
-      pub refused-3 : 64 < width code + width pc → Gives at signed body out out (refusedAt 3 at)
+      pub refused-3 : 64 < width code + width pc → Gives at (length s - at) signed body out out (refusedAt 3 at)
       unfolding patchedBody
-      refused-3 h = gives-refused at signed body out 3 (rw (le-ltb 64 (width pc + gw) not-2, lt-ltb 64 (width code + width pc) h))
+      refused-3 h = gives-refused at (length s - at) signed body out 3 (rw (le-ltb 64 (width pc + gw) not-2, lt-ltb 64 (width code + width pc) h))
 
       module _ (not-3 : width code + width pc ≤ 64) where
         -- the input ends in the base, in the values or in the list
-        cut-is : at + 4 ≤ length s → length s < at + 4 + bw + size + listSize → Dec (length s - (at + 4) < bw) → Dec (length s - (at + 4 + bw) < size) → body ≡ refused (plain 6)
-        unfolding patchedBody
-        cut-is t h (yes l) m = rw (le-ltb 64 (width pc + gw) not-2, le-ltb 64 (width code + width pc) not-3, bytes-cut s (at + 4) 6 bw l)
-        cut-is t h (no l) (yes m) =
-            rw (
-              le-ltb 64 (width pc + gw) not-2,
-              le-ltb 64 (width code + width pc) not-3,
-              bytes-here s (at + 4) 6 bw (omega arith),
-              block-cut s (at + 4 + bw) 6 (width code) rows m,
-            )
-        cut-is t h (no l) (no m) =
-            rw (
-              le-ltb 64 (width pc + gw) not-2,
-              le-ltb 64 (width code + width pc) not-3,
-              bytes-here s (at + 4) 6 bw (omega arith),
-              block-here s (at + 4 + bw) 6 (width code) rows (omega arith),
-              block-cut s (at + 4 + bw + size) 6 (entryWidth pc gw) len (omega arith),
-            )
-
-        pub refused-6 : at + 4 ≤ length s → length s < at + 4 + bw + size + listSize → Gives at signed body out out (refusedAt 6 at)
-        refused-6 t h = gives-refused at signed body out 6 (cut-is t h (decLt (length s - (at + 4)) bw) (decLt (length s - (at + 4 + bw)) size))
+        pub broken-off : at + 4 ≤ length s → length s < at + 4 + bw + size + listSize
+            → Gives at (length s - at) signed body out out (cutBody (length s) at (at + 4 + bw) (at + 4 + bw + size))
+        unfolding patchedBody cutBody
+        broken-off t h = by (decLt (length s) (at + 4 + bw)) (decLt (length s) (at + 4 + bw + size))
+          where
+            by : Dec (length s < at + 4 + bw) → Dec (length s < at + 4 + bw + size) → Gives at (length s - at) signed body out out (cutBody (length s) at (at + 4 + bw) (at + 4 + bw + size))
+            by (yes l) m =
+                rw (lt-ltb (length s) (at + 4 + bw) l)
+                (gives-cut s at (at + 4) 6 signed body out (omega arith) t
+                (rw (le-ltb 64 (width pc + gw) not-2, le-ltb 64 (width code + width pc) not-3, bytes-cut s (at + 4) 6 bw (omega arith))))
+            by (no l) (yes m) =
+                rw (le-ltb (length s) (at + 4 + bw) (omega arith), lt-ltb (length s) (at + 4 + bw + size) m)
+                (gives-cut s at (at + 4 + bw) 13 signed body out (omega arith) (omega arith)
+                (rw (
+                  le-ltb 64 (width pc + gw) not-2,
+                  le-ltb 64 (width code + width pc) not-3,
+                  bytes-here s (at + 4) 6 bw (omega arith),
+                  block-cut s (at + 4 + bw) 13 (width code) rows (omega arith),
+                )))
+            by (no l) (no m) =
+                rw (le-ltb (length s) (at + 4 + bw) (omega arith), le-ltb (length s) (at + 4 + bw + size) (omega arith))
+                (gives-cut s at (at + 4 + bw + size) 14 signed body out (omega arith) (omega arith)
+                (rw (
+                  le-ltb 64 (width pc + gw) not-2,
+                  le-ltb 64 (width code + width pc) not-3,
+                  bytes-here s (at + 4) 6 bw (omega arith),
+                  block-here s (at + 4 + bw) 13 (width code) rows (omega arith),
+                  block-cut s (at + 4 + bw + size) 14 (entryWidth pc gw) len (omega arith),
+                )))
 
         module _ (h : at + 4 + bw + size + listSize ≤ length s) where
           abbrev entries : List ℕ
@@ -113,12 +122,12 @@ module _ (s : List ℕ) (at : ℕ) (signed : Bool) (out : List ℤ) where
                 le-ltb 64 (width pc + gw) not-2,
                 le-ltb 64 (width code + width pc) not-3,
                 bytes-here s (at + 4) 6 bw (omega arith),
-                block-here s (at + 4 + bw) 6 (width code) rows (omega arith),
-                block-here s (at + 4 + bw + size) 6 (entryWidth pc gw) len (omega arith),
+                block-here s (at + 4 + bw) 13 (width code) rows (omega arith),
+                block-here s (at + 4 + bw + size) 14 (entryWidth pc gw) len (omega arith),
               )
 
-          pub refused-7 : outOfPlace (width pc) rows entries ≡ true → Gives at signed body out out (refusedAt 7 at)
-          refused-7 o = gives-refused at signed body out 7 (all-there ∙ rw o)
+          pub refused-7 : outOfPlace (width pc) rows entries ≡ true → Gives at (length s - at) signed body out out (refusedAt 7 at)
+          refused-7 o = gives-refused at (length s - at) signed body out 7 (all-there ∙ rw o)
 
           module _ (o : outOfPlace (width pc) rows entries ≡ false) where
             is-run : body
@@ -126,13 +135,13 @@ module _ (s : List ℕ) (at : ℕ) (signed : Bool) (out : List ℤ) where
                 (drop (at + 4 + bw + size + listSize) s)
             is-run = all-there ∙ rw o
 
-            pub refused-8 : length out < rows → Gives at signed body out out (refusedAt 8 at)
-            refused-8 r = gives-8 at signed body out _ _ is-run (rw (block-count s (at + 4 + bw) (width code) rows) r)
+            pub refused-8 : length out < rows → Gives at (length s - at) signed body out out (refusedAt 8 at)
+            refused-8 r = gives-8 at (length s - at) signed body out _ _ is-run (rw (block-count s (at + 4 + bw) (width code) rows) r)
 
             pub read-is : (one out′ : List ℤ) → rows ≤ length out
                 → one ≡ based (baseValue (take bw (drop (at + 4) s))) (map asI64 (blockAt s (at + 4 + bw) (width code) rows .values)) ++ drop rows out
                 → out′ ≡ patchAll (width code) (width pc) 0 one entries
-                → Gives at signed body out out′ (ran PatchedBase rows (at + 4 + bw + size + listSize - at))
+                → Gives at (length s - at) signed body out out′ (ran PatchedBase rows (at + 4 + bw + size + listSize - at))
             unfolding i64Rows rowsOf
             read-is one out′ r e f =
                 let n = block-count s (at + 4 + bw) (width code) rows in
@@ -140,6 +149,6 @@ module _ (s : List ℕ) (at : ℕ) (signed : Bool) (out : List ℤ) where
                 let base = baseValue (take bw (drop (at + 4) s)) in
                 let b : one ≡ map asI64 (Rows.patchedRows base (width code) [] 0 vs) ++ drop rows out
                 = e ∙ ap (λ (x : List ℤ). x ++ drop rows out) (based-is base (width code) 0 vs (block-patterns s (at + 4 + bw) (width code) rows (width-le code))) in
-                gives-run at signed body out _ _ is-run out′ PatchedBase rows _ (rw n r) refl (sym n)
+                gives-run at (length s - at) signed body out _ _ is-run out′ PatchedBase rows _ (rw n r) refl (sym n)
                 (sym (bytes-count _ ∙ rw (length-take-le bw (drop (at + 4) s) (rw length-drop (omega arith)), n, block-count s (at + 4 + bw + size) (entryWidth pc gw) len) (omega arith)))
                 (f ∙ rw b (patched-is (width code) (width pc) base vs entries (drop rows out) (rw n o)))

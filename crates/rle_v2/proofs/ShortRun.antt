@@ -2,6 +2,7 @@
 use mathlib.Core.Path.{_≡_, refl, sym, ap, _∙_}
 use Prim.Native.Nat.{ℕ, zero, suc, _+_, _-_, _/_, _%_, _<_, _≤_}
 use native.Mathlib.Nat.{add-zero, mod-eq-of-lt}
+use native.Mathlib.Omega.{arith}
 use mathlib.Core.Bool.{Bool}
 use mathlib.Core.List.{List, _∷_, _++_, map}
 use lib.ListN.{length, take, drop, getD, replicate, length-drop}
@@ -14,10 +15,10 @@ use Rattle.format.specs.Rows as Rows
 use Rattle.format.specs.Rows.{plus, asI64, i64Rows, rowsOf}
 use Rattle.format.specs.Parse.{Parsed, got, shortRun}
 use Rattle.format.specs.Promises.{Gives}
-use Rattle.format.specs.Answers.{ran, refusedAt}
+use Rattle.format.specs.Answers.{ran, refusedAt, cutAt}
 use Rattle.format.specs.declared.Kind.the-variants.{ShortRepeat}
 use Rattle.format.proofs.Rows.{bytes-count}
-use Rattle.format.proofs.Reading.{bytes-here, bytes-cut, gives-refused, gives-8, gives-run}
+use Rattle.format.proofs.Reading.{bytes-here, bytes-cut, gives-cut, gives-8, gives-run}
 use Rattle.rle_v2.specs.Pass.{stepped}
 use Rattle.rle_v2.proofs.Pass.{stepped-is}
 
@@ -43,22 +44,22 @@ module _ (s : List ℕ) (at : ℕ) (signed : Bool) (out : List ℤ) where
   abbrev run : Parsed Description
   run = shortRun (getD s at 0) (drop (at + 1) s)
 
-  pub no-body : length s - (at + 1) < size → Gives at signed run out out (refusedAt 6 at)
+  pub no-body : at < length s → length s - (at + 1) < size → Gives at (length s - at) signed run out out (cutAt 6 at (at + 1))
   unfolding shortRun
-  no-body l = gives-refused at signed run out 6 (rw (bytes-cut s (at + 1) 6 size l))
+  no-body h l = gives-cut s at (at + 1) 6 signed run out (omega arith) (omega arith) (rw (bytes-cut s (at + 1) 6 size l))
 
   module _ (l : size ≤ length s - (at + 1)) where
     is-run : run ≡ got (short count (take size (drop (at + 1) s))) (drop (at + 1 + size) s)
     unfolding shortRun
     is-run = rw (bytes-here s (at + 1) 6 size l)
 
-    pub no-room : length out < count → Gives at signed run out out (refusedAt 8 at)
-    no-room r = gives-8 at signed run out _ _ is-run r
+    pub no-room : length out < count → Gives at (length s - at) signed run out out (refusedAt 8 at)
+    no-room r = gives-8 at (length s - at) signed run out _ _ is-run r
 
     pub read-is : (out′ : List ℤ) → count ≤ length out → value < two64 → out′ ≡ stepped value 0 (take count out) ++ drop count out
-        → Gives at signed run out out′ (ran ShortRepeat count (1 + size))
+        → Gives at (length s - at) signed run out out′ (ran ShortRepeat count (1 + size))
     unfolding i64Rows rowsOf
     read-is out′ r v e =
-        gives-run at signed run out _ _ is-run out′ ShortRepeat count _ r refl refl
+        gives-run at (length s - at) signed run out _ _ is-run out′ ShortRepeat count _ r refl refl
         (sym (bytes-count _ ∙ rw (length-take-le size (drop (at + 1) s) (rw length-drop l))))
         (e ∙ ap (λ (x : List ℤ). x ++ drop count out) (stepped-is value 0 count out r ∙ ap (map asI64) (repeated count value v)))

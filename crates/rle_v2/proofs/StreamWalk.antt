@@ -12,10 +12,11 @@ use lib.IntN.{ℤ}
 use Rattle.format.specs.Digits.{AllBelow}
 use Rattle.format.specs.Runs.{Description, rowCount, layout, joined}
 use Rattle.format.specs.Rows.{i64Rows}
-use Rattle.format.specs.Parse.{plain, Parsed, end, got, refused, parse, into}
+use Rattle.format.specs.Parse.{Reason, Parsed, end, got, refused, parse, into}
 use Rattle.format.specs.Streams.{Reading, whole, broken, after, runsFrom, readAll, totalRows, joinedRows}
-use Rattle.format.specs.Answers.{readWhole, brokeAt}
+use Rattle.format.specs.Answers.{refusal, readWhole, brokeAt}
 use Rattle.format.specs.Promises.{answerOf, placesOf, Gives, StreamRead}
+use Rattle.format.specs.declared.Refusal.{Refusal}
 use Rattle.format.specs.declared.Answer.{Answer}
 use Rattle.format.specs.declared.Answer.the-variants.{End, Run, Refused}
 use Rattle.format.proofs.Fields.{below-drop}
@@ -40,19 +41,21 @@ module _ (s : List ℕ) (p : ℕ) (signed : Bool) (out out′ : List ℤ) where
     pub within : p + bytes ≤ length s
     pub places : out′ ≡ i64Rows signed run ++ drop rows out
 
-  pub record NoRun (n : ℕ) : Type 0 where
-    pub read : into (length out) (parse (drop p s)) ≡ refused (plain n)
+  pub record NoRun (f : Refusal) : Type 0 where
+    pub reason : Reason
+    pub read : into (length out) (parse (drop p s)) ≡ refused reason
+    pub refusal-is : f ≡ refusal p (length s - p) reason
     pub same : out′ ≡ out
 
   abbrev pub Step : Answer → Type 0
   Step End = Nothing
   Step (Run r) = OneRun (r .rows .rows) (r .consumed .bytes)
-  Step (Refused f) = NoRun (f .number)
+  Step (Refused f) = NoRun f
 
-  pub step-is : (r : Answer) → AllBelow 256 s → Gives p signed (parse (drop p s)) out out′ r → Step r
+  pub step-is : (r : Answer) → AllBelow 256 s → Gives p (length s - p) signed (parse (drop p s)) out out′ r → Step r
   step-is r h g = rw (g .answer) (by (into (length out) (parse (drop p s))) refl (into-outcome (length out) (drop p s) (below-drop 256 p s h)) (g .places))
     where
-      by : (m : Parsed Description) → into (length out) (parse (drop p s)) ≡ m → Into (length out) (drop p s) m → out′ ≡ placesOf signed out m → Step (answerOf p m)
+      by : (m : Parsed Description) → into (length out) (parse (drop p s)) ≡ m → Into (length out) (drop p s) m → out′ ≡ placesOf signed out m → Step (answerOf p (length s - p) m)
       by m e (into-nothing z) o = record { none = z; same = o }
       by m e (into-run {d} {rest} t f) o =
           let l : length s - p ≡ length (layout d) + length rest = rw (← (length-drop p s), t .split) (length-append (layout d) rest) in
@@ -66,7 +69,7 @@ module _ (s : List ℕ) (p : ℕ) (signed : Bool) (out out′ : List ℤ) where
             within = omega (arith, layout-pos d);
             places = o;
           }
-      by m e (into-refusal {r = plain n} z) o = record { read = e; same = o }
+      by m e (into-refusal {r} z) o = record { reason = r; read = e; refusal-is = refl; same = o }
 
 -- ---- the loop
 
@@ -182,11 +185,12 @@ module _ (s : List ℕ) (from : ℕ) (signed : Bool) (out₀ : List ℤ) where
         record { answer = rw (e, b, w .rows); places = rw e places-so }
 
     -- the first refusal
-    pub walked-refused : (n : ℕ) → into (length (drop k out)) (parse (drop p s)) ≡ refused (plain n) → StreamRead s from signed out₀ out (brokeAt n p k (p - from))
-    walked-refused n z =
-        let e : reading ≡ broken (w .ds) (plain n) (drop p s)
+    pub walked-refused : (part : List ℤ) (f : Refusal) → NoRun s p signed (drop k out) part f → StreamRead s from signed out₀ out (brokeAt f k (p - from))
+    walked-refused part f n =
+        let r = n .reason in
+        let e : reading ≡ broken (w .ds) r (drop p s)
         = w .so-far
-        ∙ ap (afterAll (w .ds)) (stops-refused (length out₀ - k) (drop p s) (plain n) (rw room at z) (w .fuel) (rw length-drop (w .enough)))
-        ∙ after-broken (w .ds) (plain n) (drop p s) in
+        ∙ ap (afterAll (w .ds)) (stops-refused (length out₀ - k) (drop p s) r (rw room at (n .read)) (w .fuel) (rw length-drop (w .enough)))
+        ∙ after-broken (w .ds) r (drop p s) in
         let b : p - from ≡ length (joined (w .ds)) = omega (arith, w .bytes) in
-        record { answer = rw (e, b, w .rows, ← (w .bytes)); places = rw e places-so }
+        record { answer = rw (e, n .refusal-is, b, w .rows, ← (w .bytes), length-drop); places = rw e places-so }

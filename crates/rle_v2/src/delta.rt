@@ -1,7 +1,7 @@
 // Delta: the two-byte header, the first row and the base delta as varints; then, unless the width code is 0, packed magnitudes.
 ghost use mathlib.Core.Path.{_≡_};
 ghost use mathlib.Core.List.{_++_, map};
-ghost use Prim.Native.Nat.{_+_, _*_, _≤_, _<_};
+ghost use Prim.Native.Nat.{_+_, _-_, _*_, _≤_, _<_};
 ghost use lib.ListN.{length, getD, drop};
 ghost use Rattle.format.specs.Fields.{bytesFor};
 ghost use Rattle.format.specs.Rows.{asI64};
@@ -14,25 +14,30 @@ use crate::header;
 use crate::rows;
 use format::Answer;
 use format::Kind;
+use format::Refusal;
 use util::packed;
 use util::pattern;
 use util::varint;
 use util::varint::Varint;
 use util::width;
 
-// What a delta run's two varints say: the first row, the base delta, and the place after them.
+// What the two varints of the delta run at a place say: the first row, the base delta, and the place after them; or the run's refusal.
 enum Starts {
     At { first: u64, step: u64, next: usize },
-    Refused { number: u8 },
+    Refused(Refusal),
 }
 
 fn starts_at(input: &[u8], at: usize, signed: bool) -> Starts
+    requires { ⌜ at + 2 ≤ length (now input) ⌝ }
     ensures { λ r. ⌜ StartsAt (now (input .entry)) at signed r ⌝ }
 {
-    match varint::read(input, at) {
-        Varint::Refused { number } => Starts::Refused { number },
+    let body = at + 2;
+    match varint::read(input, body) {
+        Varint::Cut => Starts::Refused(Refusal::cut(12, at, body)),
+        Varint::TooLong => Starts::Refused(Refusal::new(5, at)),
         Varint::Value { bits, next } => match varint::read(input, next) {
-            Varint::Refused { number } => Starts::Refused { number },
+            Varint::Cut => Starts::Refused(Refusal::cut(12, at, next)),
+            Varint::TooLong => Starts::Refused(Refusal::new(5, at)),
             Varint::Value {
                 bits: base,
                 next: end,
@@ -48,10 +53,10 @@ fn starts_at(input: &[u8], at: usize, signed: bool) -> Starts
 // A fixed delta: each next row adds the base delta.
 fn fixed(input: &[u8], at: usize, rows: usize, signed: bool, out: &mut [i64]) -> Answer
     requires { ⌜ at + 2 ≤ length (now input) ⌝ }
-    ensures { λ r. ⌜ Gives at signed (fixedBody rows (drop (at + 2) (now (input .entry)))) (now (out .entry)) (now (out .exit)) r ⌝ }
+    ensures { λ r. ⌜ Gives at (length (now (input .entry)) - at) signed (fixedBody rows (drop (at + 2) (now (input .entry)))) (now (out .entry)) (now (out .exit)) r ⌝ }
 {
-    match starts_at(input, at + 2, signed) {
-        Starts::Refused { number } => Answer::refused(number, at),
+    match starts_at(input, at, signed) {
+        Starts::Refused(f) => Answer::Refused(f),
         Starts::At { first, step, next } => {
             if out.len() < rows {
                 return Answer::refused(8, at);
@@ -88,15 +93,15 @@ fn lay(block: &[u8], bits: usize, n: usize, first: u64, step: u64, out: &mut [i6
 // Packed magnitudes, n of them, which are all rows but two.
 fn packed_rows(input: &[u8], at: usize, code: u8, n: usize, signed: bool, out: &mut [i64]) -> Answer
     requires { ⌜ (at + 2 ≤ length (now input)) × (code < 32) × (n ≤ 510) ⌝ }
-    ensures { λ r. ⌜ Gives at signed (deltaBody code n (drop (at + 2) (now (input .entry)))) (now (out .entry)) (now (out .exit)) r ⌝ }
+    ensures { λ r. ⌜ Gives at (length (now (input .entry)) - at) signed (deltaBody code n (drop (at + 2) (now (input .entry)))) (now (out .entry)) (now (out .exit)) r ⌝ }
 {
-    match starts_at(input, at + 2, signed) {
-        Starts::Refused { number } => Answer::refused(number, at),
+    match starts_at(input, at, signed) {
+        Starts::Refused(f) => Answer::Refused(f),
         Starts::At { first, step, next } => {
             let bits = width::bits_of(code);
             let size = packed::block_size(bits, n);
             if input.len() - next < size {
-                return Answer::refused(6, at);
+                return Answer::cut(13, at, next);
             }
             if out.len() < n + 2 {
                 return Answer::refused(8, at);
@@ -109,7 +114,7 @@ fn packed_rows(input: &[u8], at: usize, code: u8, n: usize, signed: bool, out: &
 
 pub(crate) fn read(input: &[u8], at: usize, signed: bool, out: &mut [i64]) -> Answer
     requires { ⌜ at < length (now input) ⌝ }
-    ensures { λ r. ⌜ Gives at signed (deltaRun (getD (now (input .entry)) at 0) (drop (at + 1) (now (input .entry)))) (now (out .entry)) (now (out .exit)) r ⌝ }
+    ensures { λ r. ⌜ Gives at (length (now (input .entry)) - at) signed (deltaRun (getD (now (input .entry)) at 0) (drop (at + 1) (now (input .entry)))) (now (out .entry)) (now (out .exit)) r ⌝ }
 {
     if input.len() - at < 2 {
         return Answer::refused(1, at);

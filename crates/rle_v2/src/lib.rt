@@ -53,7 +53,7 @@ pub fn read_stream(input: &[u8], at: ByteOffset, signed: bool, out: &mut [i64]) 
                 p += consumed.bytes;
             }
             Answer::Refused(f) => {
-                return Stream::refused(f.number, p, k, p - from);
+                return Stream::refused(f, k, p - from);
             }
             Answer::End => {
                 return Stream::whole(k, p - from);

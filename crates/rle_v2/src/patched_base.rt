@@ -2,7 +2,7 @@
 ghost use mathlib.Core.Path.{_≡_};
 ghost use mathlib.Core.Bool.{Bool};
 ghost use mathlib.Core.List.{_++_, map};
-ghost use Prim.Native.Nat.{_+_, _*_, _≤_, _<_};
+ghost use Prim.Native.Nat.{_+_, _-_, _*_, _^_, _≤_, _<_};
 ghost use lib.ListN.{length, getD, drop};
 ghost use Rattle.format.specs.Fields.{bytesFor};
 ghost use Rattle.format.specs.Rows.{asI64};
@@ -10,7 +10,7 @@ ghost use Rattle.format.specs.Parse.{patchedBody, patchedRun};
 ghost use Rattle.format.specs.Promises.{Gives};
 ghost use Rattle.util.specs.Packed.{fields, Width};
 ghost use Rattle.rle_v2.specs.Pass.{based};
-ghost use Rattle.rle_v2.specs.PatchedHead.{InRange};
+ghost use Rattle.rle_v2.specs.PatchedHead.{InRange, IsWidths, IsParts, cutBody};
 use crate::header;
 use crate::patch_list;
 use crate::rows;
@@ -30,6 +30,20 @@ struct Header {
     entries: usize,
 }
 
+// The widths in bits: of the values, the patches, and the list's entries.
+struct Widths {
+    bits: usize,
+    patch: usize,
+    entry: usize,
+}
+
+// The first byte of the values and of the list, and the byte after it.
+struct Parts {
+    values: usize,
+    list: usize,
+    end: usize,
+}
+
 // The values with the base added, in their places.
 fn lay(block: &[u8], bits: usize, n: usize, base: u64, out: &mut [i64])
     requires { ⌜ Width bits ⌝ }
@@ -40,42 +54,75 @@ fn lay(block: &[u8], bits: usize, n: usize, base: u64, out: &mut [i64])
     rows::add_base(base, n, out);
 }
 
+// Where the body's parts begin, and where it ends.
+fn parts_of(at: usize, h: Header, w: Widths) -> Parts
+    requires { ⌜ (at < 2 ^ 63) × InRange h × IsWidths h w ⌝ }
+    ensures { λ r. ⌜ IsParts at h r ⌝ }
+{
+    let values = at + 4 + h.base;
+    let list = values + packed::block_size(w.bits, h.rows);
+    let end = list + packed::block_size(w.entry, h.entries);
+    Parts { values, list, end }
+}
+
+// The input ends in the body: in the base, in the values or in the list.
+fn broke_off(len: usize, at: usize, q: Parts) -> Answer
+    requires { ⌜ at + 4 ≤ len ⌝ }
+    ensures { λ r. ⌜ r ≡ cutBody len at (q .values) (q .list) ⌝ }
+{
+    if len < q.values {
+        return Answer::cut(6, at, at + 4);
+    }
+    if len < q.list {
+        return Answer::cut(13, at, q.values);
+    }
+    Answer::cut(14, at, q.list)
+}
+
 // The body: everything is tested before a place is written. Patched rows are never zigzag decoded, whatever the flag.
-fn body(input: &[u8], at: usize, h: Header, out: &mut [i64]) -> Answer
-    requires { ⌜ (at + 4 ≤ length (now input)) × InRange h ⌝ }
-    ensures { λ r. ⌜ ((signed : Bool) → Gives at signed (patchedBody (h .code) (h .rows) (h .base) (h .patch) (h .gap) (h .entries) (drop (at + 4) (now (input .entry)))) (now (out .entry)) (now (out .exit)) r) ⌝ }
+fn body(input: &[u8], at: usize, h: Header, w: Widths, out: &mut [i64]) -> Answer
+    requires { ⌜ (at + 4 ≤ length (now input)) × InRange h × IsWidths h w × (w .patch + h .gap ≤ 64) × (w .bits + w .patch ≤ 64) ⌝ }
+    ensures { λ r. ⌜ ((signed : Bool) → Gives at (length (now (input .entry)) - at) signed (patchedBody (h .code) (h .rows) (h .base) (h .patch) (h .gap) (h .entries) (drop (at + 4) (now (input .entry)))) (now (out .entry)) (now (out .exit)) r) ⌝ }
 {
     let n = h.rows;
-    let bits = width::bits_of(h.code);
-    let pw = width::bits_of(h.patch);
-    if 64 < pw + h.gap {
-        return Answer::refused(2, at);
+    let q = parts_of(at, h, w);
+    let values = q.values;
+    let list = q.list;
+    if input.len() < q.end {
+        return broke_off(input.len(), at, q);
     }
-    if 64 < bits + pw {
-        return Answer::refused(3, at);
-    }
-    let entry = width::entry_width(pw + h.gap);
-    let values = at + 4 + h.base;
-    let list = values + packed::block_size(bits, n);
-    let end = list + packed::block_size(entry, h.entries);
-    if input.len() < end {
-        return Answer::refused(6, at);
-    }
-    if patch_list::out_of_place(&input[list..], entry, pw, h.entries, n) {
+    if patch_list::out_of_place(&input[list..], w.entry, w.patch, h.entries, n) {
         return Answer::refused(7, at);
     }
     if out.len() < n {
         return Answer::refused(8, at);
     }
     let base = big_endian::base_value(input, at + 4, h.base);
-    lay(&input[values..], bits, n, base, out);
-    patch_list::put(&input[list..], entry, pw, h.entries, bits, n, out);
-    Answer::run(Kind::PatchedBase, n, end - at)
+    lay(&input[values..], w.bits, n, base, out);
+    patch_list::put(&input[list..], w.entry, w.patch, h.entries, w.bits, n, out);
+    Answer::run(Kind::PatchedBase, n, q.end - at)
+}
+
+// What the header's widths refuse, before the body is read.
+fn by_widths(input: &[u8], at: usize, h: Header, out: &mut [i64]) -> Answer
+    requires { ⌜ (at + 4 ≤ length (now input)) × InRange h ⌝ }
+    ensures { λ r. ⌜ ((signed : Bool) → Gives at (length (now (input .entry)) - at) signed (patchedBody (h .code) (h .rows) (h .base) (h .patch) (h .gap) (h .entries) (drop (at + 4) (now (input .entry)))) (now (out .entry)) (now (out .exit)) r) ⌝ }
+{
+    let bits = width::bits_of(h.code);
+    let patch = width::bits_of(h.patch);
+    if 64 < patch + h.gap {
+        return Answer::refused(2, at);
+    }
+    if 64 < bits + patch {
+        return Answer::refused(3, at);
+    }
+    let entry = width::entry_width(patch + h.gap);
+    body(input, at, h, Widths { bits, patch, entry }, out)
 }
 
 pub(crate) fn read(input: &[u8], at: usize, signed: bool, out: &mut [i64]) -> Answer
     requires { ⌜ at < length (now input) ⌝ }
-    ensures { λ r. ⌜ Gives at signed (patchedRun (getD (now (input .entry)) at 0) (drop (at + 1) (now (input .entry)))) (now (out .entry)) (now (out .exit)) r ⌝ }
+    ensures { λ r. ⌜ Gives at (length (now (input .entry)) - at) signed (patchedRun (getD (now (input .entry)) at 0) (drop (at + 1) (now (input .entry)))) (now (out .entry)) (now (out .exit)) r ⌝ }
 {
     if input.len() - at < 4 {
         return Answer::refused(1, at);
@@ -91,5 +138,5 @@ pub(crate) fn read(input: &[u8], at: usize, signed: bool, out: &mut [i64]) -> An
         gap: (fourth / 32) as usize + 1,
         entries: (fourth % 32) as usize,
     };
-    body(input, at, four, out)
+    by_widths(input, at, four, out)
 }

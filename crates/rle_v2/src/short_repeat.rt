@@ -1,5 +1,5 @@
 // Short repeat: 2 bits kind, 3 bits size-1, 3 bits count-3; then the value's bytes.
-ghost use Prim.Native.Nat.{_+_, _<_};
+ghost use Prim.Native.Nat.{_+_, _-_, _<_};
 ghost use lib.ListN.{length, getD, drop};
 ghost use Rattle.format.specs.Parse.{shortRun};
 ghost use Rattle.format.specs.Promises.{Gives};
@@ -11,14 +11,14 @@ use util::pattern;
 
 pub(crate) fn read(input: &[u8], at: usize, signed: bool, out: &mut [i64]) -> Answer
     requires { ⌜ (at < length (now input)) × (getD (now input) at 0 < 64) ⌝ }
-    ensures { λ r. ⌜ Gives at signed (shortRun (getD (now (input .entry)) at 0) (drop (at + 1) (now (input .entry)))) (now (out .entry)) (now (out .exit)) r ⌝ }
+    ensures { λ r. ⌜ Gives at (length (now (input .entry)) - at) signed (shortRun (getD (now (input .entry)) at 0) (drop (at + 1) (now (input .entry)))) (now (out .entry)) (now (out .exit)) r ⌝ }
 {
     let header = input[at] as usize;
     let size = header / 8 + 1;
     let count = header % 8 + Kind::MIN_REPEAT;
     let body = at + 1;
     if input.len() - body < size {
-        return Answer::refused(6, at);
+        return Answer::cut(6, at, body);
     }
     if out.len() < count {
         return Answer::refused(8, at);

@@ -2,7 +2,9 @@
 -- Assumes nothing.
 use mathlib.Core.Path.{_≡_, refl, sym, _∙_, ap}
 use Prim.Native.Nat.{ℕ, zero, suc, _+_, _-_, _*_, _%_, _^_, _<_, _≤_}
+use mathlib.Core.Bool.{Bool, true, false}
 use mathlib.Core.List.{List, [], _∷_}
+use lib.Dec.{ltb}
 use native.Mathlib.Omega.{arith}
 use native.Mathlib.Nat.{mul-add, mul-assoc, mul-comm, add-assoc, mod-add-mod, add-mod-mod, one-mul, zero-add}
 use native.Mathlib.Numerals.{add-one}
@@ -10,24 +12,26 @@ use lib.Pow.{pow-add}
 use lib.ListN.{length, drop, getD, drop-of-length-le, length-drop, length-append}
 use lib.Seq.{drop-cons, drop-drop, drop-at}
 use borrow.Author.Tests.{lt-ltb, le-ltb}
-use Rattle.format.specs.Fields.{Varint, groups, varintValue}
-use Rattle.format.specs.Parse.{Reason, Parsed, end, got, refused, plain, cutIn, then, varint}
+use Rattle.format.specs.Fields.{pick, Varint, groups, varintValue}
+use Rattle.format.specs.Parse.{Reason, Parsed, end, got, refused, plain, cut, cutIn, then, varint}
 use Rattle.format.proofs.Fields.{Post, at-got, at-refused, Took, varint-sound, below-all, below-drop}
 use Rattle.format.proofs.Varints.{varint-length}
 use Rattle.util.specs.declared.varint.Varint as Answer
-use Rattle.util.specs.declared.varint.Varint.the-variants.{Value, Refused}
+use Rattle.util.specs.declared.varint.Varint.the-variants.{Value, Cut, TooLong}
 use Rattle.util.specs.Varint.{told, varintAt}
 
 -- v is the value of the groups that came before, p the next group's weight and i the place: what is told then
 abbrev pub toldFrom : ℕ → ℕ → ℕ → Parsed (List ℕ) → Answer.Varint
 toldFrom i v p (got u rest) = Value ((v + p * groups u) % 2 ^ 64) (i + length u)
-toldFrom i v p (refused (plain n)) = Refused n
-toldFrom i v p end = Refused 6
+toldFrom i v p (refused (plain n)) = TooLong
+toldFrom i v p (refused (cut n left)) = Cut
+toldFrom i v p end = Cut
 
 pub told-from : (i : ℕ) (m : Parsed (List ℕ)) → told i m ≡ toldFrom i 0 1 m
 unfolding varintValue
 told-from i (got u rest) = rw (one-mul, zero-add)
 told-from i (refused (plain n)) = refl
+told-from i (refused (cut n left)) = refl
 told-from i end = refl
 
 -- a group goes from what is to come into what came before
@@ -37,16 +41,17 @@ shift i v p b (got u rest) =
     let f : i + suc (length u) ≡ i + 1 + length u = omega arith in
     rw (e, f)
 shift i v p b (refused (plain n)) = refl
+shift i v p b (refused (cut n left)) = refl
 shift i v p b end = refl
 
-module _ (s : List ℕ) (i v p k : ℕ) (h : k < 10) where
-  pub at-end : length s ≤ i → toldFrom i v p (varint (plain 6) (10 - k) (drop i s)) ≡ Refused 6
+module _ (s : List ℕ) (i v p k left : ℕ) (h : k < 10) where
+  pub at-end : length s ≤ i → toldFrom i v p (varint (cut 12 left) (10 - k) (drop i s)) ≡ Cut
   unfolding varint
   at-end l =
       let e : 10 - k ≡ suc (10 - (k + 1)) = omega arith in
       rw (e, drop-of-length-le s l)
 
-  pub at-last : i < length s → getD s i 0 < 128 → toldFrom i v p (varint (plain 6) (10 - k) (drop i s)) ≡ Value ((v + p * (getD s i 0 % 128)) % 2 ^ 64) (i + 1)
+  pub at-last : i < length s → getD s i 0 < 128 → toldFrom i v p (varint (cut 12 left) (10 - k) (drop i s)) ≡ Value ((v + p * (getD s i 0 % 128)) % 2 ^ 64) (i + 1)
   unfolding varint
   at-last l b =
       let e : 10 - k ≡ suc (10 - (k + 1)) = omega arith in
@@ -54,11 +59,11 @@ module _ (s : List ℕ) (i v p k : ℕ) (h : k < 10) where
       rw (e, drop-cons s i 0 l, lt-ltb (getD s i 0) 128 b, z)
 
   pub at-next : i < length s → 128 ≤ getD s i 0
-      → toldFrom i v p (varint (plain 6) (10 - k) (drop i s)) ≡ toldFrom (i + 1) ((v + p * (getD s i 0 % 128)) % 2 ^ 64) (p * 128) (varint (plain 6) (10 - (k + 1)) (drop (i + 1) s))
+      → toldFrom i v p (varint (cut 12 left) (10 - k) (drop i s)) ≡ toldFrom (i + 1) ((v + p * (getD s i 0 % 128)) % 2 ^ 64) (p * 128) (varint (cut 12 left) (10 - (k + 1)) (drop (i + 1) s))
   unfolding varint
   at-next l b =
       let e : 10 - k ≡ suc (10 - (k + 1)) = omega arith in
-      rw (e, drop-cons s i 0 l, ← add-one i) (simp (le-ltb (getD s i 0) 128 b) (shift i v p (getD s i 0) (varint (plain 6) (10 - (k + 1)) (drop (i + 1) s))))
+      rw (e, drop-cons s i 0 l, ← add-one i) (simp (le-ltb (getD s i 0) 128 b) (shift i v p (getD s i 0) (varint (cut 12 left) (10 - (k + 1)) (drop (i + 1) s))))
 
 -- the code's sum is the definition's
 pub sum-is : (v g k : ℕ) → (v + g * 2 ^ (7 * k) % 2 ^ 64) % 2 ^ 64 ≡ (v + 2 ^ (7 * k) * g) % 2 ^ 64
@@ -78,20 +83,38 @@ pub record Stood (s : List ℕ) (at bits next : ℕ) : Type 0 where
   pub value : varintValue bytes ≡ bits
   pub end : next ≡ at + length bytes
   pub within : next ≤ length s
-  pub parsed : varint (cutIn 6 (drop at s)) 10 (drop at s) ≡ got bytes (drop next s)
+  pub parsed : varint (cutIn 12 (drop at s)) 10 (drop at s) ≡ got bytes (drop next s)
+
+-- it is refused where the input ends, or with 5
+data Refuses (r : Reason) : Parsed (List ℕ) → Type 0 where
+  stands : {v rest : List ℕ} → Refuses r (got v rest)
+  ends : Refuses r (refused r)
+  goes-on : Refuses r (refused (plain 5))
+
+refuses : (r : Reason) (k : ℕ) (bs : List ℕ) → Refuses r (varint r k bs)
+unfolding varint
+refuses r zero bs = goes-on
+refuses r (suc k) [] = ends
+refuses r (suc k) (b ∷ bs) = by (ltb b 128) (refuses r k bs)
+  where
+    by : {m : Parsed (List ℕ)} (t : Bool) → Refuses r m → Refuses r (pick t (got (b ∷ []) bs) (then m λ v rest. got (b ∷ v) rest))
+    by true u = stands
+    by false stands = stands
+    by false ends = ends
+    by false goes-on = goes-on
 
 module _ (s : List ℕ) (at : ℕ) (below : (i : ℕ) → getD s i 0 < 256) where
   abbrev Here : Parsed (List ℕ) → Type 0
   Here = Post (Took (drop at s) (λ v. v) (Varint 10))
 
-  here : Here (varint (cutIn 6 (drop at s)) 10 (drop at s))
-  here = varint-sound (cutIn 6 (drop at s)) 10 (drop at s) (below-drop 256 at s (below-all 256 s below))
+  here : Here (varint (cutIn 12 (drop at s)) 10 (drop at s))
+  here = varint-sound (cutIn 12 (drop at s)) 10 (drop at s) (below-drop 256 at s (below-all 256 s below))
 
   pub value-is : (bits next : ℕ) → varintAt s at ≡ Value bits next → Stood s at bits next
   unfolding varintAt
   value-is bits next q = by here refl q
     where
-      by : {m : Parsed (List ℕ)} → Here m → varint (cutIn 6 (drop at s)) 10 (drop at s) ≡ m → told at m ≡ Value bits next → Stood s at bits next
+      by : {m : Parsed (List ℕ)} → Here m → varint (cutIn 12 (drop at s)) 10 (drop at s) ≡ m → told at m ≡ Value bits next → Stood s at bits next
       by (at-got {a = v} {s = rest} t) e q =
           let n : at + length v ≡ next = cc in
           let b : varintValue v ≡ bits = cc in
@@ -106,11 +129,24 @@ module _ (s : List ℕ) (at : ℕ) (below : (i : ℕ) → getD s i 0 < 256) wher
             parsed = e ∙ ap (got v) d;
           }
       by (at-refused {r = plain n}) e q = let z : _≡_ {A = ℕ} 0 1 = cc in absurd (omega arith)
+      by (at-refused {r = cut n left}) e q = let z : _≡_ {A = ℕ} 0 1 = cc in absurd (omega arith)
 
-  pub refused-is : (n : ℕ) → varintAt s at ≡ Refused n → varint (cutIn 6 (drop at s)) 10 (drop at s) ≡ refused (plain n)
+  pub cut-is : varintAt s at ≡ Cut → varint (cutIn 12 (drop at s)) 10 (drop at s) ≡ refused (cutIn 12 (drop at s))
   unfolding varintAt
-  refused-is n q = by here refl q
+  cut-is q = by (refuses (cutIn 12 (drop at s)) 10 (drop at s)) refl q
     where
-      by : {m : Parsed (List ℕ)} → Here m → varint (cutIn 6 (drop at s)) 10 (drop at s) ≡ m → told at m ≡ Refused n → varint (cutIn 6 (drop at s)) 10 (drop at s) ≡ refused (plain n)
-      by (at-got {a = v} {s = rest} t) e q = let z : _≡_ {A = ℕ} 0 1 = cc in absurd (omega arith)
-      by (at-refused {r = plain m}) e q = cc
+      by : {m : Parsed (List ℕ)} → Refuses (cutIn 12 (drop at s)) m → varint (cutIn 12 (drop at s)) 10 (drop at s) ≡ m → told at m ≡ Cut
+          → varint (cutIn 12 (drop at s)) 10 (drop at s) ≡ refused (cutIn 12 (drop at s))
+      by stands e q = let z : _≡_ {A = ℕ} 0 1 = cc in absurd (omega arith)
+      by ends e q = e
+      by goes-on e q = let z : _≡_ {A = ℕ} 0 1 = cc in absurd (omega arith)
+
+  pub long-is : varintAt s at ≡ TooLong → varint (cutIn 12 (drop at s)) 10 (drop at s) ≡ refused (plain 5)
+  unfolding varintAt
+  long-is q = by (refuses (cutIn 12 (drop at s)) 10 (drop at s)) refl q
+    where
+      by : {m : Parsed (List ℕ)} → Refuses (cutIn 12 (drop at s)) m → varint (cutIn 12 (drop at s)) 10 (drop at s) ≡ m → told at m ≡ TooLong
+          → varint (cutIn 12 (drop at s)) 10 (drop at s) ≡ refused (plain 5)
+      by stands e q = let z : _≡_ {A = ℕ} 0 1 = cc in absurd (omega arith)
+      by ends e q = let z : _≡_ {A = ℕ} 0 1 = cc in absurd (omega arith)
+      by goes-on e q = e

@@ -5,19 +5,20 @@ use mathlib.Core.List.{List, _++_}
 use Prim.Native.Nat.{ℕ, _+_}
 use lib.ListN.{length, take, drop}
 use Rattle.format.specs.Fields.{varintValue, shortest}
-use Rattle.format.specs.Parse.{Parsed, end, got, refused, plain, cutIn, varint}
+use Rattle.format.specs.Parse.{Parsed, end, got, refused, plain, cut, cutIn, varint}
 use Rattle.util.specs.declared.varint.Varint.{Varint}
-use Rattle.util.specs.declared.varint.Varint.the-variants.{Value, Refused}
+use Rattle.util.specs.declared.varint.Varint.the-variants.{Value, Cut, TooLong}
 
--- the value with the place after it, or the refusal's number
+-- the value with the place after it; or that the input ends in it, or that ten bytes do not end it
 abbrev pub told : ℕ → Parsed (List ℕ) → Varint
 told at (got v rest) = Value (varintValue v) (at + length v)
-told at (refused (plain n)) = Refused n
-told at end = Refused 6
+told at (refused (plain n)) = TooLong
+told at (refused (cut n left)) = Cut
+told at end = Cut
 
 -- the varint at a place: a place past the end is empty input
 unfoldable pub varintAt : List ℕ → ℕ → Varint
-varintAt s at = told at (varint (cutIn 6 (drop at s)) 10 (drop at s))
+varintAt s at = told at (varint (cutIn 12 (drop at s)) 10 (drop at s))
 
 -- the shortest varint of x was written at a place, and r is the place after it
 pub record Written (x : ℕ) (out : List ℕ) (at : ℕ) (out′ : List ℕ) (r : ℕ) : Type 0 where

@@ -10,8 +10,10 @@ use crate::pattern;
 pub enum Varint {
     // The value's low 64 bits, and the place after it.
     Value { bits: u64, next: usize },
-    // Refusal 5 or 6.
-    Refused { number: u8 },
+    // The input ends in it: refusal 12.
+    Cut,
+    // Ten bytes, and the tenth has the top bit set: refusal 5.
+    TooLong,
 }
 
 // The seven low bits of b as group k. Bits at 2^64 and above are dropped by the shift.
@@ -31,7 +33,7 @@ pub fn read(s: &[u8], at: usize) -> Varint
     let mut k: u64 = 0;
     while k < 10 {
         if s.len() <= i {
-            return Varint::Refused { number: 6 };
+            return Varint::Cut;
         }
         let b = s[i];
         v = pattern::add(v, group(b, k));
@@ -41,7 +43,7 @@ pub fn read(s: &[u8], at: usize) -> Varint
         }
         k += 1;
     }
-    Varint::Refused { number: 5 }
+    Varint::TooLong
 }
 
 // How many bytes the shortest varint of x has.

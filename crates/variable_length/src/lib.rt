@@ -14,7 +14,7 @@ fn rest(input: &[u8], at: usize) -> usize
     if at <= input.len() { at } else { input.len() }
 }
 
-// The value's counts, or refusal 6 where the input ends before the value does.
+// The value's counts, or refusal 6 where the input ends before the value does: the cut field begins at the call's position.
 pub fn read_value(input: &[u8], at: ByteOffset, n: usize) -> Answer
     ensures { λ r. ⌜ ValueRead (now (input .entry)) (at .bytes) n r ⌝ }
 {
@@ -23,7 +23,7 @@ pub fn read_value(input: &[u8], at: ByteOffset, n: usize) -> Answer
     if n <= input.len() - start {
         Answer::run(Kind::ByteValues, n, n)
     } else {
-        Answer::refused(6, position)
+        Answer::cut(6, position, position)
     }
 }
 

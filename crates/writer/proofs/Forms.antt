@@ -44,7 +44,7 @@ module _ (rows : List ℤ) (signed : Bool) (f : Form) (w : ℕ) (out : List ℕ)
   abbrev rs : List ℕ
   rs = map asU64 rows
 
-  told : (out′ : List ℕ) (m : Parsed Description) → writing signed f w rs (length out) ≡ m → r ≡ answerOf 0 m → out′ ≡ bytesIn out m → Written rows signed f w out out′ r
+  told : (out′ : List ℕ) (m : Parsed Description) → writing signed f w rs (length out) ≡ m → r ≡ answerOf 0 0 m → out′ ≡ bytesIn out m → Written rows signed f w out out′ r
   told out′ m e p q = record { answer = rw e p; places = rw e q }
 
   pub bad-count : countAllowed f (length rs) ≡ false → r ≡ refusedAt 9 0 → Written rows signed f w out out r

@@ -1,4 +1,4 @@
-//! The rule of comparison: what the Rust may answer where document 01 gives an answer, and the list
+//! The rule of comparison: what the Rust may answer where the documents give an answer, and the list
 //! of differences. docs/DIFFERENCES.md has the list in words.
 use model::{Answer, Booleans, Faults};
 use oracle::{Outcome, Run};
@@ -29,7 +29,7 @@ pub enum Sort {
     End,
     /// The same rows and bytes: of a run, a stream, booleans or a byte value.
     Same,
-    /// Document 01 refuses with this number, and the Rust gives an error.
+    /// The documents refuse with this number, and the Rust gives an error.
     Refused(u8),
     Listed(Difference),
 }
@@ -145,7 +145,7 @@ pub fn of_run(bytes: &[u8], paper: &Answer, rust: &Run) -> Option<Sort> {
     };
     match (number, rust) {
         (_, Run::Panic) if has_unwritten_code(bytes) => listed(Code24To26),
-        (1..=6, Run::Error(_)) => Some(Sort::Refused(number)),
+        (1..=6 | 12..=14, Run::Error(_)) => Some(Sort::Refused(number)),
         (2, Run::Rows { .. } | Run::Panic) => listed(EntryOver64),
         (3, Run::Rows { .. } | Run::Panic) => listed(ValueOver64),
         (4, Run::Panic) => listed(OneRowDelta),
@@ -226,9 +226,11 @@ pub fn of_booleans(bytes: &[u8], n: usize, paper: &Booleans, rust: &Outcome<bool
         return panicked.then_some(Sort::Listed(Difference::Control128));
     }
     let Some((first, _)) = model::first_run(bytes) else {
+        // No control byte, or a run that is cut after it.
+        let number = if bytes.is_empty() { 6 } else { 13 };
         let refused = matches!((paper, rust), (Booleans::Refused(refusal), Outcome::Error { before, .. })
-            if refusal.number == 6 && before.is_empty());
-        return refused.then_some(Sort::Refused(6));
+            if refusal.number == number && before.is_empty());
+        return refused.then_some(Sort::Refused(number));
     };
     let (Outcome::Given { values: given, .. }
     | Outcome::Error { before: given, .. }

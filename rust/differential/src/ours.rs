@@ -41,7 +41,7 @@ impl Ours {
             return Ok(2);
         };
         // Just enough places, and one too few with all but one byte of another.
-        let refusal = model::Refusal { number: 8, place: 0 };
+        let refusal = model::Refusal::whole(8, 0);
         self.call(bytes, signed, paper, 8 * run.rows.len())?;
         self.call(bytes, signed, &Answer::Refused(refusal), 8 * run.rows.len() - 1)?;
         Ok(3)
@@ -82,9 +82,10 @@ impl Ours {
         let right = |given: &[i64], answer: Result<(), menakovitsy::StreamRefused>, how: &str| {
             let told = answer.err().map(|told| {
                 let counts = (told.before.rows.0, told.before.bytes.0) == (expected.len(), consumed);
-                (told.refused.refusal.number(), told.refused.at.0, counts)
+                let cut = told.refused.cut.map(|byte| byte.0);
+                (told.refused.refusal.number(), told.refused.at.0, cut, counts)
             });
-            let paper = refused.map(|refusal| (u64::from(refusal.number), refusal.place, true));
+            let paper = refused.map(|refusal| (refusal.number.into(), refusal.place, refusal.cut, true));
             // Of an error, the list of its own has no rows to look at.
             let rows = given == expected || how == "to_vec" && refused.is_some();
             if rows && told == paper {

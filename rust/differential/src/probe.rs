@@ -14,7 +14,7 @@ use crate::tally::{Hex, Tally};
 /// How many lines one child process is given.
 const BATCH: usize = 20_000;
 
-/// Lines for the program, each with the line that document 01 answers by the model.
+/// Lines for the program, each with the line that the documents answer by the model.
 #[derive(Default)]
 pub struct Requests {
     lines: Vec<(String, String)>,
@@ -151,7 +151,7 @@ impl Probe {
                 tally.probe();
             } else {
                 let answer = answer.unwrap_or("no line");
-                tally.unlisted(&format!("probe {line}\n  document 01: {expected}\n  probe: {answer}"));
+                tally.unlisted(&format!("probe {line}\n  the documents: {expected}\n  probe: {answer}"));
             }
         }
         if let Some(line) = answers.next() {
@@ -172,8 +172,11 @@ impl Probe {
     }
 }
 
-fn refused(refusal: Refusal) -> String {
-    format!("refused {} {}", refusal.number, refusal.place)
+fn refused(Refusal { number, place, cut }: Refusal) -> String {
+    match cut {
+        None => format!("refused {number} {place}"),
+        Some(byte) => format!("refused {number} {place} cut {byte}"),
+    }
 }
 
 fn kind(kind: Kind) -> &'static str {

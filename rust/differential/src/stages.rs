@@ -1,4 +1,6 @@
 //! What is compared, stage by stage.
+mod cuts;
+
 use model::{Form, Written, WIDTHS};
 use oracle::Run;
 
@@ -52,6 +54,7 @@ impl Session {
         self.short_inputs();
         self.widths_and_lengths();
         self.cut_and_damaged();
+        self.cuts();
         self.patch_lists();
         self.random_frames();
         self.streams();
@@ -332,6 +335,7 @@ impl Session {
                 requests.narrowest(number);
             }
         }
+        cuts::probe_lines(requests, &mut self.random);
         for _ in 0..self.size.pick(1_000, 100_000, 1_000_000) {
             probe_line(&mut probe.requests, &mut self.random);
             probe.batch(&mut self.tally);

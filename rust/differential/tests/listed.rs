@@ -36,8 +36,8 @@ fn what_is_not_listed_is_found() {
     assert_eq!(of_run(&bytes, &answer(&[1, 2, 4], 4), &rust), None);
     assert_eq!(of_run(&bytes, &answer(&[1, 2, 3], 3), &rust), None);
     assert_eq!(of_run(&bytes, &Answer::End, &rust), None);
-    for number in [1, 4, 6, 8] {
-        assert_eq!(of_run(&bytes, &Answer::Refused(Refusal { number, place: 0 }), &rust), None);
+    for number in [1, 4, 6, 8, 12, 13, 14] {
+        assert_eq!(of_run(&bytes, &Answer::Refused(Refusal::whole(number, 0)), &rust), None);
     }
 }
 

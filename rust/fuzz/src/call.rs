@@ -1,4 +1,4 @@
-//! A call, and what the model of document 01 answers it.
+//! A call, and what the model of documents 01 and 02 answers it.
 use differential::frames;
 use differential::random::Random;
 use menakovitsy::exported::{case, kind, TOO_FEW_WORDS, WORDS};
@@ -36,11 +36,12 @@ impl Outcome {
 
     fn refused(refusal: Refusal, rows: usize, bytes: usize) -> Self {
         let number = u64::from(refusal.number);
-        Self::of([case::REFUSED, number, refusal.place as u64, 0, rows as u64, bytes as u64])
+        let (cut, cut_at) = (u64::from(refusal.cut.is_some()), refusal.cut.unwrap_or(0) as u64);
+        Self::of([case::REFUSED, number, refusal.place as u64, 0, rows as u64, bytes as u64, cut, cut_at])
     }
 
     fn read(kind: u64, rows: usize, bytes: usize) -> Self {
-        Self::of([case::READ, 0, 0, kind, rows as u64, bytes as u64])
+        Self::of([case::READ, 0, 0, kind, rows as u64, bytes as u64, 0, 0])
     }
 }
 
@@ -191,7 +192,7 @@ fn written(rows: &[i64], signed: bool, form: u64, width: u64, places: usize) -> 
         1 => Form::Direct,
         2 => Form::FixedDelta,
         3 => Form::PackedDelta,
-        _ => return Outcome::refused(Refusal { number: 10, place: 0 }, 0, 0),
+        _ => return Outcome::refused(Refusal::whole(10, 0), 0, 0),
     };
     match model::write_run(rows, signed, form, u8::try_from(width).unwrap_or(255), places) {
         Written::Refused(refusal) => Outcome::refused(refusal, 0, 0),

@@ -34,9 +34,10 @@ int main(void)
     printf("\n");
 
     /* The same column, cut inside its second run. */
-    if (orc_read_stream(column, 5, 0, 0, rows, 512, words, ORC_WORDS) == ORC_INPUT_ENDS)
-        printf("cut: the run at byte %" PRIu64 " is not whole; %" PRIu64 " rows are\n",
-               words[ORC_PLACE], words[ORC_ROWS]);
+    if (orc_read_stream(column, 5, 0, 0, rows, 512, words, ORC_WORDS) == ORC_ROWS_CUT)
+        printf("cut: the run at byte %" PRIu64 " lacks its packed rows, from byte %" PRIu64
+               " on; %" PRIu64 " rows are read\n",
+               words[ORC_PLACE], words[ORC_CUT_AT], words[ORC_ROWS]);
 
     /* No words at all: an answer of its own. */
     if (orc_read_stream(column, sizeof column, 0, 0, rows, 512, NULL, 0) == ORC_TOO_FEW_WORDS)

@@ -58,6 +58,33 @@ pub struct Refused {
     /// The byte where the refused run begins (booleans and byte values: the call's position; the
     /// writer: 0).
     pub at: ByteOffset,
+    /// The byte where the field begins that the input's end cuts: for 6, 12, 13 and 14, and for no
+    /// other refusal. It counts from the input's first byte, like the place.
+    pub cut: Option<ByteOffset>,
+}
+
+impl Refused {
+    /// A refusal that no cut field goes with.
+    pub(crate) fn whole(refusal: Refusal, at: ByteOffset) -> Self {
+        Refused { refusal, at, cut: None }
+    }
+
+    /// What the number means here: a cut field by the byte that it begins at.
+    #[must_use]
+    pub fn meaning(&self) -> String {
+        match self.cut {
+            Some(byte) => {
+                let field = self.refusal.cut_field().unwrap_or("field");
+                format!("the {field} that begins at {byte} is cut")
+            }
+            None => self.refusal.meaning().into(),
+        }
+    }
+
+    /// The number, what it means here and what to do.
+    fn told(&self) -> String {
+        format!("refusal {}: {} ({})", self.refusal.number(), self.meaning(), self.refusal.advice())
+    }
 }
 
 /// A refused run of a stream. The runs before it were read, and their rows stand in the first lent
@@ -145,17 +172,18 @@ impl Words {
 
     /// The refusal; a case that is none, too, by whatever number came with it.
     fn refused(&self) -> Refused {
-        let refusal = match self.case() {
-            Some(case::REFUSED) => Refusal::of_number(self.lent[word::NUMBER]),
-            _ => Refusal::Unknown(self.number),
-        };
-        Refused { refusal, at: ByteOffset(self.lent[word::PLACE] as usize) }
+        let at = ByteOffset(self.lent[word::PLACE] as usize);
+        if self.case() != Some(case::REFUSED) {
+            return Refused::whole(Refusal::Unknown(self.number), at);
+        }
+        let cut = (self.lent[word::CUT] == 1).then_some(ByteOffset(self.lent[word::CUT_AT] as usize));
+        Refused { refusal: Refusal::of_number(self.lent[word::NUMBER]), at, cut }
     }
 }
 
 impl fmt::Display for Refused {
     fn fmt(&self, f: &mut fmt::Formatter) -> fmt::Result {
-        write!(f, "at {}: {}", self.at, self.refusal)
+        write!(f, "at {}: {}", self.at, self.told())
     }
 }
 
@@ -167,8 +195,8 @@ impl Error for Refused {
 
 impl fmt::Display for StreamRefused {
     fn fmt(&self, f: &mut fmt::Formatter) -> fmt::Result {
-        let Refused { refusal, at } = self.refused;
-        write!(f, "the run at {at}, after {} rows: {refusal}", self.before.rows.0)
+        let refused = self.refused;
+        write!(f, "the run at {}, after {} rows: {}", refused.at, self.before.rows.0, refused.told())
     }
 }
 
@@ -182,32 +210,47 @@ impl Error for StreamRefused {
 mod tests {
     use super::*;
 
-    fn words(number: u64, first: [u64; 6]) -> Words {
+    fn words(number: u64, first: &[u64]) -> Words {
         let mut words = Words { number, ..Words::lent(2, 3) };
-        words.lent[..6].copy_from_slice(&first);
+        words.lent[..first.len()].copy_from_slice(first);
         words
     }
 
     /// What a later library may answer is an answer here, too.
     #[test]
     fn a_later_library() {
-        let refused = |refusal, at| Refused { refusal, at: ByteOffset(at) };
-        let later = words(40, [2, 40, 9, 0, 0, 0]);
+        let refused = |refusal, at| Refused::whole(refusal, ByteOffset(at));
+        let later = words(40, &[2, 40, 9]);
         assert_eq!(later.one_run().unwrap_err(), refused(Refusal::Unknown(40), 9));
-        let case = words(0, [3, 0, 0, 0, 0, 0]);
+        let case = words(0, &[3]);
         assert_eq!(case.run_or_end().unwrap_err(), refused(Refusal::Unknown(0), 0));
-        let wants_more = words(TOO_FEW_WORDS, [0; 6]);
+        let wants_more = words(TOO_FEW_WORDS, &[]);
         assert_eq!(wants_more.run_or_end().unwrap_err(), refused(Refusal::Unknown(TOO_FEW_WORDS), 0));
         assert_eq!(wants_more.stream().unwrap_err().refused.refusal, Refusal::Unknown(TOO_FEW_WORDS));
         let run = Run { kind: Kind::Unknown(6), rows: RowNumber(2), bytes: ByteOffset(3) };
-        assert_eq!(words(0, [1, 0, 0, 6, 2, 3]).one_run(), Ok(run));
+        assert_eq!(words(0, &[1, 0, 0, 6, 2, 3]).one_run(), Ok(run));
+    }
+
+    /// A cut field is told by its byte; one that a later library names, too.
+    #[test]
+    fn cut_fields() {
+        let list = words(14, &[2, 14, 0, 0, 0, 0, 1, 7]).one_run().unwrap_err();
+        assert_eq!((list.refusal, list.cut), (Refusal::ListCut, Some(ByteOffset(7))));
+        assert_eq!(list.meaning(), "the patch list that begins at byte 7 is cut");
+        assert!(list
+            .to_string()
+            .starts_with("at byte 0: refusal 14: the patch list that begins at byte 7 is"));
+        let later = words(40, &[2, 40, 0, 0, 0, 0, 1, 7]).one_run().unwrap_err();
+        assert_eq!(later.meaning(), "the field that begins at byte 7 is cut");
+        let none = words(5, &[2, 5, 3, 0, 0, 0, 0, 0]).one_run().unwrap_err();
+        assert_eq!((none.cut, none.meaning().as_str()), (None, Refusal::VarintTooLong.meaning()));
     }
 
     /// Counts that pass what was lent are never handed on.
     #[test]
     fn counts_are_within_what_was_lent() {
         for counts in [[3, 3], [2, 4], [u64::MAX, 0]] {
-            let words = words(0, [1, 0, 0, 1, counts[0], counts[1]]);
+            let words = words(0, &[1, 0, 0, 1, counts[0], counts[1]]);
             assert_eq!(words.one_run().unwrap_err().refusal, Refusal::Unknown(0));
             assert_eq!(words.run_or_end().unwrap_err().refusal, Refusal::Unknown(0));
             let stream = words.stream().unwrap_err();

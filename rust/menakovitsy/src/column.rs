@@ -31,7 +31,8 @@ use crate::{ByteOffset, Refusal, Refused, RowNumber, Run, Sign, Stream, StreamRe
 ///
 /// // A column that is cut is refused, and never taken for a shorter one.
 /// let cut = Column::new(&bytes[..5], Sign::Unsigned).read_into(&mut rows).unwrap_err();
-/// assert_eq!((cut.refused.refusal, cut.refused.at), (Refusal::InputEnds, ByteOffset(3)));
+/// assert_eq!((cut.refused.refusal, cut.refused.at), (Refusal::RowsCut, ByteOffset(3)));
+/// assert_eq!(cut.refused.cut, Some(ByteOffset(5)));
 /// assert_eq!(cut.before.rows, RowNumber(5));
 /// # Ok::<(), menakovitsy::StreamRefused>(())
 /// ```
@@ -152,7 +153,7 @@ impl Runs<'_> {
                     return Some(Ok(RunAt { at, first, run, rows }));
                 }
                 // Counts that no run has: not the proved library's.
-                _ => Refused { refusal: Refusal::Unknown(0), at },
+                _ => Refused::whole(Refusal::Unknown(0), at),
             },
             Ok(None) => {
                 self.ended = true;

@@ -9,10 +9,10 @@
 //! returns [`TOO_FEW_WORDS`] and touches nothing. What each word means stands in [`word`].
 
 /// The version of these functions that this crate is written for.
-pub const VERSION: u64 = 1;
+pub const VERSION: u64 = 2;
 
 /// How many words an answer has.
-pub const WORDS: usize = 6;
+pub const WORDS: usize = 8;
 
 /// What a function returns that was lent fewer words than its answer has.
 pub const TOO_FEW_WORDS: u64 = u64::MAX;
@@ -34,6 +34,10 @@ pub mod word {
     pub const ROWS: usize = 4;
     /// Bytes, likewise: consumed, or written by the writer.
     pub const BYTES: usize = 5;
+    /// 1 where the refusal has a cut field, otherwise 0.
+    pub const CUT: usize = 6;
+    /// The byte where the cut field begins, 0 where there is none.
+    pub const CUT_AT: usize = 7;
 }
 
 /// What the word `CASE` may hold.

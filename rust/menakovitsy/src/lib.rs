@@ -2,8 +2,8 @@
 //!
 //! The readers and the writer are proved, in the crate `loader` of the same repository, and linked
 //! from a static library; this crate is the safe way to them. Every call is answered: an input that
-//! is none of the format's is a [`Refused`], with its number, its place, and a text that says what to
-//! do. A refused call leaves every lent place as it was.
+//! is none of the format's is a [`Refused`], with its number, its place, the byte of the field that is
+//! cut, if one is, and a text that says what to do. A refused call leaves every lent place as it was.
 //!
 //! | What | Functions |
 //! |---|---|

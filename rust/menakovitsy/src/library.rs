@@ -123,7 +123,7 @@ pub fn byte_value(input: &[u8], at: ByteOffset, n: usize) -> Result<&[u8], Refus
     let run = words.one_run()?;
     // Of no bytes, the position may be past the end, where no part begins.
     let part = input.get(at.0.min(input.len())..).and_then(|rest| rest.get(..run.bytes.0));
-    part.ok_or(Refused { refusal: Refusal::Unknown(words.number), at })
+    part.ok_or(Refused::whole(Refusal::Unknown(words.number), at))
 }
 
 /// Writes `rows` as one run of a form into the first bytes of `out`. The width is in bytes for a
@@ -182,7 +182,7 @@ pub struct Counts {
 /// Reads the run at the start of `input` into bytes, eight to a row, lowest first; nothing where
 /// there are no bytes. A trailing part of fewer than eight bytes is no place, and keeps its content.
 ///
-/// This is `orc_read_run`, which answers by one number: it gives no kind and no place.
+/// This is `orc_read_run`, which answers by one number: it gives no kind, no place and no cut field.
 pub fn read_run_bytes(input: &[u8], sign: Sign, out: &mut [u8]) -> Result<Option<Counts>, Refusal> {
     // SAFETY: as in `read_run`.
     let packed = unsafe {
@@ -191,7 +191,7 @@ pub fn read_run_bytes(input: &[u8], sign: Sign, out: &mut [u8]) -> Result<Option
     unpack(packed)
 }
 
-/// What the one number of `orc_read_run` stands for: 0 no bytes, 1 to 11 a refusal, and otherwise
+/// What the one number of `orc_read_run` stands for: 0 no bytes, 1 to 14 a refusal, and otherwise
 /// 65,536 times the bytes consumed, plus the rows.
 pub fn unpack(packed: u64) -> Result<Option<Counts>, Refusal> {
     if packed == 0 {

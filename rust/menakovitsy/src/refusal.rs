@@ -2,7 +2,7 @@
 use std::error::Error;
 use std::fmt;
 
-/// A refusal, by its number. Readers give 1 to 8; 9 to 11 are the run writer's.
+/// A refusal, by its number. Readers give 1 to 8 and 12 to 14; 9 to 11 are the run writer's.
 #[derive(Debug, Clone, Copy, PartialEq, Eq, Hash)]
 #[non_exhaustive]
 pub enum Refusal {
@@ -16,8 +16,9 @@ pub enum Refusal {
     OneRowDelta,
     /// 5: a varint's first ten bytes all have the top bit set.
     VarintTooLong,
-    /// 6: the input ends before the run or value does, or before the booleans asked for are there.
-    InputEnds,
+    /// 6: a short repeat's value, a patched run's base or a byte value is cut, or a boolean control
+    /// byte is missing.
+    ValueCut,
     /// 7: patched base, and the patch list is out of place.
     PatchOutOfPlace,
     /// 8: the output has too few places.
@@ -28,6 +29,12 @@ pub enum Refusal {
     NotTheForm,
     /// 11: writer, a row or a magnitude that needs more bits than the width.
     TooNarrow,
+    /// 12: a varint is cut.
+    VarintCut,
+    /// 13: packed rows are cut, or a byte run of booleans is behind its control byte.
+    RowsCut,
+    /// 14: a patch list is cut.
+    ListCut,
     /// A number that this version of the wrapper does not know: a later library is linked, or
     /// another one than the proved one.
     Unknown(u64),
@@ -35,18 +42,21 @@ pub enum Refusal {
 
 impl Refusal {
     /// All that have a number of their own, in the order of the numbers, from 1 on.
-    pub const ALL: [Refusal; 11] = [
+    pub const ALL: [Refusal; 14] = [
         Refusal::HeaderCut,
         Refusal::EntryOver64,
         Refusal::ValueOver64,
         Refusal::OneRowDelta,
         Refusal::VarintTooLong,
-        Refusal::InputEnds,
+        Refusal::ValueCut,
         Refusal::PatchOutOfPlace,
         Refusal::TooFewPlaces,
         Refusal::RowCount,
         Refusal::NotTheForm,
         Refusal::TooNarrow,
+        Refusal::VarintCut,
+        Refusal::RowsCut,
+        Refusal::ListCut,
     ];
 
     /// Its number.
@@ -58,12 +68,15 @@ impl Refusal {
             Refusal::ValueOver64 => 3,
             Refusal::OneRowDelta => 4,
             Refusal::VarintTooLong => 5,
-            Refusal::InputEnds => 6,
+            Refusal::ValueCut => 6,
             Refusal::PatchOutOfPlace => 7,
             Refusal::TooFewPlaces => 8,
             Refusal::RowCount => 9,
             Refusal::NotTheForm => 10,
             Refusal::TooNarrow => 11,
+            Refusal::VarintCut => 12,
+            Refusal::RowsCut => 13,
+            Refusal::ListCut => 14,
             Refusal::Unknown(number) => number,
         }
     }
@@ -84,7 +97,7 @@ impl Refusal {
             Refusal::ValueOver64 => "patched base: value width and patch width are over 64 bits together",
             Refusal::OneRowDelta => "delta: packed magnitudes announced for a single row",
             Refusal::VarintTooLong => "a varint goes on past ten bytes",
-            Refusal::InputEnds => "the input ends before what was asked for does",
+            Refusal::ValueCut => "a value, a base or a control byte is cut",
             Refusal::PatchOutOfPlace => {
                 "patched base: a patch is outside the run or at another's place, or the list ends with a skip"
             }
@@ -94,7 +107,30 @@ impl Refusal {
                 "writer: the rows do not have the form, or the width is none of its widths"
             }
             Refusal::TooNarrow => "writer: a row or a magnitude needs more bits than the width",
+            Refusal::VarintCut => "a varint is cut",
+            Refusal::RowsCut => "a block of packed rows or of bytes is cut",
+            Refusal::ListCut => "a patch list is cut",
             Refusal::Unknown(_) => "a number that this wrapper does not know",
+        }
+    }
+
+    /// Whether the input ends before the run or value does (1, 6, 12, 13 and 14): more bytes may
+    /// help. Every other refusal stays whatever bytes follow.
+    #[must_use]
+    pub fn is_cut(self) -> bool {
+        self == Refusal::HeaderCut || self.cut_field().is_some()
+    }
+
+    /// The field that is cut, in words, for the refusals that name one: 6, 12, 13 and 14. Their
+    /// answers carry the byte that it begins at.
+    #[must_use]
+    pub fn cut_field(self) -> Option<&'static str> {
+        match self {
+            Refusal::ValueCut => Some("value, base or control byte"),
+            Refusal::VarintCut => Some("varint"),
+            Refusal::RowsCut => Some("block of packed rows or of bytes"),
+            Refusal::ListCut => Some("patch list"),
+            _ => None,
         }
     }
 
@@ -102,7 +138,11 @@ impl Refusal {
     #[must_use]
     pub fn advice(self) -> &'static str {
         match self {
-            Refusal::HeaderCut | Refusal::InputEnds => {
+            Refusal::HeaderCut
+            | Refusal::ValueCut
+            | Refusal::VarintCut
+            | Refusal::RowsCut
+            | Refusal::ListCut => {
                 "call again with more bytes; if there are none, the stream is cut or the offset is wrong"
             }
             Refusal::EntryOver64

@@ -55,6 +55,6 @@ mod tests {
         assert_eq!(check_version(), Ok(()));
         let other = compared(VERSION + 1).unwrap_err();
         assert_eq!((other.wrapper, other.library), (VERSION, VERSION + 1));
-        assert!(other.to_string().starts_with("libloader.a is of version 2, "));
+        assert!(other.to_string().starts_with(&format!("libloader.a is of version {}, ", VERSION + 1)));
     }
 }

@@ -39,9 +39,12 @@ fn cut() -> Column<'static> {
 }
 
 fn is_the_cut(refused: StreamRefused) {
-    assert_eq!((refused.refused.refusal, refused.refused.at), (Refusal::InputEnds, ByteOffset(7)));
+    assert_eq!((refused.refused.refusal, refused.refused.at), (Refusal::RowsCut, ByteOffset(7)));
+    assert_eq!(refused.refused.cut, Some(ByteOffset(9)));
     assert_eq!((refused.before.rows, refused.before.bytes), (RowNumber(8), ByteOffset(7)));
-    assert!(refused.to_string().starts_with("the run at byte 7, after 8 rows: refusal 6: "));
+    let told = refused.to_string();
+    assert!(told.starts_with("the run at byte 7, after 8 rows: refusal 13: the block "), "{told}");
+    assert!(told.contains(" that begins at byte 9 is cut (call again with more bytes; "), "{told}");
 }
 
 #[test]

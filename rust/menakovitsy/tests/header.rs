@@ -37,6 +37,8 @@ fn the_header_has_the_same_numbers() {
         ("KIND", word::KIND),
         ("ROWS", word::ROWS),
         ("BYTES", word::BYTES),
+        ("CUT", word::CUT),
+        ("CUT_AT", word::CUT_AT),
     ] {
         has(&format!("    ORC_{name} = {place}"));
     }
@@ -88,8 +90,8 @@ fn the_example_in_c() {
             String::from_utf8_lossy(&output.stdout),
             "flag 23 is 1, flag 24 is 0\n\
              8 rows from 7 bytes: 300 300 300 300 300 1 2 3\n\
-             cut: the run at byte 3 is not whole; 5 rows are\n\
-             an answer has 6 words\n"
+             cut: the run at byte 3 lacks its packed rows, from byte 5 on; 5 rows are read\n\
+             an answer has 8 words\n"
         );
     }
 }

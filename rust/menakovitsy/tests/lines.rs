@@ -29,16 +29,19 @@ fn rows(hex: &str, sign: Sign, kind: Kind, expected: &[i64]) {
     assert!(out.chunks_exact(8).zip(expected).all(|(eight, row)| eight == row.to_le_bytes()), "{hex}");
 }
 
-fn refused(hex: &str, refusal: Refusal) {
-    let input = bytes(hex);
-    for sign in [Sign::Unsigned, Sign::Signed] {
+/// A run that is refused, by itself and behind three bytes; the cut field by its place in the run.
+fn refused(hex: &str, refusal: Refusal, cut: Option<usize>) {
+    let run = bytes(hex);
+    for (sign, before) in [Sign::Unsigned, Sign::Signed].into_iter().flat_map(|sign| [(sign, 0), (sign, 3)]) {
+        let input = [vec![0xC2; before], run.clone()].concat();
+        let (at, cut) = (ByteOffset(before), cut.map(|byte| ByteOffset(before + byte)));
         let mut rows = [7777; 512];
-        let refused = read_run(&input, START, sign, &mut rows).unwrap_err();
-        assert_eq!((refused.refusal, refused.at), (refusal, START), "{hex}");
-        let stream = read_stream(&input, START, sign, &mut rows).unwrap_err();
+        let refused = read_run(&input, at, sign, &mut rows).unwrap_err();
+        assert_eq!((refused.refusal, refused.at, refused.cut), (refusal, at, cut), "{hex}");
+        let stream = read_stream(&input, at, sign, &mut rows).unwrap_err();
         assert_eq!((stream.refused, stream.before), (refused, Stream::default()), "{hex}");
         assert_eq!(rows, [7777; 512], "{hex}: a refused call changed a place");
-        assert_eq!(read_run_bytes(&input, sign, &mut [0; 4096]), Err(refusal), "{hex}");
+        assert_eq!(read_run_bytes(&run, sign, &mut [0; 4096]), Err(refusal), "{hex}");
     }
 }
 
@@ -56,7 +59,7 @@ fn lines_of_document_01() {
     rows("C603640514", Unsigned, Delta, &[100, 97, 96, 92]);
     rows("C001FEFFFFFFFFFFFFFFFF0102", Signed, Delta, &[i64::MAX, i64::MIN]);
     rows("C0000700", Unsigned, Delta, &[7]);
-    refused("C200", Refusal::OneRowDelta);
+    refused("C200", Refusal::OneRowDelta, None);
     for sign in [Unsigned, Signed] {
         rows("8603032164123494", sign, PatchedBase, &[101, 102, 183, 104]);
         rows("86030320E41234", sign, PatchedBase, &[-99, -98, -97, -96]);
@@ -65,8 +68,44 @@ fn lines_of_document_01() {
         assert_eq!(read_stream(&[], START, sign, &mut []), Ok(Stream::default()));
         assert_eq!(read_run_bytes(&[], sign, &mut []), Ok(None));
     }
-    refused("860303416412348A", Refusal::PatchOutOfPlace);
-    refused("86031F21", Refusal::EntryOver64);
+    refused("860303416412348A", Refusal::PatchOutOfPlace, None);
+    refused("86031F21", Refusal::EntryOver64, None);
+}
+
+/// Document 02, item 1: which field is cut, and where it begins.
+#[test]
+fn cut_fields() {
+    use Refusal::*;
+    for (hex, refusal, cut) in [
+        // The header, which is no field; a short repeat's value; packed rows.
+        ("46", HeaderCut, None),
+        ("0A", ValueCut, Some(1)),
+        ("0A01", ValueCut, Some(1)),
+        ("4602", RowsCut, Some(2)),
+        ("460212", RowsCut, Some(2)),
+        // A first row and a base delta, of which no byte is there or some are; magnitudes.
+        ("C004", VarintCut, Some(2)),
+        ("C00480", VarintCut, Some(2)),
+        ("C0040A", VarintCut, Some(3)),
+        ("C0048001", VarintCut, Some(4)),
+        ("C6036405", RowsCut, Some(4)),
+        ("C004FFFFFFFFFFFFFFFFFFFF", VarintTooLong, None),
+        // A base, packed rows and a patch list.
+        ("86032321", ValueCut, Some(4)),
+        ("8603232164", ValueCut, Some(4)),
+        ("86030321", ValueCut, Some(4)),
+        ("8603032164", RowsCut, Some(5)),
+        ("860303216412", RowsCut, Some(5)),
+        ("86030321641234", ListCut, Some(7)),
+        ("8603032264123494", ListCut, Some(7)),
+    ] {
+        refused(hex, refusal, cut);
+    }
+    assert_eq!(
+        read_run(&bytes("86030321641234"), START, Sign::Signed, &mut []).unwrap_err().to_string(),
+        "at byte 0: refusal 14: the patch list that begins at byte 7 is cut (call again with more bytes; if \
+         there are none, the stream is cut or the offset is wrong)"
+    );
 }
 
 #[test]
@@ -88,10 +127,18 @@ fn booleans_of_document_01() {
     let run = read_booleans(&line, START, RowNumber(32), &mut out).unwrap();
     assert_eq!((run.kind, run.rows, run.bytes), (Kind::Booleans, RowNumber(32), ByteOffset(4)));
     assert_eq!((&out[..24], &out[24..32], &out[32..]), (&[1; 24][..], &[0; 8][..], &[77; 8][..]));
-    for (n, places, refusal) in [(33, 40, Refusal::InputEnds), (32, 31, Refusal::TooFewPlaces)] {
+    let cases = [
+        (0, 33, 40, Refusal::ValueCut, Some(ByteOffset(4))),
+        (2, 9, 40, Refusal::ValueCut, Some(ByteOffset(4))),
+        (3, 1, 40, Refusal::RowsCut, Some(ByteOffset(4))),
+        (9, 1, 40, Refusal::ValueCut, Some(ByteOffset(9))),
+        (0, 32, 31, Refusal::TooFewPlaces, None),
+    ];
+    for (at, n, places, refusal, cut) in cases {
         let mut out = [77; 40];
-        let refused = read_booleans(&line, START, RowNumber(n), &mut out[..places]).unwrap_err();
-        assert_eq!((refused.refusal, refused.at, out), (refusal, START, [77; 40]));
+        let refused = read_booleans(&line, ByteOffset(at), RowNumber(n), &mut out[..places]).unwrap_err();
+        assert_eq!((refused.refusal, refused.at, refused.cut), (refusal, ByteOffset(at), cut));
+        assert_eq!(out, [77; 40]);
     }
 }
 
@@ -104,7 +151,8 @@ fn byte_values_are_parts_of_the_input() {
     assert_eq!(byte_value(input, ByteOffset(usize::MAX), 0), Ok(&[][..]));
     for (at, n) in [(5, 7), (11, 1), (usize::MAX, 1), (1, usize::MAX)] {
         let refused = byte_value(input, ByteOffset(at), n).unwrap_err();
-        assert_eq!((refused.refusal, refused.at), (Refusal::InputEnds, ByteOffset(at)));
+        assert_eq!((refused.refusal, refused.at), (Refusal::ValueCut, ByteOffset(at)));
+        assert_eq!(refused.cut, Some(ByteOffset(at)));
     }
 }
 
@@ -162,7 +210,7 @@ fn the_one_number() {
     }
     let counts = unpack(65_536 * 4098 + 512).unwrap().unwrap();
     assert_eq!((counts.rows, counts.bytes), (RowNumber(512), ByteOffset(4098)));
-    for none in [12, 65_535, 65_536, 65_536 + 513] {
+    for none in [15, 65_535, 65_536, 65_536 + 513] {
         assert_eq!(unpack(none), Err(Refusal::Unknown(none)));
     }
 }
@@ -176,6 +224,12 @@ fn refusals_by_their_numbers() {
     let next = Refusal::ALL.len() as u64 + 1;
     for none in [0, next, u64::MAX] {
         assert_eq!(Refusal::of_number(none), Refusal::Unknown(none));
+    }
+    // Those that more bytes may help, and those of them that name a field.
+    for refusal in Refusal::ALL {
+        assert_eq!(refusal.is_cut(), [1, 6, 12, 13, 14].contains(&refusal.number()), "{refusal}");
+        assert_eq!(refusal.cut_field().is_some(), refusal.is_cut() && refusal.number() != 1, "{refusal}");
+        assert_eq!(refusal.advice().contains("more bytes"), refusal.is_cut(), "{refusal}");
     }
     let told = read_run(&[0x46], START, Sign::Signed, &mut []).unwrap_err().to_string();
     assert_eq!(

@@ -13,6 +13,12 @@ pub fn zigzag(u: u64) -> i64 {
     row as i64
 }
 
+/// What the bytes of a varint say, where they do not end too soon.
+pub enum Varint {
+    Number(u64),
+    TooLong,
+}
+
 /// Bits in the order of the bytes, the highest bit of each byte first.
 pub struct Bits<'a> {
     bytes: &'a [u8],
@@ -20,52 +26,49 @@ pub struct Bits<'a> {
     at: usize,
 }
 
-/// The input ends before the run does: refusal 6.
-pub const CUT: u8 = 6;
-
 impl<'a> Bits<'a> {
     pub fn new(bytes: &'a [u8]) -> Self {
         Bits { bytes, at: 0 }
     }
 
-    fn bit(&mut self) -> Result<u64, u8> {
-        let byte = *self.bytes.get(self.at / 8).ok_or(CUT)?;
+    fn bit(&mut self) -> Option<u64> {
+        let byte = *self.bytes.get(self.at / 8)?;
         let bit = byte >> (7 - self.at % 8) & 1;
         self.at += 1;
-        Ok(u64::from(bit))
+        Some(u64::from(bit))
     }
 
-    /// A number of so many bits, the highest first.
-    pub fn number(&mut self, bits: usize) -> Result<u64, u8> {
+    /// A number of so many bits, the highest first; nothing where the bytes end before it does.
+    pub fn number(&mut self, bits: usize) -> Option<u64> {
         let mut number = 0;
         for _ in 0..bits {
             number = number << 1 | self.bit()?;
         }
-        Ok(number)
+        Some(number)
     }
 
     /// A block of packed fields. "The block is padded to a byte; padding bits are ignored."
-    pub fn block(&mut self, fields: usize, width: usize) -> Result<Vec<u64>, u8> {
+    pub fn block(&mut self, fields: usize, width: usize) -> Option<Vec<u64>> {
         let mut block = Vec::with_capacity(fields);
         for _ in 0..fields {
             block.push(self.number(width)?);
         }
         self.at = self.at.next_multiple_of(8);
-        Ok(block)
+        Some(block)
     }
 
     /// "Seven bits a byte, lowest group first, top bit set on all but the last. At most ten bytes.
     /// Bits at 2^64 and above are dropped."
-    pub fn varint(&mut self) -> Result<u64, u8> {
+    pub fn varint(&mut self) -> Option<Varint> {
         let mut sum: u128 = 0;
         for group in 0..10 {
             let more = self.bit()?;
             sum += u128::from(self.number(7)?) << (7 * group);
             if more == 0 {
-                return Ok(sum as u64);
+                return Some(Varint::Number(sum as u64));
             }
         }
-        Err(5)
+        Some(Varint::TooLong)
     }
 
     /// How many whole bytes were taken.

@@ -27,13 +27,18 @@ pub fn first_run(bytes: &[u8]) -> Option<(Vec<u8>, usize)> {
 /// Reads `n` booleans at a position, with so many places lent. "Takes only as many runs as needed,
 /// and consumes each of those whole."
 pub fn read_booleans(input: &[u8], at: usize, n: usize, places: usize) -> Booleans {
-    let refused = |number| Booleans::Refused(Refusal { number, place: at });
     let rest = rest(input, at);
     let mut values = Vec::new();
     let mut consumed = 0;
     while values.len() < n {
         let Some((bytes, taken)) = first_run(&rest[consumed..]) else {
-            return refused(6);
+            // "6 stays for .. a missing boolean control byte"; "13 cut .. in a byte run after its
+            // control byte".
+            let control = at + consumed;
+            return Booleans::Refused(match consumed == rest.len() {
+                true => Refusal::cut(6, at, control),
+                false => Refusal::cut(13, at, control + 1),
+            });
         };
         // "Highest bit first."
         for byte in bytes {
@@ -42,7 +47,7 @@ pub fn read_booleans(input: &[u8], at: usize, n: usize, places: usize) -> Boolea
         consumed += taken;
     }
     if places < n {
-        return refused(8);
+        return Booleans::Refused(Refusal::whole(8, at));
     }
     values.truncate(n);
     Booleans::Given { values, consumed }

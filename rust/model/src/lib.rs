@@ -1,8 +1,8 @@
-//! A model of document 01, written bit by bit from its text: neither from the proved code nor from
-//! the Rust decoders, so that it is a third opinion where those two are compared.
+//! A model of documents 01 and 02, written bit by bit from their text: neither from the proved code
+//! nor from the Rust decoders, so that it is a third opinion where those two are compared.
 //!
 //! It is slow and plain on purpose. Every reader takes the whole input and a position, and how many
-//! places the caller lends; it answers what document 01 says the call answers, with the rows as a
+//! places the caller lends; it answers what the documents say the call answers, with the rows as a
 //! list of its own.
 //!
 //! ```
@@ -43,11 +43,26 @@ pub struct Run {
     pub consumed: usize,
 }
 
-/// A refusal: its number in document 01's table, and the byte where the refused run begins.
+/// A refusal: its number, and the byte where the refused run begins.
 #[derive(Debug, Clone, Copy, PartialEq, Eq)]
 pub struct Refusal {
     pub number: u8,
     pub place: usize,
+    /// The byte where the field begins that the input's end cuts: for 6, 12, 13 and 14, and for no
+    /// other number.
+    pub cut: Option<usize>,
+}
+
+impl Refusal {
+    /// A refusal with a number that no cut field goes with.
+    pub fn whole(number: u8, place: usize) -> Self {
+        Refusal { number, place, cut: None }
+    }
+
+    /// A refusal for a field that is cut.
+    pub fn cut(number: u8, place: usize, byte: usize) -> Self {
+        Refusal { number, place, cut: Some(byte) }
+    }
 }
 
 /// What the run reader answers.

@@ -1,5 +1,5 @@
 //! The run reader.
-use crate::bits::{zigzag, Bits, WIDTHS};
+use crate::bits::{zigzag, Bits, Varint, WIDTHS};
 use crate::{rest, Answer, Kind, Refusal, Run};
 
 /// Reads the run at a position, with so many places lent.
@@ -9,23 +9,52 @@ pub fn read_run(input: &[u8], at: usize, signed: bool, places: usize) -> Answer 
         return Answer::End;
     }
     match run(rest, signed) {
-        Ok(run) if run.rows.len() > places => Answer::Refused(Refusal { number: 8, place: at }),
+        Ok(run) if run.rows.len() > places => Answer::Refused(Refusal::whole(8, at)),
         Ok(run) => Answer::Run(run),
-        Err(number) => Answer::Refused(Refusal { number, place: at }),
+        Err(fault) => Answer::Refused(fault.at(at)),
     }
 }
 
-/// The run at the start of some bytes, or the refusal's number.
-fn run(bytes: &[u8], signed: bool) -> Result<Run, u8> {
+/// What is wrong with a run: the refusal's number and, where a field of it is cut, how many bytes of
+/// the run stand before that field.
+struct Fault {
+    number: u8,
+    cut: Option<usize>,
+}
+
+impl Fault {
+    fn of(number: u8) -> Self {
+        Fault { number, cut: None }
+    }
+
+    /// The refusal of a run that begins at a byte.
+    fn at(self, place: usize) -> Refusal {
+        Refusal { number: self.number, place, cut: self.cut.map(|before| place + before) }
+    }
+}
+
+/// Takes a field that begins here, with the number for the case that it is cut.
+fn field<T>(bits: &mut Bits, number: u8, take: impl FnOnce(&mut Bits) -> Option<T>) -> Result<T, Fault> {
+    let begins = bits.bytes();
+    take(bits).ok_or(Fault { number, cut: Some(begins) })
+}
+
+/// A number of the fixed header, all of which is there.
+fn of_header(bits: &mut Bits, width: usize) -> usize {
+    bits.number(width).expect("the header is all there") as usize
+}
+
+/// The run at the start of some bytes, of which there is one.
+fn run(bytes: &[u8], signed: bool) -> Result<Run, Fault> {
     let mut bits = Bits::new(bytes);
-    let (kind, header) = match bits.number(2)? {
+    let (kind, header) = match of_header(&mut bits, 2) {
         0 => (Kind::ShortRepeat, 1),
         1 => (Kind::Direct, 2),
         2 => (Kind::PatchedBase, 4),
         _ => (Kind::Delta, 2),
     };
     if bytes.len() < header {
-        return Err(1);
+        return Err(Fault::of(1));
     }
     let rows = match kind {
         Kind::ShortRepeat => short_repeat(&mut bits, signed)?,
@@ -46,35 +75,41 @@ fn row(number: u64, signed: bool) -> i64 {
 }
 
 /// The five bits of a width code, and the nine bits of rows - 1.
-fn code_and_rows(bits: &mut Bits) -> Result<(usize, usize), u8> {
-    let code = bits.number(5)? as usize;
-    let rows = bits.number(9)? as usize + 1;
-    Ok((code, rows))
+fn code_and_rows(bits: &mut Bits) -> (usize, usize) {
+    (of_header(bits, 5), of_header(bits, 9) + 1)
 }
 
 /// "2 bits kind, 3 bits size-1, 3 bits count-3. Then size bytes."
-fn short_repeat(bits: &mut Bits, signed: bool) -> Result<Vec<i64>, u8> {
-    let size = bits.number(3)? as usize + 1;
-    let count = bits.number(3)? as usize + 3;
-    let value = bits.number(8 * size)?;
+fn short_repeat(bits: &mut Bits, signed: bool) -> Result<Vec<i64>, Fault> {
+    let size = of_header(bits, 3) + 1;
+    let count = of_header(bits, 3) + 3;
+    let value = field(bits, 6, |bits| bits.number(8 * size))?;
     Ok(vec![row(value, signed); count])
 }
 
 /// "2 bits kind, 5 bits width code, 9 bits rows-1", then the packed rows.
-fn direct(bits: &mut Bits, signed: bool) -> Result<Vec<i64>, u8> {
-    let (code, rows) = code_and_rows(bits)?;
-    let block = bits.block(rows, WIDTHS[code])?;
+fn direct(bits: &mut Bits, signed: bool) -> Result<Vec<i64>, Fault> {
+    let (code, rows) = code_and_rows(bits);
+    let block = field(bits, 13, |bits| bits.block(rows, WIDTHS[code]))?;
     Ok(block.into_iter().map(|number| row(number, signed)).collect())
 }
 
-/// "First row as a varint (zigzag if signed), then the base delta as a zigzag varint always."
-fn delta(bits: &mut Bits, signed: bool) -> Result<Vec<i64>, u8> {
-    let (code, count) = code_and_rows(bits)?;
-    if code != 0 && count == 1 {
-        return Err(4);
+/// A varint: 12 where it is cut, 5 where it is none.
+fn varint(bits: &mut Bits) -> Result<u64, Fault> {
+    match field(bits, 12, |bits| bits.varint())? {
+        Varint::Number(number) => Ok(number),
+        Varint::TooLong => Err(Fault::of(5)),
     }
-    let first = row(bits.varint()?, signed);
-    let base = zigzag(bits.varint()?);
+}
+
+/// "First row as a varint (zigzag if signed), then the base delta as a zigzag varint always."
+fn delta(bits: &mut Bits, signed: bool) -> Result<Vec<i64>, Fault> {
+    let (code, count) = code_and_rows(bits);
+    if code != 0 && count == 1 {
+        return Err(Fault::of(4));
+    }
+    let first = row(varint(bits)?, signed);
+    let base = zigzag(varint(bits)?);
     let mut rows = vec![first];
     if code == 0 {
         while rows.len() < count {
@@ -83,7 +118,7 @@ fn delta(bits: &mut Bits, signed: bool) -> Result<Vec<i64>, u8> {
         return Ok(rows);
     }
     rows.push(first.wrapping_add(base));
-    for magnitude in bits.block(count - 2, WIDTHS[code])? {
+    for magnitude in field(bits, 13, |bits| bits.block(count - 2, WIDTHS[code]))? {
         let before = rows[rows.len() - 1];
         rows.push(match base < 0 {
             true => before.wrapping_sub(magnitude as i64),
@@ -114,30 +149,30 @@ struct Patched {
     list: Vec<Entry>,
 }
 
-fn patched(bits: &mut Bits) -> Result<Patched, u8> {
-    let (code, rows) = code_and_rows(bits)?;
+fn patched(bits: &mut Bits) -> Result<Patched, Fault> {
+    let (code, rows) = code_and_rows(bits);
     let width = WIDTHS[code];
-    let base_bytes = bits.number(3)? as usize + 1;
-    let patch_width = WIDTHS[bits.number(5)? as usize];
-    let gap_width = bits.number(3)? as usize + 1;
-    let entries = bits.number(5)? as usize;
+    let base_bytes = of_header(bits, 3) + 1;
+    let patch_width = WIDTHS[of_header(bits, 5)];
+    let gap_width = of_header(bits, 3) + 1;
+    let entries = of_header(bits, 5);
     if patch_width + gap_width > 64 {
-        return Err(2);
+        return Err(Fault::of(2));
     }
     if width + patch_width > 64 {
-        return Err(3);
+        return Err(Fault::of(3));
     }
     // "Top bit is the sign, the rest the magnitude."
-    let negative = bits.number(1)? == 1;
-    let magnitude = bits.number(8 * base_bytes - 1)? as i64;
-    let base = if negative { -magnitude } else { magnitude };
-    let values = bits.block(rows, width)?;
+    let sign_first = |bits: &mut Bits| Some((bits.number(1)?, bits.number(8 * base_bytes - 1)? as i64));
+    let (sign, magnitude) = field(bits, 6, sign_first)?;
+    let base = if sign == 1 { -magnitude } else { magnitude };
+    let values = field(bits, 13, |bits| bits.block(rows, width))?;
     // "Packed at the least table width that holds patch width + gap width."
     let holds = |bits: &&usize| **bits >= patch_width + gap_width;
     let entry_width = *WIDTHS.iter().find(holds).expect("64 bits hold it");
     let split = |entry: u64| Entry { gap: entry >> patch_width, patch: entry % (1 << patch_width) };
-    let list = bits.block(entries, entry_width)?.into_iter().map(split).collect();
-    Ok(Patched { width, base, values, list })
+    let list = field(bits, 14, |bits| bits.block(entries, entry_width))?;
+    Ok(Patched { width, base, values, list: list.into_iter().map(split).collect() })
 }
 
 /// The ways in which a patch list is out of place. Refusal 7 if there is one.
@@ -176,11 +211,11 @@ fn places(run: &Patched) -> (Vec<(u128, u64)>, Faults) {
 }
 
 /// "Rows are base + (value or patch·2^W), modulo 2^64, with no zigzag under either flag."
-fn patched_base(bits: &mut Bits) -> Result<Vec<i64>, u8> {
+fn patched_base(bits: &mut Bits) -> Result<Vec<i64>, Fault> {
     let run = patched(bits)?;
     let (patches, faults) = places(&run);
     if faults.any() {
-        return Err(7);
+        return Err(Fault::of(7));
     }
     let mut values = run.values;
     for (place, patch) in patches {
@@ -193,7 +228,7 @@ fn patched_base(bits: &mut Bits) -> Result<Vec<i64>, u8> {
 /// and its widths are allowed.
 pub fn list_faults(bytes: &[u8]) -> Option<Faults> {
     let mut bits = Bits::new(bytes);
-    if bytes.len() < 4 || bits.number(2) != Ok(2) {
+    if bytes.len() < 4 || bits.number(2) != Some(2) {
         return None;
     }
     patched(&mut bits).ok().map(|run| places(&run).1)

@@ -12,6 +12,6 @@ pub enum Value {
 pub fn read_value(input: &[u8], at: usize, n: usize) -> Value {
     match rest(input, at).get(..n) {
         Some(part) => Value::Given(part.to_vec()),
-        None => Value::Refused(Refusal { number: 6, place: at }),
+        None => Value::Refused(Refusal::cut(6, at, at)),
     }
 }

@@ -20,7 +20,7 @@ pub enum Written {
 
 /// Writes rows, with so many places lent. "Writing order: 9, 10, 11, 8."
 pub fn write_run(rows: &[i64], signed: bool, form: Form, width: u8, places: usize) -> Written {
-    let refused = |number| Written::Refused(Refusal { number, place: 0 });
+    let refused = |number| Written::Refused(Refusal::whole(number, 0));
     match layout(rows, signed, form, usize::from(width)) {
         Ok((_, bytes)) if bytes.len() > places => refused(8),
         Ok((kind, bytes)) => Written::Run { kind, rows: rows.len(), bytes },

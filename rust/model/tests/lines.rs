@@ -15,7 +15,14 @@ fn rows(hex: &str, signed: bool, rows: &[i64], consumed: usize) {
 
 fn refused(hex: &str, number: u8) {
     for signed in [false, true] {
-        let refusal = Answer::Refused(Refusal { number, place: 0 });
+        let refusal = Answer::Refused(Refusal::whole(number, 0));
+        assert_eq!(read_run(&bytes(hex), 0, signed, 512), refusal, "{hex}");
+    }
+}
+
+fn cut(hex: &str, number: u8, byte: usize) {
+    for signed in [false, true] {
+        let refusal = Answer::Refused(Refusal::cut(number, 0, byte));
         assert_eq!(read_run(&bytes(hex), 0, signed, 512), refusal, "{hex}");
     }
 }
@@ -72,21 +79,21 @@ fn booleans_and_byte_values() {
     values.resize(32, false);
     // The second run is three copies of 00.
     assert_eq!(booleans("00FFFF00", 32), Booleans::Given { values, consumed: 4 });
-    let refused = |number, place| Booleans::Refused(Refusal { number, place });
-    assert_eq!(booleans("00FFFF00", 33), refused(6, 0));
+    let cut = |number, place, byte| Booleans::Refused(Refusal::cut(number, place, byte));
+    assert_eq!(booleans("00FFFF00", 33), cut(6, 0, 4));
     assert_eq!(booleans("6100", 800), Booleans::Given { values: vec![false; 800], consumed: 2 });
     let fe4445 = [0, 1, 0, 0, 0, 1, 0, 0, 0, 1, 0, 0, 0, 1, 0, 1].map(|bit| bit == 1);
     assert_eq!(booleans("FE4445", 16), Booleans::Given { values: fe4445.into(), consumed: 3 });
     assert_eq!(booleans("FE4445", 1), Booleans::Given { values: vec![false], consumed: 3 });
-    assert_eq!(booleans("FE44", 1), refused(6, 0));
+    assert_eq!(booleans("FE44", 1), cut(13, 0, 1));
     let ff80 = [1, 0, 0, 0, 0, 0, 0, 0].map(|bit| bit == 1);
     assert_eq!(booleans("FF80", 8), Booleans::Given { values: ff80.into(), consumed: 2 });
     assert_eq!(read_booleans(&[], 9, 0, 0), Booleans::Given { values: vec![], consumed: 0 });
-    assert_eq!(read_booleans(&[], 9, 1, 0), refused(6, 9));
-    assert_eq!(read_booleans(&[0xFF, 0x80], 0, 8, 7), refused(8, 0));
+    assert_eq!(read_booleans(&[], 9, 1, 0), cut(6, 9, 9));
+    assert_eq!(read_booleans(&[0xFF, 0x80], 0, 8, 7), Booleans::Refused(Refusal::whole(8, 0)));
     assert_eq!(read_value(&[1, 2, 3], 1, 2), Value::Given(vec![2, 3]));
     assert_eq!(read_value(&[1, 2, 3], 7, 0), Value::Given(vec![]));
-    assert_eq!(read_value(&[1, 2, 3], 1, 3), Value::Refused(Refusal { number: 6, place: 1 }));
+    assert_eq!(read_value(&[1, 2, 3], 1, 3), Value::Refused(Refusal::cut(6, 1, 1)));
 }
 
 #[test]
@@ -94,22 +101,22 @@ fn order_of_refusals_and_varints() {
     refused("40", 1);
     refused("C2", 1);
     refused("860303", 1);
-    refused("08", 6);
-    refused("C002", 6);
+    cut("08", 6, 1);
+    cut("C002", 12, 2);
     // Over 64 bits both ways: 2 comes first; then 3, before the missing body.
     refused("BE031F21", 2);
     refused("BE030121", 3);
     // Ten bytes with the top bit set, at the end of the input too; nine and the end.
     refused("C00280808080808080808080", 5);
-    refused("C002808080808080808080", 6);
+    cut("C002808080808080808080", 12, 2);
     refused("C0020180808080808080808080", 5);
     // The tenth byte's bits at 2^64 and above are dropped.
     rows("C000FFFFFFFFFFFFFFFFFF7F00", false, &[-1], 13);
     rows("C0008080808080808080800200", false, &[0], 13);
     // 7 before 8, and 8 last.
-    let seven = Answer::Refused(Refusal { number: 7, place: 0 });
+    let seven = Answer::Refused(Refusal::whole(7, 0));
     assert_eq!(read_run(&bytes("860303416412348A"), 0, false, 3), seven);
-    let eight = Answer::Refused(Refusal { number: 8, place: 1 });
+    let eight = Answer::Refused(Refusal::whole(8, 1));
     assert_eq!(read_run(&bytes("0046021230"), 1, false, 2), eight);
 }
 
@@ -136,10 +143,10 @@ fn streams() {
     let joined = vec![300, 300, 300, 300, 300, 1, 2, 3];
     assert_eq!(read_stream(&two, 0, false, 8), Stream::Whole { rows: joined.clone(), consumed: 7 });
     assert_eq!(read_stream(&two, 99, false, 0), Stream::Whole { rows: vec![], consumed: 0 });
-    let refusal = Refusal { number: 8, place: 3 };
+    let refusal = Refusal::whole(8, 3);
     let broke = Stream::Refused { refusal, rows: vec![300; 5], consumed: 3 };
     assert_eq!(read_stream(&two, 0, false, 7), broke);
-    let refusal = Refusal { number: 6, place: 3 };
+    let refusal = Refusal::cut(13, 3, 5);
     let broke = Stream::Refused { refusal, rows: vec![300; 5], consumed: 3 };
     assert_eq!(read_stream(&two[..6], 0, false, 8), broke);
 }
@@ -180,7 +187,7 @@ fn writer() {
     // Against its direction: a magnitude of nearly 2^64, which 64 bits hold.
     assert_eq!(write(&[1, 2, 1], false, PackedDelta, 30), Err(11));
     assert!(write(&[1, 2, 1], false, PackedDelta, 31).is_ok());
-    let eight = Written::Refused(Refusal { number: 8, place: 0 });
+    let eight = Written::Refused(Refusal::whole(8, 0));
     assert_eq!(write_run(&[300; 5], false, ShortRepeat, 2, 2), eight);
     assert_eq!([0, 1, 2, 1 << 24, 1 << 26, u64::MAX].map(narrowest_code), [0, 0, 1, 24, 25, 31]);
 }

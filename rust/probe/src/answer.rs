@@ -41,10 +41,17 @@ impl Answer {
         self.case() == case::REFUSED
     }
 
-    /// `refused NUMBER PLACE`; `end`; and what a case is that is none.
+    /// `refused NUMBER PLACE`, with ` cut BYTE` behind it where a field is cut; `end`; and what a case
+    /// is that is none.
     pub fn say_other(&self) -> String {
         match self.case() {
-            case::REFUSED => format!("refused {} {}", self.word(word::NUMBER), self.word(word::PLACE)),
+            case::REFUSED => {
+                let refused = format!("refused {} {}", self.word(word::NUMBER), self.word(word::PLACE));
+                match self.word(word::CUT) {
+                    0 => refused,
+                    _ => format!("{refused} cut {}", self.word(word::CUT_AT)),
+                }
+            }
             case::END => "end".into(),
             other => format!("case {other}"),
         }
@@ -70,10 +77,22 @@ impl Answer {
         self.word(word::KIND) == kind
     }
 
+    /// Whether there is a cut field exactly for the refusals that have one.
+    fn cut_fits(&self) -> bool {
+        let has_field = self.refused() && [6, 12, 13, 14].contains(&self.word(word::NUMBER));
+        match has_field {
+            true => self.word(word::CUT) == 1,
+            false => self.word(word::CUT) == 0 && self.word(word::CUT_AT) == 0,
+        }
+    }
+
     /// Whether the words fit together: what is returned is the refusal's number, and the words that
     /// have no meaning in their case are 0. A stream counts in both its cases.
     pub fn fits(&self, stream: bool) -> bool {
         let zero = |places: &[usize]| places.iter().all(|place| self.word(*place) == 0);
+        if !self.cut_fits() {
+            return false;
+        }
         let fits = match self.case() {
             case::END => zero(&[word::NUMBER, word::PLACE, word::KIND, word::ROWS, word::BYTES]),
             case::READ => zero(&[word::NUMBER, word::PLACE]),
@@ -109,4 +128,47 @@ pub fn hex(bytes: &[u8]) -> String {
         write!(hex, "{byte:02x}").expect("a string takes it");
         hex
     })
+}
+
+#[cfg(test)]
+mod tests {
+    use super::*;
+
+    fn answer(returned: u64, words: &[u64]) -> Answer {
+        Answer::of(|lent| {
+            lent[..WORDS].fill(0);
+            lent[..words.len()].copy_from_slice(words);
+            returned
+        })
+    }
+
+    /// What a wrong library could answer shows.
+    #[test]
+    fn words_that_contradict_each_other_are_odd() {
+        let fits: [(u64, &[u64]); 4] =
+            [(0, &[0]), (0, &[1, 0, 0, 3, 5, 4]), (4, &[2, 4, 9]), (13, &[2, 13, 3, 0, 0, 0, 1, 5])];
+        for (returned, words) in fits {
+            assert!(answer(returned, words).fits(false), "{words:?}");
+        }
+        let odd: [(u64, &[u64]); 11] = [
+            // A case that is none; another number returned; counts, a kind or a place where there is none.
+            (0, &[3]),
+            (1, &[0]),
+            (0, &[0, 0, 0, 0, 1]),
+            (0, &[1, 0, 7, 3, 5, 4]),
+            (0, &[2]),
+            (4, &[2, 4, 9, 1]),
+            (4, &[2, 4, 9, 0, 1]),
+            // A cut field with a number that has none, none with one that has, a byte without a field.
+            (5, &[2, 5, 3, 0, 0, 0, 1, 5]),
+            (13, &[2, 13, 3]),
+            (0, &[1, 0, 0, 3, 5, 4, 0, 5]),
+            (14, &[2, 14, 3, 0, 0, 0, 2, 5]),
+        ];
+        for (returned, words) in odd {
+            assert!(!answer(returned, words).fits(false), "{words:?}");
+        }
+        assert_eq!(answer(13, &[2, 13, 3, 0, 0, 0, 1, 5]).say_other(), "refused 13 3 cut 5");
+        assert_eq!(answer(5, &[2, 5, 3]).say_other(), "refused 5 3");
+    }
 }

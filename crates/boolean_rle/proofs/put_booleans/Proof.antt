@@ -53,7 +53,7 @@ returns c ds rest e =
     let r = c .before .before in
     let l = r .before .before in
     let a = l .before .before .before .args in
-    absurd (going-whole (now (a .input)) (a .n) ds rest (now (a .out)) (l .loop .place) (l .loop .k) (l .loop .out) (r .before .loop-test .taken)
+    absurd (going-whole (now (a .input)) (a .n) ds rest (now (a .out)) (l .loop .place) (l .loop .k) (l .loop .out) (c .enum-told .given .0 .0) (c .enum-told .given .0 .1 .0) (r .before .loop-test .taken)
     (l .loop .inv .2 ds rest e) (sym (r .run-at .ensures) ∙ c .enum-told .given .1))
 
 put-run-requires : tie.Need-put-run-requires Inv-loop μ-loop

@@ -47,7 +47,7 @@ loop-again c =
     let s = l .before .before .before in
     let a = s .args in
     let bs = bytesIn (byteRun (drop (a .at) (now (a .input)))) in
-    let h : l .loop .i < length bs = omega (arith, length-bytes (byteRun (drop (a .at) (now (a .input)))) (a .run) (s .pre .0)) in
+    let h : l .loop .i < length bs = omega (arith, length-bytes (length (now (a .input))) (byteRun (drop (a .at) (now (a .input)))) (a .run) (s .pre .0)) in
     let z : a .k + 8 * (l .loop .i + 1) ≡ a .k + 8 * l .loop .i + 8 = omega arith in (
       omega arith,
       p .put-bits .kept .1 .1 .0 ∙ l .loop .inv .1,

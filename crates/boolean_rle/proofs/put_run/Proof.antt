@@ -59,7 +59,7 @@ returns-2 c =
     let a = s .args in
     let m = byteRun (drop (a .at) (now (a .input))) in
     let q = (a .n - a .k) / 8 in
-    let h : q < length (bytesIn m) = omega (arith, length-bytes m (a .run) (s .pre .0)) in
+    let h : q < length (bytesIn m) = omega (arith, length-bytes (length (now (a .input))) m (a .run) (s .pre .0)) in
     let z : a .k + 8 * q + (a .n - a .k) % 8 ≡ a .n = omega arith in (
       omega arith,
       rw z at (byte-more (bytesIn m) (a .k) q ((a .n - a .k) % 8) (now (a .out)) _ _ h (w .put-bytes2 .ensures) (rw (b .run-byte .ensures) at (p .put-bits .ensures))),

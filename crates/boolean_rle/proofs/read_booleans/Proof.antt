@@ -12,27 +12,32 @@ span-from-requires c κs = search needs
 enum-known-consumed : tie.Need-enum-known-consumed
 enum-known-consumed c = search needs
 
-enum-told : tie.Need-enum-told
-enum-told c = search needs
+enum-known-number : tie.Need-enum-known-number
+enum-known-number c = search needs
 
-refused-requires : tie.Need-refused-requires
-refused-requires c κs = search needs
+later-requires : tie.Need-later-requires
+later-requires c κs = search needs
+
+cut-requires : tie.Need-cut-requires
+cut-requires c κs = search needs
 
 returns : tie.Need-returns
 returns c =
-    let f = c .before .before .before in
+    let b = c .before .before .before in
+    let f = b .before .before in
     let a = f .before .before .before .args in
-    rw (c .refused .ensures) (reads-cut (now (a .input)) (a .at .bytes) (a .n .rows) (now (a .out)) (sym (f .span-from .ensures) ∙ c .before .enum-told .given .1))
+    rw (c .cut .ensures, c .before .later .ensures)
+    (reads-cut (now (a .input)) (a .at .bytes) (a .n .rows) (now (a .out)) (b .number .given .0 .0) (b .number .given .0 .1 .0) (sym (f .span-from .ensures) ∙ b .number .given .1))
 
-refused-requires-2 : tie.Need-refused-requires-2
-refused-requires-2 c κs = search needs
+refused-requires : tie.Need-refused-requires
+refused-requires c κs = search needs
 
 returns-2 : tie.Need-returns-2
 returns-2 c =
     let w = c .before .before .before in
     let f = w .before .before in
     let a = f .before .before .before .args in
-    rw (c .refused2 .ensures)
+    rw (c .refused .ensures)
     (reads-8 (now (a .input)) (a .at .bytes) (a .n .rows) (now (a .out)) _ (sym (f .span-from .ensures) ∙ w .consumed .given .1) (c .before .if1 .taken))
 
 put-booleans-requires : tie.Need-put-booleans-requires
@@ -60,10 +65,11 @@ read-booleans-spec =
     (tie.spec
     span-from-requires
     enum-known-consumed
-    enum-told
-    refused-requires
+    enum-known-number
+    later-requires
+    cut-requires
     returns
-    refused-requires-2
+    refused-requires
     returns-2
     put-booleans-requires
     run-requires

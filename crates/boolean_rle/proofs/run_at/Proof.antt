@@ -3,7 +3,8 @@ use Prim.Native.Nat.{_+_, _-_}
 use lib.Seq.{length-take-le}
 use lib.ListN.{drop, getD, length-drop}
 use native.Mathlib.Numerals.{add-one}
-use Rattle.boolean_rle.proofs.Laws.{none-here, repeat-cut, repeat-here, literals-cut, literals-here}
+use native.Mathlib.Nat.{sub-zero}
+use Rattle.boolean_rle.proofs.Laws.{field-is, none-here, repeat-cut, repeat-here, literals-cut, literals-here}
 use Rattle.format.specs.Booleans.{runLayout, byteCount}
 use native.Mathlib.Omega.{arith}
 use denote.Ref.{now}
@@ -12,7 +13,7 @@ use Rattle.boolean_rle.proofs.run_at.Statement.{statement}
 use Rattle.boolean_rle.proofs.run_at.Tie as tie
 
 returns : tie.Need-returns
-returns c = rw (none-here (now (c .before .args .input)) (c .before .args .at) (c .if1 .taken))
+returns c = rw (none-here (now (c .before .args .input)) (c .before .args .at) (c .if1 .taken), sub-zero)
 
 shared-slice-read-control : tie.Need-shared-slice-read-control
 shared-slice-read-control c = search needs
@@ -20,17 +21,17 @@ shared-slice-read-control c = search needs
 cast-control : tie.Need-cast-control
 cast-control c = omega (arith, c .shared-slice-known .given (c .before .before .args .at))
 
-add-left : tie.Need-add-left
-add-left c = search needs
+add-behind : tie.Need-add-behind
+add-behind c = search needs
 
 sub-left : tie.Need-sub-left
 sub-left c = search needs
 
 returns-2 : tie.Need-returns-2
-returns-2 c = let a = c .before .before .before .before .args in rw (repeat-cut (now (a .input)) (a .at) (omega arith) (omega arith) (omega arith))
+returns-2 c = let a = c .before .before .before .before .args in let s = now (a .input) in rw (repeat-cut s (a .at) (omega arith) (omega arith) (omega arith), field-is s (a .at + 1) (omega arith))
 
-add-t12 : tie.Need-add-t12
-add-t12 c = search needs
+add-t13 : tie.Need-add-t13
+add-t13 c = search needs
 
 returns-3 : tie.Need-returns-3
 unfolding runLayout byteCount
@@ -40,10 +41,10 @@ sub-count : tie.Need-sub-count
 sub-count c = omega (arith, c .before .shared-slice-known .given (c .before .before .before .args .at))
 
 returns-4 : tie.Need-returns-4
-returns-4 c = let a = c .before .before .before .before .args in rw (literals-cut (now (a .input)) (a .at) (omega arith) (omega arith) (omega arith))
+returns-4 c = let a = c .before .before .before .before .args in let s = now (a .input) in rw (literals-cut s (a .at) (omega arith) (omega arith) (omega arith), field-is s (a .at + 1) (omega arith))
 
-add-t10 : tie.Need-add-t10
-add-t10 c = search needs
+add-t7 : tie.Need-add-t7
+add-t7 c = search needs
 
 returns-5 : tie.Need-returns-5
 unfolding runLayout byteCount
@@ -56,12 +57,12 @@ run-at-spec =
     returns
     shared-slice-read-control
     cast-control
-    add-left
+    add-behind
     sub-left
     returns-2
-    add-t12
+    add-t13
     returns-3
     sub-count
     returns-4
-    add-t10
+    add-t7
     returns-5)

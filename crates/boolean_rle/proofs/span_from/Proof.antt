@@ -13,7 +13,7 @@ use Rattle.boolean_rle.proofs.span_from.Statement.{statement}
 use Rattle.boolean_rle.proofs.span_from.Tie as tie
 
 abbrev Inv-loop : tie.InvT-loop
-Inv-loop input at n end₀ left₀ end left = Passed input at (spanOf (booleans n (drop at input))) end left
+Inv-loop input at n end₀ left₀ end left = Passed input at (spanOf (length input) (booleans n (drop at input))) end left
 
 abbrev μ-loop : tie.MeasureT-loop
 μ-loop input at n end₀ left₀ end left = left
@@ -49,16 +49,6 @@ run-at-requires c κs = tt
 enum-known-run : tie.Need-enum-known-run Inv-loop μ-loop
 enum-known-run c = search needs
 
-enum-told : tie.Need-enum-told Inv-loop μ-loop
-enum-told c = search needs
-
-returns : tie.Need-returns Inv-loop μ-loop
-returns c =
-    let r = c .before .before in
-    let l = r .before .before .loop in
-    let i = l .inv .1 in
-    sym (i .2 ∙ rw (span-cut (i .0) (l .left) (drop (l .end) _) (r .before .loop-test .taken) (sym (r .run-at .ensures) ∙ c .enum-told .given .1)))
-
 add-end : tie.Need-add-end Inv-loop μ-loop
 add-end c = omega (arith, run-here c .1 .inside)
 
@@ -75,8 +65,20 @@ loop-again c =
     rw (c .less .ensures)
     (pass (now (l .before .before .before .args .input)) _ _ (l .loop .end) (l .loop .left) _ (h .0) (h .1) (omega arith) (l .loop .inv))
 
-sub-t9 : tie.Need-sub-t9 Inv-loop μ-loop
-sub-t9 c = c .before .loop .inv .0
+enum-known-number : tie.Need-enum-known-number Inv-loop μ-loop
+enum-known-number c = search needs
+
+returns : tie.Need-returns Inv-loop μ-loop
+returns c =
+    let b = c .before in
+    let r = b .before .before in
+    let l = r .before .before .loop in
+    let i = l .inv .1 in
+    let s = now (r .before .before .before .before .before .args .input) in
+    sym (i .2 ∙ rw (span-cut (length s) (i .0) (l .left) (drop (l .end) s) (b .number .given .0 .0) (b .number .given .0 .1 .0) (r .before .loop-test .taken) (rw length-drop (i .1)) (sym (r .run-at .ensures) ∙ b .number .given .1)))
+
+sub-t11 : tie.Need-sub-t11 Inv-loop μ-loop
+sub-t11 c = c .before .loop .inv .0
 
 returns-2 : tie.Need-returns-2 Inv-loop μ-loop
 unfolding joinedRuns
@@ -96,11 +98,11 @@ span-from-spec =
     loop-holds
     run-at-requires
     enum-known-run
-    enum-told
-    returns
     add-end
     less-requires
     loop-less
     loop-again
-    sub-t9
+    enum-known-number
+    returns
+    sub-t11
     returns-2)

@@ -11,7 +11,7 @@ end-requires : tie.Need-end-requires
 end-requires c κs = search needs
 
 returns : tie.Need-returns
-returns c = let a = c .before .before .before .args in rw (c .end .ensures) (gives-end (a .at .bytes) (a .signed) _ (now (a .out)) (nothing-there (now (a .input)) (a .at .bytes) (c .before .if1 .taken)))
+returns c = let a = c .before .before .before .args in rw (c .end .ensures) (gives-end (a .at .bytes) _ (a .signed) _ (now (a .out)) (nothing-there (now (a .input)) (a .at .bytes) (c .before .if1 .taken)))
 
 shared-slice-read-kind : tie.Need-shared-slice-read-kind
 shared-slice-read-kind c = search needs

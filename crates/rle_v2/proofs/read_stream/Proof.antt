@@ -34,7 +34,7 @@ ran-is : (m : tie.After-a Inv-loop μ-loop) → let x = m .before .before .befor
 ran-is m = rw (m .a .given .1) at (step (m .before .before .before))
 
 refused-is : (m : tie.After-a2 Inv-loop μ-loop) → let x = m .before .before .before in let l = x .before .before .before .loop in let a = x .before .before .before .before .before .args in
-    NoRun (a .input .now) (l .p) (a .signed) (drop (l .k) (l .out)) (x .read-run .last .1 .1 .1 .0) (m .a2 .given .0 .0 .number)
+    NoRun (a .input .now) (l .p) (a .signed) (drop (l .k) (l .out)) (x .read-run .last .1 .1 .1 .0) (m .a2 .given .0 .0)
 refused-is m = rw (m .a2 .given .1) at (step (m .before .before .before))
 
 ended-is : (m : tie.After-enum-told Inv-loop μ-loop) → let x = m .before .before .before in let l = x .before .before .before .loop in let a = x .before .before .before .before .before .args in
@@ -109,7 +109,7 @@ returns c =
     let l = x .before .before .before .loop in
     let a = x .before .before .before .before .before .args in
     rw (c .refused .ensures, back-same (a .input .now) (a .at .bytes) (a .signed) (a .out .now) (l .out) (l .p) (l .k) (l .inv) _ (refused-is m .same))
-    (walked-refused (a .input .now) (a .at .bytes) (a .signed) (a .out .now) (l .out) (l .p) (l .k) (l .inv) _ (refused-is m .read))
+    (walked-refused (a .input .now) (a .at .bytes) (a .signed) (a .out .now) (l .out) (l .p) (l .k) (l .inv) _ _ (refused-is m))
 
 enum-told : tie.Need-enum-told Inv-loop μ-loop
 enum-told c = search needs

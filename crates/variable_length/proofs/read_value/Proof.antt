@@ -1,4 +1,8 @@
 -- `variable_length::read_value` meets its contract: the test for room is the definition's. Assumes nothing.
+use Prim.Native.Nat.{_+_, _-_}
+use mathlib.Core.Path.{_≡_}
+use native.Mathlib.Omega.{arith}
+use lib.ListN.{length, length-drop}
 use Rattle.format.proofs.Reading.{bytes-here, bytes-cut}
 use denote.Ref.{now}
 use borrow.Author.Needs.{needs}
@@ -14,15 +18,20 @@ sub-if1 c = search needs
 run-requires : tie.Need-run-requires
 run-requires c κs = search needs
 
-refused-requires : tie.Need-refused-requires
-refused-requires c κs = search needs
+cut-requires : tie.Need-cut-requires
+cut-requires c κs = search needs
 
 returns : tie.Need-returns
 returns c = let f = c .before .before in let a = f .before .before .args in record { answer = rw (← (f .rest .ensures .1), bytes-here (now (a .input)) (f .rest .result) 6 (a .n) (c .before .if1 .taken)) (c .run .ensures) }
 
 returns-2 : tie.Need-returns-2
-returns-2 c = let f = c .before .before in let a = f .before .before .args in record { answer = rw (← (f .rest .ensures .1), bytes-cut (now (a .input)) (f .rest .result) 6 (a .n) (c .before .if1 .left)) (c .refused .ensures) }
+returns-2 c =
+    let f = c .before .before in
+    let a = f .before .before .args in
+    let s = now (a .input) in
+    let e : a .at .bytes + (length s - a .at .bytes - (length s - a .at .bytes)) ≡ a .at .bytes = omega arith in
+    record { answer = rw (← (f .rest .ensures .1), bytes-cut s (f .rest .result) 6 (a .n) (c .before .if1 .left), f .rest .ensures .1, length-drop, e) (c .cut .ensures) }
 
 pub read-value-spec : {M : Type 1} → statement M
 read-value-spec =
-    tie.close (tie.spec rest-requires sub-if1 run-requires refused-requires returns returns-2)
+    tie.close (tie.spec rest-requires sub-if1 run-requires cut-requires returns returns-2)

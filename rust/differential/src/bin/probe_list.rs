@@ -1,6 +1,6 @@
 //! `probe_list FOLDER`: writes the fixed list of the probe program, FOLDER/list.in and FOLDER/list.out.
 //!
-//! The answers are the model's, which is an independent reading of document 01: nothing of ours is
+//! The answers are the model's, which is an independent reading of documents 01 and 02: nothing of ours is
 //! asked. Document 01's own lines have their answers written out here from its text, and the model
 //! must agree; and a run that the Rust decoders read must have their rows too.
 //!
@@ -111,6 +111,35 @@ fn limits_of_runs(requests: &mut Requests) {
     }
 }
 
+/// Runs, booleans and a byte value cut at every byte, from the first byte on and behind others: the cut
+/// field's byte counts from the input's first.
+fn cuts(requests: &mut Requests) {
+    let behind = |before: usize, bytes: &[u8]| [vec![0xC2; before], bytes.to_vec()].concat();
+    for hex in [
+        "0A012C",
+        "46021230",
+        "C004E4000A",
+        "C603E400E50014",
+        "86032322C0016412349498",
+        "C004FFFFFFFFFFFFFFFFFFFF",
+    ] {
+        let frame = bytes(hex);
+        for kept in 1..frame.len() {
+            for before in [0, 3] {
+                let input = behind(before, &frame[..kept]);
+                requests.run(&input, before as u64, kept % 2 == 1, 512);
+                requests.stream(&input, before as u64, kept % 2 == 0, 512);
+            }
+        }
+    }
+    let runs = bytes("00FFFE4445FF80");
+    for kept in 0..=runs.len() {
+        for before in [0, 3] {
+            requests.booleans(&behind(before, &runs[..kept]), before as u64, 48, 64);
+        }
+    }
+}
+
 fn streams(requests: &mut Requests) {
     let two = bytes("0A012C46021230");
     for places in [0, 5, 7, 8, 9, 512] {
@@ -132,7 +161,7 @@ fn booleans(requests: &mut Requests) {
     requests.booleans(&line, 0, 32, 512);
     document_says(requests, "booleans 32 4 11111111111111111111111100000000");
     requests.booleans(&line, 0, 33, 512);
-    document_says(requests, "refused 6 0");
+    document_says(requests, "refused 6 0 cut 4");
     for n in [0, 1, 8, 24, 31, 64, u64::MAX] {
         requests.booleans(&line, 0, n, 512);
     }
@@ -280,6 +309,7 @@ fn list() -> Requests {
         }
     }
     limits_of_runs(&mut requests);
+    cuts(&mut requests);
     streams(&mut requests);
     booleans(&mut requests);
     values(&mut requests);

@@ -1,6 +1,6 @@
 //! `runs_list FOLDER`: writes the sample of the program, FOLDER/stdin and FOLDER/stdout.
 //!
-//! The answers are the model's, which is an independent reading of document 01: nothing of ours is
+//! The answers are the model's, which is an independent reading of documents 01 and 02: nothing of ours is
 //! asked. The input is several blocks long, and wherever a block ends a line goes on behind it.
 //!
 //! ```text

@@ -7,7 +7,7 @@ use crate::calls;
 use crate::lent::Lent;
 use crate::line::Fields;
 
-/// `booleans ROWS BYTES 0110..`, or `refused NUMBER PLACE`.
+/// `booleans ROWS BYTES 0110..`, or REFUSED.
 pub fn booleans(mut fields: Fields) -> Option<String> {
     let (n, at, places) = (fields.word()?, fields.word()?, fields.places()?);
     let input = fields.rest();

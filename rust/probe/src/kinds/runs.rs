@@ -21,7 +21,7 @@ fn asked(mut fields: Fields) -> Option<Asked> {
     Some(Asked { flag, at, places, input: fields.rest() })
 }
 
-/// `end`, `run KIND ROWS BYTES r r ..`, or `refused NUMBER PLACE`.
+/// `end`, `run KIND ROWS BYTES r r ..`, or REFUSED.
 pub fn run(fields: Fields) -> Option<String> {
     let Asked { flag, at, places, input } = asked(fields)?;
     let lent = Lent::holding(input);
@@ -35,7 +35,7 @@ pub fn run(fields: Fields) -> Option<String> {
     ended(line, answer.fits(false) && given <= places as u64, touched)
 }
 
-/// `whole ROWS BYTES r r ..`, or `refused NUMBER PLACE ROWS BYTES r r ..`.
+/// `whole ROWS BYTES r r ..`, or `REFUSED ROWS BYTES r r ..`.
 pub fn stream(fields: Fields) -> Option<String> {
     let Asked { flag, at, places, input } = asked(fields)?;
     let lent = Lent::holding(input);

@@ -7,7 +7,7 @@ use crate::calls;
 use crate::lent::Lent;
 use crate::line::Fields;
 
-/// `value ROWS BYTES HEX`, or `refused NUMBER PLACE`. The part follows from the answer.
+/// `value ROWS BYTES HEX`, or REFUSED. The part follows from the answer.
 pub fn value(mut fields: Fields) -> Option<String> {
     let (n, at) = (fields.word()?, fields.word()?);
     let input = fields.rest();

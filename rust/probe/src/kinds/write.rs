@@ -10,7 +10,7 @@ use crate::line::Fields;
 /// Forms 0 to 3.
 const FORMS: u64 = 4;
 
-/// `written KIND ROWS BYTES HEX`, or `refused NUMBER PLACE`.
+/// `written KIND ROWS BYTES HEX`, or REFUSED.
 pub fn write(mut fields: Fields) -> Option<String> {
     let writing = Writing { flag: fields.below(FLAGS)?, form: fields.below(FORMS)?, width: fields.byte()? };
     let places = fields.places()?;

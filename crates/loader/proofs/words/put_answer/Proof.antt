@@ -50,6 +50,24 @@ consumed-requires c κs = search needs
 slice-write-words-6 : tie.Need-slice-write-words-6
 slice-write-words-6 c = simp length-set (omega arith)
 
+cut-field-requires : tie.Need-cut-field-requires
+cut-field-requires c κs = search needs
+
+cut-case-requires : tie.Need-cut-case-requires
+cut-case-requires c κs = search needs
+
+slice-write-words-7 : tie.Need-slice-write-words-7
+slice-write-words-7 c = simp length-set (omega arith)
+
+cut-field-requires-2 : tie.Need-cut-field-requires-2
+cut-field-requires-2 c κs = search needs
+
+cut-byte-requires : tie.Need-cut-byte-requires
+cut-byte-requires c κs = search needs
+
+slice-write-words-8 : tie.Need-slice-write-words-8
+slice-write-words-8 c = simp length-set (omega arith)
+
 number-requires-2 : tie.Need-number-requires-2
 number-requires-2 c κs = search needs
 
@@ -62,7 +80,11 @@ same-length c = simp length-set
 returns : tie.Need-returns
 unfolding answerWords
 returns c =
-    let c1 = c .before in
+    let b = c .before in
+    let b-at = b .before in
+    let f = b-at .before in
+    let f-at = f .before in
+    let c1 = f-at .before in
     let c2 = c1 .before in
     let c3 = c2 .before in
     let c4 = c3 .before in
@@ -71,7 +93,7 @@ returns c =
     let s = c6 .before .before in
     record {
       number-is = c .number2 .ensures;
-      words-are = rw (c6 .case .ensures, c5 .number .ensures, c4 .place .ensures, c3 .kind .ensures, c2 .rows .ensures, c1 .consumed .ensures) (sets-eq (answerWords (s .args .answer)) (now (s .args .words)) 0 (s .pre));
+      words-are = rw (c6 .case .ensures, c5 .number .ensures, c4 .place .ensures, c3 .kind .ensures, c2 .rows .ensures, c1 .consumed .ensures, f .cut-case .ensures, f-at .cut-field .ensures, b .cut-byte .ensures, b-at .cut-field2 .ensures) (sets-eq (answerWords (s .args .answer)) (now (s .args .words)) 0 (s .pre));
     }
 
 pub put-answer-spec : {M : Type 1} → statement M
@@ -92,6 +114,12 @@ put-answer-spec =
     slice-write-words-5
     consumed-requires
     slice-write-words-6
+    cut-field-requires
+    cut-case-requires
+    slice-write-words-7
+    cut-field-requires-2
+    cut-byte-requires
+    slice-write-words-8
     number-requires-2
     cast-result
     same-length

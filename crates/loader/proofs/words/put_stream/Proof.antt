@@ -44,6 +44,24 @@ stream-consumed-requires c κs = search needs
 slice-write-words-6 : tie.Need-slice-write-words-6
 slice-write-words-6 c = simp length-set (omega arith)
 
+stream-cut-requires : tie.Need-stream-cut-requires
+stream-cut-requires c κs = search needs
+
+cut-case-requires : tie.Need-cut-case-requires
+cut-case-requires c κs = search needs
+
+slice-write-words-7 : tie.Need-slice-write-words-7
+slice-write-words-7 c = simp length-set (omega arith)
+
+stream-cut-requires-2 : tie.Need-stream-cut-requires-2
+stream-cut-requires-2 c κs = search needs
+
+cut-byte-requires : tie.Need-cut-byte-requires
+cut-byte-requires c κs = search needs
+
+slice-write-words-8 : tie.Need-slice-write-words-8
+slice-write-words-8 c = simp length-set (omega arith)
+
 stream-number-requires-2 : tie.Need-stream-number-requires-2
 stream-number-requires-2 c κs = search needs
 
@@ -56,7 +74,11 @@ same-length c = simp length-set
 returns : tie.Need-returns
 unfolding streamWords
 returns c =
-    let c1 = c .before in
+    let b = c .before in
+    let b-at = b .before in
+    let f = b-at .before in
+    let f-at = f .before in
+    let c1 = f-at .before in
     let c2 = c1 .before in
     let c3 = c2 .before in
     let c4 = c3 .before in
@@ -64,7 +86,7 @@ returns c =
     let s = c5 .before .before in
     record {
       number-is = c .stream-number2 .ensures;
-      words-are = rw (c5 .stream-case .ensures, c4 .stream-number .ensures, c3 .stream-place .ensures, c2 .stream-rows .ensures, c1 .stream-consumed .ensures) (sets-eq (streamWords (s .args .stream)) (now (s .args .words)) 0 (s .pre));
+      words-are = rw (c5 .stream-case .ensures, c4 .stream-number .ensures, c3 .stream-place .ensures, c2 .stream-rows .ensures, c1 .stream-consumed .ensures, f .cut-case .ensures, f-at .stream-cut .ensures, b .cut-byte .ensures, b-at .stream-cut2 .ensures) (sets-eq (streamWords (s .args .stream)) (now (s .args .words)) 0 (s .pre));
     }
 
 pub put-stream-spec : {M : Type 1} → statement M
@@ -83,6 +105,12 @@ put-stream-spec =
     slice-write-words-5
     stream-consumed-requires
     slice-write-words-6
+    stream-cut-requires
+    cut-case-requires
+    slice-write-words-7
+    stream-cut-requires-2
+    cut-byte-requires
+    slice-write-words-8
     stream-number-requires-2
     cast-result
     same-length

@@ -13,29 +13,23 @@ started : (m : tie.After-first) → let a = m .before .before .before .before .a
     Started (now (a .input)) (a .at + 2) (a .signed) (m .first .given .0 .0) (m .first .given .0 .1 .0) (m .first .given .0 .1 .1 .0)
 started m = rw (m .first .given .1) at (m .before .before .starts-at .ensures)
 
-add-starts-at : tie.Need-add-starts-at
-add-starts-at c = search needs
-
 starts-at-requires : tie.Need-starts-at-requires
 starts-at-requires c κs = search needs
 
-enum-known-number : tie.Need-enum-known-number
-enum-known-number c = search needs
-
-refused-requires : tie.Need-refused-requires
-refused-requires c κs = search needs
+enum-known-f : tie.Need-enum-known-f
+enum-known-f c = search needs
 
 enum-known-first : tie.Need-enum-known-first
 enum-known-first c = search needs
 
-refused-requires-2 : tie.Need-refused-requires-2
-refused-requires-2 c κs = search needs
+refused-requires : tie.Need-refused-requires
+refused-requires c κs = search needs
 
 returns : tie.Need-returns
 returns c =
     let m = c .before .before .before in
     let a = m .before .before .before .before .args in
-    rw (c .refused2 .ensures) (fixed-8 (now (a .input)) (a .at) (a .signed) (now (a .out)) (a .rows) _ _ _ (started m) (c .before .if1 .taken))
+    rw (c .refused .ensures) (fixed-8 (now (a .input)) (a .at) (a .signed) (now (a .out)) (a .rows) _ _ _ (started m) (c .before .if1 .taken))
 
 steps-requires : tie.Need-steps-requires
 steps-requires c κs = search needs
@@ -48,9 +42,9 @@ run-requires c κs = search needs
 
 returns-2 : tie.Need-returns-2
 returns-2 c =
-    let m = c .before .before in
+    let m = c .before in
     let a = m .before .before .before .before .args in
-    rw (c .refused .ensures) (fixed-refused (now (a .input)) (a .at) (a .signed) (now (a .out)) (a .rows) _ (rw (m .number .given .1) at (m .before .before .starts-at .ensures)))
+    fixed-refused (now (a .input)) (a .at) (a .signed) (now (a .out)) (a .rows) _ (rw (m .f .given .1) at (m .before .before .starts-at .ensures))
 
 same-length : tie.Need-same-length
 same-length c = search needs
@@ -67,12 +61,10 @@ pub fixed-spec : {M : Type 1} → statement M
 fixed-spec =
     tie.close
     (tie.spec
-    add-starts-at
     starts-at-requires
-    enum-known-number
-    refused-requires
+    enum-known-f
     enum-known-first
-    refused-requires-2
+    refused-requires
     returns
     steps-requires
     sub-run

@@ -9,7 +9,7 @@ use Rattle.format.proofs.Rows.{width-le}
 use Rattle.util.proofs.Grow.{rest-is}
 use Rattle.rle_v2.specs.DeltaStart.{Started}
 use Rattle.rle_v2.proofs.Blocks.{code-width}
-use Rattle.rle_v2.proofs.DeltaRun.{packed-refused, packed-6, packed-8, packed-read}
+use Rattle.rle_v2.proofs.DeltaRun.{packed-refused, packed-cut, packed-8, packed-read}
 use borrow.Author.Needs.{needs}
 use Rattle.rle_v2.proofs.delta.packed_rows.Statement.{statement}
 use Rattle.rle_v2.proofs.delta.packed_rows.Tie as tie
@@ -24,17 +24,11 @@ size-is : (z : tie.After-block-size) → let a = z .before .before .before .befo
     z .block-size .result ≡ bytesFor (a .n * width (a .code))
 size-is z = z .block-size .ensures ∙ rw (z .before .bits-of .ensures)
 
-add-starts-at : tie.Need-add-starts-at
-add-starts-at c = search needs
-
 starts-at-requires : tie.Need-starts-at-requires
 starts-at-requires c κs = search needs
 
-enum-known-number : tie.Need-enum-known-number
-enum-known-number c = search needs
-
-refused-requires : tie.Need-refused-requires
-refused-requires c κs = search needs
+enum-known-f : tie.Need-enum-known-f
+enum-known-f c = search needs
 
 enum-known-first : tie.Need-enum-known-first
 enum-known-first c = search needs
@@ -48,28 +42,28 @@ block-size-requires c κs = (rw (c .bits-of .ensures) (width-le _), omega arith)
 sub-if1 : tie.Need-sub-if1
 sub-if1 c = started (c .before .before .before) .within
 
-refused-requires-2 : tie.Need-refused-requires-2
-refused-requires-2 c κs = search needs
+cut-requires : tie.Need-cut-requires
+cut-requires c κs = search needs
 
 returns : tie.Need-returns
 returns c =
     let z = c .before .before in
     let m = z .before .before .before in
     let a = m .before .before .before .before .args in
-    rw (c .refused2 .ensures) (packed-6 (now (a .input)) (a .at) (a .signed) (now (a .out)) (a .code) (a .n) _ _ _ (started m) (rw (size-is z) at (c .before .if1 .taken)))
+    rw (c .cut .ensures) (packed-cut (now (a .input)) (a .at) (a .signed) (now (a .out)) (a .code) (a .n) _ _ _ (started m) (rw (size-is z) at (c .before .if1 .taken)))
 
 add-if2 : tie.Need-add-if2
 add-if2 c = search needs
 
-refused-requires-3 : tie.Need-refused-requires-3
-refused-requires-3 c κs = search needs
+refused-requires : tie.Need-refused-requires
+refused-requires c κs = search needs
 
 returns-2 : tie.Need-returns-2
 returns-2 c =
     let z = c .before .before .before in
     let m = z .before .before .before in
     let a = m .before .before .before .before .args in
-    rw (c .refused3 .ensures)
+    rw (c .refused .ensures)
     (packed-8 (now (a .input)) (a .at) (a .signed) (now (a .out)) (a .code) (a .n) _ _ _ (started m) (rw (size-is z) at (c .before .before .if1 .left)) (c .before .if2 .taken))
 
 sub-lay : tie.Need-sub-lay
@@ -109,9 +103,9 @@ run-requires c κs = search needs
 
 returns-3 : tie.Need-returns-3
 returns-3 c =
-    let m = c .before .before in
+    let m = c .before in
     let a = m .before .before .before .before .args in
-    rw (c .refused .ensures) (packed-refused (now (a .input)) (a .at) (a .signed) (now (a .out)) (a .code) (a .n) _ (rw (m .number .given .1) at (m .before .before .starts-at .ensures)))
+    packed-refused (now (a .input)) (a .at) (a .signed) (now (a .out)) (a .code) (a .n) _ (rw (m .f .given .1) at (m .before .before .starts-at .ensures))
 
 same-length : tie.Need-same-length
 same-length c = search needs
@@ -131,18 +125,16 @@ pub packed-rows-spec : {M : Type 1} → statement M
 packed-rows-spec =
     tie.close
     (tie.spec
-    add-starts-at
     starts-at-requires
-    enum-known-number
-    refused-requires
+    enum-known-f
     enum-known-first
     bits-of-requires
     block-size-requires
     sub-if1
-    refused-requires-2
+    cut-requires
     returns
     add-if2
-    refused-requires-3
+    refused-requires
     returns-2
     sub-lay
     part-lay-start

@@ -1,16 +1,40 @@
 -- The two varints are read one after the other, and the first refusal is the answer. Assumes nothing.
 use mathlib.Core.Path.{sym, _∙_}
+use Prim.Native.Nat.{ℕ, _<_}
+use lib.ListN.{getD}
 use denote.Ref.{now}
-use Rattle.rle_v2.proofs.DeltaStart.{first-refused, second-refused, both-stood}
+use Rattle.rle_v2.proofs.DeltaStart.{first-cut, first-long, second-cut, second-long, both-stood}
 use borrow.Author.Needs.{needs}
 use Rattle.rle_v2.proofs.delta.starts_at.Statement.{statement}
 use Rattle.rle_v2.proofs.delta.starts_at.Tie as tie
 
+-- the points of the walk: the function's start, and the first varint, which the second stands behind
+abbrev start : tie.After-read → tie.Start
+start r = r .before .before
+
+abbrev first : tie.After-read2 → tie.After-bits
+first r = r .before .before
+
+bytes : (r : tie.After-read) (i : ℕ) → getD (now (start r .args .input)) i 0 < 256
+bytes r i = r .before .shared-slice-known .given i .fits
+
+add-body : tie.Need-add-body
+add-body c = search needs
+
 read-requires : tie.Need-read-requires
 read-requires c κs = search needs
 
-enum-known-number : tie.Need-enum-known-number
-enum-known-number c = search needs
+enum-told : tie.Need-enum-told
+enum-told c = search needs
+
+cut-requires : tie.Need-cut-requires
+cut-requires c κs = search needs
+
+enum-told-2 : tie.Need-enum-told-2
+enum-told-2 c = search needs
+
+new-requires : tie.Need-new-requires
+new-requires c κs = search needs
 
 enum-known-bits : tie.Need-enum-known-bits
 enum-known-bits c = search needs
@@ -18,8 +42,17 @@ enum-known-bits c = search needs
 read-requires-2 : tie.Need-read-requires-2
 read-requires-2 c κs = search needs
 
-enum-known-number-2 : tie.Need-enum-known-number-2
-enum-known-number-2 c = search needs
+enum-told-3 : tie.Need-enum-told-3
+enum-told-3 c = search needs
+
+cut-requires-2 : tie.Need-cut-requires-2
+cut-requires-2 c κs = search needs
+
+enum-told-4 : tie.Need-enum-told-4
+enum-told-4 c = search needs
+
+new-requires-2 : tie.Need-new-requires-2
+new-requires-2 c κs = search needs
 
 enum-known-base : tie.Need-enum-known-base
 enum-known-base c = search needs
@@ -32,43 +65,65 @@ unzigzag-requires c κs = search needs
 
 returns : tie.Need-returns
 returns c =
-    let m = c .before in
-    let r = m .before .before in
-    let a = r .before .before .args in
-    first-refused (now (a .input)) (a .at) (λ i. r .before .shared-slice-known .given i .fits) (m .number .given .0 .0) (sym (r .read .ensures) ∙ m .number .given .1)
+    let r = c .before .before .before in
+    let a = start r .args in
+    rw (c .cut .ensures) (first-cut (now (a .input)) (a .at) (bytes r) (start r .pre) (sym (r .read .ensures) ∙ c .before .enum-told .given .1))
 
 returns-2 : tie.Need-returns-2
 returns-2 c =
-    let m = c .before in
-    let r2 = m .before .before in
-    let b = r2 .before .before in
-    let r = b .before .before in
-    let a = r .before .before .args in
-    second-refused (now (a .input)) (a .at) (λ i. r .before .shared-slice-known .given i .fits) (b .bits .given .0 .0) (b .bits .given .0 .1 .0) (sym (r .read .ensures) ∙ b .bits .given .1)
-    (m .number2 .given .0 .0) (sym (r2 .read2 .ensures) ∙ m .number2 .given .1)
+    let r = c .before .before .before in
+    let a = start r .args in
+    rw (c .new .ensures) (first-long (now (a .input)) (a .at) (bytes r) (sym (r .read .ensures) ∙ c .before .enum-told2 .given .1))
 
 returns-3 : tie.Need-returns-3
 returns-3 c =
+    let r2 = c .before .before .before in
+    let b = first r2 in
+    let r = b .before .before in
+    let a = start r .args in
+    rw (c .cut2 .ensures)
+    (second-cut (now (a .input)) (a .at) (bytes r) _ _ (sym (r .read .ensures) ∙ b .bits .given .1) (sym (r2 .read2 .ensures) ∙ c .before .enum-told3 .given .1))
+
+returns-4 : tie.Need-returns-4
+returns-4 c =
+    let r2 = c .before .before .before in
+    let b = first r2 in
+    let r = b .before .before in
+    let a = start r .args in
+    rw (c .new2 .ensures)
+    (second-long (now (a .input)) (a .at) (bytes r) _ _ (sym (r .read .ensures) ∙ b .bits .given .1) (sym (r2 .read2 .ensures) ∙ c .before .enum-told4 .given .1))
+
+returns-5 : tie.Need-returns-5
+returns-5 c =
     let m = c .before .before .before in
     let r2 = m .before .before in
-    let b = r2 .before .before in
+    let b = first r2 in
     let r = b .before .before in
-    let a = r .before .before .args in
-    both-stood (now (a .input)) (a .at) (λ i. r .before .shared-slice-known .given i .fits) (b .bits .given .0 .0) (b .bits .given .0 .1 .0) (sym (r .read .ensures) ∙ b .bits .given .1)
-    (a .signed) (m .base .given .0 .0) (m .base .given .0 .1 .0) _ _ (sym (r2 .read2 .ensures) ∙ m .base .given .1) (c .before .row .ensures) (c .unzigzag .ensures)
+    let a = start r .args in
+    both-stood (now (a .input)) (a .at) (bytes r) _ _ (sym (r .read .ensures) ∙ b .bits .given .1) (a .signed) _ _ _ _
+    (sym (r2 .read2 .ensures) ∙ m .base .given .1) (c .before .row .ensures) (c .unzigzag .ensures)
 
 pub starts-at-spec : {M : Type 1} → statement M
 starts-at-spec =
     tie.close
     (tie.spec
+    add-body
     read-requires
-    enum-known-number
+    enum-told
+    cut-requires
+    enum-told-2
+    new-requires
     enum-known-bits
     read-requires-2
-    enum-known-number-2
+    enum-told-3
+    cut-requires-2
+    enum-told-4
+    new-requires-2
     enum-known-base
     row-requires
     unzigzag-requires
     returns
     returns-2
-    returns-3)
+    returns-3
+    returns-4
+    returns-5)

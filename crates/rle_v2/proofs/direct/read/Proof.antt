@@ -59,23 +59,23 @@ block-size-requires c κs = (rw (c .bits-of .ensures) (width-le _), omega (arith
 sub-if2 : tie.Need-sub-if2
 sub-if2 c = search needs
 
-refused-requires-2 : tie.Need-refused-requires-2
-refused-requires-2 c κs = search needs
+cut-requires : tie.Need-cut-requires
+cut-requires c κs = search needs
 
 returns-2 : tie.Need-returns-2
 returns-2 c =
     let z = c .before .before in
     let a = z .before .before .before .before .before .before .before .args in
-    rw (c .refused2 .ensures) (no-body (now (a .input)) (a .at) (a .signed) (now (a .out)) (z .before .before .before .before .before .if1 .left) (rw (size-is z) at (c .before .if2 .taken)))
+    rw (c .cut .ensures) (no-body (now (a .input)) (a .at) (a .signed) (now (a .out)) (z .before .before .before .before .before .if1 .left) (rw (size-is z) at (c .before .if2 .taken)))
 
-refused-requires-3 : tie.Need-refused-requires-3
-refused-requires-3 c κs = search needs
+refused-requires-2 : tie.Need-refused-requires-2
+refused-requires-2 c κs = search needs
 
 returns-3 : tie.Need-returns-3
 returns-3 c =
     let z = c .before .before .before in
     let a = z .before .before .before .before .before .before .before .args in
-    rw (c .refused3 .ensures) (no-room (now (a .input)) (a .at) (a .signed) (now (a .out)) (z .before .before .before .before .before .if1 .left) (rw (size-is z) at (c .before .before .if2 .left)) (rw (z .before .before .two-bytes .ensures .1) at (c .before .if3 .taken)))
+    rw (c .refused2 .ensures) (no-room (now (a .input)) (a .at) (a .signed) (now (a .out)) (z .before .before .before .before .before .if1 .left) (rw (size-is z) at (c .before .before .if2 .left)) (rw (z .before .before .two-bytes .ensures .1) at (c .before .if3 .taken)))
 
 sub-unpack : tie.Need-sub-unpack
 sub-unpack c = search needs
@@ -143,9 +143,9 @@ read-spec =
     add-body
     block-size-requires
     sub-if2
-    refused-requires-2
+    cut-requires
     returns-2
-    refused-requires-3
+    refused-requires-2
     returns-3
     sub-unpack
     part-unpack-start

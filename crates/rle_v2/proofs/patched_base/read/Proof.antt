@@ -55,8 +55,8 @@ add-t20 c = omega (arith, c .shared-slice-known5 .given (c .before .before .befo
 cast-t22 : tie.Need-cast-t22
 cast-t22 c = search needs
 
-body-requires : tie.Need-body-requires
-body-requires c κs =
+by-widths-requires : tie.Need-by-widths-requires
+by-widths-requires c κs =
     let k = c .before in
     let h = k .before .before in
     let a = h .before .before .before .before .before .args in
@@ -82,7 +82,7 @@ returns-2 c =
     let h = b .before .before .before .before in
     let e = h .before .before .before in
     let a = e .before .before .args in
-    rw (is-body (now (a .input)) (a .at) (a .signed) (now (a .out)) (e .if1 .left)) (rw (h .two-bytes .ensures .0, h .two-bytes .ensures .1) at (b .body .ensures (a .signed)))
+    rw (is-body (now (a .input)) (a .at) (a .signed) (now (a .out)) (e .if1 .left)) (rw (h .two-bytes .ensures .0, h .two-bytes .ensures .1) at (b .by-widths .ensures (a .signed)))
 
 pub read-spec : {M : Type 1} → statement M
 read-spec =
@@ -104,6 +104,6 @@ read-spec =
     cast-t19
     add-t20
     cast-t22
-    body-requires
+    by-widths-requires
     same-length
     returns-2)

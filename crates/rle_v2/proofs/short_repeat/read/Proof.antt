@@ -24,21 +24,21 @@ add-body c = search needs
 sub-if1 : tie.Need-sub-if1
 sub-if1 c = search needs
 
-refused-requires : tie.Need-refused-requires
-refused-requires c κs = search needs
+cut-requires : tie.Need-cut-requires
+cut-requires c κs = search needs
 
 returns : tie.Need-returns
 returns c =
     let a = c .before .before .before .before .args in
-    rw (c .refused .ensures) (no-body (now (a .input)) (a .at) (a .signed) (now (a .out)) (c .before .if1 .taken))
+    rw (c .cut .ensures) (no-body (now (a .input)) (a .at) (a .signed) (now (a .out)) (c .before .before .before .before .pre .0) (c .before .if1 .taken))
 
-refused-requires-2 : tie.Need-refused-requires-2
-refused-requires-2 c κs = search needs
+refused-requires : tie.Need-refused-requires
+refused-requires c κs = search needs
 
 returns-2 : tie.Need-returns-2
 returns-2 c =
     let a = c .before .before .before .before .before .args in
-    rw (c .refused2 .ensures) (no-room (now (a .input)) (a .at) (a .signed) (now (a .out)) (c .before .before .if1 .left) (c .before .if2 .taken))
+    rw (c .refused .ensures) (no-room (now (a .input)) (a .at) (a .signed) (now (a .out)) (c .before .before .if1 .left) (c .before .if2 .taken))
 
 read-requires : tie.Need-read-requires
 read-requires c κs = search needs
@@ -80,9 +80,9 @@ read-spec =
     add-count
     add-body
     sub-if1
-    refused-requires
+    cut-requires
     returns
-    refused-requires-2
+    refused-requires
     returns-2
     read-requires
     row-requires

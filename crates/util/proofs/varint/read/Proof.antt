@@ -2,10 +2,10 @@
 use mathlib.Core.Path.{_≡_, sym, _∙_, ap}
 use Prim.Native.Nat.{ℕ, _≤_, _-_, _+_, _*_, _^_, _%_}
 use native.Mathlib.Omega.{arith}
-use lib.ListN.{drop, getD}
+use lib.ListN.{length, drop, getD}
 use denote.Ref.{now}
 use borrow.Author.Needs.{needs}
-use Rattle.format.specs.Parse.{plain, varint}
+use Rattle.format.specs.Parse.{cutIn, varint}
 use Rattle.util.proofs.Varints.{toldFrom, told-from, at-end, at-last, at-next, sum-is, weight}
 use Rattle.util.specs.Varint.{varintAt}
 use Rattle.util.specs.declared.varint.Varint.the-variants.{Value}
@@ -13,20 +13,20 @@ use Rattle.util.proofs.varint.read.Statement.{statement}
 use Rattle.util.proofs.varint.read.Tie as tie
 
 abbrev Inv-loop : tie.InvT-loop
-Inv-loop s at i₀ v₀ k₀ i v k = (k ≤ 10) × (varintAt s at ≡ toldFrom i v (2 ^ (7 * k)) (varint (plain 6) (10 - k) (drop i s)))
+Inv-loop s at i₀ v₀ k₀ i v k = (k ≤ 10) × (varintAt s at ≡ toldFrom i v (2 ^ (7 * k)) (varint (cutIn 12 (drop at s)) (10 - k) (drop i s)))
 
 abbrev μ-loop : tie.MeasureT-loop
 μ-loop s at i₀ v₀ k₀ i v k = 10 - k
 
 loop-holds : tie.Need-loop-holds Inv-loop μ-loop
 unfolding varintAt
-loop-holds c = let a = c .before .args in (omega arith, told-from (a .at) (varint (plain 6) 10 (drop (a .at) (a .s .now))))
+loop-holds c = let a = c .before .args in (omega arith, told-from (a .at) (varint (cutIn 12 (drop (a .at) (a .s .now))) 10 (drop (a .at) (a .s .now))))
 
 returns : tie.Need-returns Inv-loop μ-loop
 returns c =
     let l = c .before .before .loop in
     let a = c .before .before .before .before .args in
-    sym (l .inv .1 ∙ at-end (now (a .s)) (l .i) (l .v) (2 ^ (7 * l .k)) (l .k) (omega arith) (omega arith))
+    sym (l .inv .1 ∙ at-end (now (a .s)) (l .i) (l .v) (2 ^ (7 * l .k)) (l .k) _ (omega arith) (omega arith))
 
 shared-slice-read-b : tie.Need-shared-slice-read-b Inv-loop μ-loop
 shared-slice-read-b c = omega arith
@@ -50,7 +50,7 @@ returns-2 c =
     let b = getD (now (a .s)) (l .i) 0 in
     let e = rw (g .group .ensures) at (w .add .ensures) in
     ap (λ (x : ℕ). Value x (l .i + 1)) (e ∙ sum-is (l .v) (b % 128) (l .k))
-    ∙ sym (l .inv .1 ∙ at-last (now (a .s)) (l .i) (l .v) (2 ^ (7 * l .k)) (l .k) (omega arith) (omega arith) (c .if2 .taken))
+    ∙ sym (l .inv .1 ∙ at-last (now (a .s)) (l .i) (l .v) (2 ^ (7 * l .k)) (l .k) _ (omega arith) (omega arith) (c .if2 .taken))
 
 add-k : tie.Need-add-k Inv-loop μ-loop
 add-k c = omega arith
@@ -67,7 +67,7 @@ loop-again c =
     let a = m .before .before .args in
     let b = getD (now (a .s)) (l .i) 0 in
     let e = rw (g .group .ensures) at (w .add .ensures) in
-    let n = at-next (now (a .s)) (l .i) (l .v) (2 ^ (7 * l .k)) (l .k) (omega arith) (omega arith) (c .if2 .left) in
+    let n = at-next (now (a .s)) (l .i) (l .v) (2 ^ (7 * l .k)) (l .k) (length (drop (a .at) (now (a .s)))) (omega arith) (omega arith) (c .if2 .left) in
     (omega arith, rw (weight (l .k), e ∙ sum-is (l .v) (b % 128) (l .k)) (l .inv .1 ∙ n))
 
 returns-3 : tie.Need-returns-3 Inv-loop μ-loop
