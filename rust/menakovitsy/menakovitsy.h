@@ -92,8 +92,9 @@ enum orc_answer {
     /* Patched base: patch width and gap width are over 64 bits together. No run begins like this: the
      * bytes are damaged, or the position is no run's. The same of 3, 4, 5 and 7. */
     ORC_ENTRY_OVER_64 = 2,
-    /* Patched base: value width and patch width are over 64 bits together. */
-    ORC_VALUE_OVER_64 = 3,
+    /* Patched base: a patch has no room above a value of W bits in 64: it is 2^(64-W) or more. (Value
+     * width and patch width may be over 64 together, and an empty list is never refused.) */
+    ORC_PATCH_TOO_LARGE = 3,
     /* Delta: a width, and one row. */
     ORC_ONE_ROW_DELTA = 4,
     /* A varint's first ten bytes all have the top bit set. */
@@ -122,6 +123,10 @@ enum orc_answer {
     /* Of orc_read_run, from here on: 65536 times the bytes consumed, plus the rows. */
     ORC_RUN = 65536
 };
+
+/* The most rows and the most bytes of one run. */
+#define ORC_MAX_ROWS 512
+#define ORC_MAX_RUN_BYTES 4356
 
 /* Reads the run at byte at of input into rows: the run's stand in the first places. */
 uint64_t orc_read_run_at(const uint8_t *input, size_t input_len, uint64_t at, uint64_t flag,

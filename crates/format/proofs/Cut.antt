@@ -11,7 +11,7 @@ use lib.Seq.{take-append-le, drop-append-le}
 use lib.Dec.{T, leb, ltb, eqb, leb→le}
 use borrow.Author.Tests.{le-leb}
 use Rattle.format.specs.Fields.{pick, width, bytesFor}
-use Rattle.format.specs.Runs.{Description, Valid, layout, outOfPlace, entryWidth}
+use Rattle.format.specs.Runs.{Description, Valid, layout, patches, tooLarge, outOfPlace, entryWidth}
 use Rattle.format.specs.Parse
 use Rattle.format.specs.Parse.{Reason, plain, cut, cutIn, Parsed, got, refused, then, unless, bytes, block, varint, codeOf, rowsLess, parse}
 use Rattle.format.proofs.Runs.{parse-complete, cut-refused}
@@ -85,11 +85,11 @@ module _ (q : List ℕ) where
   patched-ext a (b ∷ c ∷ []) = ext-cut tt
   patched-ext a (b ∷ c ∷ e ∷ bs) =
       unless-ext (ltb 64 (width (c % 32) + (e / 32 + 1))) 2
-      (unless-ext (ltb 64 (width (codeOf a) + width (c % 32))) 3
       (then-ext (bytes-ext q _ (c / 32 + 1) bs) λ base s.
       then-ext (block-ext q _ (width (codeOf a)) (rowsLess a b + 1) s) λ k t.
       then-ext (block-ext q _ (entryWidth (c % 32) (e / 32 + 1)) (e % 32) t) λ l rest.
-      unless-ext (outOfPlace (width (c % 32)) (rowsLess a b + 1) (l .values)) 7 ext-got))
+      unless-ext (tooLarge (width (codeOf a)) (patches (width (c % 32)) (l .values))) 3
+      (unless-ext (outOfPlace (width (c % 32)) (rowsLess a b + 1) (l .values)) 7 ext-got))
 
   direct-ext : (a : ℕ) (bs : List ℕ) → Extends q (Parse.directRun a bs) (Parse.directRun a (bs ++ q))
   unfolding Parse.directRun

@@ -38,7 +38,7 @@ refusal n = (refusedAt n 5, lent)
 -- (the `unfolding` line opens all that computes: whoever says `unfolding told` computes with it)
 unfoldable pub told : Bool → List ℕ → Answer × List ℤ
 unfolding Digits.number Digits.digits Fields.widths Fields.width Fields.leastOf Fields.leastWidth Fields.negative Fields.zigzag Fields.row Fields.blockBytes Fields.varintValue
-    Runs.patchesFrom Runs.patches Runs.lastIsSkip Runs.taken Runs.shared Runs.outside Runs.outOfPlace Runs.layout Runs.joined
+    Runs.patchesFrom Runs.patches Runs.lastIsSkip Runs.taken Runs.shared Runs.outside Runs.outOfPlace Runs.tooLarge Runs.layout Runs.joined
     Rows.steps Rows.walk Rows.baseValue Rows.patchAt Rows.patchedRows Rows.rowsOf Rows.asI64 Rows.i64Rows
     Parse.bytes Parse.block Parse.varint Parse.shortRun Parse.directRun Parse.fixedBody Parse.deltaBody Parse.deltaRun Parse.patchedBody Parse.patchedRun Parse.byKind Parse.parse Parse.into
     Streams.runsFrom Streams.readAll Streams.totalRows Streams.joinedRows
@@ -72,6 +72,19 @@ after-a-skip = refl
 place-at-rows : told false (0x86 ∷ 0x03 ∷ 0x03 ∷ 0x41 ∷ 0x64 ∷ 0x12 ∷ 0x34 ∷ 0x8A ∷ []) ≡ refusal 7
 unfolding told
 place-at-rows = refl
+
+-- 30-bit values with a 40-bit patch field: the largest patch that fits, and the next; and that beats a place out of the rows
+patch-fits : told false (0xB4 ∷ 0x00 ∷ 0x1C ∷ 0x01 ∷ 0x00 ∷ 0x00 ∷ 0x00 ∷ 0x00 ∷ 0x04 ∷ 0x00 ∷ 0x03 ∷ 0xFF ∷ 0xFF ∷ 0xFF ∷ 0xFF ∷ []) ≡ run PatchedBase (negsuc 1073741822 ∷ []) 15
+unfolding told
+patch-fits = refl
+
+patch-too-large : told false (0xB4 ∷ 0x00 ∷ 0x1C ∷ 0x01 ∷ 0x00 ∷ 0x00 ∷ 0x00 ∷ 0x00 ∷ 0x04 ∷ 0x00 ∷ 0x04 ∷ 0x00 ∷ 0x00 ∷ 0x00 ∷ 0x00 ∷ []) ≡ refusal 3
+unfolding told
+patch-too-large = refl
+
+too-large-first : told false (0xB4 ∷ 0x00 ∷ 0x1C ∷ 0x01 ∷ 0x00 ∷ 0x00 ∷ 0x00 ∷ 0x00 ∷ 0x04 ∷ 0x01 ∷ 0x04 ∷ 0x00 ∷ 0x00 ∷ 0x00 ∷ 0x00 ∷ []) ≡ refusal 3
+unfolding told
+too-large-first = refl
 
 -- the magnitudes of a falling delta run are taken away
 falling : told false (0xC6 ∷ 0x03 ∷ 0x64 ∷ 0x05 ∷ 0x14 ∷ []) ≡ run Delta (pos 100 ∷ pos 97 ∷ pos 96 ∷ pos 92 ∷ []) 5

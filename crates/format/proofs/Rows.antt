@@ -91,14 +91,14 @@ bytes-count (patched code base pc gw k l) =
       length-block (entryWidth pc gw) (length (l .values)) l,
     )
 
--- no run is long: 512 fields of 64 bits, and less than 512 bytes beside them
+-- the longest run: a patched header, eight bytes of base, 512 values and 31 entries of 64 bits
 block-le : (n w m : ℕ) → n ≤ m → w ≤ 64 → bytesFor (n * w) ≤ 8 * m
 block-le n w m h l = omega (arith, mul-le-mul h l)
 
-pub byte-bounds : (d : Description) → Valid d → length (layout d) ≤ 4608
+pub byte-bounds : (d : Description) → Valid d → length (layout d) ≤ 4356
 byte-bounds d v = rw (bytes-count d) (by d v)
   where
-    by : (d : Description) → Valid d → byteCount d ≤ 4608
+    by : (d : Description) → Valid d → byteCount d ≤ 4356
     by (short count value) v = omega (arith, v .eight)
     by (direct code k) v = omega (arith, block-le (length (k .values)) (width code) 512 (v .head .rows-fit) (width-is code .le))
     by (fixed rows first base) v = omega (arith, varint-length 10 first (v .first-varint), varint-length 10 base (v .base-varint))
@@ -114,7 +114,7 @@ byte-bounds d v = rw (bytes-count d) (by d v)
           arith,
           v .eight,
           block-le (length (k .values)) (width code) 512 (v .head .rows-fit) (width-is code .le),
-          block-le (length (l .values)) (entryWidth pc gw) 32 (omega (arith, v .entries-fit)) (least-le (width pc + gw)),
+          block-le (length (l .values)) (entryWidth pc gw) 31 (omega (arith, v .entries-fit)) (least-le (width pc + gw)),
         )
 
 -- ---- each row is below 2^64

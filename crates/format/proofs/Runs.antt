@@ -1,9 +1,9 @@
 -- A valid description's layout parses as that description (`parse-complete`), and nothing else parses (`parse-sound`).
 -- Assumes nothing.
 use mathlib.Core.Path.{_≡_, refl, sym, ap, ap₂, _∙_}
-use Prim.Native.Nat.{ℕ, zero, suc, _+_, _-_, _*_, _/_, _%_, _<_, _≤_}
+use Prim.Native.Nat.{ℕ, zero, suc, _+_, _-_, _*_, _/_, _%_, _^_, _<_, _≤_}
 use native.Mathlib.Omega.{arith}
-use mathlib.Core.Bool.{false, not}
+use mathlib.Core.Bool.{Bool, true, false, not}
 use mathlib.Core.List.{List, [], _∷_, _++_, append-assoc, append-nil, cons≢nil}
 use lib.ListN.{length}
 use lib.Pow.{pow-pos}
@@ -13,9 +13,9 @@ use lib.Dec.{eqb→eq, nltb→le}
 use mir.Facts.{eqb-no}
 use mathlib.Core.Logic.{_≢_}
 use Rattle.format.specs.Digits.{AllBelow}
-use Rattle.format.specs.Fields.{width, Block, IsBlock, blockBytes}
+use Rattle.format.specs.Fields.{pick, width, Block, IsBlock, blockBytes}
 use Rattle.format.specs.Runs
-use Rattle.format.specs.Runs.{Description, short, direct, fixed, delta, patched, Valid, ValidHead, head₀, head₁, head, layout, outOfPlace, entryWidth}
+use Rattle.format.specs.Runs.{Description, short, direct, fixed, delta, patched, Valid, ValidHead, head₀, head₁, head, layout, patches, patchLimit, tooLarge, outOfPlace, entryWidth}
 use Rattle.format.specs.Parse
 use Rattle.format.specs.Parse.{Reason, Parsed, end, got, refused, unless, codeOf, rowsLess, parse}
 use Rattle.format.proofs.Fields
@@ -31,13 +31,23 @@ record Head (kind code rows : ℕ) : Type 0 where
 head-back : (kind code rows : ℕ) → ValidHead code rows → Head kind code rows
 head-back kind code rows v = omega (arith, v)
 
--- A patched run that is valid with no list, and any list of up to 31 entries behind it: refusal 7, or the run.
+-- refusal 3's limit, with the case of 64 bits: 2^(64-W)
+pub limit-is : (w : ℕ) → patchLimit w ≡ 2 ^ (64 - w)
+limit-is w = go (eqb w 64) refl
+  where
+    go : (t : Bool) → eqb w 64 ≡ t → pick t 1 (2 ^ (64 - w)) ≡ 2 ^ (64 - w)
+    go true e = rw (eqb→eq w 64 (rw e tt))
+    go false e = refl
+
+-- A patched run that is valid with no list, and any list of up to 31 entries behind it: refusal 3, then 7, or the run.
 abbrev pub noList : Block
 noList = record { values = []; pad = 0 }
 
 pub patched-read : (code : ℕ) (base : List ℕ) (pc gw : ℕ) (k l : Block) (rest : List ℕ) → Valid (patched code base pc gw k noList)
     → length (l .values) < 32 → IsBlock (entryWidth pc gw) (length (l .values)) l
-    → parse (layout (patched code base pc gw k l) ++ rest) ≡ unless (outOfPlace (width pc) (length (k .values)) (l .values)) 7 (got (patched code base pc gw k l) rest)
+    → parse (layout (patched code base pc gw k l) ++ rest)
+    ≡ unless (tooLarge (width code) (patches (width pc) (l .values))) 3
+    (unless (outOfPlace (width pc) (length (k .values)) (l .values)) 7 (got (patched code base pc gw k l) rest))
 unfolding parse Parse.byKind layout Parse.patchedRun Parse.patchedBody
 patched-read code base pc gw k l rest v few list =
     let n : ℕ = length (k .values) in
@@ -60,7 +70,6 @@ patched-read code base pc gw k l rest v few list =
       e₀,
       e₁,
       le-ltb 64 (width pc + gw) (v .not-2),
-      le-ltb 64 (width code + width pc) (v .not-3),
       append-assoc base (blockBytes (width code) n k ++ blockBytes (entryWidth pc gw) m l) rest,
       append-assoc (blockBytes (width code) n k) (blockBytes (entryWidth pc gw) m l) rest,
       Fields.bytes-complete _ (length base) base rest₀ refl,
@@ -70,7 +79,7 @@ patched-read code base pc gw k l rest v few list =
 
 -- a valid run is valid without its list
 without-list : (code : ℕ) (base : List ℕ) (pc gw : ℕ) (k l : Block) → Valid (patched code base pc gw k l) → Valid (patched code base pc gw k noList)
-unfolding outOfPlace Runs.lastIsSkip Runs.patches Runs.patchesFrom Runs.shared Runs.outside
+unfolding outOfPlace Runs.lastIsSkip Runs.patches Runs.patchesFrom Runs.shared Runs.outside Runs.tooLarge
 without-list code base pc gw k l v = record {
   head = v .head;
   some-bytes = v .some-bytes;
@@ -81,9 +90,9 @@ without-list code base pc gw k l v = record {
   gap-high = v .gap-high;
   entries-fit = omega arith;
   not-2 = v .not-2;
-  not-3 = v .not-3;
   block = v .block;
   list = record { count = refl; fits = tt; padFits = pow-pos _ };
+  not-3 = tt;
   not-7 = tt;
 }
 
@@ -129,6 +138,7 @@ parse-complete (delta code first base k) rest v =
     )
 parse-complete (patched code base pc gw k l) rest v =
     patched-read code base pc gw k l rest (without-list code base pc gw k l v) (v .entries-fit) (v .list)
+    ∙ Fields.unless-no (tooLarge (width code) (patches (width pc) (l .values))) 3 (v .not-3)
     ∙ Fields.unless-no (outOfPlace (width pc) (length (k .values)) (l .values)) 7 (v .not-7)
 
 -- ---- soundness: what parses is a valid description's layout
@@ -226,10 +236,10 @@ patched-sound a (b ∷ c ∷ g ∷ bs) h e hs =
     let pc : ℕ = c % 32 in
     let gw : ℕ = g / 32 + 1 in
     Fields.unless-post (ltb 64 (width pc + gw)) 2 λ n₂.
-    Fields.unless-post (ltb 64 (width code + width pc)) 3 λ n₃.
     Fields.then-post (Fields.bytes-sound _ (c / 32 + 1) bs (hs .1 .1 .1)) λ base s t.
     Fields.then-post (Fields.block-sound _ (width code) rows s (t .rest-bytes)) λ k s₁ u.
     Fields.then-post (Fields.block-sound _ (entryWidth pc gw) (g % 32) s₁ (u .rest-bytes)) λ l rest x.
+    Fields.unless-post (tooLarge (width code) (patches (width pc) (l .values))) 3 λ n₃.
     Fields.unless-post (outOfPlace (width pc) rows (l .values)) 7 λ n₇.
     let f : Headed 2 code (length (k .values)) a b = head-forth 2 _ _ a b h (hs .0) e refl (sym (u .ok .count)) in
     let kb : List ℕ = blockBytes (width code) (length (k .values)) k in
@@ -249,9 +259,9 @@ patched-sound a (b ∷ c ∷ g ∷ bs) h e hs =
         gap-high = omega arith;
         entries-fit = omega (arith, x .ok .count);
         not-2 = nltb→le 64 (width pc + gw) n₂;
-        not-3 = nltb→le 64 (width code + width pc) n₃;
         block = rw (u .ok .count) (u .ok);
         list = rw (x .ok .count) (x .ok);
+        not-3 = n₃;
         not-7 = rw (u .ok .count) n₇;
       };
       split = cons (f .is-first) (cons (f .is-second) (cons c-is (cons g-is (join base (kb ++ lb) rest (t .split) (join kb lb rest y z)))));

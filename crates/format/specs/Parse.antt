@@ -1,5 +1,5 @@
--- Reading one run, as a function on the list of bytes, in document 01's reading order: "end" for empty input; then 1, 2, 3, 4; then 5 and those of a
--- field that is cut (6 a short repeat value or patched base, 12 a varint, 13 packed rows, 14 a patch list), in byte order; then 7; then 8.
+-- Reading one run, as a function on the list of bytes, in the reading order: "end" for empty input; then 1, 2, 4; then 5 and those of a field that is
+-- cut (6 a short repeat value or patched base, 12 a varint, 13 packed rows, 14 a patch list), in byte order; then 3; then 7; then 8.
 -- Assumes nothing.
 use Prim.Native.Nat.{ℕ, zero, suc, _+_, _-_, _*_, _/_, _%_, _^_}
 use mathlib.Core.Bool.{Bool, true, false}
@@ -8,7 +8,7 @@ use lib.ListN.{length, take, drop}
 use lib.Dec.{leb, ltb, eqb}
 use Rattle.format.specs.Digits.{number, digits}
 use Rattle.format.specs.Fields.{pick, width, Block, bytesFor, padBits}
-use Rattle.format.specs.Runs.{Description, short, direct, fixed, delta, patched, outOfPlace, entryWidth, rowCount}
+use Rattle.format.specs.Runs.{Description, short, direct, fixed, delta, patched, patches, tooLarge, outOfPlace, entryWidth, rowCount}
 
 -- why reading refuses: by a number alone; or because the input ends in a field: its number, and how many bytes are left from the field's first on
 pub data Reason : Type 0 where
@@ -92,11 +92,11 @@ deltaRun a (b ∷ bs) =
 unfoldable pub patchedBody : ℕ → ℕ → ℕ → ℕ → ℕ → ℕ → List ℕ → Parsed Description
 patchedBody code rows bw pc gw len bs =
     unless (ltb 64 (width pc + gw)) 2
-    (unless (ltb 64 (width code + width pc)) 3
     (then (bytes 6 bw bs) λ base s.
     then (block 13 (width code) rows s) λ k t.
     then (block 14 (entryWidth pc gw) len t) λ l rest.
-    unless (outOfPlace (width pc) rows (l .values)) 7
+    unless (tooLarge (width code) (patches (width pc) (l .values))) 3
+    (unless (outOfPlace (width pc) rows (l .values)) 7
     (got (patched code base pc gw k l) rest)))
 
 unfoldable pub patchedRun : ℕ → List ℕ → Parsed Description

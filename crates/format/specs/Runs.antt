@@ -79,6 +79,14 @@ outside rows (q ∷ qs) = leb rows (q .place) || outside rows qs
 unfoldable pub outOfPlace : ℕ → ℕ → List ℕ → Bool
 outOfPlace pw rows es = lastIsSkip pw es || (shared (patches pw es) || outside rows (patches pw es))
 
+-- refusal 3: some non-skip entry's patch is 2^(64-W) or more, W being the value width; at 64 bits no patch but 0 is left
+abbrev pub patchLimit : ℕ → ℕ
+patchLimit w = pick (eqb w 64) 1 (2 ^ (64 - w))
+
+unfoldable pub tooLarge : ℕ → List Patch → Bool
+tooLarge w [] = false
+tooLarge w (q ∷ qs) = leb (patchLimit w) (q .patch) || tooLarge w qs
+
 -- the list is packed at the least table width that holds patch width + gap width
 abbrev pub entryWidth : ℕ → ℕ → ℕ
 entryWidth pc gw = leastWidth (width pc + gw)
@@ -125,9 +133,9 @@ pub record ValidPatched (code : ℕ) (base : List ℕ) (pc gw : ℕ) (k l : Bloc
   pub gap-high : gw ≤ 8
   pub entries-fit : length (l .values) < 32
   pub not-2 : width pc + gw ≤ 64
-  pub not-3 : width code + width pc ≤ 64
   pub block : IsBlock (width code) (length (k .values)) k
   pub list : IsBlock (entryWidth pc gw) (length (l .values)) l
+  pub not-3 : T (not (tooLarge (width code) (patches (width pc) (l .values))))
   pub not-7 : T (not (outOfPlace (width pc) (length (k .values)) (l .values)))
 
 abbrev pub Valid : Description → Type 0

@@ -15,7 +15,7 @@ use Rattle.lines.specs.Line
 -- (the `unfolding` line opens all that computes: whoever says `unfolding written` computes with it)
 unfoldable written : List ℕ → List ℕ
 unfolding Digits.number Digits.digits Fields.widths Fields.width Fields.leastOf Fields.leastWidth Fields.negative Fields.zigzag Fields.row Fields.blockBytes Fields.varintValue
-    Runs.patchesFrom Runs.patches Runs.lastIsSkip Runs.taken Runs.shared Runs.outside Runs.outOfPlace Runs.layout
+    Runs.patchesFrom Runs.patches Runs.lastIsSkip Runs.taken Runs.shared Runs.outside Runs.outOfPlace Runs.tooLarge Runs.layout
     Rows.steps Rows.walk Rows.baseValue Rows.patchAt Rows.patchedRows Rows.rowsOf Rows.asI64 Rows.i64Rows
     Parse.bytes Parse.block Parse.varint Parse.shortRun Parse.directRun Parse.fixedBody Parse.deltaBody Parse.deltaRun Parse.patchedBody Parse.patchedRun Parse.byKind Parse.parse Parse.into
     Hexadecimal.hexValue Hexadecimal.allHex Hexadecimal.hexBytes Decimal.decimalIn Decimal.decimal Decimal.rowText Decimal.rowsText
@@ -33,6 +33,11 @@ three-rows = refl
 no-room-for-a-gap : written (ascii "0086031F21") ≡ ascii "refused 2"
 unfolding written
 no-room-for-a-gap = refl
+
+-- 30 bits and a patch field of 40, whose top bits are zero
+wide-field : written (ascii "00B4001C010500000004000000000003") ≡ ascii "run 1 15 3221225478"
+unfolding written
+wide-field = refl
 
 no-run : written (ascii "01") ≡ ascii "end"
 unfolding written

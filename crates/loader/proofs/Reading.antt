@@ -27,7 +27,7 @@ pub record Reads (input : List ℕ) (signed : Bool) (out : List ℕ) (rows′ : 
   pub answer : r ≡ answerOf 0 (length input) (into (placesIn out) (parse input))
   pub fits : answerRows r ≤ k
   pub few : answerRows r ≤ 512
-  pub short : answerBytes r ≤ 4608
+  pub short : answerBytes r ≤ 4356
   pub bytes : rowBytes (take (answerRows r) rows′) ++ drop (8 * answerRows r) out ≡ bytesOf signed out (into (placesIn out) (parse input))
 
 module _ (input : List ℕ) (signed : Bool) (out : List ℕ) (rows part part′ : List ℤ) (at k : ℕ) (r : Answer) where

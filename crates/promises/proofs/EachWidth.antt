@@ -49,9 +49,9 @@ each-width = record {
         gap-high = i;
         entries-fit = j;
         not-2 = m;
-        not-3 = n;
-        block = o;
-        list = p;
+        block = n;
+        list = o;
+        not-3 = p;
         not-7 = q;
       }) (λ signed. refl);
 }

@@ -1,4 +1,4 @@
--- Every patch list: refusal 7 in one of its three cases, or exactly the places named are patched. Assumes nothing.
+-- Every patch list: refusal 3, or refusal 7 in one of its three cases, or exactly the places named are patched. Assumes nothing.
 use mathlib.Core.Path.{_≡_, refl, sym, ap, _∙_, subst}
 use mathlib.Core.Logic.{_≢_, _⊎_, inl, inr, _↔_}
 use Prim.Native.Nat.{ℕ, zero, suc, _+_, _-_, _*_, _%_, _^_, _<_, _≤_}
@@ -14,15 +14,15 @@ use lib.IntN.{ℤ, pos}
 use borrow.Author.Tests.{eq-eqb, ne-eqb, le-leb}
 use Rattle.format.specs.declared.Answer.{Answer}
 use Rattle.format.specs.Fields.{pick, two64, width, Block, IsBlock}
-use Rattle.format.specs.Runs.{patched, Valid, layout, Patch, patchOf, gapOf, isSkip, patchesFrom, patches, lastIsSkip, taken, shared, outside, outOfPlace, entryWidth}
+use Rattle.format.specs.Runs.{patched, Valid, layout, Patch, patchOf, gapOf, isSkip, patchesFrom, patches, lastIsSkip, taken, shared, outside, patchLimit, tooLarge, outOfPlace, entryWidth}
 use Rattle.format.specs.Rows.{baseValue, patchAt, rowsOf, asI64, i64Rows}
 use Rattle.format.specs.Promises.{RunRead}
 use Rattle.format.proofs.Fields.{any-block}
-use Rattle.format.proofs.Runs.{noList, patched-read}
+use Rattle.format.proofs.Runs.{limit-is, noList, patched-read}
 use Rattle.format.proofs.Rows.{i64-count}
 use Rattle.format.proofs.Streams.{into-got, into-refused}
 use Rattle.promises.specs.PatchLists
-use Rattle.promises.specs.PatchLists.{placeOf, Names, LastIsSkip, TwoShare, OneBeyond, OutOfPlace, Patched, PatchLists}
+use Rattle.promises.specs.PatchLists.{placeOf, Names, LastIsSkip, TwoShare, OneBeyond, TooLarge, OutOfPlace, Patched, PatchLists}
 use Rattle.promises.proofs.Sums.{sums}
 
 -- ---- tests
@@ -51,12 +51,16 @@ either : (b : Bool) → T b ⊎ T (not b)
 either true = inl tt
 either false = inr tt
 
-never-both : (b : Bool) → T b → T (not b) → ⊥
+pub never-both : (b : Bool) → T b → T (not b) → ⊥
 never-both true h k = k
 never-both false h k = h
 
 same : (a b : ℕ) → a ≡ b → T (eqb a b)
 same a b e = rw (eq-eqb a b e) tt
+
+-- refusal 3's test
+at-limit : (w x : ℕ) → T (leb (patchLimit w) x) ↔ (2 ^ (64 - w) ≤ x)
+at-limit w x = rw (limit-is w) (leb→le (2 ^ (64 - w)) x, le→leb (2 ^ (64 - w)) x)
 
 -- ---- the patches of a list, and the entries that name them; `before` is the sum of the gaps before the list
 
@@ -104,48 +108,54 @@ module _ (pw : ℕ) where
       go true h = absurd h
       go false h = refl
 
-  -- some entry names a place for which the test of the patches holds, both ways: `taken` and `outside` are such tests
-  module _ (test : List Patch → Bool) (of : ℕ → Bool) (none : test [] ≡ false)
-      (one : (q : Patch) (qs : List Patch) → test (q ∷ qs) ≡ (of (q .place) || test qs)) where
-    some-names : (before : ℕ) (es : List ℕ) → T (test (patchesFrom pw before es)) → (j p : ℕ) × From before es j p × T (of p)
+  -- entry j of the list, as a patch at the place p
+  abbrev patchAs : List ℕ → ℕ → ℕ → Patch
+  patchAs es j p = record { place = p; patch = patchOf pw (getD es j 0) }
+
+  -- some entry names a place, and is a patch for which the test of the patches holds, both ways: `taken`, `outside` and `tooLarge` are such tests
+  module _ (test : List Patch → Bool) (of : Patch → Bool) (none : test [] ≡ false)
+      (one : (q : Patch) (qs : List Patch) → test (q ∷ qs) ≡ (of q || test qs)) where
+    abbrev Some : ℕ → List ℕ → Type 0
+    Some before es = (j p : ℕ) × From before es j p × T (of (patchAs es j p))
+
+    some-names : (before : ℕ) (es : List ℕ) → T (test (patchesFrom pw before es)) → Some before es
     unfolding patchesFrom
     some-names before [] h = absurd (rw none at h)
     some-names before (e ∷ es) h = go (either (isSkip pw e)) (some-names (past before e) es)
       where
-        later : (j p : ℕ) × From (past before e) es j p × T (of p) → (j p : ℕ) × From before (e ∷ es) j p × T (of p)
+        later : Some (past before e) es → Some before (e ∷ es)
         later (j, p, f, t) = (suc j, p, from-there before e es j p f, t)
 
-        go : T (isSkip pw e) ⊎ T (not (isSkip pw e)) → (T (test (rest before e es)) → (j p : ℕ) × From (past before e) es j p × T (of p))
-            → (j p : ℕ) × From before (e ∷ es) j p × T (of p)
+        go : T (isSkip pw e) ⊎ T (not (isSkip pw e)) → (T (test (rest before e es)) → Some (past before e) es) → Some before (e ∷ es)
         go (inl s) ih = later (ih (rw (of-skip before e es s) at h))
-        go (inr s) ih = by (or-cases (of (past before e)) (test (rest before e es)) (rw (of-entry before e es s, one) at h))
+        go (inr s) ih = by (or-cases (of (named before e)) (test (rest before e es)) (rw (of-entry before e es s, one) at h))
           where
-            by : T (of (past before e)) ⊎ T (test (rest before e es)) → (j p : ℕ) × From before (e ∷ es) j p × T (of p)
+            by : T (of (named before e)) ⊎ T (test (rest before e es)) → Some before (e ∷ es)
             by (inl t) = (0, past before e, from-here before e es s, t)
             by (inr t) = later (ih t)
 
-    names-some : (before : ℕ) (es : List ℕ) (j p : ℕ) → From before es j p → T (of p) → T (test (patchesFrom pw before es))
+    names-some : (before : ℕ) (es : List ℕ) (j p : ℕ) → From before es j p → T (of (patchAs es j p)) → T (test (patchesFrom pw before es))
     names-some before [] j p f t = absurd (omega (arith, f .there))
-    names-some before (e ∷ es) j p f t = go j f (either (isSkip pw e)) (names-some (past before e) es)
+    names-some before (e ∷ es) j p f t = go j f t (either (isSkip pw e)) (names-some (past before e) es)
       where
-        go : (j : ℕ) → From before (e ∷ es) j p → T (isSkip pw e) ⊎ T (not (isSkip pw e))
-            → ((j p : ℕ) → From (past before e) es j p → T (of p) → T (test (rest before e es)))
+        go : (j : ℕ) → From before (e ∷ es) j p → T (of (patchAs (e ∷ es) j p)) → T (isSkip pw e) ⊎ T (not (isSkip pw e))
+            → ((j p : ℕ) → From (past before e) es j p → T (of (patchAs es j p)) → T (test (rest before e es)))
             → T (test (patchesFrom pw before (e ∷ es)))
-        go zero f (inl s) ih = absurd (never-both (isSkip pw e) s (f .no-skip))
-        go zero f (inr s) ih = rw (of-entry before e es s, one) (or-left (of (past before e)) (test (rest before e es)) (rw (from-zero before e es p f) at t))
-        go (suc j) f (inl s) ih = rw (of-skip before e es s) (ih j p (from-back before e es j p f) t)
-        go (suc j) f (inr s) ih = rw (of-entry before e es s, one) (or-right (of (past before e)) (test (rest before e es)) (ih j p (from-back before e es j p f) t))
+        go zero f t (inl s) ih = absurd (never-both (isSkip pw e) s (f .no-skip))
+        go zero f t (inr s) ih = rw (of-entry before e es s, one) (or-left (of (named before e)) (test (rest before e es)) (rw (from-zero before e es p f) at t))
+        go (suc j) f t (inl s) ih = rw (of-skip before e es s) (ih j p (from-back before e es j p f) t)
+        go (suc j) f t (inr s) ih = rw (of-entry before e es s, one) (or-right (of (named before e)) (test (rest before e es)) (ih j p (from-back before e es j p f) t))
 
   -- a place is taken: an entry names it
   taken-names : (p before : ℕ) (es : List ℕ) → T (taken p (patchesFrom pw before es)) → (j : ℕ) × From before es j p
   unfolding taken
   taken-names p before es h =
-      let (j, p′, f, t) = some-names (taken p) (eqb p) refl (λ q qs. refl) before es h in
+      let (j, p′, f, t) = some-names (taken p) (λ q. eqb p (q .place)) refl (λ q qs. refl) before es h in
       (j, subst (λ (x : ℕ). From before es j x) (sym (eqb→eq p p′ t)) f)
 
   names-taken : (p before : ℕ) (es : List ℕ) (j : ℕ) → From before es j p → T (taken p (patchesFrom pw before es))
   unfolding taken
-  names-taken p before es j f = names-some (taken p) (eqb p) refl (λ q qs. refl) before es j p f (same p p refl)
+  names-taken p before es j f = names-some (taken p) (λ q. eqb p (q .place)) refl (λ q qs. refl) before es j p f (same p p refl)
 
   -- two patches share a place: two entries name it
   abbrev Two : ℕ → List ℕ → Type 0
@@ -236,13 +246,21 @@ module _ (pw : ℕ) where
       go (inl s) ih = rw (of-skip before e es s) ih
       go (inr s) ih = rw (of-entry before e es s, ne-eqb p (past before e) (λ z. n 0 (rw z (from-here before e es s)))) ih
 
-  -- ---- refusal 7, in its three cases
+  -- ---- refusal 3, and refusal 7 in its three cases
 
   named-from : (es : List ℕ) (j p : ℕ) → From 0 es j p → Names pw es j p
   named-from es j p f = record { there = f .there; no-skip = f .no-skip; here = omega (arith, f .here) }
 
   from-named : (es : List ℕ) (j p : ℕ) → Names pw es j p → From 0 es j p
   from-named es j p f = record { there = f .there; no-skip = f .no-skip; here = omega (arith, f .here) }
+
+  pub too-large : (w : ℕ) (es : List ℕ) → T (tooLarge w (patches pw es)) ↔ TooLarge w pw es
+  unfolding patches tooLarge
+  too-large w es = (
+    λ h. let (j, p, f, t) = some-names (tooLarge w) (λ q. leb (patchLimit w) (q .patch)) refl (λ q qs. refl) 0 es h in
+        (j, p, named-from es j p f, at-limit w _ .0 t),
+    λ (j, p, f, l). names-some (tooLarge w) (λ q. leb (patchLimit w) (q .patch)) refl (λ q qs. refl) 0 es j p (from-named es j p f) (at-limit w _ .1 l),
+  )
 
   pub out-of-place : (rows : ℕ) (es : List ℕ) → T (outOfPlace pw rows es) ↔ OutOfPlace pw rows es
   unfolding outOfPlace patches outside
@@ -253,7 +271,7 @@ module _ (pw : ℕ) where
           let (i, j, p, l, f, g) = shared-names 0 es h in
           inr (inl (i, j, p, l, named-from es i p f, named-from es j p g))
       to-rest (inr h) =
-          let (j, p, f, t) = some-names (outside rows) (leb rows) refl (λ q qs. refl) 0 es h in
+          let (j, p, f, t) = some-names (outside rows) (λ q. leb rows (q .place)) refl (λ q qs. refl) 0 es h in
           inr (inr (j, p, named-from es j p f, leb→le rows p t))
 
       to : T (lastIsSkip pw es) ⊎ T (shared (patchesFrom pw 0 es) || outside rows (patchesFrom pw 0 es)) → OutOfPlace pw rows es
@@ -268,7 +286,7 @@ module _ (pw : ℕ) where
       of (inr (inr (j, p, f, l))) =
           or-right (lastIsSkip pw es) (shared (patchesFrom pw 0 es) || outside rows (patchesFrom pw 0 es))
           (or-right (shared (patchesFrom pw 0 es)) (outside rows (patchesFrom pw 0 es))
-          (names-some (outside rows) (leb rows) refl (λ q qs. refl) 0 es j p (from-named es j p f) (le→leb rows p l)))
+          (names-some (outside rows) (λ q. leb rows (q .place)) refl (λ q qs. refl) 0 es j p (from-named es j p f) (le→leb rows p l)))
 
 -- ---- the rows of a list that is in place
 
@@ -295,27 +313,36 @@ pub patch-lists : PatchLists
 patch-lists = record {
   any-bytes = λ w n bs h e. (_, any-block w n bs h e .0, any-block w n bs h e .1);
   either-way = λ code base pc gw k l v few list input at signed out out′ r h rest e room.
-      go code base pc gw k l v few list input at signed out out′ r h rest e room (outOfPlace (width pc) (length (k .values)) (l .values)) refl;
+      go code base pc gw k l v few list input at signed out out′ r h rest e room
+      (tooLarge (width code) (patches (width pc) (l .values))) (outOfPlace (width pc) (length (k .values)) (l .values)) refl refl;
 }
   where
     go : (code : ℕ) (base : List ℕ) (pc gw : ℕ) (k l : Block) → Valid (patched code base pc gw k noList)
         → length (l .values) < 32 → IsBlock (entryWidth pc gw) (length (l .values)) l
         → (input : List ℕ) (at : ℕ) (signed : Bool) (out out′ : List ℤ) (r : Answer) → RunRead input at signed out out′ r
         → (rest : List ℕ) → drop at input ≡ layout (patched code base pc gw k l) ++ rest → length (k .values) ≤ length out
-        → (t : Bool) → outOfPlace (width pc) (length (k .values)) (l .values) ≡ t
-        → PatchLists.Refused pc k l at out out′ r ⊎ PatchLists.Rows code base pc gw k l out out′ r
-    go code base pc gw k l v few list input at signed out out′ r h rest e room true t =
+        → (s t : Bool) → tooLarge (width code) (patches (width pc) (l .values)) ≡ s → outOfPlace (width pc) (length (k .values)) (l .values) ≡ t
+        → PatchLists.Refused3 code pc l at out out′ r ⊎ (PatchLists.Refused7 code pc k l at out out′ r ⊎ PatchLists.Rows code base pc gw k l out out′ r)
+    go code base pc gw k l v few list input at signed out out′ r h rest e room true t s₁ t₁ =
         inl (record {
-          out-of-place = out-of-place (width pc) (length (k .values)) (l .values) .0 (rw t tt);
-          answer = rw (e, patched-read code base pc gw k l rest v few list, t, into-refused (length out)) at (h .answer);
-          places = rw (e, patched-read code base pc gw k l rest v few list, t, into-refused (length out)) at (h .places);
+          too-large = too-large (width pc) (width code) (l .values) .0 (rw s₁ tt);
+          answer = rw (e, patched-read code base pc gw k l rest v few list, s₁, into-refused (length out)) at (h .answer);
+          places = rw (e, patched-read code base pc gw k l rest v few list, s₁, into-refused (length out)) at (h .places);
         })
-    go code base pc gw k l v few list input at signed out out′ r h rest e room false t =
+    go code base pc gw k l v few list input at signed out out′ r h rest e room false true s₁ t₁ =
+        inr (inl (record {
+          fitting = λ o. never-both (tooLarge (width code) (patches (width pc) (l .values))) (too-large (width pc) (width code) (l .values) .1 o) (rw s₁ tt);
+          out-of-place = out-of-place (width pc) (length (k .values)) (l .values) .0 (rw t₁ tt);
+          answer = rw (e, patched-read code base pc gw k l rest v few list, s₁, t₁, into-refused (length out)) at (h .answer);
+          places = rw (e, patched-read code base pc gw k l rest v few list, s₁, t₁, into-refused (length out)) at (h .places);
+        }))
+    go code base pc gw k l v few list input at signed out out′ r h rest e room false false s₁ t₁ =
         let places : out′ ≡ i64Rows signed (patched code base pc gw k l) ++ drop (length (k .values)) out =
-        rw (e, patched-read code base pc gw k l rest v few list, t, into-got (length out) (patched code base pc gw k l) rest room) at (h .places) in
-        inr (record {
-          in-place = λ o. never-both (outOfPlace (width pc) (length (k .values)) (l .values)) (out-of-place (width pc) (length (k .values)) (l .values) .1 o) (rw t tt);
-          answer = rw (e, patched-read code base pc gw k l rest v few list, t, into-got (length out) (patched code base pc gw k l) rest room) at (h .answer);
-          rows = rows-patched code base pc gw k l out out′ signed places (rw t tt);
+        rw (e, patched-read code base pc gw k l rest v few list, s₁, t₁, into-got (length out) (patched code base pc gw k l) rest room) at (h .places) in
+        inr (inr (record {
+          fitting = λ o. never-both (tooLarge (width code) (patches (width pc) (l .values))) (too-large (width pc) (width code) (l .values) .1 o) (rw s₁ tt);
+          in-place = λ o. never-both (outOfPlace (width pc) (length (k .values)) (l .values)) (out-of-place (width pc) (length (k .values)) (l .values) .1 o) (rw t₁ tt);
+          answer = rw (e, patched-read code base pc gw k l rest v few list, s₁, t₁, into-got (length out) (patched code base pc gw k l) rest room) at (h .answer);
+          rows = rows-patched code base pc gw k l out out′ signed places (rw t₁ tt);
           others = ap (drop (length (k .values))) places ∙ drop-at (i64Rows signed (patched code base pc gw k l)) (drop (length (k .values)) out) (length (k .values)) (i64-count signed (patched code base pc gw k l));
-        })
+        }))

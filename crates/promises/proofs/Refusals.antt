@@ -17,7 +17,7 @@ use Rattle.format.specs.declared.Answer.the-variants.{Refused}
 use Rattle.format.specs.Answers.{refusing, cutting, refusal}
 use Rattle.format.specs.Digits.{AllBelow, number}
 use Rattle.format.specs.Fields.{pick, width, bytesFor, Varint, last, more}
-use Rattle.format.specs.Runs.{Description, short, direct, fixed, delta, patched, rowCount, Valid, layout, outOfPlace, entryWidth}
+use Rattle.format.specs.Runs.{Description, short, direct, fixed, delta, patched, rowCount, Valid, layout, patches, tooLarge, outOfPlace, entryWidth}
 use Rattle.format.specs.Parse
 use Rattle.format.specs.Parse.{Reason, plain, cut, cutIn, Parsed, end, got, refused, then, unless, bytes, block, varint, codeOf, rowsLess, parse, into}
 use Rattle.format.specs.Promises.{answerOf}
@@ -28,7 +28,7 @@ use Rattle.format.proofs.Reading.{bytes-here, bytes-cut, blockAt, block-here, b
 use Rattle.promises.specs.Refusals
 use Rattle.promises.specs.Refusals.{Table, refusal-1, refusal-2, refusal-3, refusal-4, refusal-5, refusal-7, refusal-8, CutLine, CutNumber, six, twelve, thirteen, fourteen, Given, by-number, by-field, RefusalsHold, AnswersHold}
 use Rattle.promises.specs.Refusals.{kind, headerOf, TenTop, Unended, Headed, PatchedRun, DeltaRun, magnitudeBytes, listFrom, listTo, entries, valueBytes, baseBytes}
-use Rattle.promises.proofs.PatchLists.{out-of-place}
+use Rattle.promises.proofs.PatchLists.{never-both, too-large, out-of-place}
 
 -- ---- varints: each outcome, with its line
 
@@ -94,14 +94,10 @@ module _ (places a b c e : ℕ) (s : List ℕ) (k : a / 64 ≡ 2) where
   unfolding parse Parse.byKind Parse.patchedRun Parse.patchedBody
   patched-2 h = rw (k, lt-ltb 64 (width pc + gw) h)
 
-  patched-3 : width pc + gw ≤ 64 → 64 < value + width pc → parse bs ≡ refused (plain 3)
-  unfolding parse Parse.byKind Parse.patchedRun Parse.patchedBody
-  patched-3 g h = rw (k, le-ltb 64 (width pc + gw) g, lt-ltb 64 (value + width pc) h)
-
-  module _ (not-2 : width pc + gw ≤ 64) (not-3 : value + width pc ≤ 64) where
+  module _ (not-2 : width pc + gw ≤ 64) where
     patched-base : length bs < 4 + (c / 32 + 1) → parse bs ≡ refused (cutIn 6 (drop 4 bs))
     unfolding parse Parse.byKind Parse.patchedRun Parse.patchedBody
-    patched-base h = rw (k, le-ltb 64 (width pc + gw) not-2, le-ltb 64 (value + width pc) not-3, bytes-cut bs 4 6 (c / 32 + 1) (omega arith))
+    patched-base h = rw (k, le-ltb 64 (width pc + gw) not-2, bytes-cut bs 4 6 (c / 32 + 1) (omega arith))
 
     patched-values : 4 + (c / 32 + 1) ≤ length bs → length bs < listFrom bs → parse bs ≡ refused (cutIn 13 (drop (4 + (c / 32 + 1)) bs))
     unfolding parse Parse.byKind Parse.patchedRun Parse.patchedBody
@@ -109,7 +105,6 @@ module _ (places a b c e : ℕ) (s : List ℕ) (k : a / 64 ≡ 2) where
         rw (
           k,
           le-ltb 64 (width pc + gw) not-2,
-          le-ltb 64 (value + width pc) not-3,
           bytes-here bs 4 6 (c / 32 + 1) (omega arith),
           block-cut bs (4 + (c / 32 + 1)) 13 value rows (omega arith),
         )
@@ -120,13 +115,13 @@ module _ (places a b c e : ℕ) (s : List ℕ) (k : a / 64 ≡ 2) where
         rw (
           k,
           le-ltb 64 (width pc + gw) not-2,
-          le-ltb 64 (value + width pc) not-3,
           bytes-here bs 4 6 (c / 32 + 1) (omega arith),
           block-here bs (4 + (c / 32 + 1)) 13 value rows (omega arith),
           block-cut bs (4 + (c / 32 + 1) + bytesFor (rows * value)) 14 (entryWidth pc gw) (e % 32) (omega arith),
         )
 
-    patched-all : listTo bs ≤ length bs → (d : Description) × (rest : List ℕ) × (parse bs ≡ unless (outOfPlace (width pc) rows (entries bs)) 7 (got d rest))
+    patched-all : listTo bs ≤ length bs → (d : Description) × (rest : List ℕ)
+        × (parse bs ≡ unless (tooLarge value (patches (width pc) (entries bs))) 3 (unless (outOfPlace (width pc) rows (entries bs)) 7 (got d rest)))
     unfolding parse Parse.byKind Parse.patchedRun Parse.patchedBody
     patched-all h = (
       patched (codeOf a) (take (c / 32 + 1) (drop 4 bs)) pc gw (blockAt bs (4 + (c / 32 + 1)) value rows)
@@ -135,7 +130,6 @@ module _ (places a b c e : ℕ) (s : List ℕ) (k : a / 64 ≡ 2) where
       rw (
         k,
         le-ltb 64 (width pc + gw) not-2,
-        le-ltb 64 (value + width pc) not-3,
         bytes-here bs 4 6 (c / 32 + 1) (omega arith),
         block-here bs (4 + (c / 32 + 1)) 13 value rows (omega arith),
         block-here bs (4 + (c / 32 + 1) + bytesFor (rows * value)) 14 (entryWidth pc gw) (e % 32) (omega arith),
@@ -143,14 +137,22 @@ module _ (places a b c e : ℕ) (s : List ℕ) (k : a / 64 ≡ 2) where
     )
 
     patched-run : PatchedRun bs
-    patched-run = record { headed = record { is-kind = k; header = omega arith }; not-2 = not-2; not-3 = not-3 }
+    patched-run = record { headed = record { is-kind = k; header = omega arith }; not-2 = not-2 }
 
     patched-body : Fate places bs (parse bs)
     patched-body = go (decLt (length bs) (4 + (c / 32 + 1))) (decLt (length bs) (listFrom bs)) (decLt (length bs) (listTo bs))
       where
-        listed : (d : Description) (rest : List ℕ) (h : listTo bs ≤ length bs) (t : Bool) → outOfPlace (width pc) rows (entries bs) ≡ t → Fate places bs (unless t 7 (got d rest))
-        listed d rest h true e = by-line (by-number (refusal-7 (patched-run, h, out-of-place (width pc) rows (entries bs) .0 (rw e tt))))
-        listed d rest h false e = a-run
+        listed : (d : Description) (rest : List ℕ) (h : listTo bs ≤ length bs) (t u : Bool) → tooLarge value (patches (width pc) (entries bs)) ≡ t
+            → outOfPlace (width pc) rows (entries bs) ≡ u → Fate places bs (unless t 3 (unless u 7 (got d rest)))
+        listed d rest h true u e f = by-line (by-number (refusal-3 (patched-run, h, too-large (width pc) value (entries bs) .0 (rw e tt))))
+        listed d rest h false true e f =
+            by-line (by-number (refusal-7 (
+              patched-run,
+              h,
+              λ o. never-both (tooLarge value (patches (width pc) (entries bs))) (too-large (width pc) value (entries bs) .1 o) (rw e tt),
+              out-of-place (width pc) rows (entries bs) .0 (rw f tt),
+            )))
+        listed d rest h false false e f = a-run
 
         go : Dec (length bs < 4 + (c / 32 + 1)) → Dec (length bs < listFrom bs) → Dec (length bs < listTo bs) → Fate places bs (parse bs)
         go (yes x) y z = rw (patched-base x) (by-line (by-field (Refusals.in-base patched-run x)))
@@ -158,15 +160,14 @@ module _ (places a b c e : ℕ) (s : List ℕ) (k : a / 64 ≡ 2) where
         go (no x) (no y) (yes z) = rw (patched-list (omega arith) z) (by-line (by-field (Refusals.in-list patched-run (omega arith) z)))
         go (no x) (no y) (no z) =
             let (d, rest, f) = patched-all (omega arith) in
-            rw f (listed d rest (omega arith) (outOfPlace (width pc) rows (entries bs)) refl)
+            rw f (listed d rest (omega arith) (tooLarge value (patches (width pc) (entries bs))) (outOfPlace (width pc) rows (entries bs)) refl refl)
 
   patched-fate : Fate places bs (parse bs)
-  patched-fate = go (decLt 64 (width pc + gw)) (decLt 64 (value + width pc))
+  patched-fate = go (decLt 64 (width pc + gw))
     where
-      go : Dec (64 < width pc + gw) → Dec (64 < value + width pc) → Fate places bs (parse bs)
-      go (yes x) y = rw (patched-2 x) (by-line (by-number (refusal-2 (record { is-kind = k; header = omega arith }, x))))
-      go (no x) (yes y) = rw (patched-3 (omega arith) y) (by-line (by-number (refusal-3 (record { is-kind = k; header = omega arith }, omega arith, y))))
-      go (no x) (no y) = patched-body (omega arith) (omega arith)
+      go : Dec (64 < width pc + gw) → Fate places bs (parse bs)
+      go (yes x) = rw (patched-2 x) (by-line (by-number (refusal-2 (record { is-kind = k; header = omega arith }, x))))
+      go (no x) = patched-body (omega arith)
 
 -- ---- short repeat and direct
 
@@ -336,15 +337,16 @@ is-true : (b : Bool) → T b → b ≡ true
 is-true true h = refl
 is-true false h = absurd h
 
+is-false : (b : Bool) → (T b → ⊥) → b ≡ false
+is-false true h = absurd (h tt)
+is-false false h = refl
+
 line-1 : (bs : List ℕ) → Refusals.Line1 bs → parse bs ≡ refused (plain 1)
 line-1 [] (h, l) = absurd (omega arith)
 line-1 (a ∷ s) (h, l) = header-cut a s l
 
 line-2 : (bs : List ℕ) → Refusals.Line2 bs → parse bs ≡ refused (plain 2)
 line-2 bs l = four (λ x. Refusals.Line2 x → parse x ≡ refused (plain 2)) (λ a b c e s l. patched-2 0 a b c e s (l .0 .is-kind) (l .1)) bs (l .0 .header) l
-
-line-3 : (bs : List ℕ) → Refusals.Line3 bs → parse bs ≡ refused (plain 3)
-line-3 bs l = four (λ x. Refusals.Line3 x → parse x ≡ refused (plain 3)) (λ a b c e s l. patched-3 0 a b c e s (l .0 .is-kind) (l .1) (l .2)) bs (l .0 .header) l
 
 line-4 : (bs : List ℕ) → Refusals.Line4 bs → parse bs ≡ refused (plain 4)
 line-4 bs l = two (λ x. Refusals.Line4 x → parse x ≡ refused (plain 4)) (λ a b s l. delta-4 0 a b s (l .0 .is-kind) (l .1) (l .2)) bs (l .0 .header) l
@@ -362,7 +364,7 @@ line-cut [] (Refusals.in-value h l) = absurd (omega (arith, h .header))
 line-cut (a ∷ s) (Refusals.in-value h l) = short-cut 0 a s (h .is-kind) l
 line-cut bs (Refusals.in-base r l) =
     four (λ x. PatchedRun x → length x < 4 + baseBytes x → parse x ≡ refused (cutIn 6 (drop 4 x)))
-    (λ a b c e s r l. patched-base 0 a b c e s (r .headed .is-kind) (r .not-2) (r .not-3) l) bs (r .headed .header) r l
+    (λ a b c e s r l. patched-base 0 a b c e s (r .headed .is-kind) (r .not-2) l) bs (r .headed .header) r l
 line-cut bs (Refusals.in-first-row r t) =
     two (λ x. DeltaRun x → Unended 10 (drop 2 x) → parse x ≡ refused (cutIn 12 (drop 2 x)))
     (λ a b s r t. delta-body 0 a b s (r .headed .is-kind) (r .not-4) ∙ rw (unended (cutIn 12 s) 10 s t)) bs (r .headed .header) r t
@@ -378,18 +380,27 @@ line-cut bs (Refusals.in-magnitudes v w rest r e h g l) =
     bs (r .headed .header) r e l
 line-cut bs (Refusals.in-values r m l) =
     four (λ x. PatchedRun x → 4 + baseBytes x ≤ length x → length x < listFrom x → parse x ≡ refused (cutIn 13 (drop (4 + baseBytes x) x)))
-    (λ a b c e s r m l. patched-values 0 a b c e s (r .headed .is-kind) (r .not-2) (r .not-3) m l) bs (r .headed .header) r m l
+    (λ a b c e s r m l. patched-values 0 a b c e s (r .headed .is-kind) (r .not-2) m l) bs (r .headed .header) r m l
 line-cut bs (Refusals.in-list r m l) =
     four (λ x. PatchedRun x → listFrom x ≤ length x → length x < listTo x → parse x ≡ refused (cutIn 14 (drop (listFrom x) x)))
-    (λ a b c e s r m l. patched-list 0 a b c e s (r .headed .is-kind) (r .not-2) (r .not-3) m l) bs (r .headed .header) r m l
+    (λ a b c e s r m l. patched-list 0 a b c e s (r .headed .is-kind) (r .not-2) m l) bs (r .headed .header) r m l
+
+line-3 : (bs : List ℕ) → Refusals.Line3 bs → parse bs ≡ refused (plain 3)
+line-3 bs l =
+    four (λ x. Refusals.Line3 x → parse x ≡ refused (plain 3))
+    (λ a b c e s l.
+    let (d, rest, f) = patched-all 0 a b c e s (l .0 .headed .is-kind) (l .0 .not-2) (l .1) in
+    let t : tooLarge (width (codeOf a)) (patches (width (c % 32)) (entries (a ∷ b ∷ c ∷ e ∷ s))) ≡ true = is-true _ (too-large _ _ _ .1 (l .2)) in
+    f ∙ rw t) bs (l .0 .headed .header) l
 
 line-7 : (bs : List ℕ) → Refusals.Line7 bs → parse bs ≡ refused (plain 7)
 line-7 bs l =
     four (λ x. Refusals.Line7 x → parse x ≡ refused (plain 7))
     (λ a b c e s l.
-    let (d, rest, f) = patched-all 0 a b c e s (l .0 .headed .is-kind) (l .0 .not-2) (l .0 .not-3) (l .1) in
-    let t : outOfPlace (width (c % 32)) (rowsLess a b + 1) (entries (a ∷ b ∷ c ∷ e ∷ s)) ≡ true = is-true _ (out-of-place _ _ _ .1 (l .2)) in
-    f ∙ rw t) bs (l .0 .headed .header) l
+    let (d, rest, f) = patched-all 0 a b c e s (l .0 .headed .is-kind) (l .0 .not-2) (l .1) in
+    let t : tooLarge (width (codeOf a)) (patches (width (c % 32)) (entries (a ∷ b ∷ c ∷ e ∷ s))) ≡ false = is-false _ (λ h. l .2 (too-large _ _ _ .0 h)) in
+    let u : outOfPlace (width (c % 32)) (rowsLess a b + 1) (entries (a ∷ b ∷ c ∷ e ∷ s)) ≡ true = is-true _ (out-of-place _ _ _ .1 (l .3)) in
+    f ∙ rw (t, u)) bs (l .0 .headed .header) l
 
 line-8 : (places : ℕ) (bs : List ℕ) → Refusals.Line8 places bs → into places (parse bs) ≡ refused (plain 8)
 unfolding into

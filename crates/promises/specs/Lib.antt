@@ -15,5 +15,6 @@ pub mod Sums
 pub mod CutFile
 -- the change requests of document 02
 pub mod BrokeOff
+pub mod Longest
 -- any two outcomes are equal
 pub mod Outcomes

@@ -1,5 +1,5 @@
--- The user's second question: every damaged patch list. Whatever the bytes of the list are, the answer is refusal 7, in one of its three cases, or rows
--- in which exactly the places that the list names are patched.
+-- The user's second question: every damaged patch list. Whatever the bytes of the list are, the answer is refusal 3, or refusal 7 in one of its three
+-- cases, or rows in which exactly the places that the list names are patched.
 -- Assumes nothing.
 use mathlib.Core.Path.{_≡_}
 use mathlib.Core.Logic.{_⊎_}
@@ -29,6 +29,11 @@ pub record Names (pw : ℕ) (es : List ℕ) (j p : ℕ) : Type 0 where
   pub no-skip : T (not (isSkip pw (getD es j 0)))
   pub here : placeOf pw es j ≡ p
 
+-- ---- refusal 3: the patch of some entry that is no skip is 2^(64-W) or more
+
+abbrev pub TooLarge : ℕ → ℕ → List ℕ → Type 0
+TooLarge w pw es = (j p : ℕ) × Names pw es j p × (2 ^ (64 - w) ≤ patchOf pw (getD es j 0))
+
 -- ---- the three cases of refusal 7, for a run of so many rows
 
 abbrev pub LastIsSkip : ℕ → List ℕ → Type 0
@@ -52,13 +57,20 @@ pub record Patched (code : ℕ) (base : List ℕ) (pc : ℕ) (k l : Block) (out�
   pub other : ((j : ℕ) → Names (width pc) (l .values) j p → ⊥) → getD out′ p (pos 0) ≡ asI64 ((baseValue base + getD (k .values) p 0) % two64)
 
 pub record Rows (code : ℕ) (base : List ℕ) (pc gw : ℕ) (k l : Block) (out out′ : List ℤ) (r : Answer) : Type 0 where
+  pub fitting : TooLarge (width code) (width pc) (l .values) → ⊥
   pub in-place : OutOfPlace (width pc) (length (k .values)) (l .values) → ⊥
   pub answer : r ≡ ran PatchedBase (length (k .values)) (length (layout (patched code base pc gw k l)))
   pub rows : (p : ℕ) → p < length (k .values) → Patched code base pc k l out′ p
   pub others : drop (length (k .values)) out′ ≡ drop (length (k .values)) out
 
--- refusal 7, at the byte where the run begins, every place unchanged
-pub record Refused (pc : ℕ) (k l : Block) (at : ℕ) (out out′ : List ℤ) (r : Answer) : Type 0 where
+-- refusal 3 or 7, at the byte where the run begins, every place unchanged
+pub record Refused3 (code pc : ℕ) (l : Block) (at : ℕ) (out out′ : List ℤ) (r : Answer) : Type 0 where
+  pub too-large : TooLarge (width code) (width pc) (l .values)
+  pub answer : r ≡ refusedAt 3 at
+  pub places : out′ ≡ out
+
+pub record Refused7 (code pc : ℕ) (k l : Block) (at : ℕ) (out out′ : List ℤ) (r : Answer) : Type 0 where
+  pub fitting : TooLarge (width code) (width pc) (l .values) → ⊥
   pub out-of-place : OutOfPlace (width pc) (length (k .values)) (l .values)
   pub answer : r ≡ refusedAt 7 at
   pub places : out′ ≡ out
@@ -67,9 +79,9 @@ pub record PatchLists : Type 0 where
   -- any bytes, as many as n entries take, are the block of some n entries
   pub any-bytes : (w n : ℕ) (bs : List ℕ) → AllBelow 256 bs → length bs ≡ bytesFor (n * w) → (l : Block) × IsBlock w n l × (blockBytes w n l ≡ bs)
   -- Of every patched run that is good without a list, with any list of up to 31 entries behind it, wherever its bytes stand and whatever follows them:
-  -- refusal 7, or the run with these rows
+  -- refusal 3, refusal 7, or the run with these rows
   pub either-way : (code : ℕ) (base : List ℕ) (pc gw : ℕ) (k l : Block) → Valid (patched code base pc gw k (record { values = []; pad = 0 }))
       → length (l .values) < 32 → IsBlock (entryWidth pc gw) (length (l .values)) l
       → (input : List ℕ) (at : ℕ) (signed : Bool) (out out′ : List ℤ) (r : Answer) → RunRead input at signed out out′ r
       → (rest : List ℕ) → drop at input ≡ layout (patched code base pc gw k l) ++ rest → length (k .values) ≤ length out
-      → Refused pc k l at out out′ r ⊎ Rows code base pc gw k l out out′ r
+      → Refused3 code pc l at out out′ r ⊎ (Refused7 code pc k l at out out′ r ⊎ Rows code base pc gw k l out out′ r)

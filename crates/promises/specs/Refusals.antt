@@ -1,6 +1,6 @@
 -- The table of numbers of documents 01 and 02 that the run reader gives: "given exactly when". Each line is said of the bytes, in the table's words,
--- with what the reading order adds: 1, 2, 3, 4; then 5 and the numbers of a cut field (6, 12, 13, 14) in byte order; then 7; then 8. No other number is
--- given, and a byte exactly with those of a cut field.
+-- with what the reading order adds: 1, 2, 4; then 5 and the numbers of a cut field (6, 12, 13, 14) in byte order; then 3; then 7; then 8. No other
+-- number is given, and a byte exactly with those of a cut field.
 -- Assumes nothing.
 use mathlib.Core.Path.{_≡_}
 use mathlib.Core.Logic.{_↔_, _⊎_}
@@ -16,7 +16,7 @@ use Rattle.format.specs.Fields.{width, bytesFor, Varint}
 use Rattle.format.specs.Runs.{Description, rowCount, Valid, layout, entryWidth}
 use Rattle.format.specs.Parse.{Reason, plain, cutIn, refused, parse, into, unpack}
 use Rattle.format.specs.Promises.{RunRead}
-use Rattle.promises.specs.PatchLists.{OutOfPlace}
+use Rattle.promises.specs.PatchLists.{TooLarge, OutOfPlace}
 
 -- ---- the header's fields
 
@@ -100,12 +100,11 @@ TenTop ten s = (ten ≤ length s) × AllTop (take ten s)
 abbrev pub Unended : ℕ → List ℕ → Type 0
 Unended ten s = (length s < ten) × AllTop s
 
--- ---- refusals 2, 3 and 4 do not apply
+-- ---- refusals 2 and 4 do not apply
 
 pub record PatchedRun (bs : List ℕ) : Type 0 where
   pub headed : Headed 2 bs
   pub not-2 : width (patchCode bs) + gapWidth bs ≤ 64
-  pub not-3 : width (code bs) + width (patchCode bs) ≤ 64
 
 pub record DeltaRun (bs : List ℕ) : Type 0 where
   pub headed : Headed 3 bs
@@ -120,10 +119,6 @@ Line1 bs = (1 ≤ length bs) × (length bs < headerOf (kind bs))
 -- 2: patched: patch width + gap width is over 64
 abbrev pub Line2 : List ℕ → Type 0
 Line2 bs = Headed 2 bs × (64 < width (patchCode bs) + gapWidth bs)
-
--- 3: patched: value width + patch width is over 64
-abbrev pub Line3 : List ℕ → Type 0
-Line3 bs = Headed 2 bs × (width (patchCode bs) + gapWidth bs ≤ 64) × (64 < width (code bs) + width (patchCode bs))
 
 -- 4: delta: width code not 0, one row
 abbrev pub Line4 : List ℕ → Type 0
@@ -157,9 +152,15 @@ pub data CutNumber : ℕ → Type 0 where
   thirteen : CutNumber 13
   fourteen : CutNumber 14
 
+-- 3: patched: some non-skip entry's patch is 2^(64-W) or more
+abbrev pub Line3 : List ℕ → Type 0
+Line3 bs = PatchedRun bs × (listTo bs ≤ length bs) × TooLarge (width (code bs)) (width (patchCode bs)) (entries bs)
+
 -- 7: patch list out of place
 abbrev pub Line7 : List ℕ → Type 0
-Line7 bs = PatchedRun bs × (listTo bs ≤ length bs) × OutOfPlace (width (patchCode bs)) (rows bs) (entries bs)
+Line7 bs =
+    PatchedRun bs × (listTo bs ≤ length bs) × (TooLarge (width (code bs)) (width (patchCode bs)) (entries bs) → ⊥)
+    × OutOfPlace (width (patchCode bs)) (rows bs) (entries bs)
 
 -- 8: the output has too few places, for a run that nothing else refuses
 abbrev pub Line8 : ℕ → List ℕ → Type 0

@@ -1,4 +1,4 @@
--- The walk over a patch list finds exactly document 01's refusal 7, and patches exactly the rows that document 01 names. Assumes nothing.
+-- The walk over a patch list finds exactly refusals 3 and 7, and patches exactly the rows that document 01 names. Assumes nothing.
 use mathlib.Core.Path.{_≡_, refl, sym, ap, _∙_}
 use Prim.Native.Nat.{ℕ, zero, suc, _+_, _-_, _*_, _/_, _%_, _^_, _<_, _≤_}
 use native.Mathlib.Omega.{arith}
@@ -11,14 +11,15 @@ use lib.IntN.{ℤ, pos}
 use lib.Pow.{pow-pos, pow-mono}
 use native.Mathlib.Nat.{mod-lt, mod-eq-of-lt, mod-add-mod, zero-mul, add-zero, add-assoc, suc-add, add-suc, pow-zero, div-one, div-lt-iff-lt-mul}
 use lib.Dec.{leb, ltb, eqb}
-use borrow.Author.Tests.{le-ltb, lt-ltb, eq-eqb, ne-eqb, ltb-false, leb-false}
+use borrow.Author.Tests.{le-ltb, lt-ltb, lt-leb, eq-eqb, ne-eqb, eqb-true, ltb-false, leb-false}
 use Rattle.format.specs.Fields.{pick, two64}
 use Rattle.format.specs.Rows as Rows
 use Rattle.format.specs.Rows.{plus, asI64}
 use Rattle.format.proofs.Patterns.{as-back}
 use Rattle.format.proofs.Rows.{length-patchedRows}
-use Rattle.format.specs.Runs.{Patch, isSkip, gapOf, patchOf, patchesFrom, patches, lastIsSkip, taken, shared, outside, outOfPlace}
-use Rattle.rle_v2.specs.PatchList.{IsEntry, misplaced, patchedRow, patchAll}
+use Rattle.format.proofs.Runs.{limit-is}
+use Rattle.format.specs.Runs.{Patch, isSkip, gapOf, patchOf, patchesFrom, patches, lastIsSkip, taken, shared, outside, patchLimit, tooLarge, outOfPlace}
+use Rattle.rle_v2.specs.PatchList.{IsEntry, misplaced, large, listNumber, patchedRow, patchAll}
 
 -- ---- refusal 7
 
@@ -123,6 +124,47 @@ pub misplaced-is : (pw rows : ℕ) (es : List ℕ) → misplaced pw rows 0 0 fal
 unfolding outOfPlace patches lastIsSkip misplaced patchesFrom shared outside lastOr
 misplaced-is pw rows [] = refl
 misplaced-is pw rows (e ∷ es) = walk-is pw rows 0 0 false (e ∷ es) (omega arith) ∙ rw (places-from pw 0 0 (e ∷ es) (omega arith), last-is pw e es)
+
+-- ---- refusal 3
+
+skip-parts : (pw e : ℕ) → isSkip pw e ≡ true → (gapOf pw e ≡ 255) × (patchOf pw e ≡ 0)
+skip-parts pw e h = by (eqb (gapOf pw e) 255) (eqb (patchOf pw e) 0) refl refl h
+  where
+    by : (s t : Bool) → eqb (gapOf pw e) 255 ≡ s → eqb (patchOf pw e) 0 ≡ t → (s && t) ≡ true → (gapOf pw e ≡ 255) × (patchOf pw e ≡ 0)
+    by true true i j h = (eqb-true (gapOf pw e) 255 i, eqb-true (patchOf pw e) 0 j)
+    by true false i j h = let z : _≡_ {A = ℕ} 0 1 = cc in absurd (omega arith)
+    by false t i j h = let z : _≡_ {A = ℕ} 0 1 = cc in absurd (omega arith)
+
+pub skip-gap : (pw e : ℕ) → isSkip pw e ≡ true → gapOf pw e ≡ 255
+skip-gap pw e h = skip-parts pw e h .0
+
+-- a skip's patch is below every limit, so that the places do not count
+pub large-is : (w pw before : ℕ) (es : List ℕ) → tooLarge w (patchesFrom pw before es) ≡ large w pw es
+unfolding tooLarge patchesFrom large
+large-is w pw before [] = refl
+large-is w pw before (e ∷ es) = go (isSkip pw e) refl (large-is w pw (before + gapOf pw e) es)
+  where
+    qs : List Patch
+    qs = patchesFrom pw (before + gapOf pw e) es
+
+    small : isSkip pw e ≡ true → patchOf pw e < patchLimit w
+    small s = rw (skip-parts pw e s .1, limit-is w) (pow-pos (64 - w))
+
+    go : (t : Bool) → isSkip pw e ≡ t → tooLarge w qs ≡ large w pw es
+        → tooLarge w (pick t qs (record { place = before + gapOf pw e; patch = patchOf pw e } ∷ qs)) ≡ (leb (patchLimit w) (patchOf pw e) || large w pw es)
+    go true s ih = ih ∙ rw (lt-leb (patchLimit w) (patchOf pw e) (small s))
+    go false s ih = rw ih
+
+-- ---- none of the two
+
+pub none-refused : (w pw rows : ℕ) (es : List ℕ) → listNumber w pw rows es ≡ 0 → (tooLarge w (patches pw es) ≡ false) × (outOfPlace pw rows es ≡ false)
+unfolding listNumber
+none-refused w pw rows es z = by (tooLarge w (patches pw es)) (outOfPlace pw rows es) z
+  where
+    by : (t o : Bool) → _≡_ {A = ℕ} (pick t 3 (pick o 7 0)) 0 → (t ≡ false) × (o ≡ false)
+    by true o z = absurd (omega arith)
+    by false true z = absurd (omega arith)
+    by false false z = (refl, refl)
 
 -- ---- the rows
 

@@ -1,74 +1,97 @@
--- The turns of the two walks over a patch list: the one that finds refusal 7, and the one that puts the patches into the rows. Assumes nothing.
+-- The turns of the two walks over a patch list: the one that finds refusals 3 and 7, and the one that puts the patches into the rows. Assumes nothing.
 use mathlib.Core.Path.{_≡_, refl, sym, ap, _∙_}
 use Prim.Native.Nat.{ℕ, _+_, _*_, _<_, _≤_}
 use native.Mathlib.Omega.{arith}
 use native.Mathlib.Numerals.{add-one}
-use mathlib.Core.Bool.{Bool, true, false, _&&_, _||_}
+use mathlib.Core.Bool.{Bool, true, false, _||_}
 use mathlib.Core.List.{List, _∷_}
 use lib.ListN.{length, getD, set, drop, length-set, drop-of-length-le}
 use lib.Seq.{drop-cons}
 use lib.IntN.{ℤ, pos}
-use lib.Dec.{leb, ltb, eqb}
-use borrow.Author.Tests.{le-ltb, lt-leb, eqb-true, leb-false}
+use lib.Dec.{leb, ltb}
+use borrow.Author.Tests.{le-ltb, lt-leb, le-leb, leb-false}
 use Rattle.format.specs.Digits.{AllBelow}
 use Rattle.format.specs.Fields.{pick, bytesFor}
-use Rattle.format.specs.Runs.{isSkip, gapOf, patchOf, outOfPlace}
+use Rattle.format.specs.Runs.{isSkip, gapOf, patchOf, patches, patchLimit, tooLarge, outOfPlace}
 use Rattle.util.specs.Packed.{fields, fieldAt}
 use Rattle.util.proofs.Window.{field-at, length-fields}
-use Rattle.rle_v2.specs.PatchList.{IsEntry, misplaced, patchedRow, patchAll}
-use Rattle.rle_v2.proofs.PatchList.{misplaced-is, or-false}
+use Rattle.rle_v2.specs.PatchList.{IsEntry, misplaced, large, listNumber, patchedRow, patchAll}
+use Rattle.rle_v2.proofs.PatchList.{misplaced-is, large-is, skip-gap, or-false}
 
 -- entry k, and those after it
 pub entry-next : (w n k : ℕ) (s : List ℕ) → AllBelow 256 s → k < n → bytesFor (n * w) ≤ length s
     → drop k (fields w n s) ≡ fieldAt w k s ∷ drop (k + 1) (fields w n s)
 entry-next w n k s d h l = rw (add-one, drop-cons (fields w n s) k 0 (rw length-fields h), field-at w n k s d h l)
 
--- a skip's gap
-skip-gap : (pw e : ℕ) → isSkip pw e ≡ true → gapOf pw e ≡ 255
-skip-gap pw e h = by (eqb (gapOf pw e) 255) refl h
-  where
-    by : (t : Bool) → eqb (gapOf pw e) 255 ≡ t → (t && eqb (patchOf pw e) 0) ≡ true → gapOf pw e ≡ 255
-    by true i h = eqb-true (gapOf pw e) 255 i
-    by false i h =
-        let z : _≡_ {A = ℕ} 0 1 = cc in
-        absurd (omega arith)
+-- ---- the walk that finds refusals 3 and 7
 
--- ---- the walk that finds refusal 7
+-- an entry that is passed, or that is too large
+module _ (w pw : ℕ) (es : List ℕ) (k e patch : ℕ) (n : drop k es ≡ e ∷ drop (k + 1) es) (i : patch ≡ patchOf pw e) where
+  pub large-next : patch < patchLimit w → large w pw (drop k es) ≡ large w pw (drop (k + 1) es)
+  unfolding large
+  large-next h = rw (n, ← i, lt-leb (patchLimit w) patch h)
 
-module _ (pw rows : ℕ) (es : List ℕ) where
+  pub large-here : patchLimit w ≤ patch → large w pw (drop k es) ≡ true
+  unfolding large
+  large-here h = rw (n, ← i, le-leb (patchLimit w) patch h)
+
+pub large-none : (w pw : ℕ) (es : List ℕ) (k : ℕ) → length es ≤ k → large w pw (drop k es) ≡ false
+unfolding large
+large-none w pw es k h = rw (drop-of-length-le es {i = k} h)
+
+module _ (w pw rows : ℕ) (es : List ℕ) where
   -- k entries are passed; the sum of their gaps is small as long as each of them is in place
   pub record Walk (k place free : ℕ) (skip : Bool) : Type 0 where
     pub so-far : misplaced pw rows place free skip (drop k es) ≡ outOfPlace pw rows es
+    pub fitting : large w pw (drop k es) ≡ tooLarge w (patches pw es)
     pub low : place ≤ 511 + 255 * k
 
   pub walk-first : Walk 0 0 0 false
-  walk-first = record { so-far = misplaced-is pw rows es; low = omega arith }
+  unfolding patches
+  walk-first = record { so-far = misplaced-is pw rows es; fitting = sym (large-is w pw 0 es); low = omega arith }
 
-  pub walk-last : (k place free : ℕ) (skip : Bool) → Walk k place free skip → length es ≤ k → skip ≡ outOfPlace pw rows es
-  unfolding misplaced
-  walk-last k place free skip w h = rw (drop-of-length-le es {i = k} h) at (w .so-far)
+  pub walk-last : (k place free : ℕ) (skip : Bool) → Walk k place free skip → length es ≤ k → pick skip 7 0 ≡ listNumber w pw rows es
+  unfolding misplaced listNumber
+  walk-last k place free skip x h =
+      let o : skip ≡ outOfPlace pw rows es = rw (drop-of-length-le es {i = k} h) at (x .so-far) in
+      let t : tooLarge w (patches pw es) ≡ false = sym (x .fitting) ∙ large-none w pw es k h in
+      rw (t, ← o)
 
-  module _ (k place free e gap patch : ℕ) (skip t : Bool) (w : Walk k place free skip) (n : drop k es ≡ e ∷ drop (k + 1) es) (i : IsEntry pw e gap patch t) where
-    pub walk-skip : t ≡ true → Walk (k + 1) (place + gap) free t
-    unfolding misplaced
-    walk-skip y =
-        let u : isSkip pw e ≡ true = sym (i .skip-is) ∙ y in
-        let g : gap ≡ 255 = i .gap-is ∙ skip-gap pw e u in
-        record { so-far = rw (y, i .gap-is) (rw (n, u) at (w .so-far)); low = omega (arith, w .low) }
+  module _ (k place free e gap patch : ℕ) (skip t : Bool) (x : Walk k place free skip) (n : drop k es ≡ e ∷ drop (k + 1) es) (i : IsEntry pw e gap patch t) where
+    pub walk-large : patchLimit w ≤ patch → 3 ≡ listNumber w pw rows es
+    unfolding listNumber
+    walk-large h =
+        let l : tooLarge w (patches pw es) ≡ true = sym (x .fitting) ∙ large-here w pw es k e patch n (i .patch-is) h in
+        rw l
 
-    pub walk-named : t ≡ false → free ≤ place + gap → place + gap < rows → rows ≤ 512 → Walk (k + 1) (place + gap) (place + gap + 1) t
-    unfolding misplaced
-    walk-named y f l h =
-        let u : isSkip pw e ≡ false = sym (i .skip-is) ∙ y in
-        let q : place + gapOf pw e ≡ place + gap = ap (λ (x : ℕ). place + x) (sym (i .gap-is)) in
-        record {
-          so-far = rw (← q, y) (rw (n, u, le-ltb (place + gapOf pw e) free (rw q f), lt-leb rows (place + gapOf pw e) (rw q l)) at (w .so-far));
-          low = omega arith;
-        }
+    pub walk-stop : t ≡ false → (ltb (place + gap) free || leb rows (place + gap)) ≡ true → pick (large w pw (drop k es)) 3 7 ≡ listNumber w pw rows es
+    unfolding misplaced listNumber
+    walk-stop y b =
+        let o : true ≡ outOfPlace pw rows es = rw (n, sym (i .skip-is) ∙ y, ← (i .gap-is), b) at (x .so-far) in
+        rw (x .fitting, ← o)
 
-    pub walk-stop : t ≡ false → (ltb (place + gap) free || leb rows (place + gap)) ≡ true → true ≡ outOfPlace pw rows es
-    unfolding misplaced
-    walk-stop y b = rw (n, sym (i .skip-is) ∙ y, ← (i .gap-is), b) at (w .so-far)
+    module _ (h : patch < patchLimit w) where
+      pub walk-skip : t ≡ true → Walk (k + 1) (place + gap) free t
+      unfolding misplaced
+      walk-skip y =
+          let u : isSkip pw e ≡ true = sym (i .skip-is) ∙ y in
+          let g : gap ≡ 255 = i .gap-is ∙ skip-gap pw e u in
+          record {
+            so-far = rw (y, i .gap-is) (rw (n, u) at (x .so-far));
+            fitting = sym (large-next w pw es k e patch n (i .patch-is) h) ∙ x .fitting;
+            low = omega (arith, x .low);
+          }
+
+      pub walk-named : t ≡ false → free ≤ place + gap → place + gap < rows → rows ≤ 512 → Walk (k + 1) (place + gap) (place + gap + 1) t
+      unfolding misplaced
+      walk-named y f l m =
+          let u : isSkip pw e ≡ false = sym (i .skip-is) ∙ y in
+          let q : place + gapOf pw e ≡ place + gap = ap (λ (z : ℕ). place + z) (sym (i .gap-is)) in
+          record {
+            so-far = rw (← q, y) (rw (n, u, le-ltb (place + gapOf pw e) free (rw q f), lt-leb rows (place + gapOf pw e) (rw q l)) at (x .so-far));
+            fitting = sym (large-next w pw es k e patch n (i .patch-is) h) ∙ x .fitting;
+            low = omega arith;
+          }
 
 -- ---- the walk that puts the patches
 

@@ -9,8 +9,8 @@ use lib.ListN.{length, take, drop, getD, length-drop}
 use lib.Seq.{length-take-le}
 use lib.IntN.{ℤ}
 use borrow.Author.Tests.{lt-ltb, le-ltb}
-use Rattle.format.specs.Fields.{width, bytesFor}
-use Rattle.format.specs.Runs.{Description, patched, entryWidth, outOfPlace}
+use Rattle.format.specs.Fields.{pick, width, bytesFor}
+use Rattle.format.specs.Runs.{Description, patched, entryWidth, patches, tooLarge, outOfPlace}
 use Rattle.format.specs.Rows as Rows
 use Rattle.format.specs.Rows.{asI64, baseValue, i64Rows, rowsOf}
 use Rattle.format.specs.Parse.{Parsed, got, refused, plain, codeOf, rowsLess, unless, patchedBody, patchedRun}
@@ -20,10 +20,10 @@ use Rattle.format.specs.declared.Kind.the-variants.{PatchedBase}
 use Rattle.format.proofs.Rows.{width-le, bytes-count}
 use Rattle.format.proofs.Reading.{byte-here, bytes-here, bytes-cut, blockAt, block-here, block-cut, gives-refused, gives-cut, gives-8, gives-run}
 use Rattle.rle_v2.specs.Pass.{based}
-use Rattle.rle_v2.specs.PatchList.{patchAll}
+use Rattle.rle_v2.specs.PatchList.{listNumber, patchAll}
 use Rattle.rle_v2.specs.PatchedHead.{cutBody}
 use Rattle.rle_v2.proofs.Pass.{based-is}
-use Rattle.rle_v2.proofs.PatchList.{patched-is}
+use Rattle.rle_v2.proofs.PatchList.{none-refused, patched-is}
 use Rattle.rle_v2.proofs.Blocks.{block-count, block-patterns}
 
 module _ (s : List ℕ) (at : ℕ) (signed : Bool) (out : List ℤ) where
@@ -71,84 +71,83 @@ module _ (s : List ℕ) (at : ℕ) (signed : Bool) (out : List ℤ) where
     refused-2 h = gives-refused at (length s - at) signed body out 2 (rw (lt-ltb 64 (width pc + gw) h))
 
     module _ (not-2 : width pc + gw ≤ 64) where
-      pub refused-3 : 64 < width code + width pc → Gives at (length s - at) signed body out out (refusedAt 3 at)
-      unfolding patchedBody
-      refused-3 h = gives-refused at (length s - at) signed body out 3 (rw (le-ltb 64 (width pc + gw) not-2, lt-ltb 64 (width code + width pc) h))
-
-      module _ (not-3 : width code + width pc ≤ 64) where
-        -- the input ends in the base, in the values or in the list
-        pub broken-off : at + 4 ≤ length s → length s < at + 4 + bw + size + listSize
-            → Gives at (length s - at) signed body out out (cutBody (length s) at (at + 4 + bw) (at + 4 + bw + size))
-        unfolding patchedBody cutBody
-        broken-off t h = by (decLt (length s) (at + 4 + bw)) (decLt (length s) (at + 4 + bw + size))
-          where
-            by : Dec (length s < at + 4 + bw) → Dec (length s < at + 4 + bw + size) → Gives at (length s - at) signed body out out (cutBody (length s) at (at + 4 + bw) (at + 4 + bw + size))
-            by (yes l) m =
-                rw (lt-ltb (length s) (at + 4 + bw) l)
-                (gives-cut s at (at + 4) 6 signed body out (omega arith) t
-                (rw (le-ltb 64 (width pc + gw) not-2, le-ltb 64 (width code + width pc) not-3, bytes-cut s (at + 4) 6 bw (omega arith))))
-            by (no l) (yes m) =
-                rw (le-ltb (length s) (at + 4 + bw) (omega arith), lt-ltb (length s) (at + 4 + bw + size) m)
-                (gives-cut s at (at + 4 + bw) 13 signed body out (omega arith) (omega arith)
-                (rw (
-                  le-ltb 64 (width pc + gw) not-2,
-                  le-ltb 64 (width code + width pc) not-3,
-                  bytes-here s (at + 4) 6 bw (omega arith),
-                  block-cut s (at + 4 + bw) 13 (width code) rows (omega arith),
-                )))
-            by (no l) (no m) =
-                rw (le-ltb (length s) (at + 4 + bw) (omega arith), le-ltb (length s) (at + 4 + bw + size) (omega arith))
-                (gives-cut s at (at + 4 + bw + size) 14 signed body out (omega arith) (omega arith)
-                (rw (
-                  le-ltb 64 (width pc + gw) not-2,
-                  le-ltb 64 (width code + width pc) not-3,
-                  bytes-here s (at + 4) 6 bw (omega arith),
-                  block-here s (at + 4 + bw) 13 (width code) rows (omega arith),
-                  block-cut s (at + 4 + bw + size) 14 (entryWidth pc gw) len (omega arith),
-                )))
-
-        module _ (h : at + 4 + bw + size + listSize ≤ length s) where
-          abbrev entries : List ℕ
-          entries = blockAt s (at + 4 + bw + size) (entryWidth pc gw) len .values
-
-          -- all of the body but the test of the list
-          all-there : body
-              ≡ unless (outOfPlace (width pc) rows entries) 7
-              (got (patched code (take bw (drop (at + 4) s)) pc gw (blockAt s (at + 4 + bw) (width code) rows) (blockAt s (at + 4 + bw + size) (entryWidth pc gw) len))
-              (drop (at + 4 + bw + size + listSize) s))
-          unfolding patchedBody
-          all-there =
-              rw (
+      -- the input ends in the base, in the values or in the list
+      pub broken-off : at + 4 ≤ length s → length s < at + 4 + bw + size + listSize
+          → Gives at (length s - at) signed body out out (cutBody (length s) at (at + 4 + bw) (at + 4 + bw + size))
+      unfolding patchedBody cutBody
+      broken-off t h = by (decLt (length s) (at + 4 + bw)) (decLt (length s) (at + 4 + bw + size))
+        where
+          by : Dec (length s < at + 4 + bw) → Dec (length s < at + 4 + bw + size) → Gives at (length s - at) signed body out out (cutBody (length s) at (at + 4 + bw) (at + 4 + bw + size))
+          by (yes l) m =
+              rw (lt-ltb (length s) (at + 4 + bw) l)
+              (gives-cut s at (at + 4) 6 signed body out (omega arith) t
+              (rw (le-ltb 64 (width pc + gw) not-2, bytes-cut s (at + 4) 6 bw (omega arith))))
+          by (no l) (yes m) =
+              rw (le-ltb (length s) (at + 4 + bw) (omega arith), lt-ltb (length s) (at + 4 + bw + size) m)
+              (gives-cut s at (at + 4 + bw) 13 signed body out (omega arith) (omega arith)
+              (rw (le-ltb 64 (width pc + gw) not-2, bytes-here s (at + 4) 6 bw (omega arith), block-cut s (at + 4 + bw) 13 (width code) rows (omega arith))))
+          by (no l) (no m) =
+              rw (le-ltb (length s) (at + 4 + bw) (omega arith), le-ltb (length s) (at + 4 + bw + size) (omega arith))
+              (gives-cut s at (at + 4 + bw + size) 14 signed body out (omega arith) (omega arith)
+              (rw (
                 le-ltb 64 (width pc + gw) not-2,
-                le-ltb 64 (width code + width pc) not-3,
                 bytes-here s (at + 4) 6 bw (omega arith),
                 block-here s (at + 4 + bw) 13 (width code) rows (omega arith),
-                block-here s (at + 4 + bw + size) 14 (entryWidth pc gw) len (omega arith),
-              )
+                block-cut s (at + 4 + bw + size) 14 (entryWidth pc gw) len (omega arith),
+              )))
 
-          pub refused-7 : outOfPlace (width pc) rows entries ≡ true → Gives at (length s - at) signed body out out (refusedAt 7 at)
-          refused-7 o = gives-refused at (length s - at) signed body out 7 (all-there ∙ rw o)
+      module _ (h : at + 4 + bw + size + listSize ≤ length s) where
+        abbrev entries : List ℕ
+        entries = blockAt s (at + 4 + bw + size) (entryWidth pc gw) len .values
 
-          module _ (o : outOfPlace (width pc) rows entries ≡ false) where
-            is-run : body
-                ≡ got (patched code (take bw (drop (at + 4) s)) pc gw (blockAt s (at + 4 + bw) (width code) rows) (blockAt s (at + 4 + bw + size) (entryWidth pc gw) len))
-                (drop (at + 4 + bw + size + listSize) s)
-            is-run = all-there ∙ rw o
+        abbrev number : ℕ
+        number = listNumber (width code) (width pc) rows entries
 
-            pub refused-8 : length out < rows → Gives at (length s - at) signed body out out (refusedAt 8 at)
-            refused-8 r = gives-8 at (length s - at) signed body out _ _ is-run (rw (block-count s (at + 4 + bw) (width code) rows) r)
+        abbrev all : Parsed Description
+        all =
+            got (patched code (take bw (drop (at + 4) s)) pc gw (blockAt s (at + 4 + bw) (width code) rows) (blockAt s (at + 4 + bw + size) (entryWidth pc gw) len))
+            (drop (at + 4 + bw + size + listSize) s)
 
-            pub read-is : (one out′ : List ℤ) → rows ≤ length out
-                → one ≡ based (baseValue (take bw (drop (at + 4) s))) (map asI64 (blockAt s (at + 4 + bw) (width code) rows .values)) ++ drop rows out
-                → out′ ≡ patchAll (width code) (width pc) 0 one entries
-                → Gives at (length s - at) signed body out out′ (ran PatchedBase rows (at + 4 + bw + size + listSize - at))
-            unfolding i64Rows rowsOf
-            read-is one out′ r e f =
-                let n = block-count s (at + 4 + bw) (width code) rows in
-                let vs = blockAt s (at + 4 + bw) (width code) rows .values in
-                let base = baseValue (take bw (drop (at + 4) s)) in
-                let b : one ≡ map asI64 (Rows.patchedRows base (width code) [] 0 vs) ++ drop rows out
-                = e ∙ ap (λ (x : List ℤ). x ++ drop rows out) (based-is base (width code) 0 vs (block-patterns s (at + 4 + bw) (width code) rows (width-le code))) in
-                gives-run at (length s - at) signed body out _ _ is-run out′ PatchedBase rows _ (rw n r) refl (sym n)
-                (sym (bytes-count _ ∙ rw (length-take-le bw (drop (at + 4) s) (rw length-drop (omega arith)), n, block-count s (at + 4 + bw + size) (entryWidth pc gw) len) (omega arith)))
-                (f ∙ rw b (patched-is (width code) (width pc) base vs entries (drop rows out) (rw n o)))
+        -- all of the body but the tests of the list
+        all-there : body ≡ unless (tooLarge (width code) (patches (width pc) entries)) 3 (unless (outOfPlace (width pc) rows entries) 7 all)
+        unfolding patchedBody
+        all-there =
+            rw (
+              le-ltb 64 (width pc + gw) not-2,
+              bytes-here s (at + 4) 6 bw (omega arith),
+              block-here s (at + 4 + bw) 13 (width code) rows (omega arith),
+              block-here s (at + 4 + bw + size) 14 (entryWidth pc gw) len (omega arith),
+            )
+
+        pub refused-list : (number ≡ 0 → ⊥) → Gives at (length s - at) signed body out out (refusedAt number at)
+        unfolding listNumber
+        refused-list z = gives-refused at (length s - at) signed body out _ (all-there ∙ by (tooLarge (width code) (patches (width pc) entries)) (outOfPlace (width pc) rows entries) z)
+          where
+            by : (t o : Bool) → (_≡_ {A = ℕ} (pick t 3 (pick o 7 0)) 0 → ⊥) → unless t 3 (unless o 7 all) ≡ refused (plain (pick t 3 (pick o 7 0)))
+            by true o z = refl
+            by false true z = refl
+            by false false z = absurd (z refl)
+
+        module _ (z : number ≡ 0) where
+          is-run : body ≡ all
+          is-run =
+              let q = none-refused (width code) (width pc) rows entries z in
+              all-there ∙ rw (q .0, q .1)
+
+          pub refused-8 : length out < rows → Gives at (length s - at) signed body out out (refusedAt 8 at)
+          refused-8 r = gives-8 at (length s - at) signed body out _ _ is-run (rw (block-count s (at + 4 + bw) (width code) rows) r)
+
+          pub read-is : (one out′ : List ℤ) → rows ≤ length out
+              → one ≡ based (baseValue (take bw (drop (at + 4) s))) (map asI64 (blockAt s (at + 4 + bw) (width code) rows .values)) ++ drop rows out
+              → out′ ≡ patchAll (width code) (width pc) 0 one entries
+              → Gives at (length s - at) signed body out out′ (ran PatchedBase rows (at + 4 + bw + size + listSize - at))
+          unfolding i64Rows rowsOf
+          read-is one out′ r e f =
+              let n = block-count s (at + 4 + bw) (width code) rows in
+              let vs = blockAt s (at + 4 + bw) (width code) rows .values in
+              let base = baseValue (take bw (drop (at + 4) s)) in
+              let b : one ≡ map asI64 (Rows.patchedRows base (width code) [] 0 vs) ++ drop rows out
+              = e ∙ ap (λ (x : List ℤ). x ++ drop rows out) (based-is base (width code) 0 vs (block-patterns s (at + 4 + bw) (width code) rows (width-le code))) in
+              gives-run at (length s - at) signed body out _ _ is-run out′ PatchedBase rows _ (rw n r) refl (sym n)
+              (sym (bytes-count _ ∙ rw (length-take-le bw (drop (at + 4) s) (rw length-drop (omega arith)), n, block-count s (at + 4 + bw + size) (entryWidth pc gw) len) (omega arith)))
+              (f ∙ rw b (patched-is (width code) (width pc) base vs entries (drop rows out) (rw n (none-refused (width code) (width pc) rows entries z .1))))

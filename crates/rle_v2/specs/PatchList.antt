@@ -9,16 +9,15 @@ use lib.IntN.{ℤ, pos}
 use lib.Dec.{leb, ltb}
 use Rattle.format.specs.Fields.{pick, bytesFor}
 use Rattle.util.specs.Packed.{Width}
-use Rattle.format.specs.Runs.{isSkip, gapOf, patchOf}
+use Rattle.format.specs.Runs.{isSkip, gapOf, patchOf, patches, patchLimit, tooLarge, outOfPlace}
 use Rattle.format.specs.Rows.{plus, asI64, asU64}
 
--- a list of n entries of some bits, whose patches have the width pw, for so many rows
-pub record Listed (bits pw n rows : ℕ) (list : List ℕ) : Type 0 where
+-- a list of n entries of some bits, whose patches have the width pw
+pub record Listed (bits pw n : ℕ) (list : List ℕ) : Type 0 where
   pub wide : Width bits
   pub some : 0 < pw
   pub few : pw < 64
   pub entries : n ≤ 31
-  pub most : rows ≤ 512
   pub there : bytesFor (n * bits) ≤ length list
 
 -- an entry e, taken apart
@@ -36,6 +35,15 @@ misplaced pw rows before free skip (e ∷ es) =
     pick (isSkip pw e) (misplaced pw rows (before + gapOf pw e) free true es)
     (pick (ltb (before + gapOf pw e) free || leb rows (before + gapOf pw e)) true
     (misplaced pw rows (before + gapOf pw e) (before + gapOf pw e + 1) false es))
+
+-- some patch is too large above values of w bits: a skip's patch is 0, and never is
+unfoldable pub large : ℕ → ℕ → List ℕ → Bool
+large w pw [] = false
+large w pw (e ∷ es) = leb (patchLimit w) (patchOf pw e) || large w pw es
+
+-- the number that the list is refused with, or 0: 3 comes before 7
+unfoldable pub listNumber : ℕ → ℕ → ℕ → List ℕ → ℕ
+listNumber w pw rows es = pick (tooLarge w (patches pw es)) 3 (pick (outOfPlace pw rows es) 7 0)
 
 -- a row with a patch above its w bits
 abbrev pub patchedRow : ℕ → ℕ → ℤ → ℤ

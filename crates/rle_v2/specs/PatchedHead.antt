@@ -17,6 +17,7 @@ pub record InRange (h : Header) : Type 0 where
   pub some-bytes : 1 ≤ h .base
   pub eight : h .base ≤ 8
   pub patch : h .patch < 32
+  pub some-gap : 1 ≤ h .gap
   pub gap : h .gap ≤ 8
   pub entries : h .entries ≤ 31
 

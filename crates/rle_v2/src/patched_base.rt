@@ -81,7 +81,7 @@ fn broke_off(len: usize, at: usize, q: Parts) -> Answer
 
 // The body: everything is tested before a place is written. Patched rows are never zigzag decoded, whatever the flag.
 fn body(input: &[u8], at: usize, h: Header, w: Widths, out: &mut [i64]) -> Answer
-    requires { ⌜ (at + 4 ≤ length (now input)) × InRange h × IsWidths h w × (w .patch + h .gap ≤ 64) × (w .bits + w .patch ≤ 64) ⌝ }
+    requires { ⌜ (at + 4 ≤ length (now input)) × InRange h × IsWidths h w × (w .patch + h .gap ≤ 64) ⌝ }
     ensures { λ r. ⌜ ((signed : Bool) → Gives at (length (now (input .entry)) - at) signed (patchedBody (h .code) (h .rows) (h .base) (h .patch) (h .gap) (h .entries) (drop (at + 4) (now (input .entry)))) (now (out .entry)) (now (out .exit)) r) ⌝ }
 {
     let n = h.rows;
@@ -91,8 +91,9 @@ fn body(input: &[u8], at: usize, h: Header, w: Widths, out: &mut [i64]) -> Answe
     if input.len() < q.end {
         return broke_off(input.len(), at, q);
     }
-    if patch_list::out_of_place(&input[list..], w.entry, w.patch, h.entries, n) {
-        return Answer::refused(7, at);
+    let number = patch_list::refused_with(&input[list..], w.entry, w.patch, h.entries, w.bits, n);
+    if number != 0 {
+        return Answer::refused(number, at);
     }
     if out.len() < n {
         return Answer::refused(8, at);
@@ -112,9 +113,6 @@ fn by_widths(input: &[u8], at: usize, h: Header, out: &mut [i64]) -> Answer
     let patch = width::bits_of(h.patch);
     if 64 < patch + h.gap {
         return Answer::refused(2, at);
-    }
-    if 64 < bits + patch {
-        return Answer::refused(3, at);
     }
     let entry = width::entry_width(patch + h.gap);
     body(input, at, h, Widths { bits, patch, entry }, out)

@@ -114,7 +114,7 @@ pub fn unpack(s: &[u8], w: usize, n: usize, out: &mut [i64])
 }
 
 // x moved up by c bits. Two shifts, since c can be 64.
-fn raised(x: u64, c: usize) -> u64
+pub fn raised(x: u64, c: usize) -> u64
     requires { ⌜ c ≤ 64 ⌝ }
     ensures { λ r. ⌜ r ≡ x * 2 ^ c % 2 ^ 64 ⌝ }
 {

@@ -98,6 +98,11 @@ pub fn table_width(bits: usize) -> usize {
     WIDTHS.into_iter().find(|width| *width >= bits).unwrap_or(64)
 }
 
+/// The largest patch that fits above a value of so many bits: 2^(64-W) - 1.
+pub fn largest_patch(width: usize) -> u64 {
+    ((1u128 << (64 - width)) - 1) as u64
+}
+
 pub fn patched(fields: Patched, list: &[(u64, u64)], random: &mut Random) -> Vec<u8> {
     let Patched { code, rows, base, patch_code, gap_width } = fields;
     let patch_width = WIDTHS[patch_code];
@@ -118,13 +123,11 @@ pub fn patched(fields: Patched, list: &[(u64, u64)], random: &mut Random) -> Vec
 }
 
 fn any_patched(code: usize, rows: usize, random: &mut Random) -> Vec<u8> {
-    // Mostly widths that are allowed together.
-    let allowed = |other: usize| (0..32).filter(|c| WIDTHS[*c] + other <= 64).collect::<Vec<_>>();
+    // Mostly widths that are allowed together, and mostly patches that fit above the value.
     let gap_width = random.from(1, 8);
-    let patch_code = match allowed(WIDTHS[code].max(gap_width)) {
-        codes if !codes.is_empty() && !random.once_in(8) => random.pick(&codes),
-        _ => random.below(32),
-    };
+    let allowed: Vec<usize> = (0..32).filter(|code| WIDTHS[*code] + gap_width <= 64).collect();
+    let patch_code = if random.once_in(16) { random.below(32) } else { random.pick(&allowed) };
+    let fits = if random.once_in(8) { u64::MAX } else { largest_patch(WIDTHS[code]) };
     let patch_width = WIDTHS[patch_code];
     let high = 1 << (table_width(patch_width + gap_width).saturating_sub(patch_width)).min(12);
     let entries = random.pick(&[0, 1, 1, 1, 2, 2, 3, 4, 31]);
@@ -136,7 +139,7 @@ fn any_patched(code: usize, rows: usize, random: &mut Random) -> Vec<u8> {
                 _ => random.any() % (1 + (rows / 2) as u64).min(high),
             };
             let patch = if random.once_in(4) { 0 } else { random.any() & (u64::MAX >> (64 - patch_width)) };
-            (gap % high, patch)
+            (gap % high, patch & fits)
         })
         .collect();
     patched(Patched { code, rows, base: random.from(1, 8), patch_code, gap_width }, &list, random)

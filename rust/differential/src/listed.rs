@@ -10,7 +10,7 @@ pub enum Difference {
     EmptyList,
     OneRowDelta,
     EntryOver64,
-    ValueOver64,
+    PatchTooLarge,
     EleventhByte,
     PlaceOutside,
     PlaceShared,
@@ -70,7 +70,7 @@ pub const LIST: [Entry; 14] = [
     Entry::run(Difference::EmptyList, "empty-list", "80 00 00 00 00 00"),
     Entry::run(Difference::OneRowDelta, "one-row-delta", "C6 00 00 00 00"),
     Entry::run(Difference::EntryOver64, "entry-over-64", "80 00 1F 00 00 00"),
-    Entry::run(Difference::ValueOver64, "value-over-64", "90 00 1E 00 00 00 00"),
+    Entry::run(Difference::PatchTooLarge, "patch-too-large", "BA 00 10 01 00 00 00 00 00 00 00 40 00 00"),
     Entry::run(Difference::EleventhByte, "eleventh-byte", "C0 00 00 80 80 80 80 80 80 80 80 80 80 00"),
     Entry::run(Difference::PlaceOutside, "place-outside", "80 00 00 01 00 00 80"),
     Entry::run(Difference::PlaceShared, "place-shared", "80 00 00 02 00 00 00"),
@@ -145,21 +145,22 @@ pub fn of_run(bytes: &[u8], paper: &Answer, rust: &Run) -> Option<Sort> {
     };
     match (number, rust) {
         (_, Run::Panic) if has_unwritten_code(bytes) => listed(Code24To26),
-        (1..=6 | 12..=14, Run::Error(_)) => Some(Sort::Refused(number)),
+        (1 | 2 | 4..=6 | 12..=14, Run::Error(_)) => Some(Sort::Refused(number)),
         (2, Run::Rows { .. } | Run::Panic) => listed(EntryOver64),
-        (3, Run::Rows { .. } | Run::Panic) => listed(ValueOver64),
         (4, Run::Panic) => listed(OneRowDelta),
         (5, Run::Rows { .. }) => listed(EleventhByte),
-        (7, Run::Rows { .. } | Run::Panic) => of_list(model::list_faults(bytes)?, rust),
+        (3 | 7, Run::Rows { .. } | Run::Panic) => of_list(model::list_faults(bytes)?, rust),
         _ => None,
     }
 }
 
-/// The sort of a list out of place. The Rust walks the places until it meets one that it never
-/// reaches, so it may give rows even where the list also ends with a skip.
+/// The sort of a list that is refused. The Rust walks the places until it meets one that it never
+/// reaches, so it may give rows even where the list also ends with a skip. A patch that is too large
+/// is refused with 3 wherever it stands; what the Rust makes of it is told by its rows.
 fn of_list(faults: Faults, rust: &Run) -> Option<Sort> {
     let difference = match rust {
         Run::Panic if faults.last_skip => Difference::SkipLast,
+        Run::Rows { .. } if faults.too_large => Difference::PatchTooLarge,
         Run::Rows { .. } if faults.shared => Difference::PlaceShared,
         Run::Rows { .. } if faults.outside => Difference::PlaceOutside,
         _ => return None,

@@ -1,5 +1,6 @@
 //! What is compared, stage by stage.
 mod cuts;
+mod patches;
 
 use model::{Form, Written, WIDTHS};
 use oracle::Run;
@@ -56,6 +57,7 @@ impl Session {
         self.cut_and_damaged();
         self.cuts();
         self.patch_lists();
+        self.wide_patches();
         self.random_frames();
         self.streams();
         self.booleans();
@@ -336,6 +338,7 @@ impl Session {
             }
         }
         cuts::probe_lines(requests, &mut self.random);
+        patches::probe_lines(requests, &mut self.random);
         for _ in 0..self.size.pick(1_000, 100_000, 1_000_000) {
             probe_line(&mut probe.requests, &mut self.random);
             probe.batch(&mut self.tally);

@@ -39,6 +39,11 @@ fn what_is_not_listed_is_found() {
     for number in [1, 4, 6, 8, 12, 13, 14] {
         assert_eq!(of_run(&bytes, &Answer::Refused(Refusal::whole(number, 0)), &rust), None);
     }
+    // Where the list is refused the body is there, so the Rust has nothing to give an error for.
+    for number in [3, 7] {
+        let refused = Answer::Refused(Refusal::whole(number, 0));
+        assert_eq!(of_run(&bytes, &refused, &oracle::Run::Error(oracle::Case::Io)), None);
+    }
 }
 
 #[test]

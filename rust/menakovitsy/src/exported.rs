@@ -20,6 +20,10 @@ pub const TOO_FEW_WORDS: u64 = u64::MAX;
 /// The most rows that one run holds: with so many places, no run is refused for want of them.
 pub const MAX_ROWS: usize = 512;
 
+/// The most bytes that one run takes up, of those that are read: a patched run of 512 rows of 64 bits
+/// with a base of 8 bytes and 31 entries of 64 bits.
+pub const MAX_RUN_BYTES: usize = 4356;
+
 /// The words of an answer, by their place. Later versions append words; none changes its meaning.
 pub mod word {
     /// The case: see [`case`](super::case).

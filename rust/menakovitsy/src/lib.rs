@@ -47,7 +47,7 @@ mod version;
 
 pub use answers::{Kind, Refused, Run, Stream, StreamRefused};
 pub use column::{Column, Rows, RunAt, Runs};
-pub use exported::MAX_ROWS;
+pub use exported::{MAX_ROWS, MAX_RUN_BYTES};
 pub use library::{
     byte_value, library_version, narrowest_code, read_booleans, read_run, read_run_bytes, read_stream,
     unpack, write_run, Counts,

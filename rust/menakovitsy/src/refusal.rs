@@ -10,8 +10,8 @@ pub enum Refusal {
     HeaderCut,
     /// 2: patched base, and patch width and gap width are over 64 bits together.
     EntryOver64,
-    /// 3: patched base, and value width and patch width are over 64 bits together.
-    ValueOver64,
+    /// 3: patched base, and a patch has no room above a value of W bits: it is 2^(64-W) or more.
+    PatchTooLarge,
     /// 4: delta with a width, and one row.
     OneRowDelta,
     /// 5: a varint's first ten bytes all have the top bit set.
@@ -45,7 +45,7 @@ impl Refusal {
     pub const ALL: [Refusal; 14] = [
         Refusal::HeaderCut,
         Refusal::EntryOver64,
-        Refusal::ValueOver64,
+        Refusal::PatchTooLarge,
         Refusal::OneRowDelta,
         Refusal::VarintTooLong,
         Refusal::ValueCut,
@@ -65,7 +65,7 @@ impl Refusal {
         match self {
             Refusal::HeaderCut => 1,
             Refusal::EntryOver64 => 2,
-            Refusal::ValueOver64 => 3,
+            Refusal::PatchTooLarge => 3,
             Refusal::OneRowDelta => 4,
             Refusal::VarintTooLong => 5,
             Refusal::ValueCut => 6,
@@ -94,7 +94,7 @@ impl Refusal {
         match self {
             Refusal::HeaderCut => "the input ends inside the run's header",
             Refusal::EntryOver64 => "patched base: patch width and gap width are over 64 bits together",
-            Refusal::ValueOver64 => "patched base: value width and patch width are over 64 bits together",
+            Refusal::PatchTooLarge => "patched base: a patch has no room above its value, in 64 bits",
             Refusal::OneRowDelta => "delta: packed magnitudes announced for a single row",
             Refusal::VarintTooLong => "a varint goes on past ten bytes",
             Refusal::ValueCut => "a value, a base or a control byte is cut",
@@ -146,7 +146,7 @@ impl Refusal {
                 "call again with more bytes; if there are none, the stream is cut or the offset is wrong"
             }
             Refusal::EntryOver64
-            | Refusal::ValueOver64
+            | Refusal::PatchTooLarge
             | Refusal::OneRowDelta
             | Refusal::VarintTooLong
             | Refusal::PatchOutOfPlace => {

@@ -30,6 +30,8 @@ fn the_header_has_the_same_numbers() {
     has(&format!("#define ORC_VERSION UINT64_C({})\n", exported::VERSION));
     has(&format!("#define ORC_WORDS {}\n", exported::WORDS));
     has("#define ORC_TOO_FEW_WORDS UINT64_MAX\n");
+    has(&format!("#define ORC_MAX_ROWS {}\n", exported::MAX_ROWS));
+    has(&format!("#define ORC_MAX_RUN_BYTES {}\n", exported::MAX_RUN_BYTES));
     for (name, place) in [
         ("CASE", word::CASE),
         ("NUMBER", word::NUMBER),

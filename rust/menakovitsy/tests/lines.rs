@@ -108,6 +108,46 @@ fn cut_fields() {
     );
 }
 
+/// Document 02, item 2: two values of 30 bits, 1 and 2, over a base of 10, with a patch field of 40
+/// bits and gaps of 1; then one value of 64 bits.
+#[test]
+fn patches_that_fit() {
+    let run = |entries: &[&str]| format!("B4011C{:02X}0A0000000400000020{}", entries.len(), entries.concat());
+    let read = |entries: &[&str], expected: &[i64]| {
+        for sign in [Sign::Unsigned, Sign::Signed] {
+            rows(&run(entries), sign, Kind::PatchedBase, expected);
+        }
+    };
+    read(&["010000000003"], &[11, 12 + 3 * (1 << 30)]);
+    read(&["0103FFFFFFFF"], &[11, 12 - (1 << 30)]);
+    read(&[], &[11, 12]);
+    refused(&run(&["010400000000"]), Refusal::PatchTooLarge, None);
+    // Out of place; out of place and too large; and too large, with the list cut behind it.
+    refused(&run(&["020000000003"]), Refusal::PatchOutOfPlace, None);
+    refused(&run(&["020400000000"]), Refusal::PatchTooLarge, None);
+    let cut = run(&["010400000000", "010000000003"]);
+    refused(&cut[..cut.len() - 2], Refusal::ListCut, Some(13));
+    rows("BE00000100000000000000000700", Sign::Unsigned, Kind::PatchedBase, &[7]);
+    refused("BE00000100000000000000000740", Refusal::PatchTooLarge, None);
+    refused("BE00000100000000000000000780", Refusal::PatchOutOfPlace, None);
+    rows("BE001E00000000000000000007", Sign::Unsigned, Kind::PatchedBase, &[7]);
+}
+
+/// 512 rows of 64 bits, a base of 8 bytes, 31 entries of 64 bits; and nothing behind them is read.
+#[test]
+fn the_longest_run() {
+    let mut run = bytes("BFFFFEFF");
+    run.extend([0; 8 + 512 * 8]);
+    // Patch width 56, gap width 8: the first at place 0, each other one place further.
+    run.extend((0..31u64).flat_map(|entry| (u64::from(entry > 0) << 56).to_be_bytes()));
+    assert_eq!(run.len(), MAX_RUN_BYTES);
+    let mut places = [7777; MAX_ROWS];
+    let read = read_run(&run, START, Sign::Signed, &mut places).unwrap().unwrap();
+    assert_eq!((read.rows, read.bytes, places), (RowNumber(512), ByteOffset(MAX_RUN_BYTES), [0; 512]));
+    let cut = read_run(&run[..MAX_RUN_BYTES - 1], START, Sign::Signed, &mut places).unwrap_err();
+    assert_eq!((cut.refusal, cut.cut), (Refusal::ListCut, Some(ByteOffset(4108))));
+}
+
 #[test]
 fn examples_of_the_specification() {
     use Kind::*;

@@ -159,9 +159,6 @@ fn patched(bits: &mut Bits) -> Result<Patched, Fault> {
     if patch_width + gap_width > 64 {
         return Err(Fault::of(2));
     }
-    if width + patch_width > 64 {
-        return Err(Fault::of(3));
-    }
     // "Top bit is the sign, the rest the magnitude."
     let sign_first = |bits: &mut Bits| Some((bits.number(1)?, bits.number(8 * base_bytes - 1)? as i64));
     let (sign, magnitude) = field(bits, 6, sign_first)?;
@@ -175,9 +172,11 @@ fn patched(bits: &mut Bits) -> Result<Patched, Fault> {
     Ok(Patched { width, base, values, list: list.into_iter().map(split).collect() })
 }
 
-/// The ways in which a patch list is out of place. Refusal 7 if there is one.
+/// What is wrong with a patch list. Refusal 3 for the first, otherwise 7 if there is any.
 #[derive(Debug, Clone, Copy, Default, PartialEq, Eq)]
 pub struct Faults {
+    /// "A non-skip patch of 2^(64-W) or more", wherever its place is.
+    pub too_large: bool,
     /// The last entry is a skip.
     pub last_skip: bool,
     /// Two entries that are no skips share a place.
@@ -187,8 +186,14 @@ pub struct Faults {
 }
 
 impl Faults {
-    fn any(self) -> bool {
-        self != Faults::default()
+    fn refused(self) -> Result<(), Fault> {
+        if self.too_large {
+            return Err(Fault::of(3));
+        }
+        if self.last_skip || self.shared || self.outside {
+            return Err(Fault::of(7));
+        }
+        Ok(())
     }
 }
 
@@ -196,6 +201,7 @@ impl Faults {
 /// list's faults.
 fn places(run: &Patched) -> (Vec<(u128, u64)>, Faults) {
     let mut faults = Faults { last_skip: run.list.last().is_some_and(Entry::is_skip), ..Faults::default() };
+    let limit = 1u128 << (64 - run.width);
     let mut patches: Vec<(u128, u64)> = Vec::new();
     let mut place: u128 = 0;
     for entry in &run.list {
@@ -203,6 +209,7 @@ fn places(run: &Patched) -> (Vec<(u128, u64)>, Faults) {
         if entry.is_skip() {
             continue;
         }
+        faults.too_large |= u128::from(entry.patch) >= limit;
         faults.shared |= patches.iter().any(|(earlier, _)| *earlier == place);
         faults.outside |= place >= run.values.len() as u128;
         patches.push((place, entry.patch));
@@ -214,18 +221,16 @@ fn places(run: &Patched) -> (Vec<(u128, u64)>, Faults) {
 fn patched_base(bits: &mut Bits) -> Result<Vec<i64>, Fault> {
     let run = patched(bits)?;
     let (patches, faults) = places(&run);
-    if faults.any() {
-        return Err(Fault::of(7));
-    }
-    let mut values = run.values;
+    faults.refused()?;
+    let mut values: Vec<u128> = run.values.iter().map(|value| u128::from(*value)).collect();
     for (place, patch) in patches {
-        values[place as usize] |= patch << run.width;
+        values[place as usize] |= u128::from(patch) << run.width;
     }
     Ok(values.into_iter().map(|value| run.base.wrapping_add(value as i64)).collect())
 }
 
 /// The faults of the patch list of a patched run at the start of some bytes, where the run is whole
-/// and its widths are allowed.
+/// and its list's entries have at most 64 bits.
 pub fn list_faults(bytes: &[u8]) -> Option<Faults> {
     let mut bits = Bits::new(bytes);
     if bytes.len() < 4 || bits.number(2) != Some(2) {

@@ -103,9 +103,10 @@ fn order_of_refusals_and_varints() {
     refused("860303", 1);
     cut("08", 6, 1);
     cut("C002", 12, 2);
-    // Over 64 bits both ways: 2 comes first; then 3, before the missing body.
+    // Over 64 bits both ways: 2 is the header's, before the missing body; value and patch width may
+    // be over 64 together, and then the body is missed.
     refused("BE031F21", 2);
-    refused("BE030121", 3);
+    cut("BE030121", 6, 4);
     // Ten bytes with the top bit set, at the end of the input too; nine and the end.
     refused("C00280808080808080808080", 5);
     cut("C002808080808080808080", 12, 2);

@@ -46,7 +46,7 @@ const SPECIFICATION: [&str; 4] = [
 ];
 
 /// Further frames, each refusal and each limit of a layout among them.
-const FRAMES: [&str; 22] = [
+const FRAMES: [&str; 38] = [
     "",
     "40",
     "C2",
@@ -69,6 +69,26 @@ const FRAMES: [&str; 22] = [
     "3FFFFFFFFFFFFFFFFF",
     "07FF",
     "C6010A05",
+    // Document 02, item 2. Values of 30 bits and a patch field of 40: a patch that fits, the largest, none,
+    // one too large, one out of place, both at once in one entry and in two, and one before a cut.
+    "B4011C010A0000000400000020010000000003",
+    "B4011C010A00000004000000200103FFFFFFFF",
+    "B4011C000A0000000400000020",
+    "B4011C010A0000000400000020010400000000",
+    "B4011C010A0000000400000020020000000003",
+    "B4011C010A0000000400000020020400000000",
+    "B4011C020A0000000400000020010000000003000400000000",
+    "B4011C020A0000000400000020010400000000FF0000000000",
+    "B4011C020A00000004000000200104000000000100000000",
+    // Values of 64 bits: no patch, 1, none but out of place; an empty list under a patch field of 56.
+    "BE00000100000000000000000700",
+    "BE00000100000000000000000740",
+    "BE00000100000000000000000780",
+    "BE001E00000000000000000007",
+    // Values of 56 bits: 255, 256 and 511.
+    "BC0008010000000000000001 3FC0",
+    "BC0008010000000000000001 4000",
+    "BC0008010000000000000001 7FC0",
 ];
 
 fn bytes(hex: &str) -> Vec<u8> {

@@ -15,7 +15,7 @@ use differential::tally::Hex;
 use differential::{frames, program};
 
 /// Document 01's lines, each refusal, and lines that are bad.
-const SHORT: [&str; 49] = [
+const SHORT: [&str; 52] = [
     "000A012C",
     "0046021230",
     "0086031F21",
@@ -65,6 +65,9 @@ const SHORT: [&str; 49] = [
     "00860303416412348A",
     "01C1FFFFFFFFFFFFFFFFFFFF0100",
     "01c1ffffffffffffffffffff0100",
+    "00B4011C010A0000000400000020010000000003",
+    "00B4011C010A0000000400000020010400000000",
+    "01B4011C000A0000000400000020",
 ];
 
 /// The most that the program holds of a line, and how much it reads behind that: as much as its array has

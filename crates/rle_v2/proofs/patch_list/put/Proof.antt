@@ -41,10 +41,10 @@ named x y =
     put-inside (a .width) (a .pw) (a .rows) (fields (a .bits) (a .n) (a .list .now)) (a .out .now) (l .out) (l .k) (l .row) _ _ _ _ (l .inv .1) (next-is x) (x .entry-at .ensures) y
 
 inside : (x : tie.After-entry-at Inv-loop μ-loop) → x .entry-at .result .skip ≡ false → x .before .before .loop .row + x .entry-at .result .gap < length (x .before .before .loop .out)
-inside x y = omega (arith, named x y, x .before .before .loop .inv .1 .long, x .before .before .before .before .pre .1 .1)
+inside x y = omega (arith, named x y, x .before .before .loop .inv .1 .long, x .before .before .before .before .pre .1 .2)
 
 loop-holds : tie.Need-loop-holds Inv-loop μ-loop
-loop-holds c = (search needs, put-first _ _ _ _ _ (c .before .pre .1 .2))
+loop-holds c = (search needs, put-first _ _ _ _ _ (c .before .pre .1 .3))
 
 entry-at-requires : tie.Need-entry-at-requires Inv-loop μ-loop
 entry-at-requires c κs = let z = c .before .before .before in let a = z .args in (z .pre .0 .wide, (z .pre .0 .some, z .pre .0 .few, omega arith, field-there (a .bits) (a .n) (c .before .loop .k) (a .list .now) (c .loop-test .taken) (z .pre .0 .there)))
@@ -52,17 +52,17 @@ entry-at-requires c κs = let z = c .before .before .before in let a = z .args i
 add-row : tie.Need-add-row Inv-loop μ-loop
 add-row c = let x = c .before in omega (arith, x .entry-at .ensures .gap-lt, x .before .before .loop .inv .1 .low)
 
+raised-requires : tie.Need-raised-requires Inv-loop μ-loop
+raised-requires c κs = omega arith
+
 mul-to-u64 : tie.Need-mul-to-u64 Inv-loop μ-loop
-mul-to-u64 c = let x = c .before .before .before in omega (arith, named x (not-true _ (c .if1 .taken)), x .before .before .before .before .pre .0 .most)
+mul-to-u64 c = let t = c .before in let x = t .before .before .before in omega (arith, named x (not-true _ (t .if1 .taken)), x .before .before .before .before .pre .1 .1)
 
 slice-copy-out-to-u64 : tie.Need-slice-copy-out-to-u64 Inv-loop μ-loop
-slice-copy-out-to-u64 c = inside (c .before .before .before) (not-true _ (c .if1 .taken))
+slice-copy-out-to-u64 c = let t = c .before in inside (t .before .before .before) (not-true _ (t .if1 .taken))
 
 to-u64-requires : tie.Need-to-u64-requires Inv-loop μ-loop
 to-u64-requires c κs = search needs
-
-shl-add : tie.Need-shl-add Inv-loop μ-loop
-shl-add c = omega arith
 
 add-requires : tie.Need-add-requires Inv-loop μ-loop
 add-requires c κs = search needs
@@ -71,7 +71,7 @@ to-i64-requires : tie.Need-to-i64-requires Inv-loop μ-loop
 to-i64-requires c κs = search needs
 
 mul-r : tie.Need-mul-r Inv-loop μ-loop
-mul-r c = let t = c .before .before .before .before .before in let x = t .before .before .before in omega (arith, named x (not-true _ (t .if1 .taken)), x .before .before .before .before .pre .0 .most)
+mul-r c = let t = c .before .before .before .before .before in let x = t .before .before .before in omega (arith, named x (not-true _ (t .if1 .taken)), x .before .before .before .before .pre .1 .1)
 
 slice-set-from-r : tie.Need-slice-set-from-r Inv-loop μ-loop
 slice-set-from-r c = let t = c .before .before .before .before .before in inside (t .before .before .before) (not-true _ (t .if1 .taken))
@@ -93,8 +93,8 @@ loop-again c =
       ⊎-elim
           (λ w.
           rw (w .6)
-          (put-named (a .width) (a .pw) (a .rows) es (a .out .now) (l .out) (l .k) (l .row) _ _ _ _ (l .inv .1) (next-is x) (x .entry-at .ensures) (not-true _ (w .0 .taken)) (z .pre .0 .most) _
-          (toZ-ofZ (sfits-of (w .5 .ok)) ∙ w .5 .ensures ∙ rw (w .4 .ensures, w .2 .ensures, toZ-ofZ (sfits-of (w .1 .given)), add-mod-mod))))
+          (put-named (a .width) (a .pw) (a .rows) es (a .out .now) (l .out) (l .k) (l .row) _ _ _ _ (l .inv .1) (next-is x) (x .entry-at .ensures) (not-true _ (w .0 .taken)) (z .pre .1 .1) _
+          (toZ-ofZ (sfits-of (w .5 .ok)) ∙ w .5 .ensures ∙ rw (w .4 .ensures, w .3 .ensures, toZ-ofZ (sfits-of (w .2 .given)), w .1 .ensures, add-mod-mod))))
           (λ w.
           rw (w .1)
           (put-skip (a .width) (a .pw) (a .rows) es (a .out .now) (l .out) (l .k) (l .row) _ _ _ _ (l .inv .1) (next-is x) (x .entry-at .ensures) (not-false _ (w .0 .left))))
@@ -119,10 +119,10 @@ put-spec =
     loop-holds
     entry-at-requires
     add-row
+    raised-requires
     mul-to-u64
     slice-copy-out-to-u64
     to-u64-requires
-    shl-add
     add-requires
     to-i64-requires
     mul-r

@@ -5,24 +5,23 @@ use mathlib.Core.Path.{_≡_, sym, _∙_}
 use denote.Ref.{now}
 use lib.ListN.{length, drop, length-drop}
 use Rattle.format.specs.Fields.{width, bytesFor}
-use Rattle.format.specs.Runs.{entryWidth, outOfPlace}
+use Rattle.format.specs.Runs.{entryWidth}
 use Rattle.format.proofs.Reading.{blockAt}
+use Rattle.format.proofs.Rows.{width-le}
 use Rattle.format.proofs.Widths.{width-pos}
 use Rattle.util.proofs.Grow.{rest-is}
-use Rattle.rle_v2.specs.PatchList.{Listed}
+use Rattle.rle_v2.specs.PatchList.{Listed, listNumber}
 use Rattle.rle_v2.specs.PatchedHead.{valueBytes, listBytes}
 use Rattle.rle_v2.proofs.Blocks.{code-width, entry-width}
-use Rattle.rle_v2.proofs.PatchedRun.{broken-off, refused-7, refused-8, read-is}
+use Rattle.rle_v2.proofs.PatchList.{none-refused}
+use Rattle.rle_v2.proofs.PatchedRun.{broken-off, refused-list, refused-8, read-is}
 use borrow.Author.Needs.{needs}
 use Rattle.rle_v2.proofs.patched_base.body.Statement.{statement}
 use Rattle.rle_v2.proofs.patched_base.body.Tie as tie
 
--- the header's tests are passed
+-- the header's test is passed
 not-2 : (s : tie.Start) → width (s .args .h .patch) + s .args .h .gap ≤ 64
 not-2 s = rw (s .pre .2 .patch-is) at (s .pre .3)
-
-not-3 : (s : tie.Start) → width (s .args .h .code) + width (s .args .h .patch) ≤ 64
-not-3 s = rw (s .pre .2 .bits-is, s .pre .2 .patch-is) at (s .pre .4)
 
 -- all of the body is there
 whole : (e : tie.Else1) → let s = e .before .before .before .before in
@@ -31,7 +30,7 @@ whole e = rw (e .before .before .parts-of .ensures .end-is) at (e .if1 .left)
 
 -- the list stands where the code looks for it
 listed : (e : tie.Else1) → let x = e .before .before in let a = x .before .before .args in
-    Listed (a .w .entry) (a .w .patch) (a .h .entries) (a .h .rows) (drop (x .parts-of .result .list) (now (a .input)))
+    Listed (a .w .entry) (a .w .patch) (a .h .entries) (drop (x .parts-of .result .list) (now (a .input)))
 listed e =
     let x = e .before .before in
     let s = x .before .before in
@@ -39,19 +38,19 @@ listed e =
     record {
       wide = rw (s .pre .2 .entry-is) (entry-width _);
       some = rw (s .pre .2 .patch-is) (width-pos _);
-      few = omega (arith, s .pre .2 .bits-is, s .pre .4, width-pos (s .args .h .code));
+      few = omega (arith, s .pre .3, s .pre .1 .some-gap);
       entries = s .pre .1 .entries;
-      most = s .pre .1 .rows;
       there = rw length-drop (omega (arith, whole e, x .parts-of .ensures .list-is));
     }
 
 -- what the walk over the list found
-place-is : (y : tie.After-out-of-place) → let a = y .before .before .before .before .before .before .args in
-    y .out-of-place .result ≡ outOfPlace (width (a .h .patch)) (a .h .rows) (blockAt (now (a .input)) (a .at + 4 + a .h .base + valueBytes (a .h)) (entryWidth (a .h .patch) (a .h .gap)) (a .h .entries) .values)
-place-is y =
+number-is : (y : tie.After-refused-with) → let a = y .before .before .before .before .before .before .args in
+    y .refused-with .result
+    ≡ listNumber (width (a .h .code)) (width (a .h .patch)) (a .h .rows) (blockAt (now (a .input)) (a .at + 4 + a .h .base + valueBytes (a .h)) (entryWidth (a .h .patch) (a .h .gap)) (a .h .entries) .values)
+number-is y =
     let x = y .before .before .before .before in
     let s = x .before .before in
-    rw (rest-is (now (s .args .input)) (x .parts-of .result .list), x .parts-of .ensures .list-is, s .pre .2 .entry-is, s .pre .2 .patch-is) at (y .out-of-place .ensures)
+    rw (rest-is (now (s .args .input)) (x .parts-of .result .list), x .parts-of .ensures .list-is, s .pre .2 .entry-is, s .pre .2 .patch-is, s .pre .2 .bits-is) at (y .refused-with .ensures)
 
 parts-of-requires : tie.Need-parts-of-requires
 parts-of-requires c κs = search needs
@@ -66,22 +65,25 @@ returns c =
     let a = s .args in
     let q = x .parts-of .ensures in
     λ signed. rw (c .broke-off .ensures, q .values-is, q .list-is)
-    (broken-off (now (a .input)) (a .at) signed (now (a .out)) (a .h .code) (a .h .rows) (a .h .base) (a .h .patch) (a .h .gap) (a .h .entries) (not-2 s) (not-3 s) (s .pre .0)
+    (broken-off (now (a .input)) (a .at) signed (now (a .out)) (a .h .code) (a .h .rows) (a .h .base) (a .h .patch) (a .h .gap) (a .h .entries) (not-2 s) (s .pre .0)
     (rw (q .end-is) at (c .before .if1 .taken)))
 
-sub-out-of-place : tie.Need-sub-out-of-place
-sub-out-of-place c = search needs
+sub-refused-with : tie.Need-sub-refused-with
+sub-refused-with c = search needs
 
-part-out-of-place-start : tie.Need-part-out-of-place-start
-part-out-of-place-start c = omega (arith, whole c, c .before .before .parts-of .ensures .list-is)
+part-refused-with-start : tie.Need-part-refused-with-start
+part-refused-with-start c = omega (arith, whole c, c .before .before .parts-of .ensures .list-is)
 
-part-out-of-place-end : tie.Need-part-out-of-place-end
-part-out-of-place-end c = search needs
+part-refused-with-end : tie.Need-part-refused-with-end
+part-refused-with-end c = search needs
 
-out-of-place-requires : tie.Need-out-of-place-requires
-out-of-place-requires c κs =
+refused-with-requires : tie.Need-refused-with-requires
+refused-with-requires c κs =
     let x = c .before .before .before in
-    rw (rest-is (now (x .before .before .args .input)) (x .parts-of .result .list)) (listed (c .before))
+    let s = x .before .before in (
+      rw (rest-is (now (s .args .input)) (x .parts-of .result .list)) (listed (c .before)),
+      (rw (s .pre .2 .bits-is) (width-pos _), rw (s .pre .2 .bits-is) (width-le _), s .pre .1 .rows),
+    )
 
 refused-requires : tie.Need-refused-requires
 refused-requires c κs = search needs
@@ -92,9 +94,9 @@ returns-2 c =
     let e = y .before .before in
     let s = e .before .before .before .before in
     let a = s .args in
-    λ signed. rw (c .refused .ensures)
-    (refused-7 (now (a .input)) (a .at) signed (now (a .out)) (a .h .code) (a .h .rows) (a .h .base) (a .h .patch) (a .h .gap) (a .h .entries) (not-2 s) (not-3 s) (whole e)
-    (sym (place-is y) ∙ c .before .if2 .taken))
+    λ signed. rw (c .refused .ensures, number-is y)
+    (refused-list (now (a .input)) (a .at) signed (now (a .out)) (a .h .code) (a .h .rows) (a .h .base) (a .h .patch) (a .h .gap) (a .h .entries) (not-2 s) (whole e)
+    (λ z. c .before .if2 .taken (number-is y ∙ z)))
 
 refused-requires-2 : tie.Need-refused-requires-2
 refused-requires-2 c κs = search needs
@@ -106,8 +108,8 @@ returns-3 c =
     let s = e .before .before .before .before in
     let a = s .args in
     λ signed. rw (c .refused2 .ensures)
-    (refused-8 (now (a .input)) (a .at) signed (now (a .out)) (a .h .code) (a .h .rows) (a .h .base) (a .h .patch) (a .h .gap) (a .h .entries) (not-2 s) (not-3 s) (whole e)
-    (sym (place-is y) ∙ c .before .before .if2 .left) (c .before .if3 .taken))
+    (refused-8 (now (a .input)) (a .at) signed (now (a .out)) (a .h .code) (a .h .rows) (a .h .base) (a .h .patch) (a .h .gap) (a .h .entries) (not-2 s) (whole e)
+    (sym (number-is y) ∙ c .before .before .if2 .left) (c .before .if3 .taken))
 
 add-base-value : tie.Need-add-base-value
 add-base-value c = search needs
@@ -157,9 +159,10 @@ put-requires c κs =
     let s = x .before .before in (
       rw (rest-is (now (s .args .input)) (x .parts-of .result .list)) (listed e),
       (
-        omega (arith, s .pre .2 .patch-is, s .pre .4, width-pos (s .args .h .patch)),
+        rw (s .pre .2 .bits-is) (width-le _),
+        s .pre .1 .rows,
         omega (arith, f .if3 .left),
-        sym (y .out-of-place .ensures) ∙ f .before .if2 .left,
+        none-refused (s .args .w .bits) (s .args .w .patch) (s .args .h .rows) _ (rw (y .refused-with .ensures) at (f .before .if2 .left)) .1,
       ),
     )
 
@@ -188,8 +191,8 @@ returns-4 c =
     let one = rw (rest-is i (x .parts-of .result .values), q .values-is, s .pre .2 .bits-is, v .base-value .ensures) at (l .lay .ensures) in
     let two = rw (rest-is i (x .parts-of .result .list), q .list-is, s .pre .2 .entry-is, s .pre .2 .patch-is, s .pre .2 .bits-is) at (p .put .ensures) in
     λ signed. rw (c .run .ensures, q .end-is)
-    (read-is i (a .at) signed (now (a .out)) (a .h .code) (a .h .rows) (a .h .base) (a .h .patch) (a .h .gap) (a .h .entries) (not-2 s) (not-3 s) (whole e)
-    (sym (place-is y) ∙ f .before .if2 .left) (l .lay .last .1 .1 .1 .1 .0) (p .put .last .1 .1 .1 .1 .1 .1 .0) (f .if3 .left) one two)
+    (read-is i (a .at) signed (now (a .out)) (a .h .code) (a .h .rows) (a .h .base) (a .h .patch) (a .h .gap) (a .h .entries) (not-2 s) (whole e)
+    (sym (number-is y) ∙ f .before .if2 .left) (l .lay .last .1 .1 .1 .1 .0) (p .put .last .1 .1 .1 .1 .1 .1 .0) (f .if3 .left) one two)
 
 pub body-spec : {M : Type 1} → statement M
 body-spec =
@@ -198,10 +201,10 @@ body-spec =
     parts-of-requires
     broke-off-requires
     returns
-    sub-out-of-place
-    part-out-of-place-start
-    part-out-of-place-end
-    out-of-place-requires
+    sub-refused-with
+    part-refused-with-start
+    part-refused-with-end
+    refused-with-requires
     refused-requires
     returns-2
     refused-requires-2

@@ -1,5 +1,4 @@
 -- Each answer is that of the tests that led there. Assumes nothing.
-use mathlib.Core.Path.{_∙_, sym}
 use borrow.Author.Tests.{lt-ltb, le-ltb}
 use Rattle.rle_v2.specs.PatchedHead.{cutBody}
 use borrow.Author.Needs.{needs}

@@ -5,17 +5,14 @@ use mathlib.Core.Path.{_≡_, ap, _∙_}
 use denote.Ref.{now}
 use Rattle.format.specs.Fields.{width, leastWidth}
 use Rattle.format.proofs.Rows.{width-le}
-use Rattle.rle_v2.proofs.PatchedRun.{refused-2, refused-3}
+use Rattle.rle_v2.proofs.PatchedRun.{refused-2}
 use borrow.Author.Needs.{needs}
 use Rattle.rle_v2.proofs.patched_base.by_widths.Statement.{statement}
 use Rattle.rle_v2.proofs.patched_base.by_widths.Tie as tie
 
--- the sums that are tested, by the header's codes
+-- the sum that is tested, by the header's codes
 sum-2 : (k : tie.After-struct-known) → let a = k .before .before .before .before .args in k .before .bits-of2 .result + a .h .gap ≡ width (a .h .patch) + a .h .gap
 sum-2 k = ap (λ (x : ℕ). x + k .before .before .before .before .args .h .gap) (k .before .bits-of2 .ensures)
-
-sum-3 : (k : tie.After-struct-known) → let a = k .before .before .before .before .args in k .before .before .bits-of .result + k .before .bits-of2 .result ≡ width (a .h .code) + width (a .h .patch)
-sum-3 k = rw (k .before .before .bits-of .ensures, k .before .bits-of2 .ensures)
 
 bits-of-requires : tie.Need-bits-of-requires
 bits-of-requires c κs = search needs
@@ -38,23 +35,6 @@ returns c =
     λ signed. rw (c .refused .ensures)
     (refused-2 (now (a .input)) (a .at) signed (now (a .out)) (a .h .code) (a .h .rows) (a .h .base) (a .h .patch) (a .h .gap) (a .h .entries) (rw (sum-2 k) at (c .before .if1 .taken)))
 
-add-if2 : tie.Need-add-if2
-add-if2 c =
-    let k = c .before in
-    let a = k .before .before .before .before .args in
-    omega (arith, k .before .bits-of2 .ensures, k .before .before .bits-of .ensures, width-le (a .h .patch), width-le (a .h .code))
-
-refused-requires-2 : tie.Need-refused-requires-2
-refused-requires-2 c κs = search needs
-
-returns-2 : tie.Need-returns-2
-returns-2 c =
-    let k = c .before .before .before in
-    let a = k .before .before .before .before .args in
-    λ signed. rw (c .refused2 .ensures)
-    (refused-3 (now (a .input)) (a .at) signed (now (a .out)) (a .h .code) (a .h .rows) (a .h .base) (a .h .patch) (a .h .gap) (a .h .entries) (rw (sum-2 k) at (c .before .before .if1 .left))
-    (rw (sum-3 k) at (c .before .if2 .taken)))
-
 add-entry-width : tie.Need-add-entry-width
 add-entry-width c = search needs
 
@@ -65,20 +45,19 @@ body-requires : tie.Need-body-requires
 body-requires c κs =
     let z = c .before in
     let e = z .before .before in
-    let k = e .before .before in
+    let k = e .before in
     let s = k .before .before .before .before in (
       s .pre .0,
       s .pre .1,
       record { bits-is = k .before .before .bits-of .ensures; patch-is = k .before .bits-of2 .ensures; entry-is = z .entry-width .ensures ∙ ap leastWidth (sum-2 k) },
-      e .before .if1 .left,
-      e .if2 .left,
+      e .if1 .left,
     )
 
 same-length : tie.Need-same-length
 same-length c = search needs
 
-returns-3 : tie.Need-returns-3
-returns-3 c = c .before .body .ensures
+returns-2 : tie.Need-returns-2
+returns-2 c = c .before .body .ensures
 
 pub by-widths-spec : {M : Type 1} → statement M
 by-widths-spec =
@@ -89,11 +68,8 @@ by-widths-spec =
     add-if1
     refused-requires
     returns
-    add-if2
-    refused-requires-2
-    returns-2
     add-entry-width
     entry-width-requires
     body-requires
     same-length
-    returns-3)
+    returns-2)

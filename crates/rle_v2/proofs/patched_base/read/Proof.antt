@@ -68,6 +68,7 @@ by-widths-requires c κs =
         some-bytes = omega arith;
         eight = omega (arith, g (a .at + 2));
         patch = omega arith;
+        some-gap = omega arith;
         gap = omega (arith, g (a .at + 3));
         entries = omega arith;
       },
