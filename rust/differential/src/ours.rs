@@ -76,8 +76,8 @@ impl Ours {
     pub fn check_column(bytes: &[u8], signed: bool, paper: &Stream) -> Result<u64, String> {
         let column = Column::new(bytes, sign(signed));
         let (expected, consumed, refused) = match paper {
-            Stream::Whole { rows, consumed } => (rows, *consumed, None),
-            Stream::Refused { refusal, rows, consumed } => (rows, *consumed, Some(*refusal)),
+            Stream::Whole { rows, consumed, .. } => (rows, *consumed, None),
+            Stream::Refused { refusal, rows, consumed, .. } => (rows, *consumed, Some(*refusal)),
         };
         let right = |given: &[i64], answer: Result<(), menakovitsy::StreamRefused>, how: &str| {
             let told = answer.err().map(|told| {
