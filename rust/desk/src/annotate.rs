@@ -32,8 +32,8 @@ const HELP: &str = "usage: menakovitsy annotate FILE [--signed] [--svg OUT]
 FILE holds the bytes of one integer column (a stream of RLE version 2 runs, uncompressed); - is
 standard input. A line for each run: the byte it begins at, the number of its first row, its kind,
 the width of its values in bits (0: a delta run with one step), its rows and bytes, and the
-smallest and the largest row. Then a summary by kind and width; and, where the file breaks off, the
-number of the refusal, what it means, where, and what to do.
+smallest and the largest row, as 64 bits with a sign. Then a summary by kind and width; and, where
+the file breaks off, the number of the refusal, what it means, where, and what to do.
 
   --signed   the rows are signed (zigzag); it changes rows, and neither runs nor refusals
   --svg OUT  writes a picture, too: the runs by kind and width along the file, the damage marked
