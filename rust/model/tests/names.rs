@@ -118,10 +118,13 @@ fn booleans_and_byte_values() {
     assert_eq!(read_value(&[1, 2, 3], 1, 3).info(), None);
 }
 
+/// Rows, form and width code; the kind, the width in bits and the bytes of what is written.
+type Line = (&'static [i64], Form, u8, Kind, usize, usize);
+
 #[test]
 fn writer() {
     use Form::*;
-    let lines: [(&[i64], Form, u8, Kind, usize, usize); 6] = [
+    let lines: [Line; 6] = [
         (&[300; 5], ShortRepeat, 2, Kind::ShortRepeat, 16, 3),
         (&[300; 5], ShortRepeat, 8, Kind::ShortRepeat, 64, 9),
         (&[1, 2, 3], Direct, 3, Kind::Direct, 4, 4),
