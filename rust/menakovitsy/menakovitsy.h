@@ -32,14 +32,16 @@ extern "C" {
 
 /* The version of these functions: each change of them makes it one more. A program compares what
  * orc_version answers with the header that it was compiled with. */
-#define ORC_VERSION UINT64_C(2)
+#define ORC_VERSION UINT64_C(3)
 
 uint64_t orc_version(void);
 
 /* The answer. A function that is lent words writes its whole answer into the first ORC_WORDS of
- * them and leaves the others as they were. It returns the refusal's number (the word ORC_NUMBER), 0
- * where nothing is refused. Later versions append words: none changes its meaning. */
-#define ORC_WORDS 8
+ * them, the stream reader into the first ORC_STREAM_WORDS, and leaves the others as they were. It
+ * returns the refusal's number (the word ORC_NUMBER), 0 where nothing is refused. Later versions
+ * append words: none changes its meaning. */
+#define ORC_WORDS 9
+#define ORC_STREAM_WORDS 14
 
 /* What it returns where it was lent fewer: then it has touched nothing, no word, row or byte. */
 #define ORC_TOO_FEW_WORDS UINT64_MAX
@@ -62,7 +64,18 @@ enum orc_word {
     /* 1 where the refusal has a cut field (6, 12, 13 and 14, and no other), otherwise 0. */
     ORC_CUT = 6,
     /* The byte where the cut field begins, from the input's first on; 0 where there is none. */
-    ORC_CUT_AT = 7
+    ORC_CUT_AT = 7,
+    /* The width of a run's values in bits: of a short repeat 8 for each byte of its value, of a fixed
+     * delta 0, of packed rows and magnitudes theirs; booleans 1, byte values 8. 0 at the end, where
+     * refused, and always for a stream. */
+    ORC_WIDTH = 8,
+    /* Of a stream alone, in both its cases: 1 where a run was read, otherwise 0. The words behind it
+     * are of the last run that was read, and 0 where there is none. */
+    ORC_LAST = 9,
+    ORC_LAST_KIND = 10,
+    ORC_LAST_WIDTH = 11,
+    ORC_LAST_ROWS = 12,
+    ORC_LAST_BYTES = 13
 };
 
 enum orc_case {

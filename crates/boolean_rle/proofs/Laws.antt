@@ -350,7 +350,7 @@ module _ (input : List ℕ) (at n : ℕ) (out : List ℕ) where
         let (ds, (rest, f, l)) = whole in
         record { answer = rw (f, lt-ltb (length out) n h); places = rw (f, lt-ltb (length out) n h) }
 
-    pub reads-all : (out′ : List ℕ) → n ≤ length out → Filled n (booleans n (drop at input)) out out′ → BooleansRead input at n out out′ (ran Booleans n k)
+    pub reads-all : (out′ : List ℕ) → n ≤ length out → Filled n (booleans n (drop at input)) out out′ → BooleansRead input at n out out′ (ran Booleans 1 n k)
     unfolding booleansInto
     reads-all out′ h w =
         let (ds, (rest, f, l)) = whole in

@@ -188,5 +188,5 @@ pub fn read_booleans(input: &[u8], at: ByteOffset, n: RowNumber, out: &mut [u8])
         return Answer::refused(8, position);
     }
     put_booleans(input, position, rows, out);
-    Answer::run(Kind::Booleans, rows, consumed)
+    Answer::run(Kind::Booleans, 1, rows, consumed)
 }

@@ -251,7 +251,7 @@ pub told : ℕ → List ℕ → Answer × List ℕ
 unfolding booleansInto booleans byteRuns byteRun repeatRun bytes byteCount joinedRuns runLayout booleansOf joinedBytes runBytes bits digits
 told n bs = (booleansAnswer 1 (length bs) n (booleansInto n n bs), booleansPlaces n (replicate n 7) (booleansInto n n bs))
 
-pub starred-32 : told 32 starred ≡ (ran Booleans 32 4, replicate 24 1 ++ replicate 8 0)
+pub starred-32 : told 32 starred ≡ (ran Booleans 1 32 4, replicate 24 1 ++ replicate 8 0)
 unfolding told
 starred-32 = refl
 
@@ -260,11 +260,11 @@ unfolding told
 starred-33 = refl
 
 -- the specification's own: one true and seven false; and the literal bytes 44 45, highest bit first
-pub one-true : told 8 (0xFF ∷ 0x80 ∷ []) ≡ (ran Booleans 8 2, 1 ∷ replicate 7 0)
+pub one-true : told 8 (0xFF ∷ 0x80 ∷ []) ≡ (ran Booleans 1 8 2, 1 ∷ replicate 7 0)
 unfolding told
 one-true = refl
 
-pub two-literals : told 16 (0xFE ∷ 0x44 ∷ 0x45 ∷ []) ≡ (ran Booleans 16 3, 0 ∷ 1 ∷ 0 ∷ 0 ∷ 0 ∷ 1 ∷ 0 ∷ 0 ∷ 0 ∷ 1 ∷ 0 ∷ 0 ∷ 0 ∷ 1 ∷ 0 ∷ 1 ∷ [])
+pub two-literals : told 16 (0xFE ∷ 0x44 ∷ 0x45 ∷ []) ≡ (ran Booleans 1 16 3, 0 ∷ 1 ∷ 0 ∷ 0 ∷ 0 ∷ 1 ∷ 0 ∷ 0 ∷ 0 ∷ 1 ∷ 0 ∷ 0 ∷ 0 ∷ 1 ∷ 0 ∷ 1 ∷ [])
 unfolding told
 two-literals = refl
 
@@ -273,6 +273,6 @@ pub cut-literals : told 8 (0xFE ∷ 0x44 ∷ []) ≡ (cutAt 13 1 2, replicate 8 
 unfolding told
 cut-literals = refl
 
-pub none-asked : told 0 [] ≡ (ran Booleans 0 0, [])
+pub none-asked : told 0 [] ≡ (ran Booleans 1 0 0, [])
 unfolding told
 none-asked = refl

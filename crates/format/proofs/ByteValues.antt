@@ -21,7 +21,7 @@ value-exactly n bs v rest h = (
 )
 
 module _ (at n : ℕ) (bs : List ℕ) where
-  pub value-there : n ≤ length bs → (valueAnswer at (length bs) n (byteValue n bs) ≡ ran ByteValues n n) × (valuePart (byteValue n bs) ≡ take n bs)
+  pub value-there : n ≤ length bs → (valueAnswer at (length bs) n (byteValue n bs) ≡ ran ByteValues 8 n n) × (valuePart (byteValue n bs) ≡ take n bs)
   unfolding bytes
   value-there h = rw (le-leb n (length bs) h) (refl, refl)
 
@@ -32,5 +32,5 @@ module _ (at n : ℕ) (bs : List ℕ) where
       rw (lt-leb n (length bs) h, e) (refl, refl)
 
 -- 0 gives an empty part, past the end too
-pub value-none : (at : ℕ) (bs : List ℕ) → (valueAnswer at (length bs) 0 (byteValue 0 bs) ≡ ran ByteValues 0 0) × (valuePart (byteValue 0 bs) ≡ [])
+pub value-none : (at : ℕ) (bs : List ℕ) → (valueAnswer at (length bs) 0 (byteValue 0 bs) ≡ ran ByteValues 8 0 0) × (valuePart (byteValue 0 bs) ≡ [])
 value-none at bs = value-there at 0 bs (omega arith)

@@ -10,8 +10,9 @@ use lib.IntN.{ℤ, pos, negsuc}
 use Rattle.format.specs.declared.Kind.{Kind}
 use Rattle.format.specs.declared.Kind.the-variants.{ShortRepeat, Direct, PatchedBase, Delta}
 use Rattle.format.specs.declared.Answer.{Answer}
+use Rattle.format.specs.declared.LastRun.the-variants.{None, Run}
 use Rattle.format.specs.declared.Stream.{Stream}
-use Rattle.format.specs.Answers.{ran, refusing, cutting, refusedAt, cutAt, readWhole, brokeAt}
+use Rattle.format.specs.Answers.{running, ran, refusing, cutting, refusedAt, cutAt, readWhole, brokeAt}
 use Rattle.format.specs.Digits
 use Rattle.format.specs.Fields
 use Rattle.format.specs.Runs
@@ -28,8 +29,8 @@ abbrev lent : List ℤ
 lent = replicate 6 (pos 7)
 
 -- a run with its rows in the first places; a refusal at the position, which changes no place
-abbrev run : Kind → List ℤ → ℕ → Answer × List ℤ
-run kind rows bytes = (ran kind (length rows) bytes, rows ++ drop (length rows) lent)
+abbrev run : Kind → ℕ → List ℤ → ℕ → Answer × List ℤ
+run kind width rows bytes = (ran kind width (length rows) bytes, rows ++ drop (length rows) lent)
 
 abbrev refusal : ℕ → Answer × List ℤ
 refusal n = (refusedAt n 5, lent)
@@ -45,22 +46,22 @@ unfolding Digits.number Digits.digits Fields.widths Fields.width Fields.leastOf 
 told signed bs = (answerOf 5 (length bs) (into 6 (parse bs)), placesOf signed lent (into 6 (parse bs)))
 
 -- a repeat of 3 yields 3
-repeat-of-three : told true (0x00 ∷ 0x01 ∷ []) ≡ run ShortRepeat (negsuc 0 ∷ negsuc 0 ∷ negsuc 0 ∷ []) 2
+repeat-of-three : told true (0x00 ∷ 0x01 ∷ []) ≡ run ShortRepeat 8 (negsuc 0 ∷ negsuc 0 ∷ negsuc 0 ∷ []) 2
 unfolding told
 repeat-of-three = refl
 
 -- the highest bits of a byte come first
-highest-first : told false (0x46 ∷ 0x02 ∷ 0x12 ∷ 0x30 ∷ []) ≡ run Direct (pos 1 ∷ pos 2 ∷ pos 3 ∷ []) 4
+highest-first : told false (0x46 ∷ 0x02 ∷ 0x12 ∷ 0x30 ∷ []) ≡ run Direct 4 (pos 1 ∷ pos 2 ∷ pos 3 ∷ []) 4
 unfolding told
 highest-first = refl
 
 -- no zigzag on patched rows when the flag says signed
-patched-plain : told true (0x86 ∷ 0x03 ∷ 0x03 ∷ 0x20 ∷ 0xE4 ∷ 0x12 ∷ 0x34 ∷ []) ≡ run PatchedBase (negsuc 98 ∷ negsuc 97 ∷ negsuc 96 ∷ negsuc 95 ∷ []) 7
+patched-plain : told true (0x86 ∷ 0x03 ∷ 0x03 ∷ 0x20 ∷ 0xE4 ∷ 0x12 ∷ 0x34 ∷ []) ≡ run PatchedBase 4 (negsuc 98 ∷ negsuc 97 ∷ negsuc 96 ∷ negsuc 95 ∷ []) 7
 unfolding told
 patched-plain = refl
 
 -- the gap of the second patch is counted from the first, and of a patch after a skip from the skip
-gaps-from-previous : told true (0x86 ∷ 0x03 ∷ 0x03 ∷ 0x22 ∷ 0x64 ∷ 0x12 ∷ 0x34 ∷ 0x46 ∷ 0x20 ∷ []) ≡ run PatchedBase (pos 101 ∷ pos 118 ∷ pos 103 ∷ pos 136 ∷ []) 9
+gaps-from-previous : told true (0x86 ∷ 0x03 ∷ 0x03 ∷ 0x22 ∷ 0x64 ∷ 0x12 ∷ 0x34 ∷ 0x46 ∷ 0x20 ∷ []) ≡ run PatchedBase 4 (pos 101 ∷ pos 118 ∷ pos 103 ∷ pos 136 ∷ []) 9
 unfolding told
 gaps-from-previous = refl
 
@@ -74,7 +75,7 @@ unfolding told
 place-at-rows = refl
 
 -- 30-bit values with a 40-bit patch field: the largest patch that fits, and the next; and that beats a place out of the rows
-patch-fits : told false (0xB4 ∷ 0x00 ∷ 0x1C ∷ 0x01 ∷ 0x00 ∷ 0x00 ∷ 0x00 ∷ 0x00 ∷ 0x04 ∷ 0x00 ∷ 0x03 ∷ 0xFF ∷ 0xFF ∷ 0xFF ∷ 0xFF ∷ []) ≡ run PatchedBase (negsuc 1073741822 ∷ []) 15
+patch-fits : told false (0xB4 ∷ 0x00 ∷ 0x1C ∷ 0x01 ∷ 0x00 ∷ 0x00 ∷ 0x00 ∷ 0x00 ∷ 0x04 ∷ 0x00 ∷ 0x03 ∷ 0xFF ∷ 0xFF ∷ 0xFF ∷ 0xFF ∷ []) ≡ run PatchedBase 30 (negsuc 1073741822 ∷ []) 15
 unfolding told
 patch-fits = refl
 
@@ -87,12 +88,12 @@ unfolding told
 too-large-first = refl
 
 -- the magnitudes of a falling delta run are taken away
-falling : told false (0xC6 ∷ 0x03 ∷ 0x64 ∷ 0x05 ∷ 0x14 ∷ []) ≡ run Delta (pos 100 ∷ pos 97 ∷ pos 96 ∷ pos 92 ∷ []) 5
+falling : told false (0xC6 ∷ 0x03 ∷ 0x64 ∷ 0x05 ∷ 0x14 ∷ []) ≡ run Delta 4 (pos 100 ∷ pos 97 ∷ pos 96 ∷ pos 92 ∷ []) 5
 unfolding told
 falling = refl
 
 -- code 0 of a delta header is a fixed delta, and not one bit
-fixed-delta : told false (0xC0 ∷ 0x04 ∷ 0x0A ∷ 0x04 ∷ []) ≡ run Delta (pos 10 ∷ pos 12 ∷ pos 14 ∷ pos 16 ∷ pos 18 ∷ []) 4
+fixed-delta : told false (0xC0 ∷ 0x04 ∷ 0x0A ∷ 0x04 ∷ []) ≡ run Delta 0 (pos 10 ∷ pos 12 ∷ pos 14 ∷ pos 16 ∷ pos 18 ∷ []) 4
 unfolding told
 fixed-delta = refl
 
@@ -146,14 +147,23 @@ cut-list = refl
 abbrev streamed : List ℕ → Stream × List ℤ
 streamed bs = (streamAnswer 5 (readAll 6 bs), joinedRows false (runsOf (readAll 6 bs)))
 
-two-runs : streamed (0x00 ∷ 0x01 ∷ 0x00 ∷ 0x02 ∷ []) ≡ (readWhole 6 4, pos 1 ∷ pos 1 ∷ pos 1 ∷ pos 2 ∷ pos 2 ∷ pos 2 ∷ [])
+two-runs : streamed (0x00 ∷ 0x01 ∷ 0x00 ∷ 0x02 ∷ []) ≡ (readWhole 6 4 (Run (running ShortRepeat 8 3 2)), pos 1 ∷ pos 1 ∷ pos 1 ∷ pos 2 ∷ pos 2 ∷ pos 2 ∷ [])
 unfolding told
 two-runs = refl
 
-cut-run : streamed (0x00 ∷ 0x01 ∷ 0x46 ∷ []) ≡ (brokeAt (refusing 1 7) 3 2, pos 1 ∷ pos 1 ∷ pos 1 ∷ [])
+cut-run : streamed (0x00 ∷ 0x01 ∷ 0x46 ∷ []) ≡ (brokeAt (refusing 1 7) 3 2 (Run (running ShortRepeat 8 3 2)), pos 1 ∷ pos 1 ∷ pos 1 ∷ [])
 unfolding told
 cut-run = refl
 
-cut-list-later : streamed (0x00 ∷ 0x01 ∷ 0x86 ∷ 0x02 ∷ 0x03 ∷ 0x21 ∷ 0x64 ∷ 0x12 ∷ 0x34 ∷ []) ≡ (brokeAt (cutting 14 7 14) 3 2, pos 1 ∷ pos 1 ∷ pos 1 ∷ [])
+cut-list-later : streamed (0x00 ∷ 0x01 ∷ 0x86 ∷ 0x02 ∷ 0x03 ∷ 0x21 ∷ 0x64 ∷ 0x12 ∷ 0x34 ∷ []) ≡ (brokeAt (cutting 14 7 14) 3 2 (Run (running ShortRepeat 8 3 2)), pos 1 ∷ pos 1 ∷ pos 1 ∷ [])
 unfolding told
 cut-list-later = refl
+
+-- the last run and not the first; and none
+last-of-two : streamed (0x00 ∷ 0x01 ∷ 0x46 ∷ 0x01 ∷ 0x12 ∷ []) ≡ (readWhole 5 5 (Run (running Direct 4 2 3)), pos 1 ∷ pos 1 ∷ pos 1 ∷ pos 1 ∷ pos 2 ∷ [])
+unfolding told
+last-of-two = refl
+
+no-run : streamed (0x46 ∷ []) ≡ (brokeAt (refusing 1 5) 0 0 None, [])
+unfolding told
+no-run = refl

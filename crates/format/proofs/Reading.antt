@@ -15,7 +15,7 @@ use Rattle.format.specs.Runs.{Description, rowCount, layout}
 use Rattle.format.specs.Rows.{i64Rows}
 use Rattle.format.specs.Parse.{Reason, plain, cutIn, Parsed, end, got, refused, bytes, unpack, block, into}
 use Rattle.format.specs.Answers.{ran, refusal, refusedAt, cutAt, cutting}
-use Rattle.format.specs.Promises.{kindOf, answerOf, Gives}
+use Rattle.format.specs.Promises.{kindOf, widthOf, answerOf, Gives}
 use Rattle.format.specs.declared.Kind.{Kind}
 use Rattle.format.specs.declared.Answer.the-variants.{Refused}
 use Rattle.format.proofs.Streams.{into-got, into-refused, into-end}
@@ -76,10 +76,10 @@ module _ (at total : ℕ) (signed : Bool) (m : Parsed Description) (out : List �
     unfolding into
     gives-8 h = record { answer = rw (e, lt-ltb _ _ h); places = rw (e, lt-ltb _ _ h) }
 
-    pub gives-run : (out′ : List ℤ) (k : Kind) (n b : ℕ) → rowCount d ≤ length out → k ≡ kindOf d → n ≡ rowCount d → b ≡ length (layout d)
-        → out′ ≡ i64Rows signed d ++ drop n out → Gives at total signed m out out′ (ran k n b)
-    gives-run out′ k n b h ek en eb eo = record {
-      answer = rw (e, into-got (length out) d rest h, ek, en, eb);
+    pub gives-run : (out′ : List ℤ) (k : Kind) (w n b : ℕ) → rowCount d ≤ length out → k ≡ kindOf d → w ≡ widthOf d → n ≡ rowCount d → b ≡ length (layout d)
+        → out′ ≡ i64Rows signed d ++ drop n out → Gives at total signed m out out′ (ran k w n b)
+    gives-run out′ k w n b h ek ew en eb eo = record {
+      answer = rw (e, into-got (length out) d rest h, ek, ew, en, eb);
       places = rw (e, into-got (length out) d rest h, ← en) eo;
     }
 

@@ -14,6 +14,9 @@ use Rattle.format.specs.Digits.{AllBelow}
 use Rattle.format.specs.Runs.{Description, rowCount, Valid, layout, AllValid, joined}
 use Rattle.format.specs.Parse.{Reason, Parsed, end, got, refused, parse, into}
 use Rattle.format.specs.Streams.{Reading, whole, broken, after, next, runsFrom, readAll, totalRows}
+use Rattle.format.specs.Promises.{runOf, lastOr}
+use Rattle.format.specs.declared.LastRun.{LastRun}
+use Rattle.format.specs.declared.LastRun.the-variants.{Run}
 use Rattle.format.proofs.Fields.{Took}
 use Rattle.format.proofs.Cut.{isCut, cut-number}
 use Rattle.format.proofs.Runs.{Outcome, nothing, run, refusal, outcome, parse-complete, parse-empty, layout-pos, got-inj}
@@ -169,3 +172,8 @@ pub stream-cut : (n : ℕ) (ds : List Description) (d : Description) (p q : List
 stream-cut n ds d p q vs v h e pe qe =
     let (r, f, c) = cut-number d p q v e pe qe in
     (r, stream-broken n ds p r vs h (rw f (into-refused (n - totalRows ds) r)), c)
+
+-- the last run of a list that ends in one
+pub last-snoc : (none : LastRun) (ds : List Description) (d : Description) → lastOr none (ds ++ d ∷ []) ≡ Run (runOf d)
+last-snoc none [] d = refl
+last-snoc none (e ∷ ds) d = last-snoc (Run (runOf e)) ds d

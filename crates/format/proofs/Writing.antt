@@ -22,7 +22,7 @@ use Rattle.format.specs.Runs.{Description, short, direct, fixed, delta, 
 use Rattle.format.specs.Rows
 use Rattle.format.specs.Rows.{rowsOf, i64Rows, asI64, asU64, plus, walk}
 use Rattle.format.specs.Parse.{Parsed, got, refused, unless, parse, into}
-use Rattle.format.specs.Promises.{answerOf, kindOf, RunRead}
+use Rattle.format.specs.Promises.{answerOf, kindOf, widthOf, RunRead}
 use Rattle.format.specs.Answers.{ran, answerNumber}
 use Rattle.format.specs.Writing.{stored, minus, stepTo, stepsOf, baseDelta, falls, valuesOf, padded, firstOf, described, every, between, countAllowed, haveForm, widthAllowed, fitWidth, writing, AllI64, Written, Short, AsWritten, short-repeat, direct-run, fixed-delta, packed-delta}
 use Rattle.format.proofs.Digits.{number-lt, digits-number, length-digits, digits-below, number-digits, pow-pow}
@@ -465,7 +465,7 @@ read-written rows signed f w out out′ r places places′ r′ h p ok room q =
 -- and of the rows of a run that stands as the writer lays it down, what is written is that run's own bytes
 pub written-again : (signed : Bool) (f : Form) (w : ℕ) (d : Description) (out out′ : List ℕ) (r : Answer) → Valid d → AsWritten f w d
     → length (layout d) ≤ length out → Written (i64Rows signed d) signed f w out out′ r
-    → (r ≡ ran (kindOf d) (rowCount d) (length (layout d))) × (out′ ≡ layout d ++ drop (length (layout d)) out)
+    → (r ≡ ran (kindOf d) (widthOf d) (rowCount d) (length (layout d))) × (out′ ≡ layout d ++ drop (length (layout d)) out)
 written-again signed f w d out out′ r v c room p =
     let e = writes-back signed f w d (length out) v c room in
     (p .answer ∙ rw e, p .places ∙ rw e)

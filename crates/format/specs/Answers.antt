@@ -1,9 +1,11 @@
--- The answers, case by case: document 01's number and values for each (number, place, cut field, rows, bytes, the loader's packed number),
--- and the case that stands for each thing that document 01 has a call answer.
+-- The answers, case by case: document 01's number and values for each (number, place, cut field, width, rows, bytes, the loader's packed
+-- number), and the case that stands for each thing that document 01 has a call answer.
 -- Assumes nothing.
 use Prim.Native.Nat.{ℕ, _+_, _-_, _*_}
 use Rattle.format.specs.declared.Kind.{Kind}
 use Rattle.format.specs.declared.Kind.the-variants.{ShortRepeat, Direct, PatchedBase, Delta, Booleans, ByteValues}
+use Rattle.format.specs.declared.Run as run
+use Rattle.format.specs.declared.LastRun.{LastRun}
 use Rattle.format.specs.declared.CutField.{CutField}
 use Rattle.format.specs.declared.CutField.the-variants as field
 use Rattle.format.specs.declared.Refusal.{Refusal}
@@ -22,9 +24,12 @@ kindNumber Delta = 3
 kindNumber Booleans = 4
 kindNumber ByteValues = 5
 
--- ---- an answer carries either the run's kind with its counts (rows, and bytes consumed or written) ..
-abbrev pub ran : Kind → ℕ → ℕ → Answer
-ran kind rows bytes = Run (record { kind = kind; rows = record { rows = rows }; consumed = record { bytes = bytes } })
+-- ---- an answer carries either the run: its kind, value width in bits, and counts (rows, and bytes consumed or written) ..
+abbrev pub running : Kind → ℕ → ℕ → ℕ → run.Run
+running kind width rows bytes = record { kind = kind; width = width; rows = record { rows = rows }; consumed = record { bytes = bytes } }
+
+abbrev pub ran : Kind → ℕ → ℕ → ℕ → Answer
+ran kind width rows bytes = Run (running kind width rows bytes)
 
 -- .. or a refusal with its number and the byte where the refused run begins ..
 abbrev pub refusing : ℕ → ℕ → Refusal
@@ -62,6 +67,12 @@ answerCut End = field.None
 answerCut (Run r) = field.None
 answerCut (Refused f) = f .cut
 
+-- the width: 0 where there is no run
+abbrev pub answerWidth : Answer → ℕ
+answerWidth End = 0
+answerWidth (Run r) = r .width
+answerWidth (Refused f) = 0
+
 -- a refused call yields 0 rows and consumes 0 bytes
 abbrev pub answerRows : Answer → ℕ
 answerRows End = 0
@@ -79,10 +90,11 @@ answerPacked End = 0
 answerPacked (Run r) = 65536 * (r .consumed .bytes) + r .rows .rows
 answerPacked (Refused f) = f .number
 
--- ---- the stream reader: "whole stream read" with its counts ..
-abbrev pub readWhole : ℕ → ℕ → Stream
-readWhole rows bytes = stream.the-variants.Whole (record { rows = record { rows = rows }; consumed = record { bytes = bytes } })
+-- ---- the stream reader: "whole stream read" with its counts and the last run ..
+abbrev pub readWhole : ℕ → ℕ → LastRun → Stream
+readWhole rows bytes last = stream.the-variants.Whole (record { rows = record { rows = rows }; consumed = record { bytes = bytes }; last = last })
 
--- .. or the first refusal, and the counts of the runs before it
-abbrev pub brokeAt : Refusal → ℕ → ℕ → Stream
-brokeAt refusal rows bytes = stream.the-variants.Refused refusal (record { rows = record { rows = rows }; consumed = record { bytes = bytes } })
+-- .. or the first refusal, and the counts and the last of the runs before it
+abbrev pub brokeAt : Refusal → ℕ → ℕ → LastRun → Stream
+brokeAt refusal rows bytes last =
+    stream.the-variants.Refused refusal (record { rows = record { rows = rows }; consumed = record { bytes = bytes }; last = last })

@@ -106,10 +106,10 @@ booleansInto places n bs = then (booleans n bs) λ ds rest. unless (ltb places n
 
 -- ---- THE PROMISE
 
--- the kind with its counts: n stands as rows, and each of the runs is consumed whole; or a refusal, at the call's position
+-- the kind, one bit wide, with its counts: n stands as rows, and each of the runs is consumed whole; or a refusal, at the call's position
 abbrev pub booleansAnswer : ℕ → ℕ → ℕ → Parsed (List ByteRun) → Answer
 booleansAnswer at total n end = cutAt 6 at at
-booleansAnswer at total n (got ds rest) = ran Booleans n (length (joinedRuns ds))
+booleansAnswer at total n (got ds rest) = ran Booleans 1 n (length (joinedRuns ds))
 booleansAnswer at total n (refused r) = Refused (refusal at total r)
 
 -- n bytes of 0 or 1 in the first places, and what stood in the others; a refused call leaves every place unchanged

@@ -9,6 +9,8 @@ use lib.Dec.{leb, ltb, eqb}
 use lib.IntN.{ℤ}
 use Rattle.format.specs.declared.CutField.{CutField}
 use Rattle.format.specs.declared.CutField.the-variants as field
+use Rattle.format.specs.declared.LastRun.{LastRun}
+use Rattle.format.specs.declared.LastRun.the-variants as last
 use Rattle.format.specs.declared.Answer.{Answer}
 use Rattle.format.specs.declared.Answer.the-variants.{End, Run, Refused}
 use Rattle.format.specs.declared.Stream as stream
@@ -20,7 +22,7 @@ use Rattle.format.specs.Runs.{Description, rowCount}
 use Rattle.format.specs.Rows.{asU64, i64Rows}
 use Rattle.format.specs.Parse.{Parsed, end, got, refused, parse, into, unless}
 use Rattle.format.specs.Streams.{Reading, readAll, runsOf, totalRows, joinedRows}
-use Rattle.format.specs.Answers.{kindNumber, answerNumber, answerPlace, answerCut, answerRows, answerBytes, answerPacked}
+use Rattle.format.specs.Answers.{kindNumber, answerNumber, answerPlace, answerCut, answerWidth, answerRows, answerBytes, answerPacked}
 use Rattle.format.specs.Promises.{answerOf, placesOf, streamAnswer}
 use Rattle.format.specs.Booleans.{booleansInto, booleansAnswer, booleansPlaces}
 use Rattle.format.specs.ByteValues.{byteValue, valueAnswer}
@@ -99,9 +101,11 @@ answerWords a =
     ∷ cutCase (answerCut a)
     -- 7: the byte where that field begins, 0 where there is none
     ∷ cutByte (answerCut a)
+    -- 8: the width of the run's values in bits, 0 for end and refused
+    ∷ answerWidth a
     ∷ []
 
--- a stream is whole, or a run of it is refused: in both cases with the counts of the runs that were read
+-- a stream is whole, or a run of it is refused: in both cases with the counts of the runs that were read, and the last of them
 abbrev pub streamCase : Stream → ℕ
 streamCase (stream.the-variants.Whole n) = 1
 streamCase (stream.the-variants.Refused f n) = 2
@@ -126,6 +130,15 @@ abbrev pub streamBytes : Stream → ℕ
 streamBytes (stream.the-variants.Whole n) = n .consumed .bytes
 streamBytes (stream.the-variants.Refused f n) = n .consumed .bytes
 
+abbrev pub streamLast : Stream → LastRun
+streamLast (stream.the-variants.Whole n) = n .last
+streamLast (stream.the-variants.Refused f n) = n .last
+
+-- the last run, as the answer that it would have by itself; end where no run was read
+abbrev pub lastAnswer : LastRun → Answer
+lastAnswer last.None = End
+lastAnswer (last.Run r) = Run r
+
 unfoldable pub streamWords : Stream → List ℕ
 streamWords s =
     -- 0: the case: 1 the whole stream was read, 2 a run was refused
@@ -144,11 +157,26 @@ streamWords s =
     ∷ cutCase (streamCut s)
     -- 7: the byte where that field begins, 0 where there is none
     ∷ cutByte (streamCut s)
+    -- 8: nor of one width
+    ∷ 0
+    -- 9: 1 where a run was read, else 0; the words behind it are the last one's, 0 where there is none
+    ∷ answerCase (lastAnswer (streamLast s))
+    -- 10: its kind
+    ∷ answerKind (lastAnswer (streamLast s))
+    -- 11: the width of its values in bits
+    ∷ answerWidth (lastAnswer (streamLast s))
+    -- 12: its rows
+    ∷ answerRows (lastAnswer (streamLast s))
+    -- 13: its bytes
+    ∷ answerBytes (lastAnswer (streamLast s))
     ∷ []
 
--- how many words an answer has, a stream's too
+-- how many words an answer has, and a stream's
 abbrev pub wordCount : ℕ
-wordCount = 8
+wordCount = 9
+
+abbrev pub streamWordCount : ℕ
+streamWordCount = 14
 
 -- the number of a call that was lent fewer
 abbrev pub tooFewWords : ℕ
@@ -225,4 +253,4 @@ WriteTold rows flag form w out out′ words words′ r =
 
 -- the version of the exported functions: one more with each change of what they take or answer
 abbrev pub faceVersion : ℕ
-faceVersion = 2
+faceVersion = 3

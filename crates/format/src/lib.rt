@@ -1,7 +1,7 @@
 // The nouns of document 01: units, kinds, answers. What bytes mean stands in specs/, and the laws of that meaning in proofs/.
 ghost use mathlib.Core.Path.{_≡_};
 ghost use Prim.Native.Nat.{_<_};
-ghost use Rattle.format.specs.Answers.{ran, refusing, cutting, refusedAt, cutAt, kindNumber, answerNumber, answerPlace, answerCut, answerRows, answerBytes, answerPacked, readWhole, brokeAt};
+ghost use Rattle.format.specs.Answers.{ran, refusing, cutting, refusedAt, cutAt, kindNumber, answerNumber, answerPlace, answerCut, answerWidth, answerRows, answerBytes, answerPacked, readWhole, brokeAt};
 
 // File offsets count bytes.
 pub struct ByteOffset {
@@ -31,9 +31,10 @@ pub enum Form {
     PackedDelta,
 }
 
-// A run: its kind, and how many rows and bytes it has.
+// A run: its kind, the width of its values in bits, and how many rows and bytes it has.
 pub struct Run {
     pub kind: Kind,
+    pub width: usize,
     pub rows: RowNumber,
     pub consumed: ByteOffset,
 }
@@ -58,10 +59,17 @@ pub enum Answer {
     Refused(Refusal),
 }
 
-// The rows and bytes of several runs.
+// The last of several runs: none where there are none.
+pub enum LastRun {
+    None,
+    Run(Run),
+}
+
+// Several runs: their rows and bytes, and the last of them.
 pub struct Counts {
     pub rows: RowNumber,
     pub consumed: ByteOffset,
+    pub last: LastRun,
 }
 
 // What the stream reader answers: every run was read, or a run was refused, with the counts of the runs before it.
@@ -143,11 +151,12 @@ impl Answer {
         Answer::End
     }
 
-    pub fn run(kind: Kind, rows: usize, consumed: usize) -> Self
-        ensures { λ r. ⌜ r ≡ ran kind rows consumed ⌝ }
+    pub fn run(kind: Kind, width: usize, rows: usize, consumed: usize) -> Self
+        ensures { λ r. ⌜ r ≡ ran kind width rows consumed ⌝ }
     {
         Answer::Run(Run {
             kind,
+            width,
             rows: RowNumber { rows },
             consumed: ByteOffset { bytes: consumed },
         })
@@ -198,6 +207,17 @@ impl Answer {
         }
     }
 
+    // The width of the run's values in bits: 0 where there is no run.
+    pub fn width(self) -> usize
+        ensures { λ r. ⌜ r ≡ answerWidth self ⌝ }
+    {
+        match self {
+            Answer::Run(r) => r.width,
+            Answer::Refused(_) => 0,
+            Answer::End => 0,
+        }
+    }
+
     // How many rows the answer yields.
     pub fn rows(self) -> usize
         ensures { λ r. ⌜ r ≡ answerRows self ⌝ }
@@ -238,23 +258,25 @@ impl Answer {
 }
 
 impl Stream {
-    pub fn whole(rows: usize, consumed: usize) -> Self
-        ensures { λ r. ⌜ r ≡ readWhole rows consumed ⌝ }
+    pub fn whole(rows: usize, consumed: usize, last: LastRun) -> Self
+        ensures { λ r. ⌜ r ≡ readWhole rows consumed last ⌝ }
     {
         Stream::Whole(Counts {
             rows: RowNumber { rows },
             consumed: ByteOffset { bytes: consumed },
+            last,
         })
     }
 
-    pub fn refused(refusal: Refusal, rows: usize, consumed: usize) -> Self
-        ensures { λ r. ⌜ r ≡ brokeAt refusal rows consumed ⌝ }
+    pub fn refused(refusal: Refusal, rows: usize, consumed: usize, last: LastRun) -> Self
+        ensures { λ r. ⌜ r ≡ brokeAt refusal rows consumed last ⌝ }
     {
         Stream::Refused(
             refusal,
             Counts {
                 rows: RowNumber { rows },
                 consumed: ByteOffset { bytes: consumed },
+                last,
             },
         )
     }

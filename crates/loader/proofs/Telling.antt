@@ -6,14 +6,14 @@ use lib.ListN.{length}
 use borrow.Author.Tests.{le-leb, lt-leb}
 use Rattle.format.specs.declared.Answer.{Answer}
 use Rattle.format.specs.declared.Stream.{Stream}
-use Rattle.format.specs.Loader.{answerWords, streamWords, wordCount, tooFewWords, Put, Told, ToldOf}
+use Rattle.format.specs.Loader.{answerWords, streamWords, wordCount, streamWordCount, tooFewWords, Put, Told, ToldOf}
 
--- every answer has as many words
+-- every answer has as many words, and every stream's
 pub answer-long : (a : Answer) → length (answerWords a) ≡ wordCount
 unfolding answerWords
 answer-long a = refl
 
-pub stream-long : (s : Stream) → length (streamWords s) ≡ wordCount
+pub stream-long : (s : Stream) → length (streamWords s) ≡ streamWordCount
 unfolding streamWords
 stream-long s = refl
 

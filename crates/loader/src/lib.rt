@@ -16,7 +16,7 @@ mod words;
 pub extern "C" fn orc_version() -> u64
     ensures { λ r. ⌜ r ≡ faceVersion ⌝ }
 {
-    2
+    3
 }
 
 // One run at the start of the input, its rows as eight bytes each, lowest first. The flag is 0 for unsigned, and any other number for signed.
@@ -68,7 +68,7 @@ pub extern "C" fn orc_read_stream(
 ) -> u64
     ensures { λ r. ⌜ StreamTold (now (input .entry)) at flag (now (rows .entry)) (now (rows .exit)) (now (words .entry)) (now (words .exit)) r ⌝ }
 {
-    if words.len() < words::COUNT {
+    if words.len() < words::STREAM_COUNT {
         return words::TOO_FEW;
     }
     let stream = rle_v2::read_stream(input, ByteOffset { bytes: at as usize }, flag != 0, rows);

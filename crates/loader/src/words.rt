@@ -1,15 +1,18 @@
-// An answer as words: the case, the refusal's number and place, the kind, rows and bytes, and the field that was cut.
+// An answer as words: the case, the refusal's number and place, the kind, rows and bytes, the field that was cut, and the width; of a stream also its last run.
 ghost use mathlib.Core.Path.{_≡_};
 ghost use Prim.Native.Nat.{_≤_};
 ghost use lib.ListN.{length};
-ghost use Rattle.format.specs.Loader.{answerCase, answerKind, answerWords, cutCase, cutByte, streamCase, streamNumber, streamPlace, streamCut, streamRows, streamBytes, streamWords, wordCount, Put};
+ghost use Rattle.format.specs.Loader.{answerCase, answerKind, answerWords, cutCase, cutByte, streamCase, streamNumber, streamPlace, streamCut, streamRows, streamBytes, streamLast, lastAnswer, streamWords, wordCount, streamWordCount, Put};
 ghost use Rattle.format.specs.Answers.{answerNumber};
 use format::Answer;
 use format::CutField;
+use format::LastRun;
 use format::Stream;
 
-// How many words an answer has.
-pub const COUNT: usize = 8;
+// How many words an answer has, and a stream's.
+pub const COUNT: usize = 9;
+
+pub const STREAM_COUNT: usize = 14;
 
 // What a call with fewer words answers.
 pub const TOO_FEW: u64 = 18446744073709551615;
@@ -68,6 +71,7 @@ pub fn put_answer(answer: Answer, words: &mut [u64]) -> u64
     words[5] = answer.consumed() as u64;
     words[6] = cut_case(answer.cut_field());
     words[7] = cut_byte(answer.cut_field()) as u64;
+    words[8] = answer.width() as u64;
     answer.number() as u64
 }
 
@@ -125,11 +129,32 @@ fn stream_consumed(stream: Stream) -> usize
     }
 }
 
-// The words of a stream's answer: of no one kind, with the counts of the runs that were read, also where a run is refused.
+fn stream_last(stream: Stream) -> LastRun
+    ensures { λ r. ⌜ r ≡ streamLast stream ⌝ }
+{
+    match stream {
+        Stream::Whole(c) => c.last,
+        Stream::Refused(_, c) => c.last,
+    }
+}
+
+// The last run as the answer that it would have by itself: end where there is none.
+fn last_answer(last: LastRun) -> Answer
+    ensures { λ r. ⌜ r ≡ lastAnswer last ⌝ }
+{
+    match last {
+        LastRun::None => Answer::End,
+        LastRun::Run(r) => Answer::Run(r),
+    }
+}
+
+// The words of a stream's answer: of no one kind and width, with the counts of the runs that were read and the last of them, also where a
+// run is refused.
 pub fn put_stream(stream: Stream, words: &mut [u64]) -> u64
-    requires { ⌜ wordCount ≤ length (now words) ⌝ }
+    requires { ⌜ streamWordCount ≤ length (now words) ⌝ }
     ensures { λ r. ⌜ Put streamWords streamNumber stream (now (words .entry)) (now (words .exit)) r ⌝ }
 {
+    let last = last_answer(stream_last(stream));
     words[0] = stream_case(stream);
     words[1] = stream_number(stream) as u64;
     words[2] = stream_place(stream) as u64;
@@ -138,5 +163,11 @@ pub fn put_stream(stream: Stream, words: &mut [u64]) -> u64
     words[5] = stream_consumed(stream) as u64;
     words[6] = cut_case(stream_cut(stream));
     words[7] = cut_byte(stream_cut(stream)) as u64;
+    words[8] = 0;
+    words[9] = case(last);
+    words[10] = kind(last) as u64;
+    words[11] = last.width() as u64;
+    words[12] = last.rows() as u64;
+    words[13] = last.consumed() as u64;
     stream_number(stream) as u64
 }

@@ -166,7 +166,7 @@ module _ (input : List ℕ) (at n : ℕ) (out out′ : List ℕ) (r : Answer) (p
   read-back : (ds : List ByteRun) → (h : Hold bs n ds) → booleans n bs ≡ got ds (h .rest)
   read-back ds h = rw (h .bytes) (booleans-complete n ds (h .rest) (h .valid) (h .needed))
 
-  full : (ds : List ByteRun) → Hold bs n ds → n ≤ length out → (r ≡ ran Booleans n (length (joinedRuns ds))) × (out′ ≡ booleansOf n ds ++ drop n out)
+  full : (ds : List ByteRun) → Hold bs n ds → n ≤ length out → (r ≡ ran Booleans 1 n (length (joinedRuns ds))) × (out′ ≡ booleansOf n ds ++ drop n out)
   unfolding booleansInto
   full ds h l = (rw (read-back ds h, le-ltb (length out) n l) at (p .answer), rw (read-back ds h, le-ltb (length out) n l) at (p .places))
 
@@ -191,7 +191,7 @@ module _ (input : List ℕ) (at n : ℕ) (out out′ : List ℕ) (r : Answer) (p
         omega arith
 
   -- a run is no refusal, and no refusal with a byte is one without
-  run-no-refusal : (b : ℕ) (f : Refusal) → r ≡ ran Booleans n b → r ≡ Refused f → ⊥
+  run-no-refusal : (b : ℕ) (f : Refusal) → r ≡ ran Booleans 1 n b → r ≡ Refused f → ⊥
   run-no-refusal b f e g =
       let z : _≡_ {A = ℕ} 0 1 = cc in
       omega arith

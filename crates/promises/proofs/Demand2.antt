@@ -21,11 +21,11 @@ module _ (bs : List ℕ) (at total : ℕ) (out : List ℤ) (r : Answer) where
   read-run d b l = rw (b .bytes, parse-complete d (b .rest) (b .valid)) (into-got (length out) d (b .rest) l)
 
   begins : {m : Parsed Description} → Into (length out) bs m → r ≡ answerOf at total m → IsRun r → (d : Description) × Begins bs d × (rowCount d ≤ length out)
-  begins (into-nothing z) a (kind, rows, bytes, w) =
+  begins (into-nothing z) a (kind, width, rows, bytes, w) =
       let z : _≡_ {A = ℕ} 0 1 = cc in
       absurd (omega arith)
   begins (into-run {d} {rest} t l) a w = (d, record { valid = t .ok; rest = rest; bytes = t .split }, l)
-  begins (into-refusal z) a (kind, rows, bytes, w) =
+  begins (into-refusal z) a (kind, width, rows, bytes, w) =
       let z : _≡_ {A = ℕ} 0 1 = cc in
       absurd (omega arith)
 
@@ -46,7 +46,7 @@ demand2 input h at signed out out′ r s =
       ends = (empty bs at _ out r o (s .answer), λ e. s .answer ∙ rw (e, parse-empty, into-end (length out)));
       exactly = (
         begins bs at _ out r o (s .answer),
-        λ (d, b, l). (_, _, _, rw (read-run bs at 0 out r d b l) at (s .answer)),
+        λ (d, b, l). (_, _, _, _, rw (read-run bs at 0 out r d b l) at (s .answer)),
       );
       counts = λ d b l. rw (read-run bs at 0 out r d b l) at (s .answer);
       rows = λ d b l. rw (read-run bs at 0 out r d b l) at (s .places);

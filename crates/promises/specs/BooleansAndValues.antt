@@ -39,7 +39,7 @@ pub data CutShort (bs : List ℕ) (m : ℕ) : ℕ → ℕ → Type 0 where
 
 pub record BooleansExactly (bs : List ℕ) (at n : ℕ) (out out′ : List ℕ) (r : Answer) : Type 0 where
   -- n booleans are read where the bytes hold them and there is room: each of the runs is consumed whole, the booleans stand in the first places ..
-  pub answer : (ds : List ByteRun) → Hold bs n ds → n ≤ length out → r ≡ ran Booleans n (length (joinedRuns ds))
+  pub answer : (ds : List ByteRun) → Hold bs n ds → n ≤ length out → r ≡ ran Booleans 1 n (length (joinedRuns ds))
   pub places : (ds : List ByteRun) → Hold bs n ds → n ≤ length out → out′ ≡ booleansOf n ds ++ drop n out
   -- .. by one list of runs only
   pub only : (ds ds′ : List ByteRun) → Hold bs n ds → Hold bs n ds′ → ds ≡ ds′
@@ -58,7 +58,7 @@ BooleansHold =
 
 -- a byte value: the first n bytes, and n the bytes consumed; or 6, which names the call's position, and an empty part
 pub record ValueExactly (bs : List ℕ) (at n : ℕ) (part : List ℕ) (r : Answer) : Type 0 where
-  pub there : n ≤ length bs → (r ≡ ran ByteValues n n) × (part ≡ take n bs)
+  pub there : n ≤ length bs → (r ≡ ran ByteValues 8 n n) × (part ≡ take n bs)
   pub six : length bs < n → (r ≡ cutAt 6 at at) × (part ≡ [])
 
 abbrev pub ValueHolds : Type 0

@@ -13,7 +13,7 @@ use Rattle.format.specs.Answers.{refusing, cutting, brokeAt}
 use Rattle.format.specs.Digits.{AllBelow}
 use Rattle.format.specs.Runs.{Description, AllValid, layout, joined}
 use Rattle.format.specs.Streams.{totalRows, joinedRows}
-use Rattle.format.specs.Promises.{StreamRead}
+use Rattle.format.specs.Promises.{lastOf, StreamRead}
 use Rattle.promises.specs.Demand3.{IsWhole}
 use Rattle.promises.specs.Refusals.{CutNumber}
 
@@ -27,7 +27,7 @@ pub data CutBetween (from to : ℕ) : Refusal → Type 0 where
   in-header : CutBetween from to (refusing 1 from)
   in-field : {n byte : ℕ} → CutNumber n → from < byte → byte ≤ to → CutBetween from to (cutting n from byte)
 
--- the answer: the refusal of the run that was cut, and exactly the rows of the runs before it
+-- the answer: the refusal of the run that was cut, and exactly the rows of the runs before it, and the last of them
 pub record Refuses (n : ℕ) (ds : List Description) (at : ℕ) (signed : Bool) (out out′ : List ℤ) (r : Stream) : Type 0 where
   pub before : List Description
   pub cut : Description
@@ -37,7 +37,7 @@ pub record Refuses (n : ℕ) (ds : List Description) (at : ℕ) (signed : Bool) 
   pub ended : n < length (joined before) + length (layout cut)
   pub refusal : Refusal
   pub where-cut : CutBetween (at + length (joined before)) (at + n) refusal
-  pub answer : r ≡ brokeAt refusal (totalRows before) (length (joined before))
+  pub answer : r ≡ brokeAt refusal (totalRows before) (length (joined before)) (lastOf before)
   pub places : out′ ≡ joinedRows signed before ++ drop (totalRows before) out
 
 -- Of every stream of valid runs, of which the first n bytes are left, at any position: ..

@@ -14,14 +14,14 @@ use Rattle.format.specs.Digits.{AllBelow, number}
 use Rattle.format.specs.Fields.{width, row, Block, IsBlock, Varint}
 use Rattle.format.specs.Runs.{Description, short, direct, fixed, delta, patched, rowCount, layout, patches, tooLarge, outOfPlace, entryWidth}
 use Rattle.format.specs.Rows.{asI64, i64Rows}
-use Rattle.format.specs.Promises.{kindOf, RunRead}
+use Rattle.format.specs.Promises.{kindOf, widthOf, RunRead}
 
 -- the run is read back as these rows: wherever its bytes stand, whatever follows them, and with any places that have room for it
 abbrev pub ReadBack : Description → (Bool → List ℤ) → Type 0
 ReadBack d rows =
     (input : List ℕ) (at : ℕ) (signed : Bool) (out out′ : List ℤ) (r : Answer) → RunRead input at signed out out′ r
     → (rest : List ℕ) → drop at input ≡ layout d ++ rest → rowCount d ≤ length out
-    → (r ≡ ran (kindOf d) (rowCount d) (length (layout d))) × (out′ ≡ rows signed ++ drop (rowCount d) out)
+    → (r ≡ ran (kindOf d) (widthOf d) (rowCount d) (length (layout d))) × (out′ ≡ rows signed ++ drop (rowCount d) out)
 
 pub record EachWidth : Type 0 where
   -- short repeat: each size from 1 to 8 bytes, each count from 3 to 10

@@ -59,7 +59,7 @@ pub record Patched (code : ℕ) (base : List ℕ) (pc : ℕ) (k l : Block) (out�
 pub record Rows (code : ℕ) (base : List ℕ) (pc gw : ℕ) (k l : Block) (out out′ : List ℤ) (r : Answer) : Type 0 where
   pub fitting : TooLarge (width code) (width pc) (l .values) → ⊥
   pub in-place : OutOfPlace (width pc) (length (k .values)) (l .values) → ⊥
-  pub answer : r ≡ ran PatchedBase (length (k .values)) (length (layout (patched code base pc gw k l)))
+  pub answer : r ≡ ran PatchedBase (width code) (length (k .values)) (length (layout (patched code base pc gw k l)))
   pub rows : (p : ℕ) → p < length (k .values) → Patched code base pc k l out′ p
   pub others : drop (length (k .values)) out′ ≡ drop (length (k .values)) out
 

@@ -12,7 +12,7 @@ use Rattle.format.specs.declared.Answer.{Answer}
 use Rattle.format.specs.Answers.{ran, refusedAt, answerNumber}
 use Rattle.format.specs.Runs.{Description, Valid, rowCount, layout}
 use Rattle.format.specs.Rows.{asU64, i64Rows}
-use Rattle.format.specs.Promises.{kindOf, RunRead}
+use Rattle.format.specs.Promises.{kindOf, widthOf, RunRead}
 use Rattle.format.specs.Writing.{countAllowed, haveForm, widthAllowed, fitWidth, described, AllI64, Written, AsWritten}
 
 -- (a) What the writer writes, the run reader reads as the rows given, under the same flag, and it consumes the bytes that were written: its answer is
@@ -30,7 +30,7 @@ abbrev pub WritesAgain : Type 0
 WritesAgain =
     (signed : Bool) (form : Form) (width : ℕ) (d : Description) → Valid d → AsWritten form width d
     → (out out′ : List ℕ) (r : Answer) → length (layout d) ≤ length out → Written (i64Rows signed d) signed form width out out′ r
-    → (r ≡ ran (kindOf d) (rowCount d) (length (layout d))) × (out′ ≡ layout d ++ drop (length (layout d)) out)
+    → (r ≡ ran (kindOf d) (widthOf d) (rowCount d) (length (layout d))) × (out′ ≡ layout d ++ drop (length (layout d)) out)
 
 -- The table's lines for the writer. Row count not allowed for the form; rows don't have the form, or a width isn't one of the form's; a row or a
 -- magnitude needs more bits than the width; the output has too few places.
@@ -57,7 +57,7 @@ pub data Outcome (rows : List ℤ) (signed : Bool) (form : Form) (width : ℕ) (
       → length out < bytes rows signed form width out → Outcome rows signed form width out (refusedAt 8 0)
   written : Counted rows signed form width out true → Formed rows signed form width out true → Fitting rows signed form width out true
       → bytes rows signed form width out ≤ length out
-      → Outcome rows signed form width out (ran (kindOf (described signed form width (map asU64 rows))) (rowCount (described signed form width (map asU64 rows))) (bytes rows signed form width out))
+      → Outcome rows signed form width out (ran (kindOf (described signed form width (map asU64 rows))) (widthOf (described signed form width (map asU64 rows))) (rowCount (described signed form width (map asU64 rows))) (bytes rows signed form width out))
 
 -- the four refusals and the acceptance exclude one another, so each is given exactly when its line holds
 abbrev pub WriterTable : Type 0

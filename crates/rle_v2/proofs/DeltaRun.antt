@@ -80,10 +80,10 @@ module _ (s : List ℕ) (at : ℕ) (signed : Bool) (out : List ℤ) where
       fixed-8 l = gives-8 at (length s - at) signed _ out _ _ fixed-is l
 
       pub fixed-read : (out′ : List ℤ) → rows ≤ length out → out′ ≡ stepped first step (take rows out) ++ drop rows out
-          → Gives at (length s - at) signed (fixedBody rows (drop (at + 2) s)) out out′ (ran Delta rows (next - at))
+          → Gives at (length s - at) signed (fixedBody rows (drop (at + 2) s)) out out′ (ran Delta 0 rows (next - at))
       unfolding i64Rows rowsOf
       fixed-read out′ l e =
-          gives-run at (length s - at) signed _ out _ _ fixed-is out′ Delta rows (next - at) l refl refl
+          gives-run at (length s - at) signed _ out _ _ fixed-is out′ Delta 0 rows (next - at) l refl refl refl
           (omega (arith, bytes-count (fixed rows (t .first-bytes) (t .base-bytes)), t .next-is))
           (e ∙ rw (stepped-is first step rows out l, t .first-is, t .step-is))
 
@@ -110,10 +110,10 @@ module _ (s : List ℕ) (at : ℕ) (signed : Bool) (out : List ℤ) where
 
         pub packed-read : (out′ : List ℤ) → n + 2 ≤ length out
             → out′ ≡ laid first step (map asI64 (blockAt s next (width code) n .values)) ++ drop (n + 2) out
-            → Gives at (length s - at) signed (deltaBody code n (drop (at + 2) s)) out out′ (ran Delta (n + 2) (next + bytesFor (n * width code) - at))
+            → Gives at (length s - at) signed (deltaBody code n (drop (at + 2) s)) out out′ (ran Delta (width code) (n + 2) (next + bytesFor (n * width code) - at))
         unfolding i64Rows rowsOf
         packed-read out′ r e =
             let c = block-count s next (width code) n in
-            gives-run at (length s - at) signed _ out _ _ packed-is out′ Delta (n + 2) _ (rw c r) refl (rw c)
+            gives-run at (length s - at) signed _ out _ _ packed-is out′ Delta (width code) (n + 2) _ (rw c r) refl refl (rw c)
             (omega (arith, rw c at (bytes-count (delta code (t .first-bytes) (t .base-bytes) (blockAt s next (width code) n))), t .next-is))
             (e ∙ rw (summed-is (leb (2 ^ 63) step) (plus first step) (blockAt s next (width code) n .values) (block-patterns s next (width code) n (width-le code)), t .first-is, t .step-is))

@@ -48,9 +48,9 @@ module _ (s : List ℕ) (at : ℕ) (signed : Bool) (out : List ℤ) where
       no-room r = gives-8 at (length s - at) signed run out _ _ is-run (rw (block-count s (at + 2) bits count) r)
 
       pub read-is : (out′ : List ℤ) → count ≤ length out → out′ ≡ decoded signed (map asI64 (blockAt s (at + 2) bits count .values)) ++ drop count out
-          → Gives at (length s - at) signed run out out′ (ran Direct count (2 + bytesFor (count * bits)))
+          → Gives at (length s - at) signed run out out′ (ran Direct bits count (2 + bytesFor (count * bits)))
       unfolding i64Rows rowsOf
       read-is out′ r e =
           let n = block-count s (at + 2) bits count in
-          gives-run at (length s - at) signed run out _ _ is-run out′ Direct count _ (rw n r) refl (sym n) (sym (bytes-count _ ∙ rw n))
+          gives-run at (length s - at) signed run out _ _ is-run out′ Direct bits count _ (rw n r) refl refl (sym n) (sym (bytes-count _ ∙ rw n))
           (e ∙ ap (λ (x : List ℤ). x ++ drop count out) (decoded-is signed (blockAt s (at + 2) bits count .values) (block-patterns s (at + 2) bits count (width-le _))))

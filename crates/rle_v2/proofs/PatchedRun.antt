@@ -140,7 +140,7 @@ module _ (s : List ℕ) (at : ℕ) (signed : Bool) (out : List ℤ) where
           pub read-is : (one out′ : List ℤ) → rows ≤ length out
               → one ≡ based (baseValue (take bw (drop (at + 4) s))) (map asI64 (blockAt s (at + 4 + bw) (width code) rows .values)) ++ drop rows out
               → out′ ≡ patchAll (width code) (width pc) 0 one entries
-              → Gives at (length s - at) signed body out out′ (ran PatchedBase rows (at + 4 + bw + size + listSize - at))
+              → Gives at (length s - at) signed body out out′ (ran PatchedBase (width code) rows (at + 4 + bw + size + listSize - at))
           unfolding i64Rows rowsOf
           read-is one out′ r e f =
               let n = block-count s (at + 4 + bw) (width code) rows in
@@ -148,6 +148,6 @@ module _ (s : List ℕ) (at : ℕ) (signed : Bool) (out : List ℤ) where
               let base = baseValue (take bw (drop (at + 4) s)) in
               let b : one ≡ map asI64 (Rows.patchedRows base (width code) [] 0 vs) ++ drop rows out
               = e ∙ ap (λ (x : List ℤ). x ++ drop rows out) (based-is base (width code) 0 vs (block-patterns s (at + 4 + bw) (width code) rows (width-le code))) in
-              gives-run at (length s - at) signed body out _ _ is-run out′ PatchedBase rows _ (rw n r) refl (sym n)
+              gives-run at (length s - at) signed body out _ _ is-run out′ PatchedBase (width code) rows _ (rw n r) refl refl (sym n)
               (sym (bytes-count _ ∙ rw (length-take-le bw (drop (at + 4) s) (rw length-drop (omega arith)), n, block-count s (at + 4 + bw + size) (entryWidth pc gw) len) (omega arith)))
               (f ∙ rw b (patched-is (width code) (width pc) base vs entries (drop rows out) (rw n (none-refused (width code) (width pc) rows entries z .1))))

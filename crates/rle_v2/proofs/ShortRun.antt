@@ -1,6 +1,6 @@
 -- What a short repeat gives, by the tests of its reader. Assumes nothing.
 use mathlib.Core.Path.{_≡_, refl, sym, ap, _∙_}
-use Prim.Native.Nat.{ℕ, zero, suc, _+_, _-_, _/_, _%_, _<_, _≤_}
+use Prim.Native.Nat.{ℕ, zero, suc, _+_, _-_, _*_, _/_, _%_, _<_, _≤_}
 use native.Mathlib.Nat.{add-zero, mod-eq-of-lt}
 use native.Mathlib.Omega.{arith}
 use mathlib.Core.Bool.{Bool}
@@ -57,9 +57,10 @@ module _ (s : List ℕ) (at : ℕ) (signed : Bool) (out : List ℤ) where
     no-room r = gives-8 at (length s - at) signed run out _ _ is-run r
 
     pub read-is : (out′ : List ℤ) → count ≤ length out → value < two64 → out′ ≡ stepped value 0 (take count out) ++ drop count out
-        → Gives at (length s - at) signed run out out′ (ran ShortRepeat count (1 + size))
+        → Gives at (length s - at) signed run out out′ (ran ShortRepeat (8 * size) count (1 + size))
     unfolding i64Rows rowsOf
     read-is out′ r v e =
-        gives-run at (length s - at) signed run out _ _ is-run out′ ShortRepeat count _ r refl refl
-        (sym (bytes-count _ ∙ rw (length-take-le size (drop (at + 1) s) (rw length-drop l))))
+        let n : length (take size (drop (at + 1) s)) ≡ size = length-take-le size (drop (at + 1) s) (rw length-drop l) in
+        gives-run at (length s - at) signed run out _ _ is-run out′ ShortRepeat (8 * size) count _ r refl (rw n) refl
+        (sym (bytes-count _ ∙ rw n))
         (e ∙ ap (λ (x : List ℤ). x ++ drop count out) (stepped-is value 0 count out r ∙ ap (map asI64) (repeated count value v)))

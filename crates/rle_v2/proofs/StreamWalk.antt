@@ -15,14 +15,17 @@ use Rattle.format.specs.Rows.{i64Rows}
 use Rattle.format.specs.Parse.{Reason, Parsed, end, got, refused, parse, into}
 use Rattle.format.specs.Streams.{Reading, whole, broken, after, runsFrom, readAll, totalRows, joinedRows}
 use Rattle.format.specs.Answers.{refusal, readWhole, brokeAt}
-use Rattle.format.specs.Promises.{answerOf, placesOf, Gives, StreamRead}
+use Rattle.format.specs.Promises.{runOf, lastOf, answerOf, placesOf, Gives, StreamRead}
 use Rattle.format.specs.declared.Refusal.{Refusal}
 use Rattle.format.specs.declared.Answer.{Answer}
-use Rattle.format.specs.declared.Answer.the-variants.{End, Run, Refused}
+use Rattle.format.specs.declared.Answer.the-variants as answer
+use Rattle.format.specs.declared.Run.{Run}
+use Rattle.format.specs.declared.LastRun.{LastRun}
+use Rattle.format.specs.declared.LastRun.the-variants as last-run
 use Rattle.format.proofs.Fields.{below-drop}
 use Rattle.format.proofs.Runs.{layout-pos}
 use Rattle.format.proofs.Rows.{i64-count}
-use Rattle.format.proofs.Streams.{Into, into-nothing, into-run, into-refusal, into-outcome, afterAll, after-whole, after-broken, stops-empty, stops-refused, sub-sub}
+use Rattle.format.proofs.Streams.{Into, into-nothing, into-run, into-refusal, into-outcome, afterAll, after-whole, after-broken, stops-empty, stops-refused, sub-sub, last-snoc}
 use Rattle.util.proofs.Grow.{back-is, front-is, kept-by, long-by}
 
 -- ---- what one call of the run reader says, case by case
@@ -32,14 +35,15 @@ module _ (s : List ℕ) (p : ℕ) (signed : Bool) (out out′ : List ℤ) where
     pub none : drop p s ≡ []
     pub same : out′ ≡ out
 
-  pub record OneRun (rows bytes : ℕ) : Type 0 where
+  pub record OneRun (r : Run) : Type 0 where
     pub run : Description
-    pub rows-are : rows ≡ rowCount run
-    pub bytes-are : bytes ≡ length (layout run)
-    pub read : into (length out) (parse (drop p s)) ≡ got run (drop (p + bytes) s)
-    pub fits : rows ≤ length out
-    pub within : p + bytes ≤ length s
-    pub places : out′ ≡ i64Rows signed run ++ drop rows out
+    pub run-is : r ≡ runOf run
+    pub rows-are : r .rows .rows ≡ rowCount run
+    pub bytes-are : r .consumed .bytes ≡ length (layout run)
+    pub read : into (length out) (parse (drop p s)) ≡ got run (drop (p + r .consumed .bytes) s)
+    pub fits : r .rows .rows ≤ length out
+    pub within : p + r .consumed .bytes ≤ length s
+    pub places : out′ ≡ i64Rows signed run ++ drop (r .rows .rows) out
 
   pub record NoRun (f : Refusal) : Type 0 where
     pub reason : Reason
@@ -48,9 +52,9 @@ module _ (s : List ℕ) (p : ℕ) (signed : Bool) (out out′ : List ℤ) where
     pub same : out′ ≡ out
 
   abbrev pub Step : Answer → Type 0
-  Step End = Nothing
-  Step (Run r) = OneRun (r .rows .rows) (r .consumed .bytes)
-  Step (Refused f) = NoRun f
+  Step answer.End = Nothing
+  Step (answer.Run r) = OneRun r
+  Step (answer.Refused f) = NoRun f
 
   pub step-is : (r : Answer) → AllBelow 256 s → Gives p (length s - p) signed (parse (drop p s)) out out′ r → Step r
   step-is r h g = rw (g .answer) (by (into (length out) (parse (drop p s))) refl (into-outcome (length out) (drop p s) (below-drop 256 p s h)) (g .places))
@@ -62,6 +66,7 @@ module _ (s : List ℕ) (p : ℕ) (signed : Bool) (out out′ : List ℤ) where
           let q : rest ≡ drop (p + length (layout d)) s = sym (sym (drop-drop (length (layout d)) p s) ∙ rw (t .split) (drop-at (layout d) rest (length (layout d)) refl)) in
           record {
             run = d;
+            run-is = refl;
             rows-are = refl;
             bytes-are = refl;
             read = e ∙ ap (got d) q;
@@ -96,20 +101,21 @@ module _ (s : List ℕ) (from : ℕ) (signed : Bool) (out₀ : List ℤ) where
   abbrev reading : Reading
   reading = readAll (length out₀) (drop from s)
 
-  -- the runs ds are read: k rows, and the bytes from `from` to p
-  pub record Walked (out : List ℤ) (p k : ℕ) : Type 0 where
+  -- the runs ds are read: k rows, and the bytes from `from` to p; `last` is the last of them
+  pub record Walked (out : List ℤ) (p k : ℕ) (last : LastRun) : Type 0 where
     pub ds : List Description
     pub fuel : ℕ
     pub enough : length s - p ≤ fuel
     pub so-far : reading ≡ afterAll ds (runsFrom fuel (length out₀ - k) (drop p s))
     pub rows : k ≡ totalRows ds
     pub bytes : p ≡ from + length (joined ds)
+    pub last-is : last ≡ lastOf ds
     pub fits : k ≤ length out₀
     pub long : length out ≡ length out₀
     pub laid : take k out ≡ joinedRows signed ds
     pub kept : drop k out ≡ drop k out₀
 
-  pub walked-first : Walked out₀ from 0
+  pub walked-first : Walked out₀ from 0 last-run.None
   unfolding readAll joined totalRows joinedRows
   walked-first = record {
     ds = [];
@@ -118,18 +124,25 @@ module _ (s : List ℕ) (from : ℕ) (signed : Bool) (out₀ : List ℤ) where
     so-far = rw sub-zero;
     rows = refl;
     bytes = omega arith;
+    last-is = refl;
     fits = omega arith;
     long = refl;
     laid = refl;
     kept = refl;
   }
 
-  module _ (out : List ℤ) (p k : ℕ) (w : Walked out p k) where
+  module _ (out : List ℤ) (p k : ℕ) (last : LastRun) (w : Walked out p k last) where
     room : length (drop k out) ≡ length out₀ - k
     room = length-drop k out ∙ ap (λ (n : ℕ). n - k) (w .long)
 
     -- one run more. The part that was lent came back with its rows.
-    module _ (part : List ℤ) (rows bytes : ℕ) (h : p < length s) (o : OneRun s p signed (drop k out) part rows bytes) where
+    module _ (part : List ℤ) (r : Run) (h : p < length s) (o : OneRun s p signed (drop k out) part r) where
+      abbrev rows : ℕ
+      rows = r .rows .rows
+
+      abbrev bytes : ℕ
+      bytes = r .consumed .bytes
+
       back : List ℤ
       back = take k out ++ (part ++ drop (length out - k) (drop k out))
 
@@ -147,7 +160,7 @@ module _ (s : List ℕ) (from : ℕ) (signed : Bool) (out₀ : List ℤ) where
       unfolding runsFrom
       one-more f e = rw (e, ← room, o .read, ← (o .rows-are), room, sub-sub (length out₀) k rows)
 
-      pub walked-run : Walked (take k out ++ (part ++ drop (length out - k) (drop k out))) (p + bytes) (k + rows)
+      pub walked-run : Walked (take k out ++ (part ++ drop (length out - k) (drop k out))) (p + bytes) (k + rows) (last-run.Run r)
       unfolding back
       walked-run =
           let f : ℕ = w .fuel - 1 in
@@ -161,6 +174,7 @@ module _ (s : List ℕ) (from : ℕ) (signed : Bool) (out₀ : List ℤ) where
             so-far = w .so-far ∙ ap (afterAll (w .ds)) (one-more f e) ∙ sym (after-snoc (w .ds) d _);
             rows = rw (total-snoc (w .ds) d) (omega (arith, w .rows, o .rows-are));
             bytes = rw (joined-snoc (w .ds) d, length-append (joined (w .ds)) (layout d)) (omega (arith, w .bytes, o .bytes-are));
+            last-is = ap last-run.Run (o .run-is) ∙ sym (last-snoc last-run.None (w .ds) d);
             fits = omega (arith, fitted, w .long);
             long = long-by out back (i64Rows signed d) k rows c counted back-so fitted ∙ w .long;
             laid = front-is out back (i64Rows signed d) k rows c counted back-so ∙ rw (w .laid, rows-snoc signed (w .ds) d);
@@ -177,15 +191,15 @@ module _ (s : List ℕ) (from : ℕ) (signed : Bool) (out₀ : List ℤ) where
     places-so = sym (take-append-drop k out) ∙ rw (w .laid, w .kept, w .rows)
 
     -- the bytes end after a whole run, or there are none
-    pub walked-whole : drop p s ≡ [] → StreamRead s from signed out₀ out (readWhole k (p - from))
+    pub walked-whole : drop p s ≡ [] → StreamRead s from signed out₀ out (readWhole k (p - from) last)
     walked-whole z =
         let e : reading ≡ whole (w .ds)
         = w .so-far ∙ rw z (ap (afterAll (w .ds)) (stops-empty (length out₀ - k) (w .fuel) (omega arith)) ∙ after-whole (w .ds)) in
         let b : p - from ≡ length (joined (w .ds)) = omega (arith, w .bytes) in
-        record { answer = rw (e, b, w .rows); places = rw e places-so }
+        record { answer = rw (e, b, w .rows, w .last-is); places = rw e places-so }
 
     -- the first refusal
-    pub walked-refused : (part : List ℤ) (f : Refusal) → NoRun s p signed (drop k out) part f → StreamRead s from signed out₀ out (brokeAt f k (p - from))
+    pub walked-refused : (part : List ℤ) (f : Refusal) → NoRun s p signed (drop k out) part f → StreamRead s from signed out₀ out (brokeAt f k (p - from) last)
     walked-refused part f n =
         let r = n .reason in
         let e : reading ≡ broken (w .ds) r (drop p s)
@@ -193,4 +207,4 @@ module _ (s : List ℕ) (from : ℕ) (signed : Bool) (out₀ : List ℤ) where
         ∙ ap (afterAll (w .ds)) (stops-refused (length out₀ - k) (drop p s) r (rw room at (n .read)) (w .fuel) (rw length-drop (w .enough)))
         ∙ after-broken (w .ds) r (drop p s) in
         let b : p - from ≡ length (joined (w .ds)) = omega (arith, w .bytes) in
-        record { answer = rw (e, n .refusal-is, b, w .rows, ← (w .bytes), length-drop); places = rw e places-so }
+        record { answer = rw (e, n .refusal-is, b, w .rows, w .last-is, ← (w .bytes), length-drop); places = rw e places-so }

@@ -62,7 +62,7 @@ fn fixed(input: &[u8], at: usize, rows: usize, signed: bool, out: &mut [i64]) ->
                 return Answer::refused(8, at);
             }
             rows::steps(first, step, rows, out);
-            Answer::run(Kind::Delta, rows, next - at)
+            Answer::run(Kind::Delta, 0, rows, next - at)
         }
     }
 }
@@ -107,7 +107,7 @@ fn packed_rows(input: &[u8], at: usize, code: u8, n: usize, signed: bool, out: &
                 return Answer::refused(8, at);
             }
             lay(&input[next..], bits, n, first, step, out);
-            Answer::run(Kind::Delta, n + 2, next + size - at)
+            Answer::run(Kind::Delta, bits, n + 2, next + size - at)
         }
     }
 }

@@ -30,5 +30,5 @@ pub(crate) fn read(input: &[u8], at: usize, signed: bool, out: &mut [i64]) -> An
     }
     packed::unpack(&input[body..], bits, count, out);
     rows::decode(signed, count, out);
-    Answer::run(Kind::Direct, count, 2 + size)
+    Answer::run(Kind::Direct, bits, count, 2 + size)
 }

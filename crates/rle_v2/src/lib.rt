@@ -2,6 +2,7 @@
 ghost use Rattle.format.specs.Promises.{RunRead, StreamRead};
 use format::Answer;
 use format::ByteOffset;
+use format::LastRun;
 use format::Stream;
 
 mod delta;
@@ -35,14 +36,15 @@ pub fn read_run(input: &[u8], at: ByteOffset, signed: bool, out: &mut [i64]) -> 
     delta::read(input, p, signed, out)
 }
 
-// The runs from a position to the end of the input, their rows one after another in the places. At the first refusal it stops: the rows
-// of the runs before it stay, and the places after them keep their content.
+// The runs from a position to the end of the input, their rows one after another in the places; the answer names the last of them. At the first
+// refusal it stops: the rows of the runs before it stay, and the places after them keep their content.
 pub fn read_stream(input: &[u8], at: ByteOffset, signed: bool, out: &mut [i64]) -> Stream
     ensures { λ r. ⌜ StreamRead (now (input .entry)) (at .bytes) signed (now (out .entry)) (now (out .exit)) r ⌝ }
 {
     let from = at.bytes;
     let mut p = from;
     let mut k: usize = 0;
+    let mut last = LastRun::None;
     while p < input.len() {
         let a = read_run(input, ByteOffset { bytes: p }, signed, &mut out[k..]);
         match a {
@@ -51,14 +53,15 @@ pub fn read_stream(input: &[u8], at: ByteOffset, signed: bool, out: &mut [i64]) 
                 let consumed = r.consumed;
                 k += rows.rows;
                 p += consumed.bytes;
+                last = LastRun::Run(r);
             }
             Answer::Refused(f) => {
-                return Stream::refused(f, k, p - from);
+                return Stream::refused(f, k, p - from, last);
             }
             Answer::End => {
-                return Stream::whole(k, p - from);
+                return Stream::whole(k, p - from, last);
             }
         }
     }
-    Stream::whole(k, p - from)
+    Stream::whole(k, p - from, last)
 }

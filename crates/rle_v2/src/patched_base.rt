@@ -101,7 +101,7 @@ fn body(input: &[u8], at: usize, h: Header, w: Widths, out: &mut [i64]) -> Answe
     let base = big_endian::base_value(input, at + 4, h.base);
     lay(&input[values..], w.bits, n, base, out);
     patch_list::put(&input[list..], w.entry, w.patch, h.entries, w.bits, n, out);
-    Answer::run(Kind::PatchedBase, n, q.end - at)
+    Answer::run(Kind::PatchedBase, w.bits, n, q.end - at)
 }
 
 // What the header's widths refuse, before the body is read.

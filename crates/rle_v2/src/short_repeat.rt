@@ -26,5 +26,5 @@ pub(crate) fn read(input: &[u8], at: usize, signed: bool, out: &mut [i64]) -> An
     let value = pattern::row(signed, big_endian::read(input, body, size));
     // a repeat is steps of 0
     rows::steps(value, 0, count, out);
-    Answer::run(Kind::ShortRepeat, count, 1 + size)
+    Answer::run(Kind::ShortRepeat, 8 * size, count, 1 + size)
 }

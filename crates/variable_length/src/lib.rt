@@ -21,7 +21,7 @@ pub fn read_value(input: &[u8], at: ByteOffset, n: usize) -> Answer
     let position = at.bytes;
     let start = rest(input, position);
     if n <= input.len() - start {
-        Answer::run(Kind::ByteValues, n, n)
+        Answer::run(Kind::ByteValues, 8, n, n)
     } else {
         Answer::cut(6, position, position)
     }

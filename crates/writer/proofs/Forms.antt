@@ -20,7 +20,7 @@ use Rattle.format.specs.Fields.{width, bytesFor, blockBytes, zigzagged, shortes
 use Rattle.format.specs.Runs.{Description, layout, rowCount, head}
 use Rattle.format.specs.Rows.{asU64}
 use Rattle.format.specs.Parse.{Parsed, got, refused, plain}
-use Rattle.format.specs.Promises.{answerOf, kindOf}
+use Rattle.format.specs.Promises.{answerOf, kindOf, widthOf}
 use Rattle.format.specs.Writing.{countAllowed, haveForm, widthAllowed, fitWidth, stored, firstOf, baseDelta, stepsOf, falls, valuesOf, padded, every, described, writing, bytesIn, Written}
 use Rattle.format.proofs.Digits.{length-digits}
 use Rattle.format.proofs.Fields.{length-block}
@@ -71,7 +71,7 @@ module _ (rows : List ℤ) (signed : Bool) (f : Form) (w : ℕ) (out : List ℕ)
     no-room h e l p = told out (refused (plain 8)) (rw (c, s, h, e, lt-ltb (length out) (length (layout (described signed f w rs))) l)) p refl
 
     pub laid : haveForm f rs ≡ true → fitWidth signed f w rs ≡ true → (out′ : List ℕ) → length (layout (described signed f w rs)) ≤ length out
-        → r ≡ ran (kindOf (described signed f w rs)) (rowCount (described signed f w rs)) (length (layout (described signed f w rs)))
+        → r ≡ ran (kindOf (described signed f w rs)) (widthOf (described signed f w rs)) (rowCount (described signed f w rs)) (length (layout (described signed f w rs)))
         → out′ ≡ layout (described signed f w rs) ++ drop (length (layout (described signed f w rs))) out → Written rows signed f w out out′ r
     unfolding writing
     laid h e out′ l p q = told out′ (got (described signed f w rs) []) (rw (c, s, h, e, le-ltb (length out) (length (layout (described signed f w rs))) l)) p q
@@ -85,6 +85,7 @@ pub record Packed (rows : List ℤ) (signed : Bool) (f : Form) (kind : Kind) (co
   pub tests : fitWidth signed f code (map asU64 rows) ≡ every (λ x. ltb x (2 ^ width code)) (valuesOf signed f (map asU64 rows))
   pub lay : layout (described signed f code (map asU64 rows)) ≡ p ++ blockBytes (width code) m (padded (valuesOf signed f (map asU64 rows)))
   pub kinded : kindOf (described signed f code (map asU64 rows)) ≡ kind
+  pub wide : widthOf (described signed f code (map asU64 rows)) ≡ bits
   pub counted : rowCount (described signed f code (map asU64 rows)) ≡ length rows
   pub bits-are : bits ≡ width code
   pub vals-are : take m vals ≡ valuesOf signed f (map asU64 rows)
@@ -110,11 +111,11 @@ module _ {rows : List ℤ} {signed : Bool} {f : Form} {kind : Kind} {code : ℕ}
   too-few out r t h e = no-room rows signed f code out r (k .count) (k .size) (k .form) (sym is-fit ∙ not-false fit t) (rw laid-length h) e
 
   pub packed : (out out₁ out₂ : List ℕ) (at : ℕ) (r : Answer) → not fit ≡ false → length p + bytesFor (m * bits) ≤ length out
-      → r ≡ ran kind (length rows) (length p + bytesFor (m * bits)) → at ≡ length p → out₁ ≡ p ++ drop (length p) out
+      → r ≡ ran kind bits (length rows) (length p + bytesFor (m * bits)) → at ≡ length p → out₁ ≡ p ++ drop (length p) out
       → out₂ ≡ take at out₁ ++ blockBytes bits m (padded (take m vals)) ++ drop (at + bytesFor (m * bits)) out₁ → Written rows signed f code out out₂ r
   packed out out₁ out₂ at r t h e n e₁ e₂ =
       laid rows signed f code out r (k .count) (k .size) (k .form) (sym is-fit ∙ not-false fit t) out₂ (rw laid-length h)
-      (rw (k .kinded, k .counted, laid-length) e)
+      (rw (k .kinded, k .wide, k .counted, laid-length) e)
       (rw is-laid (behind p (blockBytes bits m (padded (take m vals))) out out₁ out₂ at (bytesFor (m * bits)) n (length-block bits m (padded (take m vals))) e₁ e₂))
 
 -- ---- direct
@@ -137,6 +138,7 @@ direct-packed rows signed code bits vals rest fit a b c w e t =
       tests = refl;
       lay = rw m;
       kinded = refl;
+      wide = sym w;
       counted = m;
       bits-are = w;
       vals-are = rw e (take-at (map (stored signed) (map asU64 rows)) rest (length rows) m);
@@ -171,6 +173,7 @@ delta-packed rows signed code bits step vals rest fit a b c c′ w s e t =
       tests = refl;
       lay = rw (m, m′) (sym (regroup (head 3 code (length rows)) (shortest (firstOf signed rs)) (shortest (zigzagged (baseDelta rs))) (blockBytes (width code) (length rows - 2) (padded vs))));
       kinded = refl;
+      wide = sym w;
       counted = m;
       bits-are = w;
       vals-are = rw v (take-at vs rest (length rows - 2) m′);
@@ -189,7 +192,7 @@ pub record Fixed (rows : List ℤ) (signed : Bool) (code : ℕ) (same : Bool) : 
   pub form : same ≡ haveForm FixedDelta (map asU64 rows)
   pub fits : fitWidth signed FixedDelta code (map asU64 rows) ≡ true
   pub lay : layout (described signed FixedDelta code (map asU64 rows)) ≡ start 0 (length rows) (firstOf signed (map asU64 rows)) (zigzagged (baseDelta (map asU64 rows)))
-  pub shape : (kindOf (described signed FixedDelta code (map asU64 rows)) ≡ kind.Delta) × (rowCount (described signed FixedDelta code (map asU64 rows)) ≡ length rows)
+  pub shape : (kindOf (described signed FixedDelta code (map asU64 rows)) ≡ kind.Delta) × (widthOf (described signed FixedDelta code (map asU64 rows)) ≡ 0) × (rowCount (described signed FixedDelta code (map asU64 rows)) ≡ length rows)
 
 pub fixed-known : (rows : List ℤ) (signed : Bool) (code step : ℕ) (vals rest : List ℕ) (same : Bool) → 1 ≤ length rows → length rows ≤ 512 → code ≡ 0
     → step ≡ baseDelta (map asU64 rows) → vals ≡ stepsOf false (map asU64 rows) ++ rest → same ≡ every (λ x. eqb x step) (take (length rows - 1) vals) → Fixed rows signed code same
@@ -204,7 +207,7 @@ fixed-known rows signed code step vals rest same a b z s e t =
       form = t ∙ rw (front, s);
       fits = refl;
       lay = rw n;
-      shape = (refl, n);
+      shape = (refl, refl, n);
     }
 
 module _ {rows : List ℤ} {signed : Bool} {code : ℕ} {same : Bool} (k : Fixed rows signed code same) where
@@ -220,10 +223,10 @@ module _ {rows : List ℤ} {signed : Bool} {code : ℕ} {same : Bool} (k : Fixed
   pub too-short : (out : List ℕ) (r : Answer) → not same ≡ false → length out < length opening → r ≡ refusedAt 8 0 → Written rows signed FixedDelta code out out r
   too-short out r t h e = no-room rows signed FixedDelta code out r (k .count) (k .size) (sym (k .form) ∙ not-false same t) (k .fits) (rw laid-size h) e
 
-  pub opened : (out out′ : List ℕ) (r : Answer) → not same ≡ false → length opening ≤ length out → r ≡ ran kind.Delta (length rows) (length opening)
+  pub opened : (out out′ : List ℕ) (r : Answer) → not same ≡ false → length opening ≤ length out → r ≡ ran kind.Delta 0 (length rows) (length opening)
       → out′ ≡ opening ++ drop (length opening) out → Written rows signed FixedDelta code out out′ r
   opened out out′ r t h e q =
-      laid rows signed FixedDelta code out r (k .count) (k .size) (sym (k .form) ∙ not-false same t) (k .fits) out′ (rw laid-size h) (rw (k .shape .0, k .shape .1, laid-size) e) (rw (k .lay) q)
+      laid rows signed FixedDelta code out r (k .count) (k .size) (sym (k .form) ∙ not-false same t) (k .fits) out′ (rw laid-size h) (rw (k .shape .0, k .shape .1, k .shape .2, laid-size) e) (rw (k .lay) q)
 
 -- ---- what both begin with, by the numbers that the code has at hand
 
@@ -255,7 +258,7 @@ pub record Short (rows : List ℤ) (signed : Bool) (w : ℕ) (same : Bool) : Typ
   pub form : same ≡ haveForm ShortRepeat (map asU64 rows)
   pub fits : same ≡ true → ltb (firstOf signed (map asU64 rows)) (2 ^ (8 * w)) ≡ fitWidth signed ShortRepeat w (map asU64 rows)
   pub lay : layout (described signed ShortRepeat w (map asU64 rows)) ≡ ((w - 1) * 8 + (length rows - 3)) ∷ digits 256 w (firstOf signed (map asU64 rows))
-  pub shape : (kindOf (described signed ShortRepeat w (map asU64 rows)) ≡ kind.ShortRepeat) × (rowCount (described signed ShortRepeat w (map asU64 rows)) ≡ length rows)
+  pub shape : (kindOf (described signed ShortRepeat w (map asU64 rows)) ≡ kind.ShortRepeat) × (widthOf (described signed ShortRepeat w (map asU64 rows)) ≡ 8 * w) × (rowCount (described signed ShortRepeat w (map asU64 rows)) ≡ length rows)
 
 pub short-known : (rows : List ℤ) (signed : Bool) (w first : ℕ) (vals rest : List ℕ) (same : Bool) → 3 ≤ length rows → length rows ≤ 10 → 1 ≤ w → w ≤ 8
     → first ≡ getD (map asU64 rows) 0 0 → vals ≡ map (stored false) (map asU64 rows) ++ rest → same ≡ every (λ x. eqb x first) (take (length rows) vals) → Short rows signed w same
@@ -275,7 +278,7 @@ short-known rows signed w first vals rest same a b c d s e t =
           ∙ ap (every (λ x. ltb x (2 ^ (8 * w)))) (map-replicate (stored signed) (length rs) (getD rs 0 0))
           ∙ every-one (λ x. ltb x (2 ^ (8 * w))) (length rs) (firstOf signed rs) (rw n (omega arith)));
       lay = rw (length-digits 256 w (firstOf signed rs), n);
-      shape = (refl, n);
+      shape = (refl, rw (length-digits 256 w (firstOf signed rs)), n);
     }
 
 module _ {rows : List ℤ} {signed : Bool} {w : ℕ} {same : Bool} (k : Short rows signed w same) where
@@ -301,8 +304,8 @@ module _ {rows : List ℤ} {signed : Bool} {w : ℕ} {same : Bool} (k : Short ro
     pub too-little : (out : List ℕ) (r : Answer) → not fit ≡ false → length out < 1 + w → r ≡ refusedAt 8 0 → Written rows signed ShortRepeat w out out r
     too-little out r y h e = no-room rows signed ShortRepeat w out r (k .count) (k .size) form-is (sym fit-is ∙ not-false fit y) (rw short-size h) e
 
-    pub repeated : (out out₁ out₂ : List ℕ) (r : Answer) → not fit ≡ false → 1 + w ≤ length out → r ≡ ran kind.ShortRepeat (length rows) (1 + w)
+    pub repeated : (out out₁ out₂ : List ℕ) (r : Answer) → not fit ≡ false → 1 + w ≤ length out → r ≡ ran kind.ShortRepeat (8 * w) (length rows) (1 + w)
         → out₁ ≡ ((w - 1) * 8 + (length rows - 3)) ∷ drop 1 out → out₂ ≡ take 1 out₁ ++ digits 256 w value ++ drop (1 + w) out₁ → Written rows signed ShortRepeat w out out₂ r
     repeated out out₁ out₂ r y h e e₁ e₂ =
-        laid rows signed ShortRepeat w out r (k .count) (k .size) form-is (sym fit-is ∙ not-false fit y) out₂ (rw short-size h) (rw (k .shape .0, k .shape .1, short-size) e)
+        laid rows signed ShortRepeat w out r (k .count) (k .size) form-is (sym fit-is ∙ not-false fit y) out₂ (rw short-size h) (rw (k .shape .0, k .shape .1, k .shape .2, short-size) e)
         (rw (k .lay) (behind (((w - 1) * 8 + (length rows - 3)) ∷ []) (digits 256 w value) out out₁ out₂ 1 w refl (length-digits 256 w value) e₁ e₂))

@@ -61,7 +61,7 @@ pub(crate) fn write_fixed(rows: &[i64], signed: bool, code: u8, out: &mut [u8]) 
         return Answer::refused(8, 0);
     }
     write_start(0, n, first, base, out);
-    Answer::run(Kind::Delta, n, size)
+    Answer::run(Kind::Delta, 0, n, size)
 }
 
 pub(crate) fn write_packed(rows: &[i64], signed: bool, code: u8, out: &mut [u8]) -> Answer
@@ -84,5 +84,5 @@ pub(crate) fn write_packed(rows: &[i64], signed: bool, code: u8, out: &mut [u8])
     }
     let at = write_start(code, n, first, base, out);
     packed::pack(&magnitudes, n - 2, bits, out, at);
-    Answer::run(Kind::Delta, n, size)
+    Answer::run(Kind::Delta, bits, n, size)
 }

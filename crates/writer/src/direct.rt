@@ -27,5 +27,5 @@ pub(crate) fn write(rows: &[i64], signed: bool, code: u8, out: &mut [u8]) -> Ans
     }
     head::write(1, code, n, out);
     packed::pack(&stored, n, bits, out, 2);
-    Answer::run(Kind::Direct, n, size)
+    Answer::run(Kind::Direct, bits, n, size)
 }

@@ -34,8 +34,9 @@ pub(crate) fn write(rows: &[i64], signed: bool, size: u8, out: &mut [u8]) -> Ans
         return Answer::refused(10, 0);
     }
     let bytes = size as usize;
+    let bits = 8 * bytes;
     let value = values::stored(signed, first);
-    if !values::fits(value, 8 * bytes) {
+    if !values::fits(value, bits) {
         return Answer::refused(11, 0);
     }
     if out.len() < 1 + bytes {
@@ -43,5 +44,5 @@ pub(crate) fn write(rows: &[i64], signed: bool, size: u8, out: &mut [u8]) -> Ans
     }
     write_head(bytes, n, out);
     big_endian::write(value, bytes, out, 1);
-    Answer::run(Kind::ShortRepeat, n, 1 + bytes)
+    Answer::run(Kind::ShortRepeat, bits, n, 1 + bytes)
 }

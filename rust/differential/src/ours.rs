@@ -1,6 +1,6 @@
 //! The proved functions, linked: held to the model's answers, every place included.
-use menakovitsy::{read_run_bytes, ByteOffset, Column, Refusal, Sign, MAX_ROWS};
-use model::{Answer, Stream};
+use menakovitsy::{read_run, read_run_bytes, ByteOffset, Column, Refusal, Sign, MAX_ROWS};
+use model::{Answer, Info, Kind, Stream};
 
 /// What lent bytes and rows hold before a call.
 const BEFORE: u8 = 0xEE;
@@ -15,6 +15,18 @@ fn sign(signed: bool) -> Sign {
     } else {
         Sign::Unsigned
     }
+}
+
+/// A run of the library's in the model's words.
+fn info(run: menakovitsy::Run) -> Option<Info> {
+    let kind = match run.kind {
+        menakovitsy::Kind::ShortRepeat => Kind::ShortRepeat,
+        menakovitsy::Kind::Direct => Kind::Direct,
+        menakovitsy::Kind::PatchedBase => Kind::PatchedBase,
+        menakovitsy::Kind::Delta => Kind::Delta,
+        _ => return None,
+    };
+    Some(Info { kind, width: run.width as usize, rows: run.rows.0, bytes: run.bytes.0 })
 }
 
 /// The library with the bytes that it is lent.
@@ -35,16 +47,35 @@ impl Ours {
         if !self.calls.is_multiple_of(4) {
             return Ok(1);
         }
+        Self::named(bytes, signed, paper)?;
         // Any other refusal comes before the want of places.
         let Answer::Run(run) = paper else {
             self.call(bytes, signed, paper, 0)?;
-            return Ok(2);
+            return Ok(3);
         };
         // Just enough places, and one too few with all but one byte of another.
         let refusal = model::Refusal::whole(8, 0);
         self.call(bytes, signed, paper, 8 * run.rows.len())?;
         self.call(bytes, signed, &Answer::Refused(refusal), 8 * run.rows.len() - 1)?;
-        Ok(3)
+        Ok(4)
+    }
+
+    /// Holds what the answer says of the run, or of its refusal, to the model.
+    fn named(bytes: &[u8], signed: bool, paper: &Answer) -> Result<(), String> {
+        let answer = read_run(bytes, ByteOffset(0), sign(signed), &mut [0; MAX_ROWS]);
+        let right = match (&answer, paper) {
+            (Ok(None), Answer::End) => true,
+            (Ok(Some(run)), Answer::Run(paper)) => info(*run) == Some(paper.info()),
+            (Err(told), Answer::Refused(paper)) => {
+                let cut = told.cut.map(|byte| byte.0);
+                (told.refusal.number(), told.at.0, cut) == (paper.number.into(), paper.place, paper.cut)
+            }
+            _ => false,
+        };
+        if right {
+            return Ok(());
+        }
+        Err(format!("{answer:?}"))
     }
 
     fn call(&mut self, bytes: &[u8], signed: bool, paper: &Answer, lent: usize) -> Result<(), String> {
@@ -75,13 +106,14 @@ impl Ours {
     /// list of its own. How many answers were right, or what was wrong.
     pub fn check_column(bytes: &[u8], signed: bool, paper: &Stream) -> Result<u64, String> {
         let column = Column::new(bytes, sign(signed));
-        let (expected, consumed, refused) = match paper {
-            Stream::Whole { rows, consumed } => (rows, *consumed, None),
-            Stream::Refused { refusal, rows, consumed } => (rows, *consumed, Some(*refusal)),
+        let (expected, consumed, last, refused) = match paper {
+            Stream::Whole { rows, consumed, last } => (rows, *consumed, *last, None),
+            Stream::Refused { refusal, rows, consumed, last } => (rows, *consumed, *last, Some(*refusal)),
         };
         let right = |given: &[i64], answer: Result<(), menakovitsy::StreamRefused>, how: &str| {
             let told = answer.err().map(|told| {
-                let counts = (told.before.rows.0, told.before.bytes.0) == (expected.len(), consumed);
+                let counts = (told.before.rows.0, told.before.bytes.0) == (expected.len(), consumed)
+                    && told.before.last.and_then(info) == last;
                 let cut = told.refused.cut.map(|byte| byte.0);
                 (told.refused.refusal.number(), told.refused.at.0, cut, counts)
             });
@@ -97,8 +129,11 @@ impl Ours {
         // With a run's places more, none is refused for want of them.
         let mut rows = vec![ROW_BEFORE; expected.len() + MAX_ROWS];
         let answer = column.read_into(&mut rows);
-        if answer.is_ok_and(|stream| (stream.rows.0, stream.bytes.0) != (expected.len(), consumed)) {
-            return Err(format!("read_into: {answer:?}"));
+        if let Ok(stream) = answer {
+            let counts = (stream.rows.0, stream.bytes.0, stream.last.and_then(info));
+            if counts != (expected.len(), consumed, last) {
+                return Err(format!("read_into: {answer:?}"));
+            }
         }
         if rows[expected.len()..].iter().any(|place| *place != ROW_BEFORE) {
             return Err("read_into: a place behind the rows changed".into());
@@ -115,8 +150,9 @@ impl Ours {
             }
         }
         right(&rows, answer, "runs")?;
-        if runs.position() != ByteOffset(consumed) {
-            return Err(format!("runs: to {}", runs.position()));
+        let given = runs.given();
+        if runs.position() != ByteOffset(consumed) || given.last.and_then(info) != last {
+            return Err(format!("runs: {given:?}"));
         }
 
         rows.clear();

@@ -7,7 +7,7 @@ use std::path::PathBuf;
 use std::process::{Command, Stdio};
 use std::{env, thread};
 
-use model::{Answer, Booleans, Form, Kind, Refusal, Stream, Value, Written};
+use model::{Answer, Booleans, Form, Info, Kind, Refusal, Stream, Value, Written};
 
 use crate::tally::{Hex, Tally};
 
@@ -31,19 +31,19 @@ impl Requests {
         let expected = match model::read_run(input, at as usize, signed, places.into()) {
             Answer::End => "end".into(),
             Answer::Refused(refusal) => refused(refusal),
-            Answer::Run(run) => {
-                let counts = format!("run {} {} {}", kind(run.kind), run.rows.len(), run.consumed);
-                with_rows(counts, &run.rows)
-            }
+            Answer::Run(run) => with_rows(format!("run {}", words(run.info(), " ")), &run.rows),
         };
         self.ask(format!("01{:02x}{at:016x}{places:04x}{}", u8::from(signed), Hex(input)), expected);
     }
 
     pub fn stream(&mut self, input: &[u8], at: u64, signed: bool, places: u16) {
         let expected = match model::read_stream(input, at as usize, signed, places.into()) {
-            Stream::Whole { rows, consumed } => with_rows(format!("whole {} {consumed}", rows.len()), &rows),
-            Stream::Refused { refusal, rows, consumed } => {
-                with_rows(format!("{} {} {consumed}", refused(refusal), rows.len()), &rows)
+            Stream::Whole { rows, consumed, last: run } => {
+                with_rows(format!("whole {} {consumed} {}", rows.len(), last(run)), &rows)
+            }
+            Stream::Refused { refusal, rows, consumed, last: run } => {
+                let counts = format!("{} {} {consumed} {}", refused(refusal), rows.len(), last(run));
+                with_rows(counts, &rows)
             }
         };
         self.ask(format!("02{:02x}{at:016x}{places:04x}{}", u8::from(signed), Hex(input)), expected);
@@ -54,7 +54,7 @@ impl Requests {
             Booleans::Refused(refusal) => refused(refusal),
             Booleans::Given { values, consumed } => {
                 let bits: String = values.iter().map(|value| if *value { '1' } else { '0' }).collect();
-                format!("booleans {n} {consumed} {bits}")
+                format!("booleans 1 {n} {consumed} {bits}")
             }
         };
         self.ask(format!("03{n:016x}{at:016x}{places:04x}{}", Hex(input)), expected);
@@ -63,17 +63,19 @@ impl Requests {
     pub fn value(&mut self, input: &[u8], at: u64, n: u64) {
         let expected = match model::read_value(input, at as usize, n as usize) {
             Value::Refused(refusal) => refused(refusal),
-            Value::Given(part) => format!("value {n} {n} {}", Hex(&part)).to_lowercase(),
+            Value::Given(part) => format!("value 8 {n} {n} {}", Hex(&part)).to_lowercase(),
         };
         self.ask(format!("04{n:016x}{at:016x}{}", Hex(input)), expected);
     }
 
     pub fn write(&mut self, rows: &[i64], signed: bool, form: Form, width: u8, places: u16) {
-        let expected = match model::write_run(rows, signed, form, width, places.into()) {
-            Written::Refused(refusal) => refused(refusal),
-            Written::Run { kind: written, rows, bytes } => {
-                format!("written {} {rows} {} {}", kind(written), bytes.len(), Hex(&bytes)).to_lowercase()
+        let written = model::write_run(rows, signed, form, width, places.into());
+        let expected = match (&written, written.info()) {
+            (Written::Run { bytes, .. }, Some(info)) => {
+                format!("written {} {}", words(info, " "), Hex(bytes)).to_lowercase()
             }
+            (Written::Refused(refusal), _) => refused(*refusal),
+            (Written::Run { .. }, None) => unreachable!("a written run is named"),
         };
         let form = match form {
             Form::ShortRepeat => 0,
@@ -185,7 +187,19 @@ fn kind(kind: Kind) -> &'static str {
         Kind::Direct => "direct",
         Kind::PatchedBase => "patched",
         Kind::Delta => "delta",
+        Kind::Booleans => "booleans",
+        Kind::ByteValue => "value",
     }
+}
+
+/// A run's kind, width, rows and bytes.
+fn words(Info { kind: of, width, rows, bytes }: Info, between: &str) -> String {
+    [kind(of).into(), width.to_string(), rows.to_string(), bytes.to_string()].join(between)
+}
+
+/// The last run of a stream, or none.
+fn last(run: Option<Info>) -> String {
+    run.map_or_else(|| "none".into(), |run| words(run, "/"))
 }
 
 fn with_rows(mut line: String, rows: &[i64]) -> String {

@@ -112,7 +112,7 @@ mod ours {
 fn stream(bytes: &[u8], signed: bool) -> [String; 2] {
     let some = |given: &[i64]| if given.is_empty() { String::new() } else { rows(given) };
     let paper = match model::read_stream(bytes, 0, signed, 10_000) {
-        Stream::Whole { rows, consumed } => joined([some(&rows), format!("{consumed} bytes")]),
+        Stream::Whole { rows, consumed, .. } => joined([some(&rows), format!("{consumed} bytes")]),
         Stream::Refused { refusal, rows, .. } => joined([some(&rows), format!("refused {}", refusal.number)]),
     };
     #[cfg(feature = "ours")]

@@ -30,8 +30,8 @@ fn what_is_not_listed_is_found() {
     use model::{Answer, Kind, Refusal, Run};
     let bytes = [0x46, 0x02, 0x12, 0x30];
     let rust = oracle::read_run(&bytes, false);
-    let answer =
-        |rows: &[i64], consumed| Answer::Run(Run { kind: Kind::Direct, rows: rows.to_vec(), consumed });
+    let run = |rows: &[i64], consumed| Run { kind: Kind::Direct, width: 4, rows: rows.to_vec(), consumed };
+    let answer = |rows: &[i64], consumed| Answer::Run(run(rows, consumed));
     assert_eq!(of_run(&bytes, &answer(&[1, 2, 3], 4), &rust), Some(Sort::Same));
     assert_eq!(of_run(&bytes, &answer(&[1, 2, 4], 4), &rust), None);
     assert_eq!(of_run(&bytes, &answer(&[1, 2, 3], 3), &rust), None);

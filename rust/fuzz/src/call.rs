@@ -1,8 +1,8 @@
 //! A call, and what the model of documents 01 and 02 answers it.
 use differential::frames;
 use differential::random::Random;
-use menakovitsy::exported::{case, kind, TOO_FEW_WORDS, WORDS};
-use model::{Answer, Booleans, Form, Kind, Refusal, Stream, Value, Written};
+use menakovitsy::exported::{case, kind, STREAM_WORDS, TOO_FEW_WORDS, WORDS};
+use model::{Answer, Booleans, Form, Info, Kind, Refusal, Stream, Value, Written};
 
 /// The most places that are lent for rows, and for bytes.
 pub const MOST: usize = 5000;
@@ -34,15 +34,36 @@ impl Outcome {
         Outcome { returned: words[1], words: words.to_vec(), ..Outcome::default() }
     }
 
-    fn refused(refusal: Refusal, rows: usize, bytes: usize) -> Self {
+    fn counted(refusal: Refusal, rows: usize, bytes: usize) -> Self {
         let number = u64::from(refusal.number);
         let (cut, cut_at) = (u64::from(refusal.cut.is_some()), refusal.cut.unwrap_or(0) as u64);
-        Self::of([case::REFUSED, number, refusal.place as u64, 0, rows as u64, bytes as u64, cut, cut_at])
+        Self::of([case::REFUSED, number, refusal.place as u64, 0, rows as u64, bytes as u64, cut, cut_at, 0])
     }
 
-    fn read(kind: u64, rows: usize, bytes: usize) -> Self {
-        Self::of([case::READ, 0, 0, kind, rows as u64, bytes as u64, 0, 0])
+    fn refused(refusal: Refusal) -> Self {
+        Self::counted(refusal, 0, 0)
     }
+
+    fn read(run: Info) -> Self {
+        let [kind, width, rows, bytes] = named(Some(run));
+        Self::of([case::READ, 0, 0, kind, rows, bytes, 0, 0, width])
+    }
+
+    /// The stream's, with its last run.
+    fn stream(refusal: Option<Refusal>, rows: Vec<i64>, bytes: usize, last: Option<Info>) -> Self {
+        let mut outcome = match refusal {
+            Some(refusal) => Self::counted(refusal, rows.len(), bytes),
+            None => Self::of([case::READ, 0, 0, 0, rows.len() as u64, bytes as u64, 0, 0, 0]),
+        };
+        outcome.words.push(last.is_some().into());
+        outcome.words.extend(named(last));
+        Outcome { rows, ..outcome }
+    }
+}
+
+/// A run's kind, width, rows and bytes; 0 each where there is none.
+fn named(run: Option<Info>) -> [u64; 4] {
+    run.map_or([0; 4], |run| [number(run.kind), run.width as u64, run.rows as u64, run.bytes as u64])
 }
 
 fn number(kind: Kind) -> u64 {
@@ -51,6 +72,8 @@ fn number(kind: Kind) -> u64 {
         Kind::Direct => kind::DIRECT,
         Kind::PatchedBase => kind::PATCHED_BASE,
         Kind::Delta => kind::DELTA,
+        Kind::Booleans => kind::BOOLEANS,
+        Kind::ByteValue => kind::BYTE_VALUE,
     }
 }
 
@@ -119,10 +142,18 @@ impl Call {
         }
     }
 
+    /// How many words its answer has.
+    pub fn words(&self) -> usize {
+        match self {
+            Call::Run { .. } | Call::Narrowest { .. } => 0,
+            Call::Stream { .. } => STREAM_WORDS,
+            _ => WORDS,
+        }
+    }
+
     /// What the call comes to, lent so many words.
     pub fn expected(&self, words: usize) -> Outcome {
-        let takes_words = !matches!(self, Call::Run { .. } | Call::Narrowest { .. });
-        if takes_words && words < WORDS {
+        if words < self.words() {
             return Outcome { returned: TOO_FEW_WORDS, ..Outcome::default() };
         }
         match self {
@@ -130,38 +161,37 @@ impl Call {
             Call::RunAt { input, at, flag, places } => {
                 match model::read_run(input, *at as usize, *flag != 0, *places) {
                     Answer::End => Outcome::of([0; WORDS]),
-                    Answer::Refused(refusal) => Outcome::refused(refusal, 0, 0),
-                    Answer::Run(run) => Outcome {
-                        rows: run.rows.clone(),
-                        ..Outcome::read(number(run.kind), run.rows.len(), run.consumed)
-                    },
+                    Answer::Refused(refusal) => Outcome::refused(refusal),
+                    Answer::Run(run) => Outcome { rows: run.rows.clone(), ..Outcome::read(run.info()) },
                 }
             }
             Call::Stream { input, at, flag, places } => {
                 match model::read_stream(input, *at as usize, *flag != 0, *places) {
-                    Stream::Whole { rows, consumed } => {
-                        let counts = Outcome::read(0, rows.len(), consumed);
-                        Outcome { rows, ..counts }
-                    }
-                    Stream::Refused { refusal, rows, consumed } => {
-                        let counts = Outcome::refused(refusal, rows.len(), consumed);
-                        Outcome { rows, ..counts }
+                    Stream::Whole { rows, consumed, last } => Outcome::stream(None, rows, consumed, last),
+                    Stream::Refused { refusal, rows, consumed, last } => {
+                        Outcome::stream(Some(refusal), rows, consumed, last)
                     }
                 }
             }
             Call::Booleans { input, at, n, places } => {
-                match model::read_booleans(input, *at as usize, *n as usize, *places) {
-                    Booleans::Refused(refusal) => Outcome::refused(refusal, 0, 0),
-                    Booleans::Given { values, consumed } => Outcome {
-                        bytes: values.iter().map(|value| u8::from(*value)).collect(),
-                        ..Outcome::read(kind::BOOLEANS, values.len(), consumed)
-                    },
+                let answer = model::read_booleans(input, *at as usize, *n as usize, *places);
+                match (&answer, answer.info()) {
+                    (Booleans::Given { values, .. }, Some(info)) => {
+                        let bytes = values.iter().map(|value| u8::from(*value)).collect();
+                        Outcome { bytes, ..Outcome::read(info) }
+                    }
+                    (Booleans::Refused(refusal), _) => Outcome::refused(*refusal),
+                    (Booleans::Given { .. }, None) => unreachable!("what is given is named"),
                 }
             }
-            Call::Value { input, at, n } => match model::read_value(input, *at as usize, *n as usize) {
-                Value::Refused(refusal) => Outcome::refused(refusal, 0, 0),
-                Value::Given(part) => Outcome::read(kind::BYTE_VALUE, part.len(), part.len()),
-            },
+            Call::Value { input, at, n } => {
+                let answer = model::read_value(input, *at as usize, *n as usize);
+                match (&answer, answer.info()) {
+                    (_, Some(info)) => Outcome::read(info),
+                    (Value::Refused(refusal), _) => Outcome::refused(*refusal),
+                    (Value::Given(_), None) => unreachable!("what is given is named"),
+                }
+            }
             Call::Write { rows, flag, form, width, places } => {
                 written(rows, *flag != 0, *form, *width, *places)
             }
@@ -192,13 +222,12 @@ fn written(rows: &[i64], signed: bool, form: u64, width: u64, places: usize) -> 
         1 => Form::Direct,
         2 => Form::FixedDelta,
         3 => Form::PackedDelta,
-        _ => return Outcome::refused(Refusal::whole(10, 0), 0, 0),
+        _ => return Outcome::refused(Refusal::whole(10, 0)),
     };
-    match model::write_run(rows, signed, form, u8::try_from(width).unwrap_or(255), places) {
-        Written::Refused(refusal) => Outcome::refused(refusal, 0, 0),
-        Written::Run { kind, rows, bytes } => {
-            let counts = Outcome::read(number(kind), rows, bytes.len());
-            Outcome { bytes, ..counts }
-        }
+    let answer = model::write_run(rows, signed, form, u8::try_from(width).unwrap_or(255), places);
+    match (&answer, answer.info()) {
+        (Written::Run { bytes, .. }, Some(info)) => Outcome { bytes: bytes.clone(), ..Outcome::read(info) },
+        (Written::Refused(refusal), _) => Outcome::refused(*refusal),
+        (Written::Run { .. }, None) => unreachable!("what is written is named"),
     }
 }

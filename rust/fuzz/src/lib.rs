@@ -13,7 +13,7 @@ use std::ptr;
 use call::{Call, Outcome, MOST};
 use differential::random::Random;
 use fence::{Fenced, Side};
-use menakovitsy::exported::{self, WORDS};
+use menakovitsy::exported::{self, STREAM_WORDS};
 
 /// The longest input that is made, and the most rows that are written.
 const LONGEST: usize = 1 << 16;
@@ -37,7 +37,7 @@ impl Default for Session {
             given: Fenced::new(LONGEST / 8),
             rows: Fenced::new(MOST),
             bytes: Fenced::new(MOST),
-            words: Fenced::new(WORDS + 8),
+            words: Fenced::new(STREAM_WORDS + 8),
             tally: BTreeMap::new(),
         }
     }
@@ -57,9 +57,9 @@ impl Session {
         let mut random = Random::new(random.any());
         let call = Call::any(&mut random);
         let words = match random.below(16) {
-            0 => random.below(WORDS),
-            1 => WORDS + random.below(8),
-            _ => WORDS,
+            0 => random.below(call.words().max(1)),
+            1 => call.words() + random.below(8),
+            _ => call.words(),
         };
         let expected = call.expected(words);
         watch::begin(seed, number);

@@ -13,7 +13,7 @@ int main(void)
     static const uint8_t flags[] = {0x00, 0xFF, 0xFF, 0x00};
     /* Five rows of 300; then 1, 2, 3. */
     static const uint8_t column[] = {0x0A, 0x01, 0x2C, 0x46, 0x02, 0x12, 0x30};
-    uint64_t words[ORC_WORDS];
+    uint64_t words[ORC_STREAM_WORDS];
     uint8_t flag[32];
     int64_t rows[512];
 
@@ -26,21 +26,24 @@ int main(void)
         return 1;
     printf("flag 23 is %d, flag 24 is %d\n", flag[23], flag[24]);
 
-    if (orc_read_stream(column, sizeof column, 0, 0, rows, 512, words, ORC_WORDS) != 0)
+    if (orc_read_stream(column, sizeof column, 0, 0, rows, 512, words, ORC_STREAM_WORDS) != 0)
         return 1;
     printf("%" PRIu64 " rows from %" PRIu64 " bytes:", words[ORC_ROWS], words[ORC_BYTES]);
     for (uint64_t k = 0; k < words[ORC_ROWS]; k++)
         printf(" %" PRId64, rows[k]);
     printf("\n");
+    if (words[ORC_LAST] == 1 && words[ORC_LAST_KIND] == ORC_DIRECT)
+        printf("the last run is direct: %" PRIu64 " rows of %" PRIu64 " bits in %" PRIu64 " bytes\n",
+               words[ORC_LAST_ROWS], words[ORC_LAST_WIDTH], words[ORC_LAST_BYTES]);
 
     /* The same column, cut inside its second run. */
-    if (orc_read_stream(column, 5, 0, 0, rows, 512, words, ORC_WORDS) == ORC_ROWS_CUT)
+    if (orc_read_stream(column, 5, 0, 0, rows, 512, words, ORC_STREAM_WORDS) == ORC_ROWS_CUT)
         printf("cut: the run at byte %" PRIu64 " lacks its packed rows, from byte %" PRIu64
                " on; %" PRIu64 " rows are read\n",
                words[ORC_PLACE], words[ORC_CUT_AT], words[ORC_ROWS]);
 
     /* No words at all: an answer of its own. */
     if (orc_read_stream(column, sizeof column, 0, 0, rows, 512, NULL, 0) == ORC_TOO_FEW_WORDS)
-        printf("an answer has %d words\n", ORC_WORDS);
+        printf("a stream's answer has %d words\n", ORC_STREAM_WORDS);
     return 0;
 }

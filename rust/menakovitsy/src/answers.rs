@@ -26,19 +26,50 @@ pub enum Kind {
     Unknown(u64),
 }
 
+impl Kind {
+    fn of_number(number: u64) -> Self {
+        match number {
+            kind::SHORT_REPEAT => Kind::ShortRepeat,
+            kind::DIRECT => Kind::Direct,
+            kind::PATCHED_BASE => Kind::PatchedBase,
+            kind::DELTA => Kind::Delta,
+            kind::BOOLEANS => Kind::Booleans,
+            kind::BYTE_VALUE => Kind::ByteValue,
+            other => Kind::Unknown(other),
+        }
+    }
+}
+
+impl fmt::Display for Kind {
+    fn fmt(&self, f: &mut fmt::Formatter) -> fmt::Result {
+        f.pad(match self {
+            Kind::ShortRepeat => "short repeat",
+            Kind::Direct => "direct",
+            Kind::PatchedBase => "patched base",
+            Kind::Delta => "delta",
+            Kind::Booleans => "booleans",
+            Kind::ByteValue => "byte value",
+            Kind::Unknown(_) => "unknown kind",
+        })
+    }
+}
+
 /// What was read or written: a run, booleans or a byte value.
 #[derive(Debug, Clone, Copy, PartialEq, Eq, Hash)]
 #[non_exhaustive]
 pub struct Run {
     /// Its kind.
     pub kind: Kind,
+    /// The width of its values in bits: of a short repeat 8 for each byte of its value, of a fixed delta
+    /// 0, of packed rows and packed magnitudes theirs; of booleans 1, of a byte value 8.
+    pub width: u64,
     /// How many rows it has, from the first lent place on (booleans: how many; a byte value: its length).
     pub rows: RowNumber,
     /// How many bytes it takes up: the next run begins there. Of the writer: how many were written.
     pub bytes: ByteOffset,
 }
 
-/// What the stream reader read: the runs' rows joined, and their bytes.
+/// What the stream reader read: the runs' rows joined, and their bytes; and the last run of them.
 #[must_use]
 #[derive(Debug, Clone, Copy, PartialEq, Eq, Hash, Default)]
 #[non_exhaustive]
@@ -47,6 +78,15 @@ pub struct Stream {
     pub rows: RowNumber,
     /// How many bytes they take up.
     pub bytes: ByteOffset,
+    /// The last run that was read; nothing where none was.
+    pub last: Option<Run>,
+}
+
+impl Stream {
+    /// The same, with a run behind it.
+    pub(crate) fn and(self, run: Run) -> Self {
+        Stream { rows: self.rows + run.rows, bytes: self.bytes + run.bytes, last: Some(run) }
+    }
 }
 
 /// A refused call. No lent place has changed.
@@ -133,7 +173,7 @@ impl Words {
 
     /// The answer of the stream reader.
     pub fn stream(&self) -> Result<Stream, StreamRefused> {
-        let read = Stream { rows: self.rows(), bytes: self.bytes() };
+        let read = Stream { rows: self.rows(), bytes: self.bytes(), last: self.last() };
         match self.case() {
             Some(case::READ) => Ok(read),
             Some(_) => Err(StreamRefused { refused: self.refused(), before: read }),
@@ -145,21 +185,29 @@ impl Words {
     /// more than there is.
     fn case(&self) -> Option<u64> {
         let (rows, bytes) = self.most;
-        let counts = self.rows().0 <= rows && self.bytes().0 <= bytes;
+        let last = self.last().is_none_or(|last| last.rows <= self.rows() && last.bytes <= self.bytes());
+        let counts = self.rows().0 <= rows && self.bytes().0 <= bytes && last;
         (self.number != TOO_FEW_WORDS && counts).then_some(self.lent[word::CASE])
     }
 
     fn run(&self) -> Run {
-        let kind = match self.lent[word::KIND] {
-            kind::SHORT_REPEAT => Kind::ShortRepeat,
-            kind::DIRECT => Kind::Direct,
-            kind::PATCHED_BASE => Kind::PatchedBase,
-            kind::DELTA => Kind::Delta,
-            kind::BOOLEANS => Kind::Booleans,
-            kind::BYTE_VALUE => Kind::ByteValue,
-            other => Kind::Unknown(other),
-        };
-        Run { kind, rows: self.rows(), bytes: self.bytes() }
+        Run {
+            kind: Kind::of_number(self.lent[word::KIND]),
+            width: self.lent[word::WIDTH],
+            rows: self.rows(),
+            bytes: self.bytes(),
+        }
+    }
+
+    /// The last run of a stream. Other answers have no such word, and the place that was lent for it
+    /// is 0.
+    fn last(&self) -> Option<Run> {
+        (self.lent[word::LAST] == 1).then(|| Run {
+            kind: Kind::of_number(self.lent[word::LAST_KIND]),
+            width: self.lent[word::LAST_WIDTH],
+            rows: RowNumber(self.lent[word::LAST_ROWS] as usize),
+            bytes: ByteOffset(self.lent[word::LAST_BYTES] as usize),
+        })
     }
 
     fn rows(&self) -> RowNumber {
@@ -227,8 +275,10 @@ mod tests {
         let wants_more = words(TOO_FEW_WORDS, &[]);
         assert_eq!(wants_more.run_or_end().unwrap_err(), refused(Refusal::Unknown(TOO_FEW_WORDS), 0));
         assert_eq!(wants_more.stream().unwrap_err().refused.refusal, Refusal::Unknown(TOO_FEW_WORDS));
-        let run = Run { kind: Kind::Unknown(6), rows: RowNumber(2), bytes: ByteOffset(3) };
-        assert_eq!(words(0, &[1, 0, 0, 6, 2, 3]).one_run(), Ok(run));
+        let run = Run { kind: Kind::Unknown(6), width: 7, rows: RowNumber(2), bytes: ByteOffset(3) };
+        assert_eq!(words(0, &[1, 0, 0, 6, 2, 3, 0, 0, 7]).one_run(), Ok(run));
+        let stream = words(0, &[1, 0, 0, 0, 2, 3, 0, 0, 0, 1, 6, 7, 2, 3]).stream().unwrap();
+        assert_eq!((stream.rows, stream.bytes, stream.last), (RowNumber(2), ByteOffset(3), Some(run)));
     }
 
     /// A cut field is told by its byte; one that a later library names, too.
@@ -255,6 +305,11 @@ mod tests {
             assert_eq!(words.run_or_end().unwrap_err().refusal, Refusal::Unknown(0));
             let stream = words.stream().unwrap_err();
             assert_eq!((stream.refused.refusal, stream.before), (Refusal::Unknown(0), Stream::default()));
+        }
+        // A last run that has more than all runs together.
+        for counts in [[2, 3], [1, 4]] {
+            let words = words(0, &[1, 0, 0, 0, 1, 3, 0, 0, 0, 1, 1, 7, counts[0], counts[1]]);
+            assert_eq!(words.stream().unwrap_err().before, Stream::default());
         }
     }
 }

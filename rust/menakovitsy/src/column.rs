@@ -26,14 +26,14 @@ use crate::{ByteOffset, Refusal, Refused, RowNumber, Run, Sign, Stream, StreamRe
 /// let mut runs = column.runs();
 /// while let Some(run) = runs.next_run() {
 ///     let run = run?;
-///     println!("{}, {}: {:?}", run.at, run.first, run.rows);
+///     println!("{}, {}, {} of {} bits: {:?}", run.at, run.first, run.run.kind, run.run.width, run.rows);
 /// }
 ///
 /// // A column that is cut is refused, and never taken for a shorter one.
 /// let cut = Column::new(&bytes[..5], Sign::Unsigned).read_into(&mut rows).unwrap_err();
 /// assert_eq!((cut.refused.refusal, cut.refused.at), (Refusal::RowsCut, ByteOffset(3)));
 /// assert_eq!(cut.refused.cut, Some(ByteOffset(5)));
-/// assert_eq!(cut.before.rows, RowNumber(5));
+/// assert_eq!((cut.before.rows, cut.before.last.map(|run| run.width)), (RowNumber(5), Some(16)));
 /// # Ok::<(), menakovitsy::StreamRefused>(())
 /// ```
 #[derive(Clone, Copy, PartialEq, Eq)]
@@ -77,6 +77,7 @@ impl<'a> Column<'a> {
                 Err(StreamRefused { refused, before }) => {
                     read.rows += before.rows;
                     read.bytes += before.bytes;
+                    read.last = before.last.or(read.last);
                     if refused.refusal != Refusal::TooFewPlaces || before.rows.0 == 0 {
                         return Err(StreamRefused { refused, before: read });
                     }
@@ -131,7 +132,7 @@ pub struct RunAt<'r> {
     pub at: ByteOffset,
     /// The number of its first row in the column.
     pub first: RowNumber,
-    /// Its kind and counts.
+    /// Its kind, width and counts.
     pub run: Run,
     /// Its rows.
     pub rows: &'r [i64],
@@ -148,8 +149,7 @@ impl Runs<'_> {
         let refused = match read_run(bytes, at, sign, &mut self.places) {
             Ok(Some(run)) => match self.places.get(..run.rows.0) {
                 Some(rows) if !rows.is_empty() && run.bytes.0 > 0 => {
-                    self.read.rows += run.rows;
-                    self.read.bytes += run.bytes;
+                    self.read = self.read.and(run);
                     return Some(Ok(RunAt { at, first, run, rows }));
                 }
                 // Counts that no run has: not the proved library's.
@@ -171,7 +171,7 @@ impl Runs<'_> {
         self.column.at + self.read.bytes
     }
 
-    /// How many rows and bytes the runs have that were given.
+    /// How many rows and bytes the runs have that were given, and the last of them.
     pub fn given(&self) -> Stream {
         self.read
     }

@@ -4,15 +4,18 @@
 //! A slice passes as its pointer, then its length in elements; a null pointer with length 0 is
 //! allowed. Nothing that is written may overlap another argument. Calls share no state.
 //!
-//! A function that takes words writes its whole answer into the first [`WORDS`] of them, leaves the
-//! others as they were, and returns the refusal's number, 0 where nothing is refused; lent fewer, it
+//! A function that takes words writes its whole answer into the first [`WORDS`] of them, the stream
+//! reader into the first [`STREAM_WORDS`], leaves the others as they were, and returns the refusal's number, 0 where nothing is refused; lent fewer, it
 //! returns [`TOO_FEW_WORDS`] and touches nothing. What each word means stands in [`word`].
 
 /// The version of these functions that this crate is written for.
-pub const VERSION: u64 = 2;
+pub const VERSION: u64 = 3;
 
-/// How many words an answer has.
-pub const WORDS: usize = 8;
+/// How many words an answer has; the stream reader's has [`STREAM_WORDS`].
+pub const WORDS: usize = 9;
+
+/// How many words an answer of the stream reader has.
+pub const STREAM_WORDS: usize = 14;
 
 /// What a function returns that was lent fewer words than its answer has.
 pub const TOO_FEW_WORDS: u64 = u64::MAX;
@@ -42,6 +45,20 @@ pub mod word {
     pub const CUT: usize = 6;
     /// The byte where the cut field begins, 0 where there is none.
     pub const CUT_AT: usize = 7;
+    /// The width of a run's values in bits (booleans 1, byte values 8, a fixed delta 0). 0 where there
+    /// is no run, and for a stream.
+    pub const WIDTH: usize = 8;
+    /// Of a stream, in both its cases: 1 where a run was read, otherwise 0. The words behind it are of
+    /// the last that was, and 0 where there is none.
+    pub const LAST: usize = 9;
+    /// Its kind.
+    pub const LAST_KIND: usize = 10;
+    /// Its width.
+    pub const LAST_WIDTH: usize = 11;
+    /// Its rows.
+    pub const LAST_ROWS: usize = 12;
+    /// Its bytes.
+    pub const LAST_BYTES: usize = 13;
 }
 
 /// What the word `CASE` may hold.

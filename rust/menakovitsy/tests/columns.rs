@@ -42,6 +42,7 @@ fn is_the_cut(refused: StreamRefused) {
     assert_eq!((refused.refused.refusal, refused.refused.at), (Refusal::RowsCut, ByteOffset(7)));
     assert_eq!(refused.refused.cut, Some(ByteOffset(9)));
     assert_eq!((refused.before.rows, refused.before.bytes), (RowNumber(8), ByteOffset(7)));
+    assert_eq!(refused.before.last.map(|run| (run.kind, run.width)), Some((Kind::Direct, 4)));
     let told = refused.to_string();
     assert!(told.starts_with("the run at byte 7, after 8 rows: refusal 13: the block "), "{told}");
     assert!(told.contains(" that begins at byte 9 is cut (call again with more bytes; "), "{told}");

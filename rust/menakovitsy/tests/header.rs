@@ -29,6 +29,7 @@ fn the_header_has_the_same_numbers() {
     }
     has(&format!("#define ORC_VERSION UINT64_C({})\n", exported::VERSION));
     has(&format!("#define ORC_WORDS {}\n", exported::WORDS));
+    has(&format!("#define ORC_STREAM_WORDS {}\n", exported::STREAM_WORDS));
     has("#define ORC_TOO_FEW_WORDS UINT64_MAX\n");
     has(&format!("#define ORC_MAX_ROWS {}\n", exported::MAX_ROWS));
     has(&format!("#define ORC_MAX_RUN_BYTES {}\n", exported::MAX_RUN_BYTES));
@@ -41,6 +42,12 @@ fn the_header_has_the_same_numbers() {
         ("BYTES", word::BYTES),
         ("CUT", word::CUT),
         ("CUT_AT", word::CUT_AT),
+        ("WIDTH", word::WIDTH),
+        ("LAST", word::LAST),
+        ("LAST_KIND", word::LAST_KIND),
+        ("LAST_WIDTH", word::LAST_WIDTH),
+        ("LAST_ROWS", word::LAST_ROWS),
+        ("LAST_BYTES", word::LAST_BYTES),
     ] {
         has(&format!("    ORC_{name} = {place}"));
     }
@@ -92,8 +99,9 @@ fn the_example_in_c() {
             String::from_utf8_lossy(&output.stdout),
             "flag 23 is 1, flag 24 is 0\n\
              8 rows from 7 bytes: 300 300 300 300 300 1 2 3\n\
+             the last run is direct: 3 rows of 4 bits in 4 bytes\n\
              cut: the run at byte 3 lacks its packed rows, from byte 5 on; 5 rows are read\n\
-             an answer has 8 words\n"
+             a stream's answer has 14 words\n"
         );
     }
 }

@@ -9,19 +9,21 @@ fn bytes(hex: &str) -> Vec<u8> {
 }
 
 /// A run under a flag, by itself, at a position, as one number, and as a stream.
-fn rows(hex: &str, sign: Sign, kind: Kind, expected: &[i64]) {
+fn rows(hex: &str, sign: Sign, kind: Kind, width: u64, expected: &[i64]) {
     let run = bytes(hex);
     let (count, length) = (RowNumber(expected.len()), ByteOffset(run.len()));
     for before in [0, 3] {
         let input = [vec![0xC2; before], run.clone()].concat();
         let mut rows = [7777; 512];
         let read = read_run(&input, ByteOffset(before), sign, &mut rows).unwrap().unwrap();
-        assert_eq!((read.kind, read.rows, read.bytes), (kind, count, length), "{hex}");
+        assert_eq!((read.kind, read.width), (kind, width), "{hex}");
+        assert_eq!((read.rows, read.bytes), (count, length), "{hex}");
         assert_eq!(&rows[..expected.len()], expected, "{hex}");
         assert!(rows[expected.len()..].iter().all(|row| *row == 7777), "{hex}: a place behind them changed");
         let mut again = [7777; 512];
         let stream = read_stream(&input, ByteOffset(before), sign, &mut again).unwrap();
         assert_eq!((stream.rows, stream.bytes, again), (count, length, rows), "{hex}");
+        assert_eq!(stream.last, Some(read), "{hex}");
     }
     let mut out = [0xEE; 8 * 512];
     let counts = read_run_bytes(&run, sign, &mut out).unwrap().unwrap();
@@ -49,20 +51,20 @@ fn refused(hex: &str, refusal: Refusal, cut: Option<usize>) {
 fn lines_of_document_01() {
     use Kind::*;
     use Sign::*;
-    rows("0A012C", Unsigned, ShortRepeat, &[300; 5]);
-    rows("0A012C", Signed, ShortRepeat, &[150; 5]);
-    rows("0001", Signed, ShortRepeat, &[-1; 3]);
-    rows("46021230", Unsigned, Direct, &[1, 2, 3]);
-    rows("46021230", Signed, Direct, &[-1, 1, -2]);
-    rows("700000000040", Unsigned, Direct, &[1]);
-    rows("C0040A04", Unsigned, Delta, &[10, 12, 14, 16, 18]);
-    rows("C603640514", Unsigned, Delta, &[100, 97, 96, 92]);
-    rows("C001FEFFFFFFFFFFFFFFFF0102", Signed, Delta, &[i64::MAX, i64::MIN]);
-    rows("C0000700", Unsigned, Delta, &[7]);
+    rows("0A012C", Unsigned, ShortRepeat, 16, &[300; 5]);
+    rows("0A012C", Signed, ShortRepeat, 16, &[150; 5]);
+    rows("0001", Signed, ShortRepeat, 8, &[-1; 3]);
+    rows("46021230", Unsigned, Direct, 4, &[1, 2, 3]);
+    rows("46021230", Signed, Direct, 4, &[-1, 1, -2]);
+    rows("700000000040", Unsigned, Direct, 26, &[1]);
+    rows("C0040A04", Unsigned, Delta, 0, &[10, 12, 14, 16, 18]);
+    rows("C603640514", Unsigned, Delta, 4, &[100, 97, 96, 92]);
+    rows("C001FEFFFFFFFFFFFFFFFF0102", Signed, Delta, 0, &[i64::MAX, i64::MIN]);
+    rows("C0000700", Unsigned, Delta, 0, &[7]);
     refused("C200", Refusal::OneRowDelta, None);
     for sign in [Unsigned, Signed] {
-        rows("8603032164123494", sign, PatchedBase, &[101, 102, 183, 104]);
-        rows("86030320E41234", sign, PatchedBase, &[-99, -98, -97, -96]);
+        rows("8603032164123494", sign, PatchedBase, 4, &[101, 102, 183, 104]);
+        rows("86030320E41234", sign, PatchedBase, 4, &[-99, -98, -97, -96]);
         assert_eq!(read_run(&[], START, sign, &mut []), Ok(None));
         assert_eq!(read_run(&[1, 2], ByteOffset(usize::MAX), sign, &mut []), Ok(None));
         assert_eq!(read_stream(&[], START, sign, &mut []), Ok(Stream::default()));
@@ -115,7 +117,7 @@ fn patches_that_fit() {
     let run = |entries: &[&str]| format!("B4011C{:02X}0A0000000400000020{}", entries.len(), entries.concat());
     let read = |entries: &[&str], expected: &[i64]| {
         for sign in [Sign::Unsigned, Sign::Signed] {
-            rows(&run(entries), sign, Kind::PatchedBase, expected);
+            rows(&run(entries), sign, Kind::PatchedBase, 30, expected);
         }
     };
     read(&["010000000003"], &[11, 12 + 3 * (1 << 30)]);
@@ -127,10 +129,10 @@ fn patches_that_fit() {
     refused(&run(&["020400000000"]), Refusal::PatchTooLarge, None);
     let cut = run(&["010400000000", "010000000003"]);
     refused(&cut[..cut.len() - 2], Refusal::ListCut, Some(13));
-    rows("BE00000100000000000000000700", Sign::Unsigned, Kind::PatchedBase, &[7]);
+    rows("BE00000100000000000000000700", Sign::Unsigned, Kind::PatchedBase, 64, &[7]);
     refused("BE00000100000000000000000740", Refusal::PatchTooLarge, None);
     refused("BE00000100000000000000000780", Refusal::PatchOutOfPlace, None);
-    rows("BE001E00000000000000000007", Sign::Unsigned, Kind::PatchedBase, &[7]);
+    rows("BE001E00000000000000000007", Sign::Unsigned, Kind::PatchedBase, 64, &[7]);
 }
 
 /// 512 rows of 64 bits, a base of 8 bytes, 31 entries of 64 bits; and nothing behind them is read.
@@ -152,12 +154,12 @@ fn the_longest_run() {
 fn examples_of_the_specification() {
     use Kind::*;
     use Sign::*;
-    rows("0A2710", Unsigned, ShortRepeat, &[10_000; 5]);
-    rows("5E035CA1AB1EDEADBEEF", Unsigned, Direct, &[23_713, 43_806, 57_005, 48_879]);
-    rows("C609020222424246", Unsigned, Delta, &[2, 3, 5, 7, 11, 13, 17, 19, 23, 29]);
+    rows("0A2710", Unsigned, ShortRepeat, 16, &[10_000; 5]);
+    rows("5E035CA1AB1EDEADBEEF", Unsigned, Direct, 16, &[23_713, 43_806, 57_005, 48_879]);
+    rows("C609020222424246", Unsigned, Delta, 4, &[2, 3, 5, 7, 11, 13, 17, 19, 23, 29]);
     let mut patched = vec![2030, 2000, 2020, 1_000_000];
     patched.extend((2040..=2190).step_by(10));
-    rows("8E132B2107D01E00147028323C46505A646E78828C96A0AAB4BEFCE8", Unsigned, PatchedBase, &patched);
+    rows("8E132B2107D01E00147028323C46505A646E78828C96A0AAB4BEFCE8", Unsigned, PatchedBase, 8, &patched);
 }
 
 #[test]
@@ -166,6 +168,7 @@ fn booleans_of_document_01() {
     let mut out = [77; 40];
     let run = read_booleans(&line, START, RowNumber(32), &mut out).unwrap();
     assert_eq!((run.kind, run.rows, run.bytes), (Kind::Booleans, RowNumber(32), ByteOffset(4)));
+    assert_eq!(run.width, 1);
     assert_eq!((&out[..24], &out[24..32], &out[32..]), (&[1; 24][..], &[0; 8][..], &[77; 8][..]));
     let cases = [
         (0, 33, 40, Refusal::ValueCut, Some(ByteOffset(4))),
@@ -180,6 +183,28 @@ fn booleans_of_document_01() {
         assert_eq!((refused.refusal, refused.at, refused.cut), (refusal, ByteOffset(at), cut));
         assert_eq!(out, [77; 40]);
     }
+}
+
+/// Document 02, item 3: the last run read, of a whole stream and before a refused run.
+#[test]
+fn the_last_run_of_a_stream() {
+    let stream = bytes("0A012CC0040A0446021230");
+    let mut places = [7777; 16];
+    let last = |end: usize, places: &mut [i64]| match read_stream(&stream[..end], START, Sign::Signed, places)
+    {
+        Ok(read) => read.last,
+        Err(refused) => refused.before.last,
+    };
+    // Cut behind no run, one, two and three, and inside the next.
+    let ends = [(0, 0), (2, 0), (3, 1), (6, 1), (7, 2), (10, 2), (11, 3)];
+    let runs = [(Kind::ShortRepeat, 16, 5, 3), (Kind::Delta, 0, 5, 4), (Kind::Direct, 4, 3, 4)];
+    for (end, read) in ends {
+        let last = last(end, &mut places).map(|run| (run.kind, run.width, run.rows.0, run.bytes.0));
+        assert_eq!(last, runs[..read].last().copied(), "{end} bytes");
+    }
+    // The run that has no places is none that was read.
+    assert_eq!(last(11, &mut places[..12]).map(|run| run.kind), Some(Kind::Delta));
+    assert_eq!(last(11, &mut places[..4]), None);
 }
 
 #[test]
@@ -201,13 +226,17 @@ fn what_is_written_reads_back() {
     use Form::*;
     let written = |rows: &[i64], sign, form, width| {
         let mut out = [77; MAX_WRITTEN];
-        write_run(rows, sign, form, width, &mut out).map(|run| (run.kind, out[..run.bytes.0].to_vec()))
+        write_run(rows, sign, form, width, &mut out)
+            .map(|run| (run.kind, run.width, out[..run.bytes.0].to_vec()))
     };
     use Sign::*;
-    assert_eq!(written(&[300; 5], Unsigned, ShortRepeat, 2), Ok((Kind::ShortRepeat, bytes("0A012C"))));
-    assert_eq!(written(&[-1, 1, -2], Signed, Direct, 3), Ok((Kind::Direct, bytes("46021230"))));
-    assert_eq!(written(&[10, 12, 14], Unsigned, FixedDelta, 0), Ok((Kind::Delta, bytes("C0020A04"))));
-    assert_eq!(written(&[100, 97, 96, 92], Unsigned, PackedDelta, 3), Ok((Kind::Delta, bytes("C603640514"))));
+    assert_eq!(written(&[300; 5], Unsigned, ShortRepeat, 2), Ok((Kind::ShortRepeat, 16, bytes("0A012C"))));
+    assert_eq!(written(&[-1, 1, -2], Signed, Direct, 3), Ok((Kind::Direct, 4, bytes("46021230"))));
+    assert_eq!(written(&[10, 12, 14], Unsigned, FixedDelta, 0), Ok((Kind::Delta, 0, bytes("C0020A04"))));
+    assert_eq!(
+        written(&[100, 97, 96, 92], Unsigned, PackedDelta, 3),
+        Ok((Kind::Delta, 4, bytes("C603640514")))
+    );
     for (rows, form, width, refusal) in [
         (&[300; 2][..], ShortRepeat, 2, Refusal::RowCount),
         (&[300, 300, 301], ShortRepeat, 2, Refusal::NotTheForm),
@@ -218,7 +247,7 @@ fn what_is_written_reads_back() {
     }
     // The longest run.
     let longest: Vec<i64> = (0..512).map(|k| if k % 2 == 0 { i64::MIN } else { 0 }).collect();
-    assert_eq!(written(&longest, Signed, PackedDelta, 31).map(|(_, bytes)| bytes.len()), Ok(MAX_WRITTEN));
+    assert_eq!(written(&longest, Signed, PackedDelta, 31).map(|(_, _, bytes)| bytes.len()), Ok(MAX_WRITTEN));
     for (number, code) in [(0, 0), (1, 0), (2, 1), (255, 7), (1 << 24, 24), (u64::MAX, 31)] {
         assert_eq!(narrowest_code(number), code);
     }

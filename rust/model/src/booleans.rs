@@ -1,11 +1,19 @@
 //! The boolean reader.
-use crate::{rest, Refusal};
+use crate::{rest, Info, Kind, Refusal};
 
 /// What the boolean reader answers.
 #[derive(Debug, Clone, PartialEq, Eq)]
 pub enum Booleans {
     Given { values: Vec<bool>, consumed: usize },
     Refused(Refusal),
+}
+
+impl Booleans {
+    /// What the answer says beside the booleans: each is one bit wide, and n stands as rows.
+    pub fn info(&self) -> Option<Info> {
+        let Booleans::Given { values, consumed } = self else { return None };
+        Some(Info { kind: Kind::Booleans, width: 1, rows: values.len(), bytes: *consumed })
+    }
 }
 
 /// The bytes of the run at the start of some bytes, and the bytes that it takes up; nothing where it

@@ -7,7 +7,7 @@
 //!
 //! ```
 //! use model::{read_run, Answer, Kind, Run};
-//! let run = Run { kind: Kind::Direct, rows: vec![-1, 1, -2], consumed: 4 };
+//! let run = Run { kind: Kind::Direct, width: 4, rows: vec![-1, 1, -2], consumed: 4 };
 //! assert_eq!(read_run(&[0x46, 0x02, 0x12, 0x30], 0, true, 512), Answer::Run(run));
 //! ```
 #![forbid(unsafe_code)]
@@ -26,21 +26,40 @@ pub use streams::{read_stream, Stream};
 pub use values::{read_value, Value};
 pub use writer::{narrowest_code, write_run, Form, Written};
 
-/// The kind of an integer run.
+/// The kind of a run. "Booleans and byte values are kinds of their own."
 #[derive(Debug, Clone, Copy, PartialEq, Eq, Hash, PartialOrd, Ord)]
 pub enum Kind {
     ShortRepeat,
     Direct,
     PatchedBase,
     Delta,
+    Booleans,
+    ByteValue,
 }
 
-/// A run: its kind, its rows, and the bytes that it takes up.
+/// What an answer says of a run beside its rows: "its kind, value width in bits (8 × size for short
+/// repeat, 0 for a fixed delta), rows and bytes".
+#[derive(Debug, Clone, Copy, PartialEq, Eq)]
+pub struct Info {
+    pub kind: Kind,
+    pub width: usize,
+    pub rows: usize,
+    pub bytes: usize,
+}
+
+/// A run: its kind, the width of its values in bits, its rows, and the bytes that it takes up.
 #[derive(Debug, Clone, PartialEq, Eq)]
 pub struct Run {
     pub kind: Kind,
+    pub width: usize,
     pub rows: Vec<i64>,
     pub consumed: usize,
+}
+
+impl Run {
+    pub fn info(&self) -> Info {
+        Info { kind: self.kind, width: self.width, rows: self.rows.len(), bytes: self.consumed }
+    }
 }
 
 /// A refusal: its number, and the byte where the refused run begins.

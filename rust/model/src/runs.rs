@@ -44,25 +44,24 @@ fn of_header(bits: &mut Bits, width: usize) -> usize {
     bits.number(width).expect("the header is all there") as usize
 }
 
+/// Reads what follows the two bits of the kind, under a flag: the width of the values in bits, and the
+/// rows.
+type Layout = fn(&mut Bits, bool) -> Result<(usize, Vec<i64>), Fault>;
+
 /// The run at the start of some bytes, of which there is one.
 fn run(bytes: &[u8], signed: bool) -> Result<Run, Fault> {
     let mut bits = Bits::new(bytes);
-    let (kind, header) = match of_header(&mut bits, 2) {
-        0 => (Kind::ShortRepeat, 1),
-        1 => (Kind::Direct, 2),
-        2 => (Kind::PatchedBase, 4),
-        _ => (Kind::Delta, 2),
+    let (kind, header, layout): (Kind, usize, Layout) = match of_header(&mut bits, 2) {
+        0 => (Kind::ShortRepeat, 1, short_repeat),
+        1 => (Kind::Direct, 2, direct),
+        2 => (Kind::PatchedBase, 4, patched_base),
+        _ => (Kind::Delta, 2, delta),
     };
     if bytes.len() < header {
         return Err(Fault::of(1));
     }
-    let rows = match kind {
-        Kind::ShortRepeat => short_repeat(&mut bits, signed)?,
-        Kind::Direct => direct(&mut bits, signed)?,
-        Kind::PatchedBase => patched_base(&mut bits)?,
-        Kind::Delta => delta(&mut bits, signed)?,
-    };
-    Ok(Run { kind, rows, consumed: bits.bytes() })
+    let (width, rows) = layout(&mut bits, signed)?;
+    Ok(Run { kind, width, rows, consumed: bits.bytes() })
 }
 
 /// A number as a row: zigzag decoded if signed, otherwise the i64 with the same bits.
@@ -80,18 +79,18 @@ fn code_and_rows(bits: &mut Bits) -> (usize, usize) {
 }
 
 /// "2 bits kind, 3 bits size-1, 3 bits count-3. Then size bytes."
-fn short_repeat(bits: &mut Bits, signed: bool) -> Result<Vec<i64>, Fault> {
+fn short_repeat(bits: &mut Bits, signed: bool) -> Result<(usize, Vec<i64>), Fault> {
     let size = of_header(bits, 3) + 1;
     let count = of_header(bits, 3) + 3;
     let value = field(bits, 6, |bits| bits.number(8 * size))?;
-    Ok(vec![row(value, signed); count])
+    Ok((8 * size, vec![row(value, signed); count]))
 }
 
 /// "2 bits kind, 5 bits width code, 9 bits rows-1", then the packed rows.
-fn direct(bits: &mut Bits, signed: bool) -> Result<Vec<i64>, Fault> {
+fn direct(bits: &mut Bits, signed: bool) -> Result<(usize, Vec<i64>), Fault> {
     let (code, rows) = code_and_rows(bits);
     let block = field(bits, 13, |bits| bits.block(rows, WIDTHS[code]))?;
-    Ok(block.into_iter().map(|number| row(number, signed)).collect())
+    Ok((WIDTHS[code], block.into_iter().map(|number| row(number, signed)).collect()))
 }
 
 /// A varint: 12 where it is cut, 5 where it is none.
@@ -103,7 +102,7 @@ fn varint(bits: &mut Bits) -> Result<u64, Fault> {
 }
 
 /// "First row as a varint (zigzag if signed), then the base delta as a zigzag varint always."
-fn delta(bits: &mut Bits, signed: bool) -> Result<Vec<i64>, Fault> {
+fn delta(bits: &mut Bits, signed: bool) -> Result<(usize, Vec<i64>), Fault> {
     let (code, count) = code_and_rows(bits);
     if code != 0 && count == 1 {
         return Err(Fault::of(4));
@@ -115,7 +114,7 @@ fn delta(bits: &mut Bits, signed: bool) -> Result<Vec<i64>, Fault> {
         while rows.len() < count {
             rows.push(rows[rows.len() - 1].wrapping_add(base));
         }
-        return Ok(rows);
+        return Ok((0, rows));
     }
     rows.push(first.wrapping_add(base));
     for magnitude in field(bits, 13, |bits| bits.block(count - 2, WIDTHS[code]))? {
@@ -125,7 +124,7 @@ fn delta(bits: &mut Bits, signed: bool) -> Result<Vec<i64>, Fault> {
             false => before.wrapping_add(magnitude as i64),
         });
     }
-    Ok(rows)
+    Ok((WIDTHS[code], rows))
 }
 
 /// An entry of a patch list.
@@ -218,7 +217,7 @@ fn places(run: &Patched) -> (Vec<(u128, u64)>, Faults) {
 }
 
 /// "Rows are base + (value or patch·2^W), modulo 2^64, with no zigzag under either flag."
-fn patched_base(bits: &mut Bits) -> Result<Vec<i64>, Fault> {
+fn patched_base(bits: &mut Bits, _signed: bool) -> Result<(usize, Vec<i64>), Fault> {
     let run = patched(bits)?;
     let (patches, faults) = places(&run);
     faults.refused()?;
@@ -226,7 +225,7 @@ fn patched_base(bits: &mut Bits) -> Result<Vec<i64>, Fault> {
     for (place, patch) in patches {
         values[place as usize] |= u128::from(patch) << run.width;
     }
-    Ok(values.into_iter().map(|value| run.base.wrapping_add(value as i64)).collect())
+    Ok((run.width, values.into_iter().map(|value| run.base.wrapping_add(value as i64)).collect()))
 }
 
 /// The faults of the patch list of a patched run at the start of some bytes, where the run is whole

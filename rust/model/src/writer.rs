@@ -1,6 +1,6 @@
 //! The run writer.
 use crate::bits::{Put, WIDTHS};
-use crate::{Kind, Refusal};
+use crate::{Info, Kind, Refusal};
 
 /// The form that rows are written in.
 #[derive(Debug, Clone, Copy, PartialEq, Eq, Hash)]
@@ -14,37 +14,45 @@ pub enum Form {
 /// What the writer answers, with the bytes that it writes.
 #[derive(Debug, Clone, PartialEq, Eq)]
 pub enum Written {
-    Run { kind: Kind, rows: usize, bytes: Vec<u8> },
+    Run { kind: Kind, width: usize, rows: usize, bytes: Vec<u8> },
     Refused(Refusal),
+}
+
+impl Written {
+    /// What the answer says beside the bytes.
+    pub fn info(&self) -> Option<Info> {
+        let Written::Run { kind, width, rows, bytes } = self else { return None };
+        Some(Info { kind: *kind, width: *width, rows: *rows, bytes: bytes.len() })
+    }
 }
 
 /// Writes rows, with so many places lent. "Writing order: 9, 10, 11, 8."
 pub fn write_run(rows: &[i64], signed: bool, form: Form, width: u8, places: usize) -> Written {
     let refused = |number| Written::Refused(Refusal::whole(number, 0));
     match layout(rows, signed, form, usize::from(width)) {
-        Ok((_, bytes)) if bytes.len() > places => refused(8),
-        Ok((kind, bytes)) => Written::Run { kind, rows: rows.len(), bytes },
+        Ok((_, _, bytes)) if bytes.len() > places => refused(8),
+        Ok((kind, width, bytes)) => Written::Run { kind, width, rows: rows.len(), bytes },
         Err(number) => refused(number),
     }
 }
 
-/// The run's kind and bytes, or the refusal's number.
-fn layout(rows: &[i64], signed: bool, form: Form, width: usize) -> Result<(Kind, Vec<u8>), u8> {
+/// The run's kind, the width of its values in bits, and its bytes; or the refusal's number.
+fn layout(rows: &[i64], signed: bool, form: Form, width: usize) -> Result<(Kind, usize, Vec<u8>), u8> {
     allowed(rows, form, width)?;
     let mut put = Put::default();
-    let kind = match form {
+    let (kind, bits) = match form {
         Form::ShortRepeat => {
             put.number(0, 2);
             put.number(width as u64 - 1, 3);
             put.number(rows.len() as u64 - 3, 3);
             put_fields(&mut put, &[number(rows[0], signed)], 8 * width)?;
-            Kind::ShortRepeat
+            (Kind::ShortRepeat, 8 * width)
         }
         Form::Direct => {
             put_header(&mut put, 1, width, rows.len());
             let fields: Vec<u64> = rows.iter().map(|row| number(*row, signed)).collect();
             put_fields(&mut put, &fields, WIDTHS[width])?;
-            Kind::Direct
+            (Kind::Direct, WIDTHS[width])
         }
         Form::FixedDelta | Form::PackedDelta => {
             put_header(&mut put, 3, width, rows.len());
@@ -57,10 +65,10 @@ fn layout(rows: &[i64], signed: bool, form: Form, width: usize) -> Result<(Kind,
                 let magnitudes: Vec<u64> = steps(rows)[1..].iter().map(|step| toward(*step)).collect();
                 put_fields(&mut put, &magnitudes, WIDTHS[width])?;
             }
-            Kind::Delta
+            (Kind::Delta, if form == Form::PackedDelta { WIDTHS[width] } else { 0 })
         }
     };
-    Ok((kind, put.bytes()))
+    Ok((kind, bits, put.bytes()))
 }
 
 /// Refusal 9 for a row count that the form does not allow, then 10 for rows that do not have the form

@@ -98,7 +98,8 @@ fn streams() {
             let input = [vec![0xC2; before], bytes("0A012C"), line.bytes.clone()].concat();
             for kept in 1..line.bytes.len() {
                 let refusal = line.refusal(kept, before + 3);
-                let refused = Stream::Refused { refusal, rows: vec![300; 5], consumed: 3 };
+                let last = Some(Info { kind: Kind::ShortRepeat, width: 16, rows: 5, bytes: 3 });
+                let refused = Stream::Refused { refusal, rows: vec![300; 5], consumed: 3, last };
                 let cut = &input[..before + 3 + kept];
                 assert_eq!(read_stream(cut, before, false, 600), refused, "{text}, {kept} bytes");
             }

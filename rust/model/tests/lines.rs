@@ -62,7 +62,7 @@ fn examples_of_the_specification() {
     for (number, hex) in varints.into_iter().chain(more) {
         rows(&format!("C000{hex}00"), false, &[number], 3 + hex.len() / 2);
         let run = bytes(&format!("C000{hex}00"));
-        let written = Written::Run { kind: Kind::Delta, rows: 1, bytes: run };
+        let written = Written::Run { kind: Kind::Delta, width: 0, rows: 1, bytes: run };
         assert_eq!(write_run(&[number], false, Form::FixedDelta, 0, 9), written);
     }
     assert_eq!([0, 1, 2, 3, 4].map(zigzag), [0, -1, 1, -2, 2]);
@@ -142,13 +142,17 @@ fn patch_lists() {
 fn streams() {
     let two = bytes("0A012C46021230");
     let joined = vec![300, 300, 300, 300, 300, 1, 2, 3];
-    assert_eq!(read_stream(&two, 0, false, 8), Stream::Whole { rows: joined.clone(), consumed: 7 });
-    assert_eq!(read_stream(&two, 99, false, 0), Stream::Whole { rows: vec![], consumed: 0 });
+    let [short, direct] = [(Kind::ShortRepeat, 16, 5, 3), (Kind::Direct, 4, 3, 4)]
+        .map(|(kind, width, rows, bytes)| Some(Info { kind, width, rows, bytes }));
+    let whole = Stream::Whole { rows: joined, consumed: 7, last: direct };
+    assert_eq!(read_stream(&two, 0, false, 8), whole);
+    let empty = Stream::Whole { rows: vec![], consumed: 0, last: None };
+    assert_eq!(read_stream(&two, 99, false, 0), empty);
     let refusal = Refusal::whole(8, 3);
-    let broke = Stream::Refused { refusal, rows: vec![300; 5], consumed: 3 };
+    let broke = Stream::Refused { refusal, rows: vec![300; 5], consumed: 3, last: short };
     assert_eq!(read_stream(&two, 0, false, 7), broke);
     let refusal = Refusal::cut(13, 3, 5);
-    let broke = Stream::Refused { refusal, rows: vec![300; 5], consumed: 3 };
+    let broke = Stream::Refused { refusal, rows: vec![300; 5], consumed: 3, last: short };
     assert_eq!(read_stream(&two[..6], 0, false, 8), broke);
 }
 

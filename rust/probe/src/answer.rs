@@ -1,24 +1,34 @@
 //! The words of an answer, and what is said of them.
 use std::fmt::Write as _;
 
-use menakovitsy::exported::{case, kind, word, WORDS};
+use menakovitsy::exported::{case, kind, word, STREAM_WORDS, WORDS};
 
 use crate::lent::Lent;
 
 /// How many words are lent beyond those of an answer: they must keep their mark.
 const MORE: usize = 4;
 
-/// What a call returned, and the words that it was lent.
+/// What a call returned, and the words that it was lent; how many of them are its answer's.
 pub struct Answer {
     returned: u64,
     words: Lent<u64>,
+    own: usize,
 }
 
 impl Answer {
+    /// Of any function but the stream reader.
     pub fn of(call: impl FnOnce(&mut [u64]) -> u64) -> Self {
-        let mut words = Lent::places(WORDS + MORE);
+        Self::of_words(WORDS, call)
+    }
+
+    pub fn of_stream(call: impl FnOnce(&mut [u64]) -> u64) -> Self {
+        Self::of_words(STREAM_WORDS, call)
+    }
+
+    fn of_words(own: usize, call: impl FnOnce(&mut [u64]) -> u64) -> Self {
+        let mut words = Lent::places(own + MORE);
         let returned = call(words.content_mut());
-        Answer { returned, words }
+        Answer { returned, words, own }
     }
 
     fn word(&self, place: usize) -> u64 {
@@ -57,19 +67,24 @@ impl Answer {
         }
     }
 
-    /// `KIND ROWS BYTES`.
+    /// `KIND WIDTH ROWS BYTES`.
     pub fn say_info(&self) -> String {
-        format!("{} {} {}", self.say_kind(), self.rows(), self.bytes())
+        format!("{} {}", say_kind(self.word(word::KIND)), self.say_counts())
     }
 
-    fn say_kind(&self) -> String {
-        match self.word(word::KIND) {
-            kind::SHORT_REPEAT => "short".into(),
-            kind::DIRECT => "direct".into(),
-            kind::PATCHED_BASE => "patched".into(),
-            kind::DELTA => "delta".into(),
-            other => format!("kind-{other}"),
+    /// `WIDTH ROWS BYTES`.
+    pub fn say_counts(&self) -> String {
+        format!("{} {} {}", self.word(word::WIDTH), self.rows(), self.bytes())
+    }
+
+    /// `none`, or `KIND/WIDTH/ROWS/BYTES`, of a stream's last run.
+    pub fn say_last(&self) -> String {
+        if self.word(word::LAST) == 0 {
+            return "none".into();
         }
+        let [width, rows, bytes] =
+            [word::LAST_WIDTH, word::LAST_ROWS, word::LAST_BYTES].map(|place| self.word(place));
+        format!("{}/{width}/{rows}/{bytes}", say_kind(self.word(word::LAST_KIND)))
     }
 
     /// Whether the kind is this one: lines of booleans and byte values do not say it.
@@ -86,26 +101,52 @@ impl Answer {
         }
     }
 
-    /// Whether the words fit together: what is returned is the refusal's number, and the words that
-    /// have no meaning in their case are 0. A stream counts in both its cases.
-    pub fn fits(&self, stream: bool) -> bool {
-        let zero = |places: &[usize]| places.iter().all(|place| self.word(*place) == 0);
-        if !self.cut_fits() {
-            return false;
-        }
-        let fits = match self.case() {
-            case::END => zero(&[word::NUMBER, word::PLACE, word::KIND, word::ROWS, word::BYTES]),
-            case::READ => zero(&[word::NUMBER, word::PLACE]),
-            case::REFUSED if stream => !zero(&[word::NUMBER]),
-            case::REFUSED => !zero(&[word::NUMBER]) && zero(&[word::KIND, word::ROWS, word::BYTES]),
+    fn zero(&self, places: &[usize]) -> bool {
+        places.iter().all(|place| self.word(*place) == 0)
+    }
+
+    /// Whether a stream names no run of its own, and a last run exactly where one was read.
+    fn last_fits(&self) -> bool {
+        use word::{KIND, LAST, LAST_BYTES, LAST_KIND, LAST_ROWS, LAST_WIDTH, WIDTH};
+        let last = match self.word(LAST) {
+            0 => self.zero(&[word::ROWS, word::BYTES, LAST_KIND, LAST_WIDTH, LAST_ROWS, LAST_BYTES]),
+            1 => {
+                (1..=self.rows()).contains(&self.word(LAST_ROWS))
+                    && (1..=self.bytes()).contains(&self.word(LAST_BYTES))
+            }
             _ => false,
         };
-        fits && self.returned == self.word(word::NUMBER) && (!stream || zero(&[word::KIND]))
+        last && self.zero(&[KIND, WIDTH])
+    }
+
+    /// Whether the words fit together: what is returned is the refusal's number, and the words that
+    /// have no meaning in their case are 0. A stream counts in both its cases.
+    pub fn fits(&self) -> bool {
+        const RUN: [usize; 4] = [word::KIND, word::WIDTH, word::ROWS, word::BYTES];
+        let stream = self.own == STREAM_WORDS;
+        let fits = match self.case() {
+            case::END => self.zero(&[word::NUMBER, word::PLACE]) && self.zero(&RUN),
+            case::READ => self.zero(&[word::NUMBER, word::PLACE]),
+            case::REFUSED => !self.zero(&[word::NUMBER]) && (stream || self.zero(&RUN)),
+            _ => false,
+        };
+        let returned = self.returned == self.word(word::NUMBER);
+        fits && returned && self.cut_fits() && (!stream || self.last_fits())
     }
 
     /// Whether a word behind the answer, or beside the lent ones, has changed.
     pub fn touched(&self) -> bool {
-        self.words.touched(WORDS)
+        self.words.touched(self.own)
+    }
+}
+
+fn say_kind(number: u64) -> String {
+    match number {
+        kind::SHORT_REPEAT => "short".into(),
+        kind::DIRECT => "direct".into(),
+        kind::PATCHED_BASE => "patched".into(),
+        kind::DELTA => "delta".into(),
+        other => format!("kind-{other}"),
     }
 }
 
@@ -142,15 +183,24 @@ mod tests {
         })
     }
 
+    fn stream(last: &[u64]) -> Answer {
+        Answer::of_stream(|lent| {
+            lent[..STREAM_WORDS].fill(0);
+            lent[..6].copy_from_slice(&[1, 0, 0, 0, 8, 7]);
+            lent[word::LAST..][..last.len()].copy_from_slice(last);
+            0
+        })
+    }
+
     /// What a wrong library could answer shows.
     #[test]
     fn words_that_contradict_each_other_are_odd() {
         let fits: [(u64, &[u64]); 4] =
             [(0, &[0]), (0, &[1, 0, 0, 3, 5, 4]), (4, &[2, 4, 9]), (13, &[2, 13, 3, 0, 0, 0, 1, 5])];
         for (returned, words) in fits {
-            assert!(answer(returned, words).fits(false), "{words:?}");
+            assert!(answer(returned, words).fits(), "{words:?}");
         }
-        let odd: [(u64, &[u64]); 11] = [
+        let odd: [(u64, &[u64]); 12] = [
             // A case that is none; another number returned; counts, a kind or a place where there is none.
             (0, &[3]),
             (1, &[0]),
@@ -159,6 +209,7 @@ mod tests {
             (0, &[2]),
             (4, &[2, 4, 9, 1]),
             (4, &[2, 4, 9, 0, 1]),
+            (4, &[2, 4, 9, 0, 0, 0, 0, 0, 8]),
             // A cut field with a number that has none, none with one that has, a byte without a field.
             (5, &[2, 5, 3, 0, 0, 0, 1, 5]),
             (13, &[2, 13, 3]),
@@ -166,7 +217,15 @@ mod tests {
             (14, &[2, 14, 3, 0, 0, 0, 2, 5]),
         ];
         for (returned, words) in odd {
-            assert!(!answer(returned, words).fits(false), "{words:?}");
+            assert!(!answer(returned, words).fits(), "{words:?}");
+        }
+        // A stream of 8 rows and 7 bytes has a last run, of so many at most.
+        assert!(stream(&[1, 1, 4, 3, 4]).fits());
+        assert_eq!(stream(&[1, 1, 4, 3, 4]).say_last(), "direct/4/3/4");
+        for last in
+            [[0; 5], [2, 1, 4, 3, 4], [1, 1, 4, 9, 4], [1, 1, 4, 3, 8], [1, 1, 4, 0, 4], [0, 1, 4, 3, 4]]
+        {
+            assert!(!stream(&last).fits(), "{last:?}");
         }
         assert_eq!(answer(13, &[2, 13, 3, 0, 0, 0, 1, 5]).say_other(), "refused 13 3 cut 5");
         assert_eq!(answer(5, &[2, 5, 3]).say_other(), "refused 5 3");

@@ -14,10 +14,10 @@ use Rattle.rle_v2.proofs.read_stream.Tie as tie
 use Rattle.rle_v2.proofs.read_stream.Reads as reads
 
 abbrev Inv-loop : tie.InvT-loop
-Inv-loop input signed out₀ from p₀ k₀ out p k = Walked input from signed out₀ out p k
+Inv-loop input signed out₀ from p₀ k₀ last₀ out p k last = Walked input from signed out₀ out p k last
 
 abbrev μ-loop : tie.MeasureT-loop
-μ-loop input signed out₀ from p₀ k₀ out p k = length input - p
+μ-loop input signed out₀ from p₀ k₀ last₀ out p k last = length input - p
 
 -- what the call of a turn says, and its three cases
 step : (x : tie.After-read-run Inv-loop μ-loop) → let l = x .before .before .before .loop in let a = x .before .before .before .before .before .args in
@@ -30,7 +30,7 @@ step x =
     (below-all 256 (a .input .now) (λ i. n .shared-slice-known .given i .fits)) (rw (rest-is (l .out) (l .k)) at (x .read-run .ensures))
 
 ran-is : (m : tie.After-a Inv-loop μ-loop) → let x = m .before .before .before in let l = x .before .before .before .loop in let a = x .before .before .before .before .before .args in
-    OneRun (a .input .now) (l .p) (a .signed) (drop (l .k) (l .out)) (x .read-run .last .1 .1 .1 .0) (m .a .given .0 .0 .rows .rows) (m .a .given .0 .0 .consumed .bytes)
+    OneRun (a .input .now) (l .p) (a .signed) (drop (l .k) (l .out)) (x .read-run .last .1 .1 .1 .0) (m .a .given .0 .0)
 ran-is m = rw (m .a .given .1) at (step (m .before .before .before))
 
 refused-is : (m : tie.After-a2 Inv-loop μ-loop) → let x = m .before .before .before in let l = x .before .before .before .loop in let a = x .before .before .before .before .before .args in
@@ -83,7 +83,7 @@ loop-again c =
     let x = m .before .before .before in
     let l = x .before .before .before .loop in
     let a = x .before .before .before .before .before .args in
-    walked-run (a .input .now) (a .at .bytes) (a .signed) (a .out .now) (l .out) (l .p) (l .k) (l .inv) _ _ _ (x .before .before .loop-test .taken) (ran-is m)
+    walked-run (a .input .now) (a .at .bytes) (a .signed) (a .out .now) (l .out) (l .p) (l .k) (l .last) (l .inv) _ _ (x .before .before .loop-test .taken) (ran-is m)
 
 enum-known-a-2 : tie.Need-enum-known-a-2 Inv-loop μ-loop
 enum-known-a-2 c = search needs
@@ -100,7 +100,7 @@ same-length c =
     let x = m .before .before .before in
     let l = x .before .before .before .loop in
     let a = x .before .before .before .before .before .args in
-    ap length (back-same (a .input .now) (a .at .bytes) (a .signed) (a .out .now) (l .out) (l .p) (l .k) (l .inv) _ (refused-is m .same)) ∙ l .inv .long
+    ap length (back-same (a .input .now) (a .at .bytes) (a .signed) (a .out .now) (l .out) (l .p) (l .k) (l .last) (l .inv) _ (refused-is m .same)) ∙ l .inv .long
 
 returns : tie.Need-returns Inv-loop μ-loop
 returns c =
@@ -108,8 +108,8 @@ returns c =
     let x = m .before .before .before in
     let l = x .before .before .before .loop in
     let a = x .before .before .before .before .before .args in
-    rw (c .refused .ensures, back-same (a .input .now) (a .at .bytes) (a .signed) (a .out .now) (l .out) (l .p) (l .k) (l .inv) _ (refused-is m .same))
-    (walked-refused (a .input .now) (a .at .bytes) (a .signed) (a .out .now) (l .out) (l .p) (l .k) (l .inv) _ _ (refused-is m))
+    rw (c .refused .ensures, back-same (a .input .now) (a .at .bytes) (a .signed) (a .out .now) (l .out) (l .p) (l .k) (l .last) (l .inv) _ (refused-is m .same))
+    (walked-refused (a .input .now) (a .at .bytes) (a .signed) (a .out .now) (l .out) (l .p) (l .k) (l .last) (l .inv) _ _ (refused-is m))
 
 enum-told : tie.Need-enum-told Inv-loop μ-loop
 enum-told c = search needs
@@ -126,7 +126,7 @@ same-length-2 c =
     let x = m .before .before .before in
     let l = x .before .before .before .loop in
     let a = x .before .before .before .before .before .args in
-    ap length (back-same (a .input .now) (a .at .bytes) (a .signed) (a .out .now) (l .out) (l .p) (l .k) (l .inv) _ (ended-is m .same)) ∙ l .inv .long
+    ap length (back-same (a .input .now) (a .at .bytes) (a .signed) (a .out .now) (l .out) (l .p) (l .k) (l .last) (l .inv) _ (ended-is m .same)) ∙ l .inv .long
 
 returns-2 : tie.Need-returns-2 Inv-loop μ-loop
 returns-2 c =
@@ -134,8 +134,8 @@ returns-2 c =
     let x = m .before .before .before in
     let l = x .before .before .before .loop in
     let a = x .before .before .before .before .before .args in
-    rw (c .whole .ensures, back-same (a .input .now) (a .at .bytes) (a .signed) (a .out .now) (l .out) (l .p) (l .k) (l .inv) _ (ended-is m .same))
-    (walked-whole (a .input .now) (a .at .bytes) (a .signed) (a .out .now) (l .out) (l .p) (l .k) (l .inv) (ended-is m .none))
+    rw (c .whole .ensures, back-same (a .input .now) (a .at .bytes) (a .signed) (a .out .now) (l .out) (l .p) (l .k) (l .last) (l .inv) _ (ended-is m .same))
+    (walked-whole (a .input .now) (a .at .bytes) (a .signed) (a .out .now) (l .out) (l .p) (l .k) (l .last) (l .inv) (ended-is m .none))
 
 sub-whole-2 : tie.Need-sub-whole-2 Inv-loop μ-loop
 sub-whole-2 c = omega arith
@@ -151,7 +151,7 @@ returns-3 c =
     let l = c .before .before .loop in
     let a = c .before .before .before .before .args in
     rw (c .whole2 .ensures)
-    (walked-whole (a .input .now) (a .at .bytes) (a .signed) (a .out .now) (l .out) (l .p) (l .k) (l .inv) (drop-of-length-le (a .input .now) (c .before .loop-test .left)))
+    (walked-whole (a .input .now) (a .at .bytes) (a .signed) (a .out .now) (l .out) (l .p) (l .k) (l .last) (l .inv) (drop-of-length-le (a .input .now) (c .before .loop-test .left)))
 
 pub read-stream-spec : {M : Type 1} → statement M
 read-stream-spec =

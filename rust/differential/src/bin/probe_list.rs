@@ -20,19 +20,19 @@ use model::Form;
 
 /// Document 01, "Runs on each side of the line": flags (0, 1), bytes, and what it says of them.
 const DOCUMENT: [(&[u8], &str, &str); 15] = [
-    (&[0], "0A012C", "run short 5 3 300 300 300 300 300"),
-    (&[1], "0A012C", "run short 5 3 150 150 150 150 150"),
-    (&[1], "0001", "run short 3 2 -1 -1 -1"),
-    (&[0], "46021230", "run direct 3 4 1 2 3"),
-    (&[1], "46021230", "run direct 3 4 -1 1 -2"),
-    (&[0], "700000000040", "run direct 1 6 1"),
-    (&[0], "C0040A04", "run delta 5 4 10 12 14 16 18"),
-    (&[0], "C603640514", "run delta 4 5 100 97 96 92"),
-    (&[1], "C001FEFFFFFFFFFFFFFFFF0102", "run delta 2 13 9223372036854775807 -9223372036854775808"),
-    (&[0], "C0000700", "run delta 1 4 7"),
+    (&[0], "0A012C", "run short 16 5 3 300 300 300 300 300"),
+    (&[1], "0A012C", "run short 16 5 3 150 150 150 150 150"),
+    (&[1], "0001", "run short 8 3 2 -1 -1 -1"),
+    (&[0], "46021230", "run direct 4 3 4 1 2 3"),
+    (&[1], "46021230", "run direct 4 3 4 -1 1 -2"),
+    (&[0], "700000000040", "run direct 26 1 6 1"),
+    (&[0], "C0040A04", "run delta 0 5 4 10 12 14 16 18"),
+    (&[0], "C603640514", "run delta 4 4 5 100 97 96 92"),
+    (&[1], "C001FEFFFFFFFFFFFFFFFF0102", "run delta 0 2 13 9223372036854775807 -9223372036854775808"),
+    (&[0], "C0000700", "run delta 0 1 4 7"),
     (&[0, 1], "C200", "refused 4 0"),
-    (&[0, 1], "8603032164123494", "run patched 4 8 101 102 183 104"),
-    (&[0, 1], "86030320E41234", "run patched 4 7 -99 -98 -97 -96"),
+    (&[0, 1], "8603032164123494", "run patched 4 4 8 101 102 183 104"),
+    (&[0, 1], "86030320E41234", "run patched 4 4 7 -99 -98 -97 -96"),
     (&[0, 1], "860303416412348A", "refused 7 0"),
     (&[0, 1], "86031F21", "refused 2 0"),
 ];
@@ -179,7 +179,7 @@ fn booleans(requests: &mut Requests) {
     // "32 booleans: 24 true, 8 false. With 33: refusal 6."
     let line = bytes("00FFFF00");
     requests.booleans(&line, 0, 32, 512);
-    document_says(requests, "booleans 32 4 11111111111111111111111100000000");
+    document_says(requests, "booleans 1 32 4 11111111111111111111111100000000");
     requests.booleans(&line, 0, 33, 512);
     document_says(requests, "refused 6 0 cut 4");
     for n in [0, 1, 8, 24, 31, 64, u64::MAX] {

@@ -7,7 +7,7 @@ use crate::calls;
 use crate::lent::Lent;
 use crate::line::Fields;
 
-/// `booleans ROWS BYTES 0110..`, or REFUSED.
+/// `booleans WIDTH ROWS BYTES 0110..`, or REFUSED.
 pub fn booleans(mut fields: Fields) -> Option<String> {
     let (n, at, places) = (fields.word()?, fields.word()?, fields.places()?);
     let input = fields.rest();
@@ -19,10 +19,10 @@ pub fn booleans(mut fields: Fields) -> Option<String> {
     let mut line = answer.say_other();
     if read {
         let bits: String = first(out.content(), given).iter().map(|byte| bit(*byte)).collect();
-        line = format!("booleans {} {} {bits}", answer.rows(), answer.bytes());
+        line = format!("booleans {} {bits}", answer.say_counts());
     }
     let touched = lent.altered(input) || out.touched(given as usize) || answer.touched();
-    let fits = answer.fits(false) && given <= places as u64;
+    let fits = answer.fits() && given <= places as u64;
     ended(line, fits && (!read || answer.has_kind(kind::BOOLEANS)), touched)
 }
 

@@ -21,7 +21,7 @@ fn asked(mut fields: Fields) -> Option<Asked> {
     Some(Asked { flag, at, places, input: fields.rest() })
 }
 
-/// `end`, `run KIND ROWS BYTES r r ..`, or REFUSED.
+/// `end`, `run KIND WIDTH ROWS BYTES r r ..`, or REFUSED.
 pub fn run(fields: Fields) -> Option<String> {
     let Asked { flag, at, places, input } = asked(fields)?;
     let lent = Lent::holding(input);
@@ -32,20 +32,21 @@ pub fn run(fields: Fields) -> Option<String> {
     let given = if read { answer.rows() } else { 0 };
     say_rows(&mut line, rows.content(), given);
     let touched = lent.altered(input) || rows.touched(given as usize) || answer.touched();
-    ended(line, answer.fits(false) && given <= places as u64, touched)
+    ended(line, answer.fits() && given <= places as u64, touched)
 }
 
-/// `whole ROWS BYTES r r ..`, or `REFUSED ROWS BYTES r r ..`.
+/// `whole ROWS BYTES LAST r r ..`, or `REFUSED ROWS BYTES LAST r r ..`.
 pub fn stream(fields: Fields) -> Option<String> {
     let Asked { flag, at, places, input } = asked(fields)?;
     let lent = Lent::holding(input);
     let mut rows = Lent::places(places);
-    let answer = Answer::of(|words| calls::read_stream(lent.content(), at, flag, rows.content_mut(), words));
+    let answer =
+        Answer::of_stream(|words| calls::read_stream(lent.content(), at, flag, rows.content_mut(), words));
     let whole = answer.case() == case::READ;
     let mut line = if whole { "whole".into() } else { answer.say_other() };
-    line += &format!(" {} {}", answer.rows(), answer.bytes());
+    line += &format!(" {} {} {}", answer.rows(), answer.bytes(), answer.say_last());
     let given = if whole || answer.refused() { answer.rows() } else { 0 };
     say_rows(&mut line, rows.content(), given);
     let touched = lent.altered(input) || rows.touched(given as usize) || answer.touched();
-    ended(line, answer.fits(true) && given <= places as u64, touched)
+    ended(line, answer.fits() && given <= places as u64, touched)
 }

@@ -7,7 +7,7 @@ use crate::calls;
 use crate::lent::Lent;
 use crate::line::Fields;
 
-/// `value ROWS BYTES HEX`, or REFUSED. The part follows from the answer.
+/// `value WIDTH ROWS BYTES HEX`, or REFUSED. The part follows from the answer.
 pub fn value(mut fields: Fields) -> Option<String> {
     let (n, at) = (fields.word()?, fields.word()?);
     let input = fields.rest();
@@ -18,8 +18,8 @@ pub fn value(mut fields: Fields) -> Option<String> {
     let rest = usize::try_from(at).ok().and_then(|at| lent.content().get(at..)).unwrap_or_default();
     if read {
         let part = first(rest, answer.bytes());
-        line = format!("value {} {} {}", answer.rows(), answer.bytes(), hex(part));
+        line = format!("value {} {}", answer.say_counts(), hex(part));
     }
     let there = !read || answer.has_kind(kind::BYTE_VALUE) && answer.bytes() <= rest.len() as u64;
-    ended(line, answer.fits(false) && there, lent.altered(input) || answer.touched())
+    ended(line, answer.fits() && there, lent.altered(input) || answer.touched())
 }

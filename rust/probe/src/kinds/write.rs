@@ -10,7 +10,7 @@ use crate::line::Fields;
 /// Forms 0 to 3.
 const FORMS: u64 = 4;
 
-/// `written KIND ROWS BYTES HEX`, or REFUSED.
+/// `written KIND WIDTH ROWS BYTES HEX`, or REFUSED.
 pub fn write(mut fields: Fields) -> Option<String> {
     let writing = Writing { flag: fields.below(FLAGS)?, form: fields.below(FORMS)?, width: fields.byte()? };
     let places = fields.places()?;
@@ -25,7 +25,7 @@ pub fn write(mut fields: Fields) -> Option<String> {
         line = format!("written {} {}", answer.say_info(), hex(first(out.content(), given)));
     }
     let touched = lent.altered(&rows) || out.touched(given as usize) || answer.touched();
-    ended(line, answer.fits(false) && given <= places as u64, touched)
+    ended(line, answer.fits() && given <= places as u64, touched)
 }
 
 /// `code N`.

@@ -68,6 +68,12 @@ cut-byte-requires c κs = search needs
 slice-write-words-8 : tie.Need-slice-write-words-8
 slice-write-words-8 c = simp length-set (omega arith)
 
+width-requires : tie.Need-width-requires
+width-requires c κs = search needs
+
+slice-write-words-9 : tie.Need-slice-write-words-9
+slice-write-words-9 c = simp length-set (omega arith)
+
 number-requires-2 : tie.Need-number-requires-2
 number-requires-2 c κs = search needs
 
@@ -80,7 +86,8 @@ same-length c = simp length-set
 returns : tie.Need-returns
 unfolding answerWords
 returns c =
-    let b = c .before in
+    let w = c .before in
+    let b = w .before in
     let b-at = b .before in
     let f = b-at .before in
     let f-at = f .before in
@@ -93,7 +100,7 @@ returns c =
     let s = c6 .before .before in
     record {
       number-is = c .number2 .ensures;
-      words-are = rw (c6 .case .ensures, c5 .number .ensures, c4 .place .ensures, c3 .kind .ensures, c2 .rows .ensures, c1 .consumed .ensures, f .cut-case .ensures, f-at .cut-field .ensures, b .cut-byte .ensures, b-at .cut-field2 .ensures) (sets-eq (answerWords (s .args .answer)) (now (s .args .words)) 0 (s .pre));
+      words-are = rw (c6 .case .ensures, c5 .number .ensures, c4 .place .ensures, c3 .kind .ensures, c2 .rows .ensures, c1 .consumed .ensures, f .cut-case .ensures, f-at .cut-field .ensures, b .cut-byte .ensures, b-at .cut-field2 .ensures, w .width .ensures) (sets-eq (answerWords (s .args .answer)) (now (s .args .words)) 0 (s .pre));
     }
 
 pub put-answer-spec : {M : Type 1} → statement M
@@ -120,6 +127,8 @@ put-answer-spec =
     cut-field-requires-2
     cut-byte-requires
     slice-write-words-8
+    width-requires
+    slice-write-words-9
     number-requires-2
     cast-result
     same-length

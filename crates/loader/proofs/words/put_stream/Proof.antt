@@ -8,6 +8,12 @@ use Rattle.format.specs.Loader.{streamWords}
 use Rattle.loader.proofs.words.put_stream.Statement.{statement}
 use Rattle.loader.proofs.words.put_stream.Tie as tie
 
+stream-last-requires : tie.Need-stream-last-requires
+stream-last-requires c κs = search needs
+
+last-answer-requires : tie.Need-last-answer-requires
+last-answer-requires c κs = search needs
+
 stream-case-requires : tie.Need-stream-case-requires
 stream-case-requires c κs = search needs
 
@@ -62,6 +68,42 @@ cut-byte-requires c κs = search needs
 slice-write-words-8 : tie.Need-slice-write-words-8
 slice-write-words-8 c = simp length-set (omega arith)
 
+slice-write-words-9 : tie.Need-slice-write-words-9
+slice-write-words-9 c = simp length-set (omega arith)
+
+case-requires : tie.Need-case-requires
+case-requires c κs = search needs
+
+slice-write-words-10 : tie.Need-slice-write-words-10
+slice-write-words-10 c = simp length-set (omega arith)
+
+kind-requires : tie.Need-kind-requires
+kind-requires c κs = search needs
+
+cast-words-2 : tie.Need-cast-words-2
+cast-words-2 c = search needs
+
+slice-write-words-11 : tie.Need-slice-write-words-11
+slice-write-words-11 c = simp length-set (omega arith)
+
+width-requires : tie.Need-width-requires
+width-requires c κs = search needs
+
+slice-write-words-12 : tie.Need-slice-write-words-12
+slice-write-words-12 c = simp length-set (omega arith)
+
+rows-requires : tie.Need-rows-requires
+rows-requires c κs = search needs
+
+slice-write-words-13 : tie.Need-slice-write-words-13
+slice-write-words-13 c = simp length-set (omega arith)
+
+consumed-requires : tie.Need-consumed-requires
+consumed-requires c κs = search needs
+
+slice-write-words-14 : tie.Need-slice-write-words-14
+slice-write-words-14 c = simp length-set (omega arith)
+
 stream-number-requires-2 : tie.Need-stream-number-requires-2
 stream-number-requires-2 c κs = search needs
 
@@ -74,7 +116,12 @@ same-length c = simp length-set
 returns : tie.Need-returns
 unfolding streamWords
 returns c =
-    let b = c .before in
+    let l5 = c .before in
+    let l4 = l5 .before in
+    let l3 = l4 .before in
+    let l2 = l3 .before in
+    let l1 = l2 .before in
+    let b = l1 .before in
     let b-at = b .before in
     let f = b-at .before in
     let f-at = f .before in
@@ -83,16 +130,22 @@ returns c =
     let c3 = c2 .before in
     let c4 = c3 .before in
     let c5 = c4 .before in
-    let s = c5 .before .before in
+    let l = c5 .before in
+    let l-at = l .before in
+    let s = l-at .before .before in
     record {
       number-is = c .stream-number2 .ensures;
-      words-are = rw (c5 .stream-case .ensures, c4 .stream-number .ensures, c3 .stream-place .ensures, c2 .stream-rows .ensures, c1 .stream-consumed .ensures, f .cut-case .ensures, f-at .stream-cut .ensures, b .cut-byte .ensures, b-at .stream-cut2 .ensures) (sets-eq (streamWords (s .args .stream)) (now (s .args .words)) 0 (s .pre));
+      words-are =
+          rw (c5 .stream-case .ensures, c4 .stream-number .ensures, c3 .stream-place .ensures, c2 .stream-rows .ensures, c1 .stream-consumed .ensures, f .cut-case .ensures, f-at .stream-cut .ensures, b .cut-byte .ensures, b-at .stream-cut2 .ensures, l1 .case .ensures, l2 .kind .ensures, l3 .width .ensures, l4 .rows .ensures, l5 .consumed .ensures, l .last-answer .ensures, l-at .stream-last .ensures)
+          (sets-eq (streamWords (s .args .stream)) (now (s .args .words)) 0 (s .pre));
     }
 
 pub put-stream-spec : {M : Type 1} → statement M
 put-stream-spec =
     tie.close
     (tie.spec
+    stream-last-requires
+    last-answer-requires
     stream-case-requires
     slice-write-words
     stream-number-requires
@@ -111,6 +164,18 @@ put-stream-spec =
     stream-cut-requires-2
     cut-byte-requires
     slice-write-words-8
+    slice-write-words-9
+    case-requires
+    slice-write-words-10
+    kind-requires
+    cast-words-2
+    slice-write-words-11
+    width-requires
+    slice-write-words-12
+    rows-requires
+    slice-write-words-13
+    consumed-requires
+    slice-write-words-14
     stream-number-requires-2
     cast-result
     same-length

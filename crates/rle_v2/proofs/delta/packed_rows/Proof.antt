@@ -117,7 +117,7 @@ returns-4 c =
     let z = e .before .before in
     let m = z .before .before .before in
     let a = m .before .before .before .before .args in
-    rw (c .run .ensures, size-is z)
+    rw (c .run .ensures, size-is z, z .before .bits-of .ensures)
     (packed-read (now (a .input)) (a .at) (a .signed) (now (a .out)) (a .code) (a .n) _ _ _ (started m) (rw (size-is z) at (e .before .if1 .left)) (y .lay .last .1 .1 .1 .1 .1 .0) (e .if2 .left)
     (rw (rest-is (now (a .input)) (m .first .given .0 .1 .1 .0), z .before .bits-of .ensures) at (y .lay .ensures)))
 

@@ -124,7 +124,7 @@ returns-4 c =
     let n = b .before .two-bytes .result .rows in
     let o = then-pass (decoded (a .signed)) (map asI64 (blockAt s (a .at + 2) (b .bits-of .result) n .values)) (now (a .out)) (u .unpack .last .1 .1 .1 .0) (d .decode .last .1 .1 .0) n
     (block-rows s (a .at + 2) (b .bits-of .result) n) (rw (rest-is s (a .at + 2)) at (u .unpack .ensures)) (d .decode .ensures) in
-    rw (c .run .ensures, size-is z, h .1)
+    rw (c .run .ensures, size-is z, b .bits-of .ensures, h .0, h .1)
     (read-is s (a .at) (a .signed) (now (a .out)) (b .before .before .before .before .if1 .left) (rw (size-is z) at (e .before .if2 .left)) (d .decode .last .1 .1 .0)
     (rw (h .1) at (e .if3 .left)) (rw (b .bits-of .ensures, h .0, h .1) at o))
 

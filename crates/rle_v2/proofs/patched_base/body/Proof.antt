@@ -190,7 +190,7 @@ returns-4 c =
     let q = x .parts-of .ensures in
     let one = rw (rest-is i (x .parts-of .result .values), q .values-is, s .pre .2 .bits-is, v .base-value .ensures) at (l .lay .ensures) in
     let two = rw (rest-is i (x .parts-of .result .list), q .list-is, s .pre .2 .entry-is, s .pre .2 .patch-is, s .pre .2 .bits-is) at (p .put .ensures) in
-    λ signed. rw (c .run .ensures, q .end-is)
+    λ signed. rw (c .run .ensures, q .end-is, s .pre .2 .bits-is)
     (read-is i (a .at) signed (now (a .out)) (a .h .code) (a .h .rows) (a .h .base) (a .h .patch) (a .h .gap) (a .h .entries) (not-2 s) (whole e)
     (sym (number-is y) ∙ f .before .if2 .left) (l .lay .last .1 .1 .1 .1 .0) (p .put .last .1 .1 .1 .1 .1 .1 .0) (f .if3 .left) one two)
 

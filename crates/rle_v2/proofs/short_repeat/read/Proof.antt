@@ -49,6 +49,9 @@ row-requires c κs = search needs
 steps-requires : tie.Need-steps-requires
 steps-requires c κs = search needs
 
+mul-run : tie.Need-mul-run
+mul-run c = search needs
+
 add-run : tie.Need-add-run
 add-run c = search needs
 
@@ -87,6 +90,7 @@ read-spec =
     read-requires
     row-requires
     steps-requires
+    mul-run
     add-run
     run-requires
     same-length

@@ -49,8 +49,8 @@ returns c =
 stored-requires : tie.Need-stored-requires
 stored-requires c κs = search needs
 
-mul-fits : tie.Need-mul-fits
-mul-fits c = search needs
+mul-bits : tie.Need-mul-bits
+mul-bits c = search needs
 
 fits-requires : tie.Need-fits-requires
 fits-requires c κs = search needs
@@ -131,8 +131,8 @@ write-spec =
     all-are-requires
     refused-requires
     returns
+    mul-bits
     stored-requires
-    mul-fits
     fits-requires
     refused-requires-2
     returns-2
