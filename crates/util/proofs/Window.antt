@@ -2,20 +2,22 @@
 -- Assumes nothing.
 use mathlib.Core.Path.{_≡_, refl, sym, ap, _∙_}
 use Prim.Native.Nat.{ℕ, suc, _+_, _-_, _*_, _/_, _%_, _^_, _≤_, _<_}
-use native.Mathlib.Nat.{le-refl, lt-of-not-le, mul-le-mul-right, zero-lt-suc}
+use native.Mathlib.Nat.{lt-of-not-le, mul-le-mul-right, zero-lt-suc}
 use native.Mathlib.Decide.{decLe}
 use native.Mathlib.Numerals.{add-one, towards-suc}
 use native.Mathlib.Omega.{arith}
-use mathlib.Core.List.{List, [], _∷_, _++_, map, append-assoc, reverse, reverseAux, reverse-reverse}
-use lib.ListN.{length, getD, take, drop, drop-of-length-le, length-append, length-drop, length-reverse, take-append-drop}
-use lib.Seq.{take-at, drop-at, drop-cons, take-append-le, drop-append-le, drop-append-add, length-take-le}
+use mathlib.Core.List.{List, [], _∷_, _++_, map, map-append, append-assoc, reverse, reverseAux, reverse-reverse}
+use lib.ListN.{length, getD, set, take, drop, length-append, length-drop, length-map, length-reverse, take-append-drop}
+use lib.IntN.{ℤ, pos}
+use lib.Seq.{take-at, drop-at, take-suc, drop-cons, set-at, take-append-le, drop-append-le, drop-append-add, length-take-le}
 use lib.Pow.{shr-shr, high, ones-split, ones-lt}
 use Rattle.format.specs.Digits.{AllBelow, number, digits, spread}
 use Rattle.format.specs.Fields.{bytesFor, padBits}
+use Rattle.format.specs.Rows.{asI64}
 use Rattle.format.proofs.Digits.{spread-number, digits-add, length-digits, number-low, digits-number, getD-digits, pow-pow}
 use Rattle.format.proofs.Fields.{below-take, below-drop}
 use Rattle.format.proofs.Widths.{IsWidth}
-use Rattle.util.specs.Packed.{fields, bits, fieldAt, Width, lowFirst, swap}
+use Rattle.util.specs.Packed.{fields, bits, fieldAt, Width, Laid, lowFirst, swap}
 
 -- ---- bits
 
@@ -76,14 +78,17 @@ field-at w n k s d h l =
 pub length-fields : (w n : ℕ) (s : List ℕ) → length (fields w n s) ≡ n
 length-fields w n s = length-digits (2 ^ w) n _
 
--- the turn of a loop over the fields: field k, and then the rest
-pub next-field : {A : Type 0} (f : ℕ → A) (w n k : ℕ) (s : List ℕ) → AllBelow 256 s → k < n → bytesFor (n * w) ≤ length s
-    → map f (drop k (fields w n s)) ≡ f (fieldAt w k s) ∷ map f (drop (k + 1) (fields w n s))
-next-field f w n k s d h l = rw (add-one, drop-cons (fields w n s) k 0 (rw length-fields h), field-at w n k s d h l)
-
--- after the last there is none
-pub no-field : (w n : ℕ) (s : List ℕ) → drop n (fields w n s) ≡ []
-no-field w n s = drop-of-length-le (fields w n s) {i = n} (rw length-fields (le-refl n))
+-- one more field is laid
+pub laid-more : (w n k : ℕ) (z : ℤ) (s : List ℕ) (o out : List ℤ) → AllBelow 256 s → bytesFor (n * w) ≤ length s → k < n → k < length out
+    → z ≡ asI64 (fieldAt w k s) → Laid w n s k o out → Laid w n s (k + 1) o (set out k z)
+laid-more w n k z s o out d l h r e t =
+    let p = map asI64 (take k (fields w n s)) in
+    let q : length p ≡ k = rw (length-map, length-take-le k (fields w n s) (rw length-fields (t .few))) in
+    let m : k < length o = omega (arith, rw (length-append, q, length-drop) at (ap length (t .rows))) in
+    record {
+      few = omega arith;
+      rows = rw (t .rows, drop-cons o k (pos 0) m, set-at p _ _ z k q, add-one, take-suc (fields w n s) k 0 (rw length-fields h), field-at w n k s d h l, map-append, append-assoc, e);
+    }
 
 -- a field of width w starts where eight bytes hold it
 pub aligned : (w j : ℕ) → Width w → (j * w) % 8 + w ≤ 64

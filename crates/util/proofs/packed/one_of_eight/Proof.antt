@@ -1,0 +1,86 @@
+-- `util::packed::one_of_eight` meets its contract: the first word of the eight holds the field, or its own window does. Assumes nothing.
+use mathlib.Core.Path.{_≡_, sym, ap, _∙_}
+use Prim.Native.Nat.{ℕ, _+_, _-_, _*_, _/_, _%_, _^_, _≤_}
+use native.Mathlib.Omega.{arith}
+use lib.ListN.{length, take, drop}
+use Rattle.format.specs.Digits.{number}
+use Rattle.format.proofs.Fields.{below-all}
+use Rattle.util.specs.Packed.{bits}
+use Rattle.util.proofs.Window.{window}
+use borrow.Author.Needs.{needs}
+use Rattle.util.proofs.packed.one_of_eight.Statement.{statement}
+use Rattle.util.proofs.packed.one_of_eight.Tie as tie
+
+add-if1 : tie.Need-add-if1
+add-if1 c = search needs
+
+add-cut : tie.Need-add-cut
+add-cut c = search needs
+
+sub-cut : tie.Need-sub-cut
+sub-cut c = search needs
+
+cut-requires : tie.Need-cut-requires
+cut-requires c κs = search needs
+
+returns : tie.Need-returns
+returns c =
+    let at-known = c .before .before in
+    let a = at-known .before .args in
+    let s = a .s .now in
+    let e : 8 * (a .b + 8) - (8 * a .b + a .p + a .w) ≡ 64 - (a .p + a .w) = omega arith in
+    c .cut .ensures
+    ∙ rw (at-known .before .pre .1, ← e) (sym (window s (a .b) 8 (8 * a .b + a .p) (a .w) (below-all 256 s (λ k. at-known .shared-slice-known .given k .fits)) (omega arith) (omega arith) (omega arith)))
+
+window-requires : tie.Need-window-requires
+window-requires c κs = search needs
+
+add-word : tie.Need-add-word
+add-word c = search needs
+
+word-requires : tie.Need-word-requires
+word-requires c κs = search needs
+
+add-cut-2 : tie.Need-add-cut-2
+add-cut-2 c = search needs
+
+mul-cut : tie.Need-mul-cut
+mul-cut c = search needs
+
+add-cut-3 : tie.Need-add-cut-3
+add-cut-3 c = search needs
+
+sub-cut-2 : tie.Need-sub-cut-2
+sub-cut-2 c = search needs
+
+cut-requires-2 : tie.Need-cut-requires-2
+cut-requires-2 c κs = search needs
+
+returns-2 : tie.Need-returns-2
+returns-2 c =
+    let at-known = c .before .before .before .before in
+    let a = at-known .before .args in
+    let s = a .s .now in
+    let i = c .before .before .window .result in
+    let e : 8 * (a .b + i + 8) - (8 * a .b + a .p + a .w) ≡ 8 * (i + 8) - (a .p + a .w) = omega arith in
+    c .cut2 .ensures
+    ∙ rw (c .before .word .ensures, ← e) (sym (window s (a .b + i) 8 (8 * a .b + a .p) (a .w) (below-all 256 s (λ k. at-known .shared-slice-known .given k .fits)) (omega arith) (omega arith) (omega arith)))
+
+pub one-of-eight-spec : {M : Type 1} → statement M
+one-of-eight-spec =
+    tie.close
+    (tie.spec
+    add-if1
+    add-cut
+    sub-cut
+    cut-requires
+    returns
+    window-requires
+    add-word
+    word-requires
+    add-cut-2
+    mul-cut
+    add-cut-3
+    sub-cut-2
+    cut-requires-2
+    returns-2)
