@@ -1,5 +1,6 @@
 // Packed fields: a block of n fields of width w, highest bit of each byte first, both ways.
 ghost use mathlib.Core.Path.{_≡_};
+ghost use mathlib.Core.Bool.{true};
 ghost use mathlib.Core.List.{_++_, map};
 ghost use Prim.Native.Nat.{_+_, _-_, _*_, _/_, _%_, _^_, _≤_, _<_};
 ghost use lib.ListN.{length, take, drop};
@@ -99,12 +100,28 @@ pub fn block_size(w: usize, n: usize) -> usize
     (n * w + 7) / 8
 }
 
-// Of the eight fields that start with byte b, the one from their bit p on: out of x, the word at b, or else out of a word of its own.
+// Whether so many bits are bytes that one load takes.
+fn one_load(w: usize) -> bool
+    ensures { λ r. ⌜ (r ≡ true → 8 * (w / 8) ≡ w) ⌝ }
+{
+    match w {
+        8 => true,
+        16 => true,
+        32 => true,
+        _ => false,
+    }
+}
+
+// Of the eight fields that start with byte b, the one from their bit p on: whole bytes that one load takes, or bits out of x, the word at
+// b, or else out of a word of its own.
 fn one_of_eight(s: &[u8], b: usize, x: u64, p: usize, w: usize) -> u64
     requires { ⌜ (0 < w) × (p % 8 + w ≤ 64) × (p + w ≤ 8 * w) × (b + w ≤ length (now s)) × (b + 8 ≤ length (now s)) ⌝ }
     requires { ⌜ x ≡ number 256 (take 8 (drop b (now s))) ⌝ }
     ensures { λ r. ⌜ r ≡ bits (8 * b + p) w (now (s .entry)) ⌝ }
 {
+    if p % 8 == 0 && one_load(w) {
+        return big_endian::read(s, b + p / 8, w / 8);
+    }
     if p + w <= 64 {
         return cut(x, 64 - (p + w), w);
     }
@@ -138,10 +155,12 @@ fn eights(s: &[u8], w: usize, v: usize, n: usize, out: &mut [i64]) -> usize
     requires { ⌜ Room w n (now s) (now out) ⌝ }
     ensures { λ r. ⌜ Laid w n (now (s .entry)) r (now (out .entry)) (now (out .exit)) ⌝ }
 {
+    let whole = n - n % 8;
     let mut k = 0;
     let mut b = 0;
-    while k + 8 <= n {
-        if s.len() < b + v || s.len() < b + 8 {
+    while k < whole {
+        // eight narrow fields are less than a word
+        if v < 8 && s.len() < b + 8 {
             return k;
         }
         eight(s, b, v, out, k);
@@ -194,12 +213,34 @@ fn eights_at(s: &[u8], w: usize, n: usize, out: &mut [i64]) -> usize
     }
 }
 
+// All fields of a block of fewer than eight bytes, out of one number.
+fn few(s: &[u8], w: usize, n: usize, out: &mut [i64])
+    requires { ⌜ 0 < w ⌝ }
+    requires { ⌜ (0 < n) × (length (now s) < 8) × Room w n (now s) (now out) ⌝ }
+    ensures { λ _. ⌜ Laid w n (now (s .entry)) n (now (out .entry)) (now (out .exit)) ⌝ }
+{
+    let len = s.len();
+    let x = big_endian::read(s, 0, len);
+    let mut low = 8 * len;
+    let mut k = 0;
+    while k < n {
+        low -= w;
+        let row = pattern::to_i64(cut(x, low, w));
+        out[k] = row;
+        k += 1;
+    }
+}
+
 // The n fields that s begins with, put into the first n places as rows with the same bits: the eights, and then the rest.
 pub fn unpack(s: &[u8], w: usize, n: usize, out: &mut [i64])
     requires { ⌜ Width w ⌝ }
     requires { ⌜ (n ≤ 65536) × (n ≤ length (now out)) × (bytesFor (n * w) ≤ length (now s)) ⌝ }
     ensures { λ _. ⌜ now (out .exit) ≡ map asI64 (fields w n (now (s .entry))) ++ drop n (now (out .entry)) ⌝ }
 {
+    if 0 < n && s.len() < 8 {
+        few(s, w, n, out);
+        return;
+    }
     let mut k = eights_at(s, w, n, out);
     while k < n {
         let row = pattern::to_i64(field(s, w, k));

@@ -1,18 +1,17 @@
 -- `util::packed::unpack` meets its contract. The loop's invariant: fields before k are laid. Assumes nothing.
 use mathlib.Core.Path.{_≡_, refl, ap, _∙_}
 use Prim.Native.Nat.{_-_, _≤_, _<_}
-use native.Mathlib.Nat.{le-refl}
 use native.Mathlib.Omega.{arith}
 use lib.ListN.{length, length-set}
-use lib.Seq.{take-all}
 use mir.Facts.{toZ-ofZ}
 use mir.Val.{toZ, ofZ}
 use mir.Syntax.{w64}
 use borrow.Author.Needs.{needs, sfits-of}
+use borrow.Author.Tests.{ltb-true}
 use Rattle.format.specs.Rows.{asI64}
 use Rattle.format.proofs.Fields.{below-all}
-use Rattle.util.specs.Packed.{fields, fieldAt, Lays}
-use Rattle.util.proofs.Window.{field-there, length-fields, laid-more}
+use Rattle.util.specs.Packed.{fieldAt, Lays}
+use Rattle.util.proofs.Window.{field-there, laid-more, laid-all}
 use Rattle.util.proofs.packed.unpack.Statement.{statement}
 use Rattle.util.proofs.packed.unpack.Tie as tie
 
@@ -22,6 +21,17 @@ Inv-loop s w n out₀ k₀ out k = (k ≤ n) × (length out ≡ length out₀) �
 abbrev μ-loop : tie.MeasureT-loop
 μ-loop s w n out₀ k₀ out k = n - k
 
+few-requires : tie.Need-few-requires Inv-loop μ-loop
+few-requires c κs =
+    let at-start = c .before .before .before .before in
+    (at-start .pre .0 .0, (c .before .before .if1 .taken, ltb-true (length (at-start .args .s .now)) 8 (c .before .if2 .taken), record { places = at-start .pre .1 .1; there = at-start .pre .1 .2 }))
+
+same-length : tie.Need-same-length Inv-loop μ-loop
+same-length c = search needs
+
+returns : tie.Need-returns Inv-loop μ-loop
+returns c = laid-all _ _ _ _ _ (c .before .few .ensures)
+
 eights-at-requires : tie.Need-eights-at-requires Inv-loop μ-loop
 eights-at-requires c κs = search needs
 
@@ -30,7 +40,7 @@ loop-holds c = (search needs, refl, λ n o h l t. t)
 
 field-requires : tie.Need-field-requires Inv-loop μ-loop
 field-requires c κs =
-    let at-start = c .before .before .before .before .before .before in
+    let at-start = c .before .before .before .before .before .before .before in
     let a = at-start .args in
     (at-start .pre .0, (omega arith, field-there (a .w) (a .n) (c .before .loop .k) (a .s .now) (c .loop-test .taken) (at-start .pre .1 .2)))
 
@@ -53,7 +63,7 @@ loop-again : tie.Need-loop-again Inv-loop μ-loop
 loop-again c =
     let at-loop = c .before .before .before in
     let l = at-loop .loop in
-    let at-known = at-loop .before .before .before .before in
+    let at-known = at-loop .before .before .before .before .before in
     let a = at-known .before .args in
     let s = a .s .now in
     let e : toZ w64 (ofZ w64 (c .to-i64 .result)) ≡ asI64 (fieldAt (a .w) (l .k) s)
@@ -65,17 +75,17 @@ loop-again c =
       λ n o h g t. laid-more (a .w) n (l .k) _ s o (l .out) b g (omega arith) r e (l .inv .2 n o (omega arith) g t),
     )
 
-same-length : tie.Need-same-length Inv-loop μ-loop
-same-length c = search needs
+same-length-2 : tie.Need-same-length-2 Inv-loop μ-loop
+same-length-2 c = search needs
 
-returns : tie.Need-returns Inv-loop μ-loop
-returns c =
+returns-2 : tie.Need-returns-2 Inv-loop μ-loop
+returns-2 c =
     let l = c .before .loop in
-    let at-start = c .before .before .before .before .before .before in
+    let at-eights = c .before .before .before in
+    let at-start = at-eights .before .before .before .before in
     let a = at-start .args in
     let e : l .k ≡ a .n = omega arith in
-    let t = l .inv .2 (a .n) (a .out .now) (l .inv .0) (at-start .pre .1 .2) (c .before .before .before .eights-at .ensures) in
-    rw (e, take-all (a .n) (fields (a .w) (a .n) (a .s .now)) (rw length-fields (le-refl (a .n)))) at (t .rows)
+    laid-all _ _ _ _ _ (rw e at (l .inv .2 (a .n) (a .out .now) (l .inv .0) (at-start .pre .1 .2) (at-eights .eights-at .ensures)))
 
 pub unpack-spec : {M : Type 1} → statement M
 unpack-spec =
@@ -83,6 +93,9 @@ unpack-spec =
     (tie.spec
     Inv-loop
     μ-loop
+    few-requires
+    same-length
+    returns
     eights-at-requires
     loop-holds
     field-requires
@@ -92,5 +105,5 @@ unpack-spec =
     add-k
     loop-less
     loop-again
-    same-length
-    returns)
+    same-length-2
+    returns-2)
