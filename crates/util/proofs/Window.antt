@@ -2,20 +2,22 @@
 -- Assumes nothing.
 use mathlib.Core.Path.{_≡_, refl, sym, ap, _∙_}
 use Prim.Native.Nat.{ℕ, suc, _+_, _-_, _*_, _/_, _%_, _^_, _≤_, _<_}
-use native.Mathlib.Nat.{le-refl, lt-of-not-le, mul-le-mul-right, zero-lt-suc}
+use native.Mathlib.Nat.{le-refl, lt-of-not-le, mul-le-mul-right, zero-lt-suc, pow-zero, div-one, mod-eq-of-lt}
 use native.Mathlib.Decide.{decLe}
 use native.Mathlib.Numerals.{add-one, towards-suc}
 use native.Mathlib.Omega.{arith}
-use mathlib.Core.List.{List, [], _∷_, _++_, map, append-assoc, reverse, reverseAux, reverse-reverse}
-use lib.ListN.{length, getD, take, drop, drop-of-length-le, length-append, length-drop, length-reverse, take-append-drop}
-use lib.Seq.{take-at, drop-at, drop-cons, take-append-le, drop-append-le, drop-append-add, length-take-le}
+use mathlib.Core.List.{List, [], _∷_, _++_, map, map-append, append-assoc, reverse, reverseAux, reverse-reverse}
+use lib.ListN.{length, getD, set, take, drop, length-append, length-drop, length-map, length-reverse, take-append-drop}
+use lib.IntN.{ℤ, pos}
+use lib.Seq.{take-at, take-all, drop-at, take-suc, drop-cons, set-at, take-append-le, drop-append-le, drop-append-add, length-take-le}
 use lib.Pow.{shr-shr, high, ones-split, ones-lt}
 use Rattle.format.specs.Digits.{AllBelow, number, digits, spread}
 use Rattle.format.specs.Fields.{bytesFor, padBits}
-use Rattle.format.proofs.Digits.{spread-number, digits-add, length-digits, number-low, digits-number, getD-digits, pow-pow}
+use Rattle.format.specs.Rows.{asI64}
+use Rattle.format.proofs.Digits.{number-lt, spread-number, digits-add, length-digits, number-low, digits-number, getD-digits, pow-pow}
 use Rattle.format.proofs.Fields.{below-take, below-drop}
 use Rattle.format.proofs.Widths.{IsWidth}
-use Rattle.util.specs.Packed.{fields, bits, fieldAt, Width, lowFirst, swap}
+use Rattle.util.specs.Packed.{fields, bits, fieldAt, Width, Laid, lowFirst, swap}
 
 -- ---- bits
 
@@ -62,6 +64,15 @@ window s i m p w d h lo hi =
     let e : 8 * m - (p - 8 * i + w) ≡ 8 * (i + m) - (p + w) = omega arith in
     c ∙ rw (lx, e) at (bits-value (p - 8 * i) w x (below-take 256 m (drop i s) (below-drop 256 i s d)) (omega arith))
 
+-- bits that are m whole bytes are those bytes' number
+pub whole : (s : List ℕ) (i m : ℕ) → AllBelow 256 s → i + m ≤ length s → bits (8 * i) (m * 8) s ≡ number 256 (take m (drop i s))
+whole s i m d h =
+    let x = take m (drop i s) in
+    let lx : length x ≡ m = length-take-le m (drop i s) (rw length-drop (omega arith)) in
+    let e : 8 * (i + m) - (8 * i + m * 8) ≡ 0 = omega arith in
+    let b : number 256 x < 2 ^ (m * 8) = rw (lx, pow-pow 2 8 m) at (number-lt (2 ^ 8) x (below-take 256 m (drop i s) (below-drop 256 i s d))) in
+    window s i m (8 * i) (m * 8) d h (omega arith) (omega arith) ∙ rw (e, pow-zero, div-one) (mod-eq-of-lt b)
+
 -- ---- fields
 
 -- Document 01's words, for any width: field k of n that s begins with is bits k·w to k·w+w-1, highest bit of each byte first.
@@ -76,14 +87,21 @@ field-at w n k s d h l =
 pub length-fields : (w n : ℕ) (s : List ℕ) → length (fields w n s) ≡ n
 length-fields w n s = length-digits (2 ^ w) n _
 
--- the turn of a loop over the fields: field k, and then the rest
-pub next-field : {A : Type 0} (f : ℕ → A) (w n k : ℕ) (s : List ℕ) → AllBelow 256 s → k < n → bytesFor (n * w) ≤ length s
-    → map f (drop k (fields w n s)) ≡ f (fieldAt w k s) ∷ map f (drop (k + 1) (fields w n s))
-next-field f w n k s d h l = rw (add-one, drop-cons (fields w n s) k 0 (rw length-fields h), field-at w n k s d h l)
+-- one more field is laid
+pub laid-more : (w n k : ℕ) (z : ℤ) (s : List ℕ) (o out : List ℤ) → AllBelow 256 s → bytesFor (n * w) ≤ length s → k < n → k < length out
+    → z ≡ asI64 (fieldAt w k s) → Laid w n s k o out → Laid w n s (k + 1) o (set out k z)
+laid-more w n k z s o out d l h r e t =
+    let p = map asI64 (take k (fields w n s)) in
+    let q : length p ≡ k = rw (length-map, length-take-le k (fields w n s) (rw length-fields (t .few))) in
+    let m : k < length o = omega (arith, rw (length-append, q, length-drop) at (ap length (t .rows))) in
+    record {
+      few = omega arith;
+      rows = rw (t .rows, drop-cons o k (pos 0) m, set-at p _ _ z k q, add-one, take-suc (fields w n s) k 0 (rw length-fields h), field-at w n k s d h l, map-append, append-assoc, e);
+    }
 
--- after the last there is none
-pub no-field : (w n : ℕ) (s : List ℕ) → drop n (fields w n s) ≡ []
-no-field w n s = drop-of-length-le (fields w n s) {i = n} (rw length-fields (le-refl n))
+-- all fields are laid
+pub laid-all : (w n : ℕ) (s : List ℕ) (o out : List ℤ) → Laid w n s n o out → out ≡ map asI64 (fields w n s) ++ drop n o
+laid-all w n s o out t = rw (take-all n (fields w n s) (rw length-fields (le-refl n))) at (t .rows)
 
 -- a field of width w starts where eight bytes hold it
 pub aligned : (w j : ℕ) → Width w → (j * w) % 8 + w ≤ 64

@@ -1,10 +1,12 @@
 -- Packed fields, as they are read out of bytes (document 01, "Packed fields"). Assumes nothing.
 use mathlib.Core.Path.{_≡_}
 use Prim.Native.Nat.{ℕ, _+_, _*_, _/_, _%_, _≤_, _<_}
-use mathlib.Core.List.{List}
-use lib.ListN.{getD, take, drop}
+use mathlib.Core.List.{List, _++_, map}
+use lib.ListN.{length, getD, take, drop}
+use lib.IntN.{ℤ}
 use Rattle.format.specs.Digits.{number, spread}
 use Rattle.format.specs.Fields.{bytesFor}
+use Rattle.format.specs.Rows.{asI64}
 use Rattle.format.specs.Parse.{unpack}
 
 -- the n fields of width w that s begins with
@@ -22,6 +24,20 @@ fieldAt w k s = bits (k * w) w s
 -- a width of the table is such that eight bytes hold a field wherever it starts: above 56 bits only 64 will do
 abbrev pub Width : ℕ → Type 0
 Width w = (0 < w) × (w ≤ 64) × (56 < w → w ≡ 64)
+
+-- n fields of width w are there, and places for them
+pub record Room (w n : ℕ) (s : List ℕ) (out : List ℤ) : Type 0 where
+  pub places : n ≤ length out
+  pub there : bytesFor (n * w) ≤ length s
+
+-- the first k of the n fields that s begins with stand as rows in out, whose other places are those of o
+pub record Laid (w n : ℕ) (s : List ℕ) (k : ℕ) (o out : List ℤ) : Type 0 where
+  pub few : k ≤ n
+  pub rows : out ≡ map asI64 (take k (fields w n s)) ++ drop k o
+
+-- where k fields stand in out, m stand in out'
+abbrev pub Lays : ℕ → List ℕ → ℕ → ℕ → List ℤ → List ℤ → Type 0
+Lays w s k m out out' = (n : ℕ) (o : List ℤ) → m ≤ n → bytesFor (n * w) ≤ length s → Laid w n s k o out → Laid w n s m o out'
 
 -- ---- eight bytes, as a machine's word has them
 

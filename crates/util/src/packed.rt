@@ -1,12 +1,13 @@
 // Packed fields: a block of n fields of width w, highest bit of each byte first, both ways.
 ghost use mathlib.Core.Path.{_≡_};
+ghost use mathlib.Core.Bool.{true};
 ghost use mathlib.Core.List.{_++_, map};
 ghost use Prim.Native.Nat.{_+_, _-_, _*_, _/_, _%_, _^_, _≤_, _<_};
 ghost use lib.ListN.{length, take, drop};
 ghost use Rattle.format.specs.Digits.{AllBelow, number};
 ghost use Rattle.format.specs.Fields.{bytesFor, blockBytes};
 ghost use Rattle.format.specs.Rows.{asI64};
-ghost use Rattle.util.specs.Packed.{fields, bits, fieldAt, Width, lowFirst, swap};
+ghost use Rattle.util.specs.Packed.{fields, bits, fieldAt, Width, Room, Laid, Lays, lowFirst, swap};
 use crate::big_endian;
 use crate::pattern;
 
@@ -99,13 +100,148 @@ pub fn block_size(w: usize, n: usize) -> usize
     (n * w + 7) / 8
 }
 
-// The n fields that s begins with, put into the first n places as rows with the same bits.
+// Whether so many bits are bytes that one load takes.
+fn one_load(w: usize) -> bool
+    ensures { λ r. ⌜ (r ≡ true → 8 * (w / 8) ≡ w) ⌝ }
+{
+    match w {
+        8 => true,
+        16 => true,
+        32 => true,
+        _ => false,
+    }
+}
+
+// Of the eight fields that start with byte b, the one from their bit p on: whole bytes that one load takes, or bits out of x, the word at
+// b, or else out of a word of its own.
+fn one_of_eight(s: &[u8], b: usize, x: u64, p: usize, w: usize) -> u64
+    requires { ⌜ (0 < w) × (p % 8 + w ≤ 64) × (p + w ≤ 8 * w) × (b + w ≤ length (now s)) × (b + 8 ≤ length (now s)) ⌝ }
+    requires { ⌜ x ≡ number 256 (take 8 (drop b (now s))) ⌝ }
+    ensures { λ r. ⌜ r ≡ bits (8 * b + p) w (now (s .entry)) ⌝ }
+{
+    if p % 8 == 0 && one_load(w) {
+        return big_endian::read(s, b + p / 8, w / 8);
+    }
+    if p + w <= 64 {
+        return cut(x, 64 - (p + w), w);
+    }
+    let i = window(w, p, w);
+    cut(word(s, b + i), 8 * (i + 8) - (p + w), w)
+}
+
+// Eight fields are w bytes: those from byte b on, put into the places from `from` on. The loop counts bits, so that it is unrolled
+// where the width is a number, and only there.
+fn eight(s: &[u8], b: usize, w: usize, out: &mut [i64], from: usize)
+    requires { ⌜ Width w ⌝ }
+    requires { ⌜ (8 * b ≡ from * w) × (b + w ≤ length (now s)) × (b + 8 ≤ length (now s)) × (from + 8 ≤ length (now out)) ⌝ }
+    ensures { λ _. ⌜ Lays w (now (s .entry)) from (from + 8) (now (out .entry)) (now (out .exit)) ⌝ }
+{
+    let x = word(s, b);
+    let mut p = 0;
+    let mut k = from;
+    while p < 8 * w {
+        let row = pattern::to_i64(one_of_eight(s, b, x, p, w));
+        out[k] = row;
+        p += w;
+        k += 1;
+    }
+}
+
+// As many fields, up to n, as eights that lie in whole words: how many. The width is said twice: a caller that gives v as a number has
+// a copy of the loop made for that width, and has the contract at w.
+fn eights(s: &[u8], w: usize, v: usize, n: usize, out: &mut [i64]) -> usize
+    requires { ⌜ Width v ⌝ }
+    requires { ⌜ v ≡ w ⌝ }
+    requires { ⌜ Room w n (now s) (now out) ⌝ }
+    ensures { λ r. ⌜ Laid w n (now (s .entry)) r (now (out .entry)) (now (out .exit)) ⌝ }
+{
+    let whole = n - n % 8;
+    let mut k = 0;
+    let mut b = 0;
+    while k < whole {
+        // eight narrow fields are less than a word
+        if v < 8 && s.len() < b + 8 {
+            return k;
+        }
+        eight(s, b, v, out, k);
+        b += v;
+        k += 8;
+    }
+    k
+}
+
+// The same, with a copy of the loop for each width of the table.
+fn eights_at(s: &[u8], w: usize, n: usize, out: &mut [i64]) -> usize
+    requires { ⌜ Width w ⌝ }
+    requires { ⌜ Room w n (now s) (now out) ⌝ }
+    ensures { λ r. ⌜ Laid w n (now (s .entry)) r (now (out .entry)) (now (out .exit)) ⌝ }
+{
+    match w {
+        1 => eights(s, w, 1, n, out),
+        2 => eights(s, w, 2, n, out),
+        3 => eights(s, w, 3, n, out),
+        4 => eights(s, w, 4, n, out),
+        5 => eights(s, w, 5, n, out),
+        6 => eights(s, w, 6, n, out),
+        7 => eights(s, w, 7, n, out),
+        8 => eights(s, w, 8, n, out),
+        9 => eights(s, w, 9, n, out),
+        10 => eights(s, w, 10, n, out),
+        11 => eights(s, w, 11, n, out),
+        12 => eights(s, w, 12, n, out),
+        13 => eights(s, w, 13, n, out),
+        14 => eights(s, w, 14, n, out),
+        15 => eights(s, w, 15, n, out),
+        16 => eights(s, w, 16, n, out),
+        17 => eights(s, w, 17, n, out),
+        18 => eights(s, w, 18, n, out),
+        19 => eights(s, w, 19, n, out),
+        20 => eights(s, w, 20, n, out),
+        21 => eights(s, w, 21, n, out),
+        22 => eights(s, w, 22, n, out),
+        23 => eights(s, w, 23, n, out),
+        24 => eights(s, w, 24, n, out),
+        26 => eights(s, w, 26, n, out),
+        28 => eights(s, w, 28, n, out),
+        30 => eights(s, w, 30, n, out),
+        32 => eights(s, w, 32, n, out),
+        40 => eights(s, w, 40, n, out),
+        48 => eights(s, w, 48, n, out),
+        56 => eights(s, w, 56, n, out),
+        64 => eights(s, w, 64, n, out),
+        _ => eights(s, w, w, n, out),
+    }
+}
+
+// All fields of a block of fewer than eight bytes, out of one number.
+fn few(s: &[u8], w: usize, n: usize, out: &mut [i64])
+    requires { ⌜ 0 < w ⌝ }
+    requires { ⌜ (0 < n) × (length (now s) < 8) × Room w n (now s) (now out) ⌝ }
+    ensures { λ _. ⌜ Laid w n (now (s .entry)) n (now (out .entry)) (now (out .exit)) ⌝ }
+{
+    let len = s.len();
+    let x = big_endian::read(s, 0, len);
+    let mut low = 8 * len;
+    let mut k = 0;
+    while k < n {
+        low -= w;
+        let row = pattern::to_i64(cut(x, low, w));
+        out[k] = row;
+        k += 1;
+    }
+}
+
+// The n fields that s begins with, put into the first n places as rows with the same bits: the eights, and then the rest.
 pub fn unpack(s: &[u8], w: usize, n: usize, out: &mut [i64])
     requires { ⌜ Width w ⌝ }
     requires { ⌜ (n ≤ 65536) × (n ≤ length (now out)) × (bytesFor (n * w) ≤ length (now s)) ⌝ }
     ensures { λ _. ⌜ now (out .exit) ≡ map asI64 (fields w n (now (s .entry))) ++ drop n (now (out .entry)) ⌝ }
 {
-    let mut k = 0;
+    if 0 < n && s.len() < 8 {
+        few(s, w, n, out);
+        return;
+    }
+    let mut k = eights_at(s, w, n, out);
     while k < n {
         let row = pattern::to_i64(field(s, w, k));
         out[k] = row;

@@ -1,35 +1,46 @@
--- `util::packed::unpack` meets its contract. The loop's invariant: the first k places, and the fields still to come, are the rows.
--- Assumes nothing.
+-- `util::packed::unpack` meets its contract. The loop's invariant: fields before k are laid. Assumes nothing.
 use mathlib.Core.Path.{_≡_, refl, ap, _∙_}
-use mathlib.Core.List.{_++_, map}
-use Prim.Native.Nat.{_+_, _-_, _≤_, _<_}
+use Prim.Native.Nat.{_-_, _≤_, _<_}
 use native.Mathlib.Omega.{arith}
-use lib.ListN.{length, take, drop, length-set}
+use lib.ListN.{length, length-set}
 use mir.Facts.{toZ-ofZ}
 use mir.Val.{toZ, ofZ}
 use mir.Syntax.{w64}
 use borrow.Author.Needs.{needs, sfits-of}
+use borrow.Author.Tests.{ltb-true}
 use Rattle.format.specs.Rows.{asI64}
 use Rattle.format.proofs.Fields.{below-all}
-use Rattle.util.specs.Packed.{fields, fieldAt}
-use Rattle.util.proofs.Grow.{grow, kept, filled}
-use Rattle.util.proofs.Window.{field-there, next-field, no-field}
+use Rattle.util.specs.Packed.{fieldAt, Lays}
+use Rattle.util.proofs.Window.{field-there, laid-more, laid-all}
 use Rattle.util.proofs.packed.unpack.Statement.{statement}
 use Rattle.util.proofs.packed.unpack.Tie as tie
 
 abbrev Inv-loop : tie.InvT-loop
-Inv-loop s w n out₀ k₀ out k =
-    (k ≤ n) × (length out ≡ length out₀) × (take k out ++ map asI64 (drop k (fields w n s)) ≡ map asI64 (fields w n s)) × (drop k out ≡ drop k out₀)
+Inv-loop s w n out₀ k₀ out k = (k ≤ n) × (length out ≡ length out₀) × Lays w s k₀ k out₀ out
 
 abbrev μ-loop : tie.MeasureT-loop
 μ-loop s w n out₀ k₀ out k = n - k
 
+few-requires : tie.Need-few-requires Inv-loop μ-loop
+few-requires c κs =
+    let at-start = c .before .before .before .before in
+    (at-start .pre .0 .0, (c .before .before .if1 .taken, ltb-true (length (at-start .args .s .now)) 8 (c .before .if2 .taken), record { places = at-start .pre .1 .1; there = at-start .pre .1 .2 }))
+
+same-length : tie.Need-same-length Inv-loop μ-loop
+same-length c = search needs
+
+returns : tie.Need-returns Inv-loop μ-loop
+returns c = laid-all _ _ _ _ _ (c .before .few .ensures)
+
+eights-at-requires : tie.Need-eights-at-requires Inv-loop μ-loop
+eights-at-requires c κs = search needs
+
 loop-holds : tie.Need-loop-holds Inv-loop μ-loop
-loop-holds c = (search needs, refl, refl, refl)
+loop-holds c = (search needs, refl, λ n o h l t. t)
 
 field-requires : tie.Need-field-requires Inv-loop μ-loop
 field-requires c κs =
-    let at-start = c .before .before .before in
+    let at-start = c .before .before .before .before .before .before .before in
     let a = at-start .args in
     (at-start .pre .0, (omega arith, field-there (a .w) (a .n) (c .before .loop .k) (a .s .now) (c .loop-test .taken) (at-start .pre .1 .2)))
 
@@ -37,43 +48,44 @@ to-i64-requires : tie.Need-to-i64-requires Inv-loop μ-loop
 to-i64-requires c κs = search needs
 
 mul-row : tie.Need-mul-row Inv-loop μ-loop
-mul-row c = omega arith
+mul-row c = search needs
 
 slice-set-from-row : tie.Need-slice-set-from-row Inv-loop μ-loop
-slice-set-from-row c = omega arith
+slice-set-from-row c = search needs
 
 add-k : tie.Need-add-k Inv-loop μ-loop
-add-k c = omega arith
+add-k c = search needs
 
 loop-less : tie.Need-loop-less Inv-loop μ-loop
-loop-less c = omega arith
+loop-less c = search needs
 
 loop-again : tie.Need-loop-again Inv-loop μ-loop
 loop-again c =
     let at-loop = c .before .before .before in
     let l = at-loop .loop in
-    let at-known = at-loop .before in
+    let at-known = at-loop .before .before .before .before .before in
     let a = at-known .before .args in
     let s = a .s .now in
-    let z = toZ w64 (ofZ w64 (c .to-i64 .result)) in
-    let e : z ≡ asI64 (fieldAt (a .w) (l .k) s) = toZ-ofZ (sfits-of (c .to-i64 .ok)) ∙ c .to-i64 .ensures ∙ ap asI64 (c .before .field .ensures) in
-    let h : l .k < length (l .out) = omega arith in
-    let b = below-all 256 s (λ i. at-known .shared-slice-known .given i .fits) in (
+    let e : toZ w64 (ofZ w64 (c .to-i64 .result)) ≡ asI64 (fieldAt (a .w) (l .k) s)
+    = toZ-ofZ (sfits-of (c .to-i64 .ok)) ∙ c .to-i64 .ensures ∙ ap asI64 (c .before .field .ensures) in
+    let b = below-all 256 s (λ i. at-known .shared-slice-known .given i .fits) in
+    let r : l .k < length (l .out) = omega arith in (
       omega arith,
       simp length-set (l .inv .1),
-      rw e (grow (l .out) (l .k) _ _ _ h (rw (next-field asI64 (a .w) (a .n) (l .k) s b (c .before .before .loop-test .taken) (at-known .before .pre .1 .2)) at (l .inv .2))),
-      kept (l .out) (a .out .now) (l .k) z (l .inv .3),
+      λ n o h g t. laid-more (a .w) n (l .k) _ s o (l .out) b g (omega arith) r e (l .inv .2 n o (omega arith) g t),
     )
 
-same-length : tie.Need-same-length Inv-loop μ-loop
-same-length c = c .before .loop .inv .1
+same-length-2 : tie.Need-same-length-2 Inv-loop μ-loop
+same-length-2 c = search needs
 
-returns : tie.Need-returns Inv-loop μ-loop
-returns c =
+returns-2 : tie.Need-returns-2 Inv-loop μ-loop
+returns-2 c =
     let l = c .before .loop in
-    let a = c .before .before .before .args in
+    let at-eights = c .before .before .before in
+    let at-start = at-eights .before .before .before .before in
+    let a = at-start .args in
     let e : l .k ≡ a .n = omega arith in
-    filled (l .out) (a .out .now) _ (a .n) (rw (e, no-field) at (l .inv .2)) (rw e at (l .inv .3))
+    laid-all _ _ _ _ _ (rw e at (l .inv .2 (a .n) (a .out .now) (l .inv .0) (at-start .pre .1 .2) (at-eights .eights-at .ensures)))
 
 pub unpack-spec : {M : Type 1} → statement M
 unpack-spec =
@@ -81,6 +93,10 @@ unpack-spec =
     (tie.spec
     Inv-loop
     μ-loop
+    few-requires
+    same-length
+    returns
+    eights-at-requires
     loop-holds
     field-requires
     to-i64-requires
@@ -89,5 +105,5 @@ unpack-spec =
     add-k
     loop-less
     loop-again
-    same-length
-    returns)
+    same-length-2
+    returns-2)
