@@ -5,6 +5,7 @@ ghost use Prim.Native.Nat.{_+_, _-_, _*_, _≤_, _<_, min, max};
 ghost use lib.ListN.{length, drop, getD};
 ghost use Rattle.format.specs.Digits.{digits};
 ghost use Rattle.format.specs.Fields.{bytesFor};
+ghost use Rattle.format.specs.Loader.{lowestFirst};
 ghost use Rattle.format.specs.Booleans.{byteRun, booleans, bits, BooleansRead};
 ghost use Rattle.boolean_rle.specs.Found.{foundIn, bytesIn, spanOf, Wrote, Filled};
 use format::Answer;
@@ -123,6 +124,36 @@ fn put_bits(byte: u8, m: usize, out: &mut [u8], k: usize)
     }
 }
 
+fn wide(x: u8) -> u64
+    ensures { λ r. ⌜ (r ≡ x) × (r < 256) ⌝ }
+{
+    x as u64
+}
+
+// A byte's bits as the bytes of a number, the highest bit lowest. The product has bit 7-j, for each j, as the top bit of its byte j. It is one of the
+// bits that are 0, taken from ones: of the product itself the optimiser makes eight stores, and of this one.
+fn spread(byte: u8) -> u64
+    ensures { λ r. ⌜ lowestFirst 8 r ≡ digits 2 8 byte ⌝ }
+{
+    let zeros = 255 - wide(byte);
+    let product = zeros * 0x0040201008040201 + zeros % 2 * 0x8000000000000000;
+    0x0101010101010101 - ((product >> 7) & 0x0101010101010101)
+}
+
+// All bits of a byte in the places from k on.
+fn put_byte(byte: u8, out: &mut [u8], k: usize)
+    requires { ⌜ k + 8 ≤ length (now out) ⌝ }
+    ensures { λ _. ⌜ Wrote k (k + 8) (digits 2 8 byte) (now (out .entry)) (now (out .exit)) ⌝ }
+{
+    let mut left = spread(byte);
+    let mut j = 0;
+    while j < 8 {
+        out[k + j] = (left % 256) as u8;
+        left = left / 256;
+        j += 1;
+    }
+}
+
 // The first bytes of the run at a place, in eight places each, from k on.
 fn put_bytes(input: &[u8], at: usize, run: ByteRun, count: usize, out: &mut [u8], k: usize)
     requires { ⌜ (foundIn (length (now input)) (byteRun (drop at (now input))) ≡ Found.Run run) × (count ≤ run .count) × (k + 8 * count ≤ length (now out)) ⌝ }
@@ -130,7 +161,7 @@ fn put_bytes(input: &[u8], at: usize, run: ByteRun, count: usize, out: &mut [u8]
 {
     let mut i = 0;
     while i < count {
-        put_bits(run_byte(input, at, run, i), 8, out, k + 8 * i);
+        put_byte(run_byte(input, at, run, i), out, k + 8 * i);
         i += 1;
     }
 }

@@ -6,6 +6,25 @@ ghost use lib.ListN.{length, take, drop};
 ghost use Rattle.rle_v2.specs.Pass.{stepped, unzigzagged, decoded, based, moved, summed};
 use util::pattern;
 
+// n rows that are all the same, which are steps of 0. Two a turn: where n is ten at the most, as in a short repeat, a loop of one a turn is
+// compiled to a test of each place.
+pub(crate) fn repeat(value: u64, n: usize, out: &mut [i64])
+    requires { ⌜ n ≤ length (now out) ⌝ }
+    ensures { λ _. ⌜ now (out .exit) ≡ stepped value 0 (take n (now (out .entry))) ++ drop n (now (out .entry)) ⌝ }
+{
+    let row = pattern::to_i64(value);
+    let mut i: usize = 0;
+    while 2 <= n - i {
+        out[i] = row;
+        out[i + 1] = row;
+        i += 2;
+    }
+    if n <= i {
+        return;
+    }
+    out[i] = row;
+}
+
 // n rows from the first on, each the one before it plus the step.
 pub(crate) fn steps(first: u64, step: u64, n: usize, out: &mut [i64])
     requires { ⌜ n ≤ length (now out) ⌝ }

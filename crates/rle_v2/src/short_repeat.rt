@@ -24,7 +24,6 @@ pub(crate) fn read(input: &[u8], at: usize, signed: bool, out: &mut [i64]) -> An
         return Answer::refused(8, at);
     }
     let value = pattern::row(signed, big_endian::read(input, body, size));
-    // a repeat is steps of 0
-    rows::steps(value, 0, count, out);
+    rows::repeat(value, count, out);
     Answer::run(Kind::ShortRepeat, 8 * size, count, 1 + size)
 }

@@ -2,7 +2,7 @@
 -- Assumes nothing.
 use mathlib.Core.Path.{_≡_, refl, sym, ap, _∙_}
 use Prim.Native.Nat.{ℕ, suc, _+_, _-_, _*_, _/_, _%_, _^_, _≤_, _<_}
-use native.Mathlib.Nat.{le-refl, lt-of-not-le, mul-le-mul-right, zero-lt-suc, pow-zero, div-one, mod-eq-of-lt}
+use native.Mathlib.Nat.{le-refl, lt-of-not-le, mul-le-mul-right, zero-lt-suc, pow-zero, div-one, mod-eq-of-lt, div-lt-iff-lt-mul}
 use native.Mathlib.Decide.{decLe}
 use native.Mathlib.Numerals.{add-one, towards-suc}
 use native.Mathlib.Omega.{arith}
@@ -10,13 +10,14 @@ use mathlib.Core.List.{List, [], _∷_, _++_, map, map-append, append-assoc, rev
 use lib.ListN.{length, getD, set, take, drop, length-append, length-drop, length-map, length-reverse, take-append-drop}
 use lib.IntN.{ℤ, pos}
 use lib.Seq.{take-at, take-all, drop-at, take-suc, drop-cons, set-at, take-append-le, drop-append-le, drop-append-add, length-take-le}
-use lib.Pow.{shr-shr, high, ones-split, ones-lt}
+use lib.Pow.{pow-add, pow-pos, shr-shr, high, ones-split, ones-lt}
 use Rattle.format.specs.Digits.{AllBelow, number, digits, spread}
 use Rattle.format.specs.Fields.{bytesFor, padBits}
 use Rattle.format.specs.Rows.{asI64}
-use Rattle.format.proofs.Digits.{number-lt, spread-number, digits-add, length-digits, number-low, digits-number, getD-digits, pow-pow}
-use Rattle.format.proofs.Fields.{below-take, below-drop}
+use Rattle.format.proofs.Digits.{spread-number, digits-add, length-digits, number-low, digits-number, getD-digits, pow-pow}
+use Rattle.format.proofs.Fields.{below-all, below-take, below-drop}
 use Rattle.format.proofs.Widths.{IsWidth}
+use Rattle.util.proofs.BigEndian.{number-bits}
 use Rattle.util.specs.Packed.{fields, bits, fieldAt, Width, Laid, lowFirst, swap}
 
 -- ---- bits
@@ -65,13 +66,19 @@ window s i m p w d h lo hi =
     c ∙ rw (lx, e) at (bits-value (p - 8 * i) w x (below-take 256 m (drop i s) (below-drop 256 i s d)) (omega arith))
 
 -- bits that are m whole bytes are those bytes' number
-pub whole : (s : List ℕ) (i m : ℕ) → AllBelow 256 s → i + m ≤ length s → bits (8 * i) (m * 8) s ≡ number 256 (take m (drop i s))
-whole s i m d h =
-    let x = take m (drop i s) in
-    let lx : length x ≡ m = length-take-le m (drop i s) (rw length-drop (omega arith)) in
-    let e : 8 * (i + m) - (8 * i + m * 8) ≡ 0 = omega arith in
-    let b : number 256 x < 2 ^ (m * 8) = rw (lx, pow-pow 2 8 m) at (number-lt (2 ^ 8) x (below-take 256 m (drop i s) (below-drop 256 i s d))) in
-    window s i m (8 * i) (m * 8) d h (omega arith) (omega arith) ∙ rw (e, pow-zero, div-one) (mod-eq-of-lt b)
+pub whole : (s : List ℕ) (i m : ℕ) → ((k : ℕ) → getD s k 0 < 256) → i + m ≤ length s → bits (8 * i) (8 * m) s ≡ number 256 (take m (drop i s))
+whole s i m f h =
+    let e : 8 * (i + m) - (8 * i + 8 * m) ≡ 0 = omega arith in
+    window s i m (8 * i) (8 * m) (below-all 256 s f) h (omega arith) (omega arith) ∙ rw (e, pow-zero, div-one) (mod-eq-of-lt (number-bits s i f m h))
+
+-- and the first m of eight bytes are the highest of their word
+pub of-word : (s : List ℕ) (i m : ℕ) → ((k : ℕ) → getD s k 0 < 256) → m ≤ 8 → i + 8 ≤ length s → number 256 (take 8 (drop i s)) / 2 ^ (64 - 8 * m) ≡ number 256 (take m (drop i s))
+of-word s i m f h l =
+    let e : 8 * (i + 8) - (8 * i + 8 * m) ≡ 64 - 8 * m = omega arith in
+    let q : 64 ≡ 8 * m + (64 - 8 * m) = omega arith in
+    let r : number 256 (take 8 (drop i s)) < 2 ^ (8 * m) * 2 ^ (64 - 8 * m) = rw (← (pow-add 2 (8 * m) (64 - 8 * m)), ← q) (number-bits s i f 8 l) in
+    let b = div-lt-iff-lt-mul (pow-pos (64 - 8 * m)) .1 r in
+    sym (mod-eq-of-lt b) ∙ sym (rw e at (window s i 8 (8 * i) (8 * m) (below-all 256 s f) l (omega arith) (omega arith))) ∙ whole s i m f (omega arith)
 
 -- ---- fields
 

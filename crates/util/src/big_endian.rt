@@ -5,6 +5,7 @@ ghost use Prim.Native.Nat.{_+_, _/_, _%_, _^_, _<_, _≤_};
 ghost use lib.ListN.{length, take, drop};
 ghost use Rattle.format.specs.Digits.{number, digits};
 ghost use Rattle.format.specs.Rows.{baseValue};
+use crate::packed;
 use crate::pattern;
 
 fn wide(b: u8) -> u64
@@ -21,8 +22,8 @@ fn byte_of(x: u64, k: usize) -> u8
     ((x >> (8 * k)) % 256) as u8
 }
 
-// The number that n bytes at a place write.
-pub fn read(s: &[u8], at: usize, n: usize) -> u64
+// The number that n bytes at a place write, byte after byte.
+pub(crate) fn bytes(s: &[u8], at: usize, n: usize) -> u64
     requires { ⌜ (1 ≤ n) × (n ≤ 8) × (at + n ≤ length (now s)) ⌝ }
     ensures { λ r. ⌜ r ≡ number 256 (take n (drop at (now (s .entry)))) ⌝ }
 {
@@ -33,6 +34,17 @@ pub fn read(s: &[u8], at: usize, n: usize) -> u64
         i += 1;
     }
     x
+}
+
+// The same, out of one word where eight bytes stand there.
+pub fn read(s: &[u8], at: usize, n: usize) -> u64
+    requires { ⌜ (1 ≤ n) × (n ≤ 8) × (at + n ≤ length (now s)) ⌝ }
+    ensures { λ r. ⌜ r ≡ number 256 (take n (drop at (now (s .entry)))) ⌝ }
+{
+    if s.len() - at < 8 {
+        return bytes(s, at, n);
+    }
+    packed::word(s, at) >> (64 - 8 * n)
 }
 
 // The n lowest bytes of x, written at a place.

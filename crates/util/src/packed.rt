@@ -47,7 +47,7 @@ fn swapped(x: u64) -> u64
 }
 
 // The eight bytes at i as a number.
-fn word(s: &[u8], i: usize) -> u64
+pub(crate) fn word(s: &[u8], i: usize) -> u64
     requires { ⌜ i + 8 ≤ length (now s) ⌝ }
     ensures { λ r. ⌜ r ≡ number 256 (take 8 (drop i (now (s .entry)))) ⌝ }
 {
@@ -77,7 +77,7 @@ fn bits_from(s: &[u8], p: usize, w: usize) -> u64
 {
     let len = s.len();
     if len < 8 {
-        return cut(big_endian::read(s, 0, len), 8 * len - (p + w), w);
+        return cut(big_endian::bytes(s, 0, len), 8 * len - (p + w), w);
     }
     let i = window(len, p, w);
     cut(word(s, i), 8 * (i + 8) - (p + w), w)
@@ -120,7 +120,7 @@ fn one_of_eight(s: &[u8], b: usize, x: u64, p: usize, w: usize) -> u64
     ensures { λ r. ⌜ r ≡ bits (8 * b + p) w (now (s .entry)) ⌝ }
 {
     if p % 8 == 0 && one_load(w) {
-        return big_endian::read(s, b + p / 8, w / 8);
+        return big_endian::bytes(s, b + p / 8, w / 8);
     }
     if p + w <= 64 {
         return cut(x, 64 - (p + w), w);
@@ -220,7 +220,7 @@ fn few(s: &[u8], w: usize, n: usize, out: &mut [i64])
     ensures { λ _. ⌜ Laid w n (now (s .entry)) n (now (out .entry)) (now (out .exit)) ⌝ }
 {
     let len = s.len();
-    let x = big_endian::read(s, 0, len);
+    let x = big_endian::bytes(s, 0, len);
     let mut low = 8 * len;
     let mut k = 0;
     while k < n {

@@ -24,14 +24,14 @@ loop-holds c =
 run-byte-requires : tie.Need-run-byte-requires Inv-loop μ-loop
 run-byte-requires c κs = (c .before .before .before .before .pre .0, omega arith)
 
-mul-put-bits : tie.Need-mul-put-bits Inv-loop μ-loop
-mul-put-bits c = omega arith
+mul-put-byte : tie.Need-mul-put-byte Inv-loop μ-loop
+mul-put-byte c = omega arith
 
-add-put-bits : tie.Need-add-put-bits Inv-loop μ-loop
-add-put-bits c = omega arith
+add-put-byte : tie.Need-add-put-byte Inv-loop μ-loop
+add-put-byte c = omega arith
 
-put-bits-requires : tie.Need-put-bits-requires Inv-loop μ-loop
-put-bits-requires c κs = omega arith
+put-byte-requires : tie.Need-put-byte-requires Inv-loop μ-loop
+put-byte-requires c κs = omega arith
 
 add-i : tie.Need-add-i Inv-loop μ-loop
 add-i c = omega arith
@@ -50,8 +50,8 @@ loop-again c =
     let h : l .loop .i < length bs = omega (arith, length-bytes (length (now (a .input))) (byteRun (drop (a .at) (now (a .input)))) (a .run) (s .pre .0)) in
     let z : a .k + 8 * (l .loop .i + 1) ≡ a .k + 8 * l .loop .i + 8 = omega arith in (
       omega arith,
-      p .put-bits .kept .1 .1 .0 ∙ l .loop .inv .1,
-      rw z (byte-more bs (a .k) (l .loop .i) 8 (now (a .out)) (l .loop .out) _ h (l .loop .inv .2) (rw (b .run-byte .ensures) at (p .put-bits .ensures))),
+      p .put-byte .kept .1 .0 ∙ l .loop .inv .1,
+      rw z (byte-more bs (a .k) (l .loop .i) 8 (now (a .out)) (l .loop .out) _ h (l .loop .inv .2) (rw (b .run-byte .ensures) at (p .put-byte .ensures))),
     )
 
 same-length : tie.Need-same-length Inv-loop μ-loop
@@ -70,9 +70,9 @@ put-bytes-spec =
     μ-loop
     loop-holds
     run-byte-requires
-    mul-put-bits
-    add-put-bits
-    put-bits-requires
+    mul-put-byte
+    add-put-byte
+    put-byte-requires
     add-i
     loop-less
     loop-again

@@ -46,8 +46,8 @@ read-requires c κs = search needs
 row-requires : tie.Need-row-requires
 row-requires c κs = search needs
 
-steps-requires : tie.Need-steps-requires
-steps-requires c κs = search needs
+repeat-requires : tie.Need-repeat-requires
+repeat-requires c κs = search needs
 
 mul-run : tie.Need-mul-run
 mul-run c = search needs
@@ -70,8 +70,8 @@ returns-3 c =
     let v = rw (w .before .read .ensures) at (w .row .ensures) in
     let f : w .row .result < 2 ^ 64 = w .row .ok in
     rw (c .run .ensures)
-    (read-is (now (a .input)) (a .at) (a .signed) (now (a .out)) (e .before .if1 .left) (p .steps .last .1 .1 .1 .0) (e .if2 .left)
-    (rw v at f) (rw v at (p .steps .ensures)))
+    (read-is (now (a .input)) (a .at) (a .signed) (now (a .out)) (e .before .if1 .left) (p .repeat .last .1 .1 .0) (e .if2 .left)
+    (rw v at f) (rw v at (p .repeat .ensures)))
 
 pub read-spec : {M : Type 1} → statement M
 read-spec =
@@ -89,7 +89,7 @@ read-spec =
     returns-2
     read-requires
     row-requires
-    steps-requires
+    repeat-requires
     mul-run
     add-run
     run-requires

@@ -1,76 +1,46 @@
--- `big_endian::read` meets its contract. The loop's invariant: x is the number that the first i bytes write. Assumes nothing.
-use mathlib.Core.Path.{_≡_, refl}
-use Prim.Native.Nat.{_+_, _-_, _^_, _≤_, _<_}
+-- `big_endian::read` meets its contract: the first bytes of a word are its highest. Assumes nothing.
 use native.Mathlib.Omega.{arith}
-use lib.ListN.{take, drop}
+use Rattle.util.proofs.Window.{of-word}
 use borrow.Author.Needs.{needs}
-use Rattle.format.specs.Digits.{number}
-use Rattle.util.proofs.BigEndian.{number-room, number-more}
 use Rattle.util.proofs.big_endian.read.Statement.{statement}
 use Rattle.util.proofs.big_endian.read.Tie as tie
 
-abbrev Inv-loop : tie.InvT-loop
-Inv-loop s at n x₀ i₀ x i = (i ≤ n) × (x ≡ number 256 (take i (drop at s)))
+sub-if1 : tie.Need-sub-if1
+sub-if1 c = search needs
 
-abbrev μ-loop : tie.MeasureT-loop
-μ-loop s at n x₀ i₀ x i = n - i
+bytes-requires : tie.Need-bytes-requires
+bytes-requires c κs = search needs
 
-loop-holds : tie.Need-loop-holds Inv-loop μ-loop
-unfolding number
-loop-holds c = (omega arith, refl)
+returns : tie.Need-returns
+returns c = search needs
 
--- x is of 56 bits at the most
-bound : (c : tie.In-loop Inv-loop μ-loop) → c .before .loop .x < 2 ^ 56
-bound c =
-    let k = c .before .before in
-    let a = k .before .args in
-    rw (c .before .loop .inv .1) (number-room (a .s .now) (a .at) (λ j. k .shared-slice-known .given j .fits) (c .before .loop .i) (omega arith) (omega arith))
+word-requires : tie.Need-word-requires
+word-requires c κs = search needs
 
-mul-x : tie.Need-mul-x Inv-loop μ-loop
-mul-x c = omega (arith, bound c)
+mul-result : tie.Need-mul-result
+mul-result c = search needs
 
-add-wide : tie.Need-add-wide Inv-loop μ-loop
-add-wide c = omega arith
+sub-result : tie.Need-sub-result
+sub-result c = search needs
 
-shared-slice-read-wide : tie.Need-shared-slice-read-wide Inv-loop μ-loop
-shared-slice-read-wide c = omega arith
+shr-result : tie.Need-shr-result
+shr-result c = search needs
 
-wide-requires : tie.Need-wide-requires Inv-loop μ-loop
-wide-requires c κs = search needs
-
-add-x : tie.Need-add-x Inv-loop μ-loop
-add-x c =
-    let l = c .before .before .before in
-    omega (arith, bound (c .before .before), c .before .shared-slice-known2 .given (l .before .before .args .at + l .loop .i))
-
-add-i : tie.Need-add-i Inv-loop μ-loop
-add-i c = omega arith
-
-loop-less : tie.Need-loop-less Inv-loop μ-loop
-loop-less c = omega arith
-
-loop-again : tie.Need-loop-again Inv-loop μ-loop
-loop-again c =
-    let l = c .before .before .before in
-    let a = l .before .before .args in
-    (omega arith, omega (arith, number-more (a .s .now) (a .at) (l .loop .i) (omega arith)))
-
-returns : tie.Need-returns Inv-loop μ-loop
-returns c = let e : c .before .loop .i ≡ c .before .before .before .args .n = omega arith in rw (← e) (c .before .loop .inv .1)
+returns-2 : tie.Need-returns-2
+returns-2 c =
+    let at-known = c .before .before in
+    let a = at-known .before .args in
+    rw (c .word .ensures) (of-word (a .s .now) (a .at) (a .n) (λ k. at-known .shared-slice-known .given k .fits) (omega arith) (omega arith))
 
 pub read-spec : {M : Type 1} → statement M
 read-spec =
     tie.close
     (tie.spec
-    Inv-loop
-    μ-loop
-    loop-holds
-    mul-x
-    add-wide
-    shared-slice-read-wide
-    wide-requires
-    add-x
-    add-i
-    loop-less
-    loop-again
-    returns)
+    sub-if1
+    bytes-requires
+    returns
+    word-requires
+    mul-result
+    sub-result
+    shr-result
+    returns-2)

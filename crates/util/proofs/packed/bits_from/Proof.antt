@@ -9,8 +9,8 @@ use borrow.Author.Needs.{needs}
 use Rattle.util.proofs.packed.bits_from.Statement.{statement}
 use Rattle.util.proofs.packed.bits_from.Tie as tie
 
-read-requires : tie.Need-read-requires
-read-requires c κs = search needs
+bytes-requires : tie.Need-bytes-requires
+bytes-requires c κs = search needs
 
 mul-cut : tie.Need-mul-cut
 mul-cut c = search needs
@@ -30,7 +30,7 @@ returns c =
     let a = at-known .before .args in
     let s = a .s .now in
     c .cut .ensures
-    ∙ rw (c .before .read .ensures) (sym (rw zero-add at (window s 0 (length s) (a .p) (a .w) (below-all 256 s (λ k. at-known .shared-slice-known .given k .fits)) (omega arith) (omega arith) (omega arith))))
+    ∙ rw (c .before .bytes .ensures) (sym (rw zero-add at (window s 0 (length s) (a .p) (a .w) (below-all 256 s (λ k. at-known .shared-slice-known .given k .fits)) (omega arith) (omega arith) (omega arith))))
 
 window-requires : tie.Need-window-requires
 window-requires c κs = search needs
@@ -67,7 +67,7 @@ pub bits-from-spec : {M : Type 1} → statement M
 bits-from-spec =
     tie.close
     (tie.spec
-    read-requires
+    bytes-requires
     mul-cut
     add-cut
     sub-cut

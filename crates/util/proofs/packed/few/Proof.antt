@@ -21,8 +21,8 @@ Inv-loop s w n out₀ len x low₀ k₀ out low k = (low + k * w ≡ 8 * length 
 abbrev μ-loop : tie.MeasureT-loop
 μ-loop s w n out₀ len x low₀ k₀ out low k = n - k
 
-read-requires : tie.Need-read-requires Inv-loop μ-loop
-read-requires c κs = omega (arith, mul-le-mul-right (c .before .args .w) (c .before .pre .1 .0), c .before .pre .1 .2 .there)
+bytes-requires : tie.Need-bytes-requires Inv-loop μ-loop
+bytes-requires c κs = omega (arith, mul-le-mul-right (c .before .args .w) (c .before .pre .1 .0), c .before .pre .1 .2 .there)
 
 mul-low : tie.Need-mul-low Inv-loop μ-loop
 mul-low c = search needs
@@ -69,7 +69,7 @@ loop-again c =
     let h = inside at-in in
     let q : 8 * (0 + length s) - (l .k * a .w + a .w) ≡ l .low - a .w = omega arith in
     let f : c .before .cut .result ≡ fieldAt (a .w) (l .k) s
-    = c .before .cut .ensures ∙ rw (at-in .before .before .read .ensures, ← q) (sym (window s 0 (length s) (l .k * a .w) (a .w) d (omega arith) (omega arith) (omega arith))) in
+    = c .before .cut .ensures ∙ rw (at-in .before .before .bytes .ensures, ← q) (sym (window s 0 (length s) (l .k * a .w) (a .w) d (omega arith) (omega arith) (omega arith))) in
     let e : toZ w64 (ofZ w64 (c .to-i64 .result)) ≡ asI64 (fieldAt (a .w) (l .k) s) = toZ-ofZ (sfits-of (c .to-i64 .ok)) ∙ c .to-i64 .ensures ∙ ap asI64 f in (
       omega arith,
       omega arith,
@@ -92,7 +92,7 @@ few-spec =
     (tie.spec
     Inv-loop
     μ-loop
-    read-requires
+    bytes-requires
     mul-low
     loop-holds
     sub-low

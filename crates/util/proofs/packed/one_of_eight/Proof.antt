@@ -15,11 +15,11 @@ use Rattle.util.proofs.packed.one_of_eight.Tie as tie
 one-load-requires : tie.Need-one-load-requires
 one-load-requires c κs = search needs
 
-add-read : tie.Need-add-read
-add-read c = search needs
+add-bytes : tie.Need-add-bytes
+add-bytes c = search needs
 
-read-requires : tie.Need-read-requires
-read-requires c κs = omega (arith, c .before .one-load .ensures (c .if2 .taken))
+bytes-requires : tie.Need-bytes-requires
+bytes-requires c κs = omega (arith, c .before .one-load .ensures (c .if2 .taken))
 
 returns : tie.Need-returns
 returns c =
@@ -27,9 +27,8 @@ returns c =
     let a = at-known .before .args in
     let s = a .s .now in
     let e : 8 * (a .w / 8) ≡ a .w = c .before .before .one-load .ensures (c .before .if2 .taken) in
-    let q : bits (8 * (a .b + a .p / 8)) (a .w / 8 * 8) s ≡ bits (8 * a .b + a .p) (a .w) s
-    = ap (λ (x : ℕ). bits x (a .w / 8 * 8) s) (omega arith) ∙ ap (λ (x : ℕ). bits (8 * a .b + a .p) x s) (omega arith) in
-    c .read .ensures ∙ sym (whole s (a .b + a .p / 8) (a .w / 8) (below-all 256 s (λ k. at-known .shared-slice-known .given k .fits)) (omega arith)) ∙ q
+    let q : bits (8 * (a .b + a .p / 8)) (8 * (a .w / 8)) s ≡ bits (8 * a .b + a .p) (a .w) s = rw e (ap (λ (x : ℕ). bits x (a .w) s) (omega arith)) in
+    c .bytes .ensures ∙ sym (whole s (a .b + a .p / 8) (a .w / 8) (λ k. at-known .shared-slice-known .given k .fits) (omega arith)) ∙ q
 
 add-if3 : tie.Need-add-if3
 add-if3 c = search needs
@@ -91,8 +90,8 @@ one-of-eight-spec =
     tie.close
     (tie.spec
     one-load-requires
-    add-read
-    read-requires
+    add-bytes
+    bytes-requires
     returns
     add-if3
     add-cut
