@@ -1,6 +1,7 @@
 //! What is compared, stage by stage.
 mod cuts;
 mod patches;
+mod varints;
 
 use model::{Form, Written, WIDTHS};
 use oracle::Run;
@@ -58,6 +59,7 @@ impl Session {
         self.cuts();
         self.patch_lists();
         self.wide_patches();
+        self.tenth_bytes();
         self.random_frames();
         self.streams();
         self.booleans();
@@ -339,6 +341,7 @@ impl Session {
         }
         cuts::probe_lines(requests, &mut self.random);
         patches::probe_lines(requests, &mut self.random);
+        varints::probe_lines(requests, &mut self.random);
         for _ in 0..self.size.pick(1_000, 100_000, 1_000_000) {
             probe_line(&mut probe.requests, &mut self.random);
             probe.batch(&mut self.tally);
