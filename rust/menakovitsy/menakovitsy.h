@@ -110,7 +110,7 @@ enum orc_answer {
     ORC_PATCH_TOO_LARGE = 3,
     /* Delta: a width, and one row. */
     ORC_ONE_ROW_DELTA = 4,
-    /* A varint's first ten bytes all have the top bit set. */
+    /* A varint's tenth byte is above 1: it says more than 64 bits hold, or goes on. */
     ORC_VARINT_TOO_LONG = 5,
     /* A short repeat's value, a patched run's base or a byte value is cut, or a boolean control byte
      * is missing: the input ends before the field at ORC_CUT_AT does. Call again with more bytes; if

@@ -10,7 +10,7 @@ use lib.ListN.{length, take, drop, length-append}
 use lib.Seq.{take-append-le, drop-append-le}
 use lib.Dec.{T, leb, ltb, eqb, leb→le}
 use borrow.Author.Tests.{le-leb}
-use Rattle.format.specs.Fields.{pick, width, bytesFor}
+use Rattle.format.specs.Fields.{pick, width, bytesFor, lastBelow}
 use Rattle.format.specs.Runs.{Description, Valid, layout, patches, tooLarge, outOfPlace, entryWidth}
 use Rattle.format.specs.Parse
 use Rattle.format.specs.Parse.{Reason, plain, cut, cutIn, Parsed, got, refused, then, unless, bytes, block, varint, codeOf, rowsLess, parse}
@@ -65,7 +65,7 @@ module _ (q : List ℕ) (r r′ : Reason) (c : T (isCut r)) where
   unfolding varint
   varint-ext zero bs = ext-refused
   varint-ext (suc k) [] = ext-cut c
-  varint-ext (suc k) (b ∷ bs) = pick-ext (ltb b 128) ext-got (then-ext (varint-ext k bs) λ v s. ext-got)
+  varint-ext (suc k) (b ∷ bs) = pick-ext (ltb b 128) (unless-ext (leb (lastBelow k) b) 5 ext-got) (then-ext (varint-ext k bs) λ v s. ext-got)
 
 module _ (q : List ℕ) where
   delta-ext : (a : ℕ) (bs : List ℕ) → Extends q (Parse.deltaRun a bs) (Parse.deltaRun a (bs ++ q))

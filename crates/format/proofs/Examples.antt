@@ -38,7 +38,7 @@ refusal n = (refusedAt n 5, lent)
 -- the answer and the places at exit, for a run at byte 5
 -- (the `unfolding` line opens all that computes: whoever says `unfolding told` computes with it)
 unfoldable pub told : Bool → List ℕ → Answer × List ℤ
-unfolding Digits.number Digits.digits Fields.widths Fields.width Fields.leastOf Fields.leastWidth Fields.negative Fields.zigzag Fields.row Fields.blockBytes Fields.varintValue
+unfolding Digits.number Digits.digits Fields.widths Fields.width Fields.leastOf Fields.leastWidth Fields.negative Fields.zigzag Fields.row Fields.blockBytes Fields.lastBelow
     Runs.patchesFrom Runs.patches Runs.lastIsSkip Runs.taken Runs.shared Runs.outside Runs.outOfPlace Runs.tooLarge Runs.layout Runs.joined
     Rows.steps Rows.walk Rows.baseValue Rows.patchAt Rows.patchedRows Rows.rowsOf Rows.asI64 Rows.i64Rows
     Parse.bytes Parse.block Parse.varint Parse.shortRun Parse.directRun Parse.fixedBody Parse.deltaBody Parse.deltaRun Parse.patchedBody Parse.patchedRun Parse.byKind Parse.parse Parse.into
@@ -97,7 +97,15 @@ fixed-delta : told false (0xC0 ∷ 0x04 ∷ 0x0A ∷ 0x04 ∷ []) ≡ run Delta 
 unfolding told
 fixed-delta = refl
 
--- ten bytes with the top bit set are refused, whatever follows
+-- the tenth byte of a varint: 1, and 2; then ten bytes with the top bit set are refused, whatever follows
+tenth-is-1 : told false (0xC0 ∷ 0x00 ∷ 0xFF ∷ 0xFF ∷ 0xFF ∷ 0xFF ∷ 0xFF ∷ 0xFF ∷ 0xFF ∷ 0xFF ∷ 0xFF ∷ 0x01 ∷ 0x00 ∷ []) ≡ run Delta 0 (negsuc 0 ∷ []) 13
+unfolding told
+tenth-is-1 = refl
+
+tenth-is-2 : told false (0xC0 ∷ 0x00 ∷ 0x80 ∷ 0x80 ∷ 0x80 ∷ 0x80 ∷ 0x80 ∷ 0x80 ∷ 0x80 ∷ 0x80 ∷ 0x80 ∷ 0x02 ∷ 0x00 ∷ []) ≡ refusal 5
+unfolding told
+tenth-is-2 = refl
+
 eleven-bytes : told false (0xC0 ∷ 0x04 ∷ 0x80 ∷ 0x80 ∷ 0x80 ∷ 0x80 ∷ 0x80 ∷ 0x80 ∷ 0x80 ∷ 0x80 ∷ 0x80 ∷ 0x80 ∷ 0x00 ∷ 0x00 ∷ []) ≡ refusal 5
 unfolding told
 eleven-bytes = refl

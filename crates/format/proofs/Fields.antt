@@ -1,8 +1,8 @@
 -- Each of the small readers (bytes, block, varint) reads back what its layout lays down (`-complete`), and takes nothing else (`-sound`).
 -- Soundness is said by `Post`: what holds of a thing that was got, and of the bytes after it. Assumes nothing.
 use mathlib.Core.Path.{_≡_, refl, sym, ap, _∙_}
-use Prim.Native.Nat.{ℕ, zero, suc, _+_, _-_, _*_, _/_, _^_, _<_}
-use native.Mathlib.Nat.{mod-lt, div-lt-iff-lt-mul, div-add-mod', zero-lt-suc, zero-mul, suc-mul}
+use Prim.Native.Nat.{ℕ, zero, suc, _+_, _-_, _*_, _/_, _^_, _<_, _≤_}
+use native.Mathlib.Nat.{mod-lt, div-lt-iff-lt-mul, div-add-mod', zero-lt-suc, zero-mul, suc-mul, lt-of-lt-of-le}
 use native.Mathlib.Omega.{arith}
 use mathlib.Core.Bool.{Bool, true, false, not}
 use mathlib.Core.List.{List, [], _∷_, _++_, append-assoc}
@@ -10,10 +10,10 @@ use lib.ListN.{length, getD, take, drop, length-append, take-append-drop}
 use lib.Seq.{take-at, drop-at, drop-append-add, length-take-le}
 use lib.Arith.{digits-lt, digits-div, digits-mod}
 use lib.Pow.{pow-add, pow-pos}
-use lib.Dec.{T, leb, ltb, leb→le, ltb→lt, nltb→le}
-use borrow.Author.Tests.{le-leb, lt-ltb, le-ltb}
+use lib.Dec.{T, leb, ltb, leb→le, nltb→le, nleb→lt}
+use borrow.Author.Tests.{le-leb, lt-leb, lt-ltb, le-ltb}
 use Rattle.format.specs.Digits.{AllBelow, number, digits, spread}
-use Rattle.format.specs.Fields.{pick, Block, IsBlock, blockBytes, bytesFor, padBits, Varint, last, more}
+use Rattle.format.specs.Fields.{pick, Block, IsBlock, blockBytes, bytesFor, padBits, lastBelow, Varint, last, more}
 use Rattle.format.specs.Parse.{Reason, Parsed, got, refused, then, unless, bytes, unpack, block, varint}
 use Rattle.format.proofs.Digits.{spread-number, digits-split, length-digits, number-lt, digits-below, number-digits, digits-number, pow-pow}
 
@@ -175,9 +175,14 @@ block-sound cut w n bs h =
 
 -- ---- a varint
 
+pub last-le : (k : ℕ) → lastBelow k ≤ 128
+unfolding lastBelow
+last-le zero = omega arith
+last-le (suc k) = omega arith
+
 pub varint-complete : (r : Reason) (k : ℕ) (v rest : List ℕ) → Varint k v → varint r k (v ++ rest) ≡ got v rest
 unfolding varint
-varint-complete r k v rest (last {b = b} h) = rw (lt-ltb b 128 h)
+varint-complete r k v rest (last {k = j} {b = b} h) = rw (lt-ltb b 128 (lt-of-lt-of-le h (last-le j)), lt-leb (lastBelow j) b h)
 varint-complete r k v rest (more {k = j} {b = b} {bs = bs} h _ m) = rw (le-ltb b 128 h, varint-complete r j bs rest m)
 
 pub varint-sound : (r : Reason) (k : ℕ) (bs : List ℕ) → AllBelow 256 bs → Post (Took bs (λ v. v) (Varint k)) (varint r k bs)
@@ -186,12 +191,12 @@ varint-sound r zero bs h = at-refused
 varint-sound r (suc k) [] h = at-refused
 varint-sound r (suc k) (b ∷ bs) h =
     pick-post (ltb b 128)
-    (λ t. at-got (record { ok = last (ltb→lt b 128 t); split = refl; rest-bytes = h .1 }))
+    (λ _. unless-post (leb (lastBelow k) b) 5 λ t. at-got (record { ok = last (nleb→lt (lastBelow k) b t); split = refl; rest-bytes = h .1 }))
     (λ t. then-post (varint-sound r k bs (h .1)) λ v s u.
     at-got (record { ok = more (nltb→le b 128 t) (h .0) (u .ok); split = ap (λ (r : List ℕ). b ∷ r) (u .split); rest-bytes = u .rest-bytes }))
 
 pub varint-below : (k : ℕ) (v : List ℕ) → Varint k v → AllBelow 256 v
-varint-below k v (last h) = (omega arith, tt)
+varint-below k v (last {k = j} h) = (omega (arith, last-le j), tt)
 varint-below k v (more {k = j} {bs = bs} _ h r) = (h, varint-below j bs r)
 
 -- ---- Document 01's own words for a packed block: its bits, highest bit of each byte first, are the fields' bits one after another, and then the padding.

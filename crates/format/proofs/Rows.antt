@@ -10,7 +10,7 @@ use mathlib.Core.List.{List, [], _∷_, _++_, map}
 use lib.Pow.{pow-pos, pow-mono}
 use lib.ListN.{length, length-map, length-replicate, replicate, length-append}
 use Rattle.format.specs.Digits.{AllBelow}
-use Rattle.format.specs.Fields.{width, blockBytes, bytesFor, row, two64, varintValue, groups}
+use Rattle.format.specs.Fields.{width, blockBytes, bytesFor, row, two64}
 use Rattle.format.specs.Runs
 use Rattle.format.specs.Runs.{Description, short, direct, fixed, delta, patched, rowCount, Valid, layout, Patch, entryWidth}
 use Rattle.format.specs.Rows
@@ -20,7 +20,7 @@ use Rattle.format.proofs.Fields.{length-block}
 use Rattle.format.proofs.Digits.{number-lt}
 use Rattle.format.proofs.Patterns.{zigzag-lt}
 use Rattle.format.proofs.Widths.{width-is, least-le}
-use Rattle.format.proofs.Varints.{varint-length}
+use Rattle.format.proofs.Varints.{varint-length, varint-lt}
 
 length-steps : (n x step : ℕ) → length (Rows.steps n x step) ≡ n
 unfolding Rows.steps
@@ -153,16 +153,12 @@ unfolding Rows.patchedRows
 below-patched base w ps p [] = tt
 below-patched base w ps p (v ∷ vs) = (plus-lt base _, below-patched base w ps (suc p) vs)
 
-pub varint-lt : (bs : List ℕ) → varintValue bs < two64
-unfolding varintValue
-varint-lt bs = mod-lt (groups bs) (pow-pos 64)
-
 pub rows-below : (signed : Bool) (d : Description) → Valid d → AllBelow two64 (rowsOf signed d)
 unfolding rowsOf
 rows-below signed (short count value) v =
     below-replicate two64 count _ (row-lt signed _ (lt-of-lt-of-le (number-lt 256 value (v .bytes)) (pow-le-pow-right (zero-lt-suc 255) (v .eight))))
 rows-below signed (direct code k) v =
     below-map (row signed) (2 ^ width code) two64 (k .values) (λ x h. row-lt signed x (lt-of-lt-of-le h (pow-mono (width-le code)))) (v .block .fits)
-rows-below signed (fixed rows first base) v = below-steps rows _ _ (row-lt signed _ (varint-lt first))
-rows-below signed (delta code first base k) v = (row-lt signed _ (varint-lt first), (plus-lt _ _, below-walk _ _ (k .values)))
+rows-below signed (fixed rows first base) v = below-steps rows _ _ (row-lt signed _ (varint-lt first (v .first-varint)))
+rows-below signed (delta code first base k) v = (row-lt signed _ (varint-lt first (v .first-varint)), (plus-lt _ _, below-walk _ _ (k .values)))
 rows-below signed (patched code base pc gw k l) v = below-patched _ _ _ 0 (k .values)

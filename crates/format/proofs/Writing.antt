@@ -17,19 +17,19 @@ use Rattle.format.specs.declared.Form.{Form}
 use Rattle.format.specs.declared.Form.the-variants.{ShortRepeat, Direct, FixedDelta, PackedDelta}
 use Rattle.format.specs.declared.Answer.{Answer}
 use Rattle.format.specs.Digits.{AllBelow, number, digits}
-use Rattle.format.specs.Fields.{pick, width, two64, negative, zigzag, zigzagged, row, IsBlock, Varint, varintValue, groups, shortest}
+use Rattle.format.specs.Fields.{pick, width, two64, negative, zigzag, zigzagged, row, IsBlock, varintValue, shortest, Shortest}
 use Rattle.format.specs.Runs.{Description, short, direct, fixed, delta, Valid, layout, rowCount}
 use Rattle.format.specs.Rows
 use Rattle.format.specs.Rows.{rowsOf, i64Rows, asI64, asU64, plus, walk}
 use Rattle.format.specs.Parse.{Parsed, got, refused, unless, parse, into}
 use Rattle.format.specs.Promises.{answerOf, kindOf, widthOf, RunRead}
 use Rattle.format.specs.Answers.{ran, answerNumber}
-use Rattle.format.specs.Writing.{stored, minus, stepTo, stepsOf, baseDelta, falls, valuesOf, padded, firstOf, described, every, between, countAllowed, haveForm, widthAllowed, fitWidth, writing, AllI64, Written, Short, AsWritten, short-repeat, direct-run, fixed-delta, packed-delta}
+use Rattle.format.specs.Writing.{stored, minus, stepTo, stepsOf, baseDelta, falls, valuesOf, padded, firstOf, described, every, between, countAllowed, haveForm, widthAllowed, fitWidth, writing, AllI64, Written, AsWritten, short-repeat, direct-run, fixed-delta, packed-delta}
 use Rattle.format.proofs.Digits.{number-lt, digits-number, length-digits, digits-below, number-digits, pow-pow}
 use Rattle.format.proofs.Patterns.{zigzag-zigzagged, zigzagged-zigzag, zigzagged-lt, zigzag-lt, as-back, as-forth, as-lt}
 use Rattle.format.proofs.Widths.{and-left, and-right}
-use Rattle.format.proofs.Varints.{shortest-varint, shortest-value, shortest-unique}
-use Rattle.format.proofs.Rows.{width-le, below-replicate, row-lt, varint-lt, rows-below, rows-count}
+use Rattle.format.proofs.Varints.{varint-lt, shortest-varint, shortest-value, shortest-unique}
+use Rattle.format.proofs.Rows.{width-le, below-replicate, row-lt, rows-below, rows-count}
 use Rattle.format.proofs.Runs.{parse-complete, got-inj}
 
 -- ---- tests
@@ -302,22 +302,19 @@ base-even m x s hx hs none = rw (steps-even m x s, steps-walk false x (replicate
     go zero none = sym (none refl)
     go (suc m) none = refl
 
-as-shortest : (v : List ℕ) → Short v → Varint 10 v → v ≡ shortest (varintValue v)
-as-shortest v p h = shortest-unique v h (p .0) (p .1)
-
-still : (base : List ℕ) → groups base ≡ 0 → zigzag (varintValue base) ≡ 0
-unfolding varintValue zigzag
+still : (base : List ℕ) → varintValue base ≡ 0 → zigzag (varintValue base) ≡ 0
+unfolding zigzag
 still base e = rw e
 
-fixed-again : (signed : Bool) (n : ℕ) (first base : List ℕ) → Short first → Short base → (n ≡ 1 → groups base ≡ 0) → Valid (fixed n first base)
+fixed-again : (signed : Bool) (n : ℕ) (first base : List ℕ) → Shortest first → Shortest base → (n ≡ 1 → varintValue base ≡ 0) → Valid (fixed n first base)
     → Again signed FixedDelta 0 (fixed n first base)
 unfolding described valuesOf fitWidth rowsOf haveForm every
 fixed-again signed zero first base p q one v = absurd (omega (arith, v .head .some-rows))
 fixed-again signed (suc m) first base p q one v =
     let x : ℕ = row signed (varintValue first) in
     let s : ℕ = zigzag (varintValue base) in
-    let hx : x < two64 = row-lt signed (varintValue first) (varint-lt first) in
-    let hs : s < two64 = zigzag-lt (varintValue base) (varint-lt base) in
+    let hx : x < two64 = row-lt signed (varintValue first) (varint-lt first (v .first-varint)) in
+    let hs : s < two64 = zigzag-lt (varintValue base) (varint-lt base (v .base-varint)) in
     let b : baseDelta (Rows.steps (suc m) x s) ≡ s = base-even m x s hx hs (λ e. still base (one (ap suc e))) in
     let l : length (Rows.steps (suc m) x s) ≡ suc m = rows-count signed (fixed (suc m) first base) in
     let f : getD (Rows.steps (suc m) x s) 0 0 ≡ x = ap (λ (l : List ℕ). getD l 0 0) (steps-even m x s) in
@@ -329,18 +326,18 @@ fixed-again signed (suc m) first base p q one v =
         size = tt;
         fits = tt;
       };
-      same = rw (l, f, b, stored-row signed (varintValue first) (varint-lt first), zigzagged-zigzag (varintValue base) (varint-lt base), ← (as-shortest first p (v .first-varint)), ← (as-shortest base q (v .base-varint)));
+      same = rw (l, f, b, stored-row signed (varintValue first) (varint-lt first (v .first-varint)), zigzagged-zigzag (varintValue base) (varint-lt base (v .base-varint)), ← (shortest-unique first (v .first-varint) p), ← (shortest-unique base (v .base-varint) q));
     }
 
-delta-again : (signed : Bool) (w : ℕ) (first base vs : List ℕ) → Short first → Short base → Valid (delta w first base (padded vs))
+delta-again : (signed : Bool) (w : ℕ) (first base vs : List ℕ) → Shortest first → Shortest base → Valid (delta w first base (padded vs))
     → Again signed PackedDelta w (delta w first base (padded vs))
 unfolding described valuesOf fitWidth rowsOf haveForm
 delta-again signed w first base vs p q v =
     let x : ℕ = row signed (varintValue first) in
     let s : ℕ = zigzag (varintValue base) in
     let y : ℕ = plus x s in
-    let hx : x < two64 = row-lt signed (varintValue first) (varint-lt first) in
-    let hs : s < two64 = zigzag-lt (varintValue base) (varint-lt base) in
+    let hx : x < two64 = row-lt signed (varintValue first) (varint-lt first (v .first-varint)) in
+    let hs : s < two64 = zigzag-lt (varintValue base) (varint-lt base (v .base-varint)) in
     let b : baseDelta (x ∷ y ∷ walk (falls s) y vs) ≡ s = base-step x y (walk (falls s) y vs) ∙ step-back false x s hx hs in
     let e : stepsOf (falls s) (y ∷ walk (falls s) y vs) ≡ vs = steps-walk (falls s) y vs (mod-lt _ (pow-pos 64)) (below-mono _ two64 (pow-mono (width-le w)) vs (v .block .fits)) in
     let l : length (x ∷ y ∷ walk (falls s) y vs) ≡ length vs + 2 = rows-count signed (delta w first base (padded vs)) in
@@ -351,7 +348,7 @@ delta-again signed w first base vs p q v =
         size = le-between 1 31 w (v .not-fixed) (omega (arith, v .head .code-fits));
         fits = rw (b, e) (below-every (2 ^ width w) vs (v .block .fits));
       };
-      same = rw (b, e, stored-row signed (varintValue first) (varint-lt first), zigzagged-zigzag (varintValue base) (varint-lt base), ← (as-shortest first p (v .first-varint)), ← (as-shortest base q (v .base-varint)));
+      same = rw (b, e, stored-row signed (varintValue first) (varint-lt first (v .first-varint)), zigzagged-zigzag (varintValue base) (varint-lt base (v .base-varint)), ← (shortest-unique first (v .first-varint) p), ← (shortest-unique base (v .base-varint) q));
     }
 
 again : (signed : Bool) (f : Form) (w : ℕ) (d : Description) → AsWritten f w d → Valid d → Again signed f w d

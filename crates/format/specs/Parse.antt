@@ -7,7 +7,7 @@ use mathlib.Core.List.{List, [], _∷_}
 use lib.ListN.{length, take, drop}
 use lib.Dec.{leb, ltb, eqb}
 use Rattle.format.specs.Digits.{number, digits}
-use Rattle.format.specs.Fields.{pick, width, Block, bytesFor, padBits}
+use Rattle.format.specs.Fields.{pick, width, Block, bytesFor, padBits, lastBelow}
 use Rattle.format.specs.Runs.{Description, short, direct, fixed, delta, patched, patches, tooLarge, outOfPlace, entryWidth, rowCount}
 
 -- why reading refuses: by a number alone; or because the input ends in a field: its number, and how many bytes are left from the field's first on
@@ -47,12 +47,12 @@ unpack w n x = record { values = digits (2 ^ w) n (x / 2 ^ padBits w n); pad = x
 unfoldable pub block : ℕ → ℕ → ℕ → List ℕ → Parsed Block
 block c w n bs = then (bytes c (bytesFor (n * w)) bs) λ s rest. got (unpack w n (number 256 s)) rest
 
--- a varint of at most k bytes: refusal 5 where k bytes all have the top bit set
+-- a varint of at most k bytes: refusal 5, at the k-th, where it is above 1
 -- (r is the refusal where the input ends before it: with its first byte)
 unfoldable pub varint : Reason → ℕ → List ℕ → Parsed (List ℕ)
 varint r zero bs = refused (plain 5)
 varint r (suc k) [] = refused r
-varint r (suc k) (b ∷ bs) = pick (ltb b 128) (got (b ∷ []) bs) (then (varint r k bs) λ v rest. got (b ∷ v) rest)
+varint r (suc k) (b ∷ bs) = pick (ltb b 128) (unless (leb (lastBelow k) b) 5 (got (b ∷ []) bs)) (then (varint r k bs) λ v rest. got (b ∷ v) rest)
 
 -- fields of a two-byte header: the width code, and rows-1
 abbrev pub codeOf : ℕ → ℕ

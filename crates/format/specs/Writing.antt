@@ -2,7 +2,7 @@
 -- Rows are 64-bit patterns here, as in Rows; the promise turns i64 rows into them. Nothing here reads.
 -- Assumes nothing.
 use mathlib.Core.Path.{_≡_}
-use Prim.Native.Nat.{ℕ, _+_, _-_, _*_, _%_, _^_, _<_}
+use Prim.Native.Nat.{ℕ, _+_, _-_, _*_, _%_, _^_}
 use mathlib.Core.Bool.{Bool, true, false, not, _&&_}
 use mathlib.Core.List.{List, [], _∷_, _++_, map}
 use lib.ListN.{length, getD, drop}
@@ -14,7 +14,7 @@ use Rattle.format.specs.declared.Form.{Form}
 use Rattle.format.specs.declared.Form.the-variants.{ShortRepeat, Direct, FixedDelta, PackedDelta}
 use Rattle.format.specs.declared.Answer.{Answer}
 use Rattle.format.specs.Digits.{digits}
-use Rattle.format.specs.Fields.{pick, width, two64, zigzagged, Block, groups, shortest, Shortest}
+use Rattle.format.specs.Fields.{pick, width, two64, zigzagged, Block, varintValue, shortest, Shortest}
 use Rattle.format.specs.Runs.{Description, short, direct, fixed, delta, layout}
 use Rattle.format.specs.Rows.{asU64}
 use Rattle.format.specs.Parse.{Parsed, end, got, refused, unless}
@@ -139,13 +139,10 @@ pub record Written (rows : List ℤ) (signed : Bool) (f : Form) (w : ℕ) (out o
   pub answer : r ≡ answerOf 0 0 (writing signed f w (map asU64 rows) (length out))
   pub places : out′ ≡ bytesIn out (writing signed f w (map asU64 rows) (length out))
 
--- ---- A run as the writer lays it down, by its form and width: zero padding, shortest varints with no bits dropped, and delta 0 where there is one row.
-
-abbrev pub Short : List ℕ → Type 0
-Short v = Shortest v × (groups v < two64)
+-- ---- A run as the writer lays it down, by its form and width: zero padding, shortest varints, and delta 0 where there is one row.
 
 pub data AsWritten : Form → ℕ → Description → Type 0 where
   short-repeat : {w count : ℕ} {value : List ℕ} → length value ≡ w → AsWritten ShortRepeat w (short count value)
   direct-run : {w : ℕ} {vs : List ℕ} → AsWritten Direct w (direct w (padded vs))
-  fixed-delta : {n : ℕ} {first base : List ℕ} → Short first → Short base → (n ≡ 1 → groups base ≡ 0) → AsWritten FixedDelta 0 (fixed n first base)
-  packed-delta : {w : ℕ} {first base vs : List ℕ} → Short first → Short base → AsWritten PackedDelta w (delta w first base (padded vs))
+  fixed-delta : {n : ℕ} {first base : List ℕ} → Shortest first → Shortest base → (n ≡ 1 → varintValue base ≡ 0) → AsWritten FixedDelta 0 (fixed n first base)
+  packed-delta : {w : ℕ} {first base vs : List ℕ} → Shortest first → Shortest base → AsWritten PackedDelta w (delta w first base (padded vs))

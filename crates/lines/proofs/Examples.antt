@@ -14,7 +14,7 @@ use Rattle.lines.specs.Line
 
 -- (the `unfolding` line opens all that computes: whoever says `unfolding written` computes with it)
 unfoldable written : List ℕ → List ℕ
-unfolding Digits.number Digits.digits Fields.widths Fields.width Fields.leastOf Fields.leastWidth Fields.negative Fields.zigzag Fields.row Fields.blockBytes Fields.varintValue
+unfolding Digits.number Digits.digits Fields.widths Fields.width Fields.leastOf Fields.leastWidth Fields.negative Fields.zigzag Fields.row Fields.blockBytes Fields.lastBelow
     Runs.patchesFrom Runs.patches Runs.lastIsSkip Runs.taken Runs.shared Runs.outside Runs.outOfPlace Runs.tooLarge Runs.layout
     Rows.steps Rows.walk Rows.baseValue Rows.patchAt Rows.patchedRows Rows.rowsOf Rows.asI64 Rows.i64Rows
     Parse.bytes Parse.block Parse.varint Parse.shortRun Parse.directRun Parse.fixedBody Parse.deltaBody Parse.deltaRun Parse.patchedBody Parse.patchedRun Parse.byKind Parse.parse Parse.into
@@ -55,3 +55,8 @@ lower-case = refl
 past-the-end : written (ascii "01C001FEFFFFFFFFFFFFFFFF0102") ≡ ascii "run 2 13 9223372036854775807 -9223372036854775808"
 unfolding written
 past-the-end = refl
+
+-- and a tenth byte that says more
+tenth-byte : written (ascii "01C001FEFFFFFFFFFFFFFFFF0202") ≡ ascii "refused 5"
+unfolding written
+tenth-byte = refl

@@ -8,15 +8,15 @@ use mathlib.Core.Bool.{Bool, true, false}
 use mathlib.Core.List.{List, [], _∷_, _++_, append-assoc}
 use lib.ListN.{length, take, drop, length-drop, length-append}
 use lib.Seq.{drop-at}
-use lib.Dec.{T, ltb, eqb}
-use borrow.Author.Tests.{lt-ltb, le-ltb, ltb-true, ltb-false, ne-eqb, eq-eqb}
+use lib.Dec.{T, leb, ltb, eqb}
+use borrow.Author.Tests.{le-leb, lt-ltb, le-ltb, leb-true, leb-false, ltb-true, ltb-false, ne-eqb, eq-eqb}
 use Rattle.format.specs.declared.CutField.{CutField}
 use Rattle.format.specs.declared.CutField.the-variants.{None, At}
 use Rattle.format.specs.declared.Refusal.{Refusal}
 use Rattle.format.specs.declared.Answer.the-variants.{Refused}
 use Rattle.format.specs.Answers.{refusing, cutting, refusal}
 use Rattle.format.specs.Digits.{AllBelow, number}
-use Rattle.format.specs.Fields.{pick, width, bytesFor, Varint, last, more}
+use Rattle.format.specs.Fields.{pick, width, bytesFor, lastBelow, Varint, last, more}
 use Rattle.format.specs.Runs.{Description, short, direct, fixed, delta, patched, rowCount, Valid, layout, patches, tooLarge, outOfPlace, entryWidth}
 use Rattle.format.specs.Parse
 use Rattle.format.specs.Parse.{Reason, plain, cut, cutIn, Parsed, end, got, refused, then, unless, bytes, block, varint, codeOf, rowsLess, parse, into}
@@ -27,37 +27,48 @@ use Rattle.format.proofs.Streams.{into-refused}
 use Rattle.format.proofs.Reading.{bytes-here, bytes-cut, blockAt, block-here, block-cut}
 use Rattle.promises.specs.Refusals
 use Rattle.promises.specs.Refusals.{Table, refusal-1, refusal-2, refusal-3, refusal-4, refusal-5, refusal-7, refusal-8, CutLine, CutNumber, six, twelve, thirteen, fourteen, Given, by-number, by-field, RefusalsHold, AnswersHold}
-use Rattle.promises.specs.Refusals.{kind, headerOf, TenTop, Unended, Headed, PatchedRun, DeltaRun, magnitudeBytes, listFrom, listTo, entries, valueBytes, baseBytes}
+use Rattle.promises.specs.Refusals.{kind, headerOf, TenthAbove, Unended, Headed, PatchedRun, DeltaRun, magnitudeBytes, listFrom, listTo, entries, valueBytes, baseBytes}
 use Rattle.promises.proofs.PatchLists.{never-both, too-large, out-of-place}
 
 -- ---- varints: each outcome, with its line
 
 data VarintRead (c : Reason) (k : ℕ) (s : List ℕ) : Parsed (List ℕ) → Type 0 where
-  read-varint : {v rest : List ℕ} → Varint k v → s ≡ v ++ rest → AllBelow 256 rest → VarintRead c k s (got v rest)
-  read-ten : TenTop k s → VarintRead c k s (refused (plain 5))
-  read-end : Unended k s → VarintRead c k s (refused c)
+  read-varint : {v rest : List ℕ} → Varint (suc k) v → s ≡ v ++ rest → AllBelow 256 rest → VarintRead c k s (got v rest)
+  read-above : TenthAbove k s → VarintRead c k s (refused (plain 5))
+  read-end : Unended (suc k) s → VarintRead c k s (refused c)
 
 module _ (c : Reason) where
-  varint-read : (k : ℕ) (s : List ℕ) → AllBelow 256 s → VarintRead c k s (varint c k s)
-  unfolding varint
-  varint-read zero s h = read-ten (omega arith, tt)
-  varint-read (suc k) [] h = read-end (omega arith, tt)
-  varint-read (suc k) (b ∷ s) h = go (ltb b 128) refl (varint-read k s (h .1))
+  varint-read : (k : ℕ) (s : List ℕ) → AllBelow 256 s → VarintRead c k s (varint c (suc k) s)
+  unfolding varint lastBelow
+  varint-read k [] h = read-end (omega arith, tt)
+  varint-read zero (b ∷ s) h = go (ltb b 128) (leb 2 b) refl refl
+    where
+      go : (t u : Bool) → ltb b 128 ≡ t → leb 2 b ≡ u → VarintRead c 0 (b ∷ s) (pick t (unless u 5 (got (b ∷ []) s)) (refused (plain 5)))
+      go true true e f = read-above (omega arith, tt, leb-true 2 b f)
+      go true false e f = read-varint (last {k = 0} (leb-false 2 b f)) refl (h .1)
+      go false u e f = read-above (omega arith, tt, omega (arith, ltb-false b 128 e))
+  varint-read (suc k) (b ∷ s) h = go (ltb b 128) (leb 128 b) refl refl (varint-read k s (h .1))
     where
       behind : {m : Parsed (List ℕ)} → 128 ≤ b → VarintRead c k s m → VarintRead c (suc k) (b ∷ s) (then m λ v rest. got (b ∷ v) rest)
       behind g (read-varint v e r) = read-varint (more g (h .0) v) (ap (λ (t : List ℕ). b ∷ t) e) r
-      behind g (read-ten t) = read-ten (omega (arith, t .0), (g, t .1))
+      behind g (read-above t) = read-above (omega (arith, t .0), (g, t .1), t .2)
       behind g (read-end t) = read-end (omega (arith, t .0), (g, t .1))
 
-      go : (t : Bool) → ltb b 128 ≡ t → VarintRead c k s (varint c k s) → VarintRead c (suc k) (b ∷ s) (varint c (suc k) (b ∷ s))
-      go true e r = rw e (read-varint (last (ltb-true b 128 e)) refl (h .1))
-      go false e r = rw e (behind (ltb-false b 128 e) r)
+      go : (t u : Bool) → ltb b 128 ≡ t → leb 128 b ≡ u → VarintRead c k s (varint c (suc k) s)
+          → VarintRead c (suc k) (b ∷ s) (pick t (unless u 5 (got (b ∷ []) s)) (then (varint c (suc k) s) λ v rest. got (b ∷ v) rest))
+      go true true e f r = absurd (omega (arith, ltb-true b 128 e, leb-true 128 b f))
+      go true false e f r = read-varint (last {k = suc k} (ltb-true b 128 e)) refl (h .1)
+      go false u e f r = behind (ltb-false b 128 e) r
 
-  ten-top : (k : ℕ) (s : List ℕ) → TenTop k s → varint c k s ≡ refused (plain 5)
-  unfolding varint
-  ten-top zero s h = refl
-  ten-top (suc k) [] h = absurd (omega (arith, h .0))
-  ten-top (suc k) (b ∷ s) h = rw (le-ltb b 128 (h .1 .0), ten-top k s (omega (arith, h .0), h .1 .1))
+  tenth-above : (k : ℕ) (s : List ℕ) → TenthAbove k s → varint c (suc k) s ≡ refused (plain 5)
+  unfolding varint lastBelow
+  tenth-above k [] h = absurd (omega (arith, h .0))
+  tenth-above zero (b ∷ s) h = go (ltb b 128)
+    where
+      go : (t : Bool) → pick t (unless (leb 2 b) 5 (got (b ∷ []) s)) (refused (plain 5)) ≡ refused (plain 5)
+      go true = rw (le-leb 2 b (h .2))
+      go false = refl
+  tenth-above (suc k) (b ∷ s) h = rw (le-ltb b 128 (h .1 .0), tenth-above k s (omega (arith, h .0), h .1 .1, h .2))
 
   unended : (k : ℕ) (s : List ℕ) → Unended k s → varint c k s ≡ refused c
   unfolding varint
@@ -263,24 +274,24 @@ module _ (places a b : ℕ) (s : List ℕ) (k : a / 64 ≡ 3) where
         go (yes l) = rw (magnitudes-cut (suc c) v w rest l) (cut-there _ _ (behind-two a b s v w rest f) (Refusals.in-magnitudes v w rest delta-run f h g (rw e l)))
         go (no l) = rw (block-here rest 0 13 (width (suc c)) (rowsLess a b + 1 - 2) (omega arith)) a-run
 
-    second : (v rest : List ℕ) → s ≡ v ++ rest → Varint 10 v → {m : Parsed (List ℕ)} → VarintRead (cutIn 12 rest) 10 rest m
+    second : (v rest : List ℕ) → s ≡ v ++ rest → Varint 10 v → {m : Parsed (List ℕ)} → VarintRead (cutIn 12 rest) 9 rest m
         → Fate places (a ∷ b ∷ s) (then m λ w t. afterVarints (codeOf a) (rowsLess a b + 1) v w t)
     second v rest e h (read-varint {v = w} {rest = t} g f r) =
         magnitudes-fate (codeOf a) refl v w t (e ∙ ap (λ (x : List ℕ). v ++ x) f) h g
-    second v rest e h (read-ten t) = by-line (by-number (refusal-5 (Refusals.base-delta v rest delta-run e h t)))
+    second v rest e h (read-above t) = by-line (by-number (refusal-5 (Refusals.base-delta v rest delta-run e h t)))
     second v rest e h (read-end t) = cut-there _ _ (behind-one a b s v rest e) (Refusals.in-base-delta v rest delta-run e h t)
 
-    first : {m : Parsed (List ℕ)} → VarintRead (cutIn 12 s) 10 s m
+    first : {m : Parsed (List ℕ)} → VarintRead (cutIn 12 s) 9 s m
         → Fate places (a ∷ b ∷ s) (then m λ v t. then (varint (cutIn 12 t) 10 t) λ w rest. afterVarints (codeOf a) (rowsLess a b + 1) v w rest)
-    first (read-varint {v = v} {rest = t} h e r) = second v t e h (varint-read (cutIn 12 t) 10 t r)
-    first (read-ten t) = by-line (by-number (refusal-5 (Refusals.first-row delta-run t)))
+    first (read-varint {v = v} {rest = t} h e r) = second v t e h (varint-read (cutIn 12 t) 9 t r)
+    first (read-above t) = by-line (by-number (refusal-5 (Refusals.first-row delta-run t)))
     first (read-end t) = by-line (by-field (Refusals.in-first-row delta-run t))
 
   delta-fate : AllBelow 256 s → Fate places (a ∷ b ∷ s) (parse (a ∷ b ∷ s))
   delta-fate h = go (decLt 0 (codeOf a)) (decLt 1 (rowsLess a b + 1))
     where
       by : (codeOf a ≡ 0) ⊎ (2 ≤ rowsLess a b + 1) → Fate places (a ∷ b ∷ s) (parse (a ∷ b ∷ s))
-      by n = rw (delta-body n) (first n (varint-read (cutIn 12 s) 10 s h))
+      by n = rw (delta-body n) (first n (varint-read (cutIn 12 s) 9 s h))
 
       go : Dec (0 < codeOf a) → Dec (1 < rowsLess a b + 1) → Fate places (a ∷ b ∷ s) (parse (a ∷ b ∷ s))
       go (no x) y = by (inl (omega arith))
@@ -353,11 +364,11 @@ line-4 bs l = two (λ x. Refusals.Line4 x → parse x ≡ refused (plain 4)) (λ
 
 line-5 : (bs : List ℕ) → Refusals.Line5 bs → parse bs ≡ refused (plain 5)
 line-5 bs (Refusals.first-row r t) =
-    two (λ x. DeltaRun x → TenTop 10 (drop 2 x) → parse x ≡ refused (plain 5))
-    (λ a b s r t. delta-body 0 a b s (r .headed .is-kind) (r .not-4) ∙ rw (ten-top (cutIn 12 s) 10 s t)) bs (r .headed .header) r t
+    two (λ x. DeltaRun x → TenthAbove 9 (drop 2 x) → parse x ≡ refused (plain 5))
+    (λ a b s r t. delta-body 0 a b s (r .headed .is-kind) (r .not-4) ∙ rw (tenth-above (cutIn 12 s) 9 s t)) bs (r .headed .header) r t
 line-5 bs (Refusals.base-delta v rest r e h t) =
     two (λ x. DeltaRun x → drop 2 x ≡ v ++ rest → parse x ≡ refused (plain 5))
-    (λ a b s r e. behind-first 0 a b s (r .headed .is-kind) (r .not-4) v rest e h ∙ rw (ten-top (cutIn 12 rest) 10 rest t)) bs (r .headed .header) r e
+    (λ a b s r e. behind-first 0 a b s (r .headed .is-kind) (r .not-4) v rest e h ∙ rw (tenth-above (cutIn 12 rest) 9 rest t)) bs (r .headed .header) r e
 
 line-cut : (bs : List ℕ) {n field : ℕ} → CutLine bs n field → parse bs ≡ refused (cutIn n (drop field bs))
 line-cut [] (Refusals.in-value h l) = absurd (omega (arith, h .header))

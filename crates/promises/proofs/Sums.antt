@@ -10,10 +10,11 @@ use lib.Dec.{leb}
 use lib.Pow.{pow-mono, pow-pos}
 use borrow.Author.Tests.{lt-leb, le-leb}
 use Rattle.format.specs.Digits.{AllBelow, number}
-use Rattle.format.specs.Fields.{two64, negative, width, Block}
+use Rattle.format.specs.Fields.{two64, negative, width, Block, Varint}
 use Rattle.format.specs.Runs.{Patch, fixed, delta, patched, patches}
 use Rattle.format.specs.Rows.{steps, walk, patchedRows, patchAt, plus, rowsOf, baseValue}
-use Rattle.format.proofs.Rows.{width-le, row-lt, varint-lt}
+use Rattle.format.proofs.Varints.{varint-lt}
+use Rattle.format.proofs.Rows.{width-le, row-lt}
 use Rattle.promises.specs.Sums.{sum, firstRow, baseDelta, Sums}
 
 steps-at : (n x step i : ℕ) → x < two64 → i < n → getD (steps n x step) i 0 ≡ (x + i * step) % two64
@@ -62,10 +63,10 @@ below-mono : (a b : ℕ) (l : List ℕ) → a ≤ b → AllBelow a l → AllBelo
 below-mono a b [] h p = tt
 below-mono a b (x ∷ l) h p = (lt-of-lt-of-le (p .0) h, below-mono a b l h (p .1))
 
-fixed-at : (signed : Bool) (rows : ℕ) (first base : List ℕ) (i : ℕ) → i < rows
+fixed-at : (signed : Bool) (rows : ℕ) (first base : List ℕ) (i : ℕ) → Varint 10 first → i < rows
     → getD (rowsOf signed (fixed rows first base)) i 0 ≡ (firstRow signed first + i * baseDelta base) % two64
 unfolding rowsOf
-fixed-at signed rows first base i h = steps-at rows _ _ i (row-lt signed _ (varint-lt first)) h
+fixed-at signed rows first base i v h = steps-at rows _ _ i (row-lt signed _ (varint-lt first v)) h
 
 patched-row-at : (signed : Bool) (code : ℕ) (base : List ℕ) (pc gw : ℕ) (k l : Block) (p : ℕ) → p < length (k .values)
     → getD (rowsOf signed (patched code base pc gw k l)) p 0
@@ -90,7 +91,8 @@ module _ (signed : Bool) (code : ℕ) (first base : List ℕ) (k : Block) (falli
 pub sums : Sums
 unfolding baseValue second
 sums = record {
-  fixed-row = λ signed rows first base i v h. fixed-at signed rows first base i h;
+  varint-number = varint-lt;
+  fixed-row = λ signed rows first base i v h. fixed-at signed rows first base i (v .first-varint) h;
   first-row = λ signed code first base k v. rw (delta-rows signed code first base k _ refl);
   rising-row = λ signed code first base k i v h s.
       rw (delta-row signed code first base k false (lt-leb (2 ^ 63) (baseDelta base) s))

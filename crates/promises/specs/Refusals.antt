@@ -93,9 +93,9 @@ abbrev pub AllTop : List ℕ → Type 0
 AllTop [] = Unit {0}
 AllTop (b ∷ bs) = (128 ≤ b) × AllTop bs
 
--- a varint is wanted, and its first ten bytes all have the top bit set; or the input ends before it does
-abbrev pub TenTop : ℕ → List ℕ → Type 0
-TenTop ten s = (ten ≤ length s) × AllTop (take ten s)
+-- a varint is wanted, and its tenth byte, behind nine with the top bit set, is above 1; or the input ends before the varint does
+abbrev pub TenthAbove : ℕ → List ℕ → Type 0
+TenthAbove nine s = (nine < length s) × AllTop (take nine s) × (1 < getD s nine 0)
 
 abbrev pub Unended : ℕ → List ℕ → Type 0
 Unended ten s = (length s < ten) × AllTop s
@@ -124,10 +124,10 @@ Line2 bs = Headed 2 bs × (64 < width (patchCode bs) + gapWidth bs)
 abbrev pub Line4 : List ℕ → Type 0
 Line4 bs = Headed 3 bs × (1 ≤ code bs) × (rows bs ≡ 1)
 
--- 5: a varint's first ten bytes all have the top bit set: the first row's, or behind it the base delta's
+-- 5: a varint's tenth byte is above 1: the first row's, or behind it the base delta's
 pub data Line5 (bs : List ℕ) : Type 0 where
-  first-row : DeltaRun bs → TenTop 10 (drop 2 bs) → Line5 bs
-  base-delta : (first rest : List ℕ) → DeltaRun bs → drop 2 bs ≡ first ++ rest → Varint 10 first → TenTop 10 rest → Line5 bs
+  first-row : DeltaRun bs → TenthAbove 9 (drop 2 bs) → Line5 bs
+  base-delta : (first rest : List ℕ) → DeltaRun bs → drop 2 bs ≡ first ++ rest → Varint 10 first → TenthAbove 9 rest → Line5 bs
 
 -- 6, 12, 13, 14: the input ends in a field. The number, and the byte of the run where the field begins.
 pub data CutLine (bs : List ℕ) : ℕ → ℕ → Type 0 where

@@ -25,7 +25,7 @@ ReadsBack =
     → (r′ ≡ r) × (places′ ≡ rows ++ drop (length rows) places)
 
 -- (b) Writing again the rows of a run that was read, in the same form, flag and width, gives the same bytes, if the run's padding is zero, its varints
--- are shortest with no bits dropped, and a one-row fixed delta is 0 (`AsWritten`).
+-- are shortest (none drops a bit: its number is below 2^64), and a one-row fixed delta is 0 (`AsWritten`).
 abbrev pub WritesAgain : Type 0
 WritesAgain =
     (signed : Bool) (form : Form) (width : ℕ) (d : Description) → Valid d → AsWritten form width d

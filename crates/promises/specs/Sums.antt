@@ -7,7 +7,7 @@ use mathlib.Core.Bool.{Bool}
 use mathlib.Core.List.{List, [], _∷_}
 use lib.ListN.{length, getD, take}
 use Rattle.format.specs.Digits.{number}
-use Rattle.format.specs.Fields.{two64, zigzag, row, width, Block, varintValue}
+use Rattle.format.specs.Fields.{two64, zigzag, row, width, Block, Varint, varintValue}
 use Rattle.format.specs.Runs.{fixed, delta, patched, Valid, patches}
 use Rattle.format.specs.Rows.{rowsOf, baseValue, patchAt}
 
@@ -23,6 +23,8 @@ abbrev pub baseDelta : List ℕ → ℕ
 baseDelta base = zigzag (varintValue base)
 
 pub record Sums : Type 0 where
+  -- a varint drops no bits: its number is below 2^64
+  pub varint-number : (v : List ℕ) → Varint 10 v → varintValue v < two64
   -- fixed delta: row i is first + i·delta
   pub fixed-row : (signed : Bool) (rows : ℕ) (first base : List ℕ) (i : ℕ) → Valid (fixed rows first base) → i < rows
       → getD (rowsOf signed (fixed rows first base)) i 0 ≡ (firstRow signed first + i * baseDelta base) % two64

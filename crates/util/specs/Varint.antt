@@ -9,7 +9,7 @@ use Rattle.format.specs.Parse.{Parsed, end, got, refused, plain, cut, cutIn, va
 use Rattle.util.specs.declared.varint.Varint.{Varint}
 use Rattle.util.specs.declared.varint.Varint.the-variants.{Value, Cut, TooLong}
 
--- the value with the place after it; or that the input ends in it, or that ten bytes do not end it
+-- the value with the place after it; or that the input ends in it, or that its tenth byte is above 1
 abbrev pub told : ℕ → Parsed (List ℕ) → Varint
 told at (got v rest) = Value (varintValue v) (at + length v)
 told at (refused (plain n)) = TooLong

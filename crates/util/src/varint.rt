@@ -1,27 +1,35 @@
-// Varints: seven bits a byte, lowest group first, top bit set on all but the last, at most ten bytes.
+// Varints: seven bits a byte, lowest group first, top bit set on all but the last, at most ten bytes, the tenth at most 1.
 ghost use mathlib.Core.Path.{_≡_};
 ghost use mathlib.Core.List.{_++_};
-ghost use Prim.Native.Nat.{_+_, _*_, _%_, _^_, _<_, _≤_};
+ghost use Prim.Native.Nat.{_+_, _-_, _*_, _%_, _^_, _<_, _≤_};
 ghost use lib.ListN.{length, take, drop};
-ghost use Rattle.format.specs.Fields.{shortest};
+ghost use Rattle.format.specs.Fields.{lastBelow, shortest};
 ghost use Rattle.util.specs.Varint.{varintAt, Written};
 use crate::pattern;
 
 pub enum Varint {
-    // The value's low 64 bits, and the place after it.
+    // The value, and the place after it.
     Value { bits: u64, next: usize },
     // The input ends in it: refusal 12.
     Cut,
-    // Ten bytes, and the tenth has the top bit set: refusal 5.
+    // The tenth byte is above 1: refusal 5.
     TooLong,
 }
 
-// The seven low bits of b as group k. Bits at 2^64 and above are dropped by the shift.
+// The seven low bits of b as group k. Only a tenth byte above 1 has bits at 2^64 and above, which the shift drops.
 fn group(b: u8, k: u64) -> u64
     requires { ⌜ k < 10 ⌝ }
     ensures { λ r. ⌜ r ≡ b % 128 * 2 ^ (7 * k) % 2 ^ 64 ⌝ }
 {
     ((b as u64) % 128) << (7 * k)
+}
+
+// What the last byte of a varint is below, where k bytes stand before it: the tenth has one bit left.
+fn last_below(k: u64) -> u8
+    requires { ⌜ k < 10 ⌝ }
+    ensures { λ r. ⌜ r ≡ lastBelow (10 - (k + 1)) ⌝ }
+{
+    if k < 9 { 128 } else { 2 }
 }
 
 // The varint at a place. A place past the end is empty input.
@@ -39,6 +47,9 @@ pub fn read(s: &[u8], at: usize) -> Varint
         v = pattern::add(v, group(b, k));
         i += 1;
         if b < 128 {
+            if last_below(k) <= b {
+                return Varint::TooLong;
+            }
             return Varint::Value { bits: v, next: i };
         }
         k += 1;

@@ -90,12 +90,13 @@ fn every_cut() {
 fn a_damaged_end() {
     let folder = scratch("damaged");
     let whole = &EVERY_KIND[..BEFORE_THE_END];
-    // No run begins like these: a delta with one row and a width, a patch entry of 65 bits, a varint of
-    // eleven bytes, a patch outside the run.
-    let ends: [(&[u8], u8); 4] = [
+    // No run begins like these: a delta with one row and a width, a patch entry of 65 bits, a varint that
+    // goes on behind its tenth byte, one that says too much there, a patch outside the run.
+    let ends: [(&[u8], u8); 5] = [
         (&[0xC2, 0x00], 4),
         (&[0x86, 0x03, 0x1F, 0x21], 2),
         (&[0xC0, 0x04, 0xFF, 0xFF, 0xFF, 0xFF, 0xFF, 0xFF, 0xFF, 0xFF, 0xFF, 0xFF, 0x00], 5),
+        (&[0xC0, 0x04, 0xFF, 0xFF, 0xFF, 0xFF, 0xFF, 0xFF, 0xFF, 0xFF, 0xFF, 0x7F, 0x00], 5),
         (&[0x86, 0x03, 0x03, 0x41, 0x64, 0x12, 0x34, 0x8A], 7),
     ];
     for (end, number) in ends {

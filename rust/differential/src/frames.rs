@@ -64,12 +64,13 @@ pub fn direct(code: usize, rows: usize, random: &mut Random) -> Vec<u8> {
     packer.done()
 }
 
-/// A varint of so many bytes, the shortest or not.
+/// A varint of so many bytes, the shortest or not. A tenth byte is mostly one that is allowed.
 fn varint(bytes: usize, packer: &mut Packer, random: &mut Random) {
     for _ in 1..bytes {
         packer.put(u64::from(random.byte() | 128), 8);
     }
-    packer.put(u64::from(random.byte() & 127), 8);
+    let last = if bytes == 10 && !random.once_in(4) { 1 } else { 127 };
+    packer.put(u64::from(random.byte() & last), 8);
 }
 
 pub fn delta(code: usize, rows: usize, random: &mut Random) -> Vec<u8> {

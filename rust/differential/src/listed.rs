@@ -11,6 +11,7 @@ pub enum Difference {
     OneRowDelta,
     EntryOver64,
     PatchTooLarge,
+    TenthByte,
     EleventhByte,
     PlaceOutside,
     PlaceShared,
@@ -65,12 +66,13 @@ impl Entry {
 }
 
 /// The list. "Smallest" is fewest bytes, then the lowest first byte that differs.
-pub const LIST: [Entry; 14] = [
+pub const LIST: [Entry; 15] = [
     Entry::run(Difference::Code24To26, "code-24-to-26", "70"),
     Entry::run(Difference::EmptyList, "empty-list", "80 00 00 00 00 00"),
     Entry::run(Difference::OneRowDelta, "one-row-delta", "C6 00 00 00 00"),
     Entry::run(Difference::EntryOver64, "entry-over-64", "80 00 1F 00 00 00"),
     Entry::run(Difference::PatchTooLarge, "patch-too-large", "BA 00 10 01 00 00 00 00 00 00 00 40 00 00"),
+    Entry::run(Difference::TenthByte, "tenth-byte", "C0 00 00 80 80 80 80 80 80 80 80 80 02"),
     Entry::run(Difference::EleventhByte, "eleventh-byte", "C0 00 00 80 80 80 80 80 80 80 80 80 80 00"),
     Entry::run(Difference::PlaceOutside, "place-outside", "80 00 00 01 00 00 80"),
     Entry::run(Difference::PlaceShared, "place-shared", "80 00 00 02 00 00 00"),
@@ -129,6 +131,19 @@ fn has_empty_list(bytes: &[u8]) -> bool {
     matches!(bytes, [first, _, _, fourth, ..] if first >> 6 == 2 && fourth & 31 == 0)
 }
 
+/// The first tenth byte above 1 of a delta run's two varints, which stand behind two header bytes.
+fn tenth_byte(bytes: &[u8]) -> Option<u8> {
+    let mut rest = bytes.get(2..)?;
+    for _ in 0..2 {
+        let length = 1 + rest.iter().take_while(|byte| **byte >= 128).count();
+        if let Some(tenth) = rest.get(9).filter(|tenth| length >= 10 && **tenth > 1) {
+            return Some(*tenth);
+        }
+        rest = rest.get(length..)?;
+    }
+    None
+}
+
 /// The sort of a run's two answers; nothing for a difference that is not listed.
 pub fn of_run(bytes: &[u8], paper: &Answer, rust: &Run) -> Option<Sort> {
     use Difference::*;
@@ -148,6 +163,8 @@ pub fn of_run(bytes: &[u8], paper: &Answer, rust: &Run) -> Option<Sort> {
         (1 | 2 | 4..=6 | 12..=14, Run::Error(_)) => Some(Sort::Refused(number)),
         (2, Run::Rows { .. } | Run::Panic) => listed(EntryOver64),
         (4, Run::Panic) => listed(OneRowDelta),
+        // With the top bit set the Rust reads on, otherwise it drops the bits above 2^64.
+        (5, Run::Rows { .. }) if tenth_byte(bytes)? < 128 => listed(TenthByte),
         (5, Run::Rows { .. }) => listed(EleventhByte),
         (3 | 7, Run::Rows { .. } | Run::Panic) => of_list(model::list_faults(bytes)?, rust),
         _ => None,

@@ -14,7 +14,7 @@ pub enum Refusal {
     PatchTooLarge,
     /// 4: delta with a width, and one row.
     OneRowDelta,
-    /// 5: a varint's first ten bytes all have the top bit set.
+    /// 5: a varint's tenth byte is above 1: it says more than 64 bits hold, or goes on.
     VarintTooLong,
     /// 6: a short repeat's value, a patched run's base or a byte value is cut, or a boolean control
     /// byte is missing.
@@ -96,7 +96,7 @@ impl Refusal {
             Refusal::EntryOver64 => "patched base: patch width and gap width are over 64 bits together",
             Refusal::PatchTooLarge => "patched base: a patch has no room above its value, in 64 bits",
             Refusal::OneRowDelta => "delta: packed magnitudes announced for a single row",
-            Refusal::VarintTooLong => "a varint goes on past ten bytes",
+            Refusal::VarintTooLong => "a varint says more than 64 bits hold: its tenth byte is above 1",
             Refusal::ValueCut => "a value, a base or a control byte is cut",
             Refusal::PatchOutOfPlace => {
                 "patched base: a patch is outside the run or at another's place, or the list ends with a skip"

@@ -135,6 +135,36 @@ fn patches_that_fit() {
     rows("BE001E00000000000000000007", Sign::Unsigned, Kind::PatchedBase, 64, &[7]);
 }
 
+/// Document 02, item 7: ten bytes as the first row, and as the base delta behind the row 7. The tenth is
+/// judged before what is missing behind it.
+#[test]
+fn tenth_bytes() {
+    use Sign::*;
+    const EIGHTIES: &str = "808080808080808080";
+    const ALL_SET: &str = "FFFFFFFFFFFFFFFFFF";
+    for (nine, tenth, first, second) in [
+        (EIGHTIES, "00", 0, 7),
+        (EIGHTIES, "01", i64::MIN, 7 + (1 << 62)),
+        (ALL_SET, "00", i64::MAX, 7 - (1 << 62)),
+        (ALL_SET, "01", -1, i64::MIN + 7),
+    ] {
+        rows(&format!("C000{nine}{tenth}00"), Unsigned, Kind::Delta, 0, &[first]);
+        refused(&format!("C000{nine}{tenth}"), Refusal::VarintCut, Some(12));
+        rows(&format!("C00107{nine}{tenth}"), Unsigned, Kind::Delta, 0, &[7, second]);
+    }
+    for nine in [EIGHTIES, ALL_SET] {
+        for tenth in ["02", "7F", "80", "81", "FF"] {
+            for behind in ["", "00", "80", "8001"] {
+                refused(&format!("C000{nine}{tenth}{behind}"), Refusal::VarintTooLong, None);
+                refused(&format!("C00107{nine}{tenth}{behind}"), Refusal::VarintTooLong, None);
+                refused(&format!("C603{nine}{tenth}{behind}"), Refusal::VarintTooLong, None);
+            }
+        }
+    }
+    // Nine bytes say what they say.
+    rows("C000FFFFFFFFFFFFFFFF7F00", Unsigned, Kind::Delta, 0, &[i64::MAX]);
+}
+
 /// 512 rows of 64 bits, a base of 8 bytes, 31 entries of 64 bits; and nothing behind them is read.
 #[test]
 fn the_longest_run() {

@@ -16,7 +16,8 @@ pub fn zigzag(u: u64) -> i64 {
 /// What the bytes of a varint say, where they do not end too soon.
 pub enum Varint {
     Number(u64),
-    TooLong,
+    /// More than 64 bits hold: the tenth byte is above 1.
+    TooMuch,
 }
 
 /// Bits in the order of the bytes, the highest bit of each byte first.
@@ -57,18 +58,21 @@ impl<'a> Bits<'a> {
         Some(block)
     }
 
-    /// "Seven bits a byte, lowest group first, top bit set on all but the last. At most ten bytes.
-    /// Bits at 2^64 and above are dropped."
+    /// "Seven bits a byte, lowest group first, top bit set on all but the last. At most ten bytes." "A
+    /// varint whose tenth byte is above 1 is now refused."
     pub fn varint(&mut self) -> Option<Varint> {
-        let mut sum: u128 = 0;
-        for group in 0..10 {
+        let mut sum = 0;
+        for group in 0..9 {
             let more = self.bit()?;
-            sum += u128::from(self.number(7)?) << (7 * group);
+            sum += self.number(7)? << (7 * group);
             if more == 0 {
-                return Some(Varint::Number(sum as u64));
+                return Some(Varint::Number(sum));
             }
         }
-        Some(Varint::TooLong)
+        Some(match self.number(8)? {
+            tenth @ (0 | 1) => Varint::Number(sum + (tenth << 63)),
+            _ => Varint::TooMuch,
+        })
     }
 
     /// How many whole bytes were taken.

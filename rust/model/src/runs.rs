@@ -93,11 +93,11 @@ fn direct(bits: &mut Bits, signed: bool) -> Result<(usize, Vec<i64>), Fault> {
     Ok((WIDTHS[code], block.into_iter().map(|number| row(number, signed)).collect()))
 }
 
-/// A varint: 12 where it is cut, 5 where it is none.
+/// A varint: 12 where it is cut, 5 where its tenth byte is above 1.
 fn varint(bits: &mut Bits) -> Result<u64, Fault> {
     match field(bits, 12, |bits| bits.varint())? {
         Varint::Number(number) => Ok(number),
-        Varint::TooLong => Err(Fault::of(5)),
+        Varint::TooMuch => Err(Fault::of(5)),
     }
 }
 

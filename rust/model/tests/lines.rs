@@ -111,9 +111,10 @@ fn order_of_refusals_and_varints() {
     refused("C00280808080808080808080", 5);
     cut("C002808080808080808080", 12, 2);
     refused("C0020180808080808080808080", 5);
-    // The tenth byte's bits at 2^64 and above are dropped.
-    rows("C000FFFFFFFFFFFFFFFFFF7F00", false, &[-1], 13);
-    rows("C0008080808080808080800200", false, &[0], 13);
+    // The tenth byte's bits at 2^64 and above are not dropped any more.
+    rows("C000FFFFFFFFFFFFFFFFFF0100", false, &[-1], 13);
+    refused("C000FFFFFFFFFFFFFFFFFF7F00", 5);
+    refused("C0008080808080808080800200", 5);
     // 7 before 8, and 8 last.
     let seven = Answer::Refused(Refusal::whole(7, 0));
     assert_eq!(read_run(&bytes("860303416412348A"), 0, false, 3), seven);

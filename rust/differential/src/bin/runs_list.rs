@@ -15,7 +15,7 @@ use differential::tally::Hex;
 use differential::{frames, program};
 
 /// Document 01's lines, each refusal, and lines that are bad.
-const SHORT: [&str; 52] = [
+const SHORT: [&str; 54] = [
     "000A012C",
     "0046021230",
     "0086031F21",
@@ -68,6 +68,8 @@ const SHORT: [&str; 52] = [
     "00B4011C010A0000000400000020010000000003",
     "00B4011C010A0000000400000020010400000000",
     "01B4011C000A0000000400000020",
+    "00C0008080808080808080800100",
+    "00C000FFFFFFFFFFFFFFFFFF7F00",
 ];
 
 /// The most that the program holds of a line, and how much it reads behind that: as much as its array has

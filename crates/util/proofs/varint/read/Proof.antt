@@ -6,7 +6,8 @@ use lib.ListN.{length, drop, getD}
 use denote.Ref.{now}
 use borrow.Author.Needs.{needs}
 use Rattle.format.specs.Parse.{cutIn, varint}
-use Rattle.util.proofs.Varints.{toldFrom, told-from, at-end, at-last, at-next, sum-is, weight}
+use Rattle.format.proofs.Fields.{below-all, below-drop}
+use Rattle.util.proofs.Varints.{toldFrom, told-from, at-end, at-last, at-long, at-next, sum-is, weight}
 use Rattle.util.specs.Varint.{varintAt}
 use Rattle.util.specs.declared.varint.Varint.the-variants.{Value}
 use Rattle.util.proofs.varint.read.Statement.{statement}
@@ -20,7 +21,10 @@ abbrev μ-loop : tie.MeasureT-loop
 
 loop-holds : tie.Need-loop-holds Inv-loop μ-loop
 unfolding varintAt
-loop-holds c = let a = c .before .args in (omega arith, told-from (a .at) (varint (cutIn 12 (drop (a .at) (a .s .now))) 10 (drop (a .at) (a .s .now))))
+loop-holds c =
+    let a = c .before .args in
+    let b = below-drop 256 (a .at) (now (a .s)) (below-all 256 (now (a .s)) (λ i. c .shared-slice-known .given i .fits)) in
+    (omega arith, told-from (cutIn 12 (drop (a .at) (now (a .s)))) (a .at) (drop (a .at) (now (a .s))) b)
 
 returns : tie.Need-returns Inv-loop μ-loop
 returns c =
@@ -40,9 +44,23 @@ add-requires c κs = search needs
 add-i : tie.Need-add-i Inv-loop μ-loop
 add-i c = omega arith
 
+last-below-requires : tie.Need-last-below-requires Inv-loop μ-loop
+last-below-requires c κs = omega arith
+
 returns-2 : tie.Need-returns-2 Inv-loop μ-loop
 returns-2 c =
-    let w = c .before in
+    let f = c .before in
+    let t = f .before in
+    let m = t .before .before .before .before .before .before in
+    let l = m .loop in
+    let a = m .before .before .args in
+    sym (l .inv .1 ∙ at-long (now (a .s)) (l .i) (l .v) (2 ^ (7 * l .k)) (l .k) _ (omega arith) (omega arith) (t .if2 .taken) (rw (f .last-below .ensures) at (c .if3 .taken)))
+
+returns-3 : tie.Need-returns-3 Inv-loop μ-loop
+returns-3 c =
+    let f = c .before in
+    let t = f .before in
+    let w = t .before in
     let g = w .before in
     let m = g .before .before .before .before in
     let l = m .loop in
@@ -50,7 +68,7 @@ returns-2 c =
     let b = getD (now (a .s)) (l .i) 0 in
     let e = rw (g .group .ensures) at (w .add .ensures) in
     ap (λ (x : ℕ). Value x (l .i + 1)) (e ∙ sum-is (l .v) (b % 128) (l .k))
-    ∙ sym (l .inv .1 ∙ at-last (now (a .s)) (l .i) (l .v) (2 ^ (7 * l .k)) (l .k) _ (omega arith) (omega arith) (c .if2 .taken))
+    ∙ sym (l .inv .1 ∙ at-last (now (a .s)) (l .i) (l .v) (2 ^ (7 * l .k)) (l .k) _ (omega arith) (omega arith) (t .if2 .taken) (rw (f .last-below .ensures) at (c .if3 .left)))
 
 add-k : tie.Need-add-k Inv-loop μ-loop
 add-k c = omega arith
@@ -70,9 +88,9 @@ loop-again c =
     let n = at-next (now (a .s)) (l .i) (l .v) (2 ^ (7 * l .k)) (l .k) (length (drop (a .at) (now (a .s)))) (omega arith) (omega arith) (c .if2 .left) in
     (omega arith, rw (weight (l .k), e ∙ sum-is (l .v) (b % 128) (l .k)) (l .inv .1 ∙ n))
 
-returns-3 : tie.Need-returns-3 Inv-loop μ-loop
+returns-4 : tie.Need-returns-4 Inv-loop μ-loop
 unfolding varint
-returns-3 c = let l = c .before .loop in let z : 10 - l .k ≡ 0 = omega arith in sym (l .inv .1 ∙ rw z)
+returns-4 c = let l = c .before .loop in let z : 10 - l .k ≡ 0 = omega arith in sym (l .inv .1 ∙ rw z)
 
 pub read-spec : {M : Type 1} → statement M
 read-spec =
@@ -86,8 +104,10 @@ read-spec =
     group-requires
     add-requires
     add-i
+    last-below-requires
     returns-2
+    returns-3
     add-k
     loop-less
     loop-again
-    returns-3)
+    returns-4)
