@@ -5,14 +5,17 @@ use crate::probe::Requests;
 use crate::random::Random;
 
 /// What a label is asked of, with columns of its own.
-struct Columns {
-    block: Vec<u8>,
-    lengths: Vec<i64>,
-    numbers: Vec<i64>,
-    flags: Vec<u8>,
+#[derive(Debug, Clone, PartialEq, Eq)]
+pub struct Asked {
+    pub row: u64,
+    pub block: Vec<u8>,
+    pub lengths: Vec<i64>,
+    pub numbers: Vec<i64>,
+    pub flags: Vec<u8>,
+    pub fallback: Vec<u8>,
 }
 
-impl Columns {
+impl Asked {
     /// A dictionary whose lengths add up, and a number in it for each row with a name.
     fn good(random: &mut Random) -> Self {
         let lengths: Vec<i64> = (0..random.below(6)).map(|_| random.below(5) as i64).collect();
@@ -21,7 +24,9 @@ impl Columns {
             (0..random.below(16)).map(|_| random.pick(&[0, 0, 0, 1, 1, 2, 128, 255])).collect();
         let named = flags.iter().filter(|flag| **flag != 0).count();
         let numbers = (0..named).map(|_| random.below(lengths.len().max(1)) as i64).collect();
-        Columns { block: (0..bytes).map(|_| random.byte()).collect(), lengths, numbers, flags }
+        let block = (0..bytes).map(|_| random.byte()).collect();
+        let fallback = (0..random.below(4)).map(|_| random.byte()).collect();
+        Asked { row: 0, block, lengths, numbers, flags, fallback }
     }
 
     /// One thing of it changed.
@@ -51,8 +56,8 @@ impl Columns {
         }
     }
 
-    fn dictionary(&self) -> Dictionary<'_> {
-        let Columns { block, lengths, numbers, flags } = self;
+    pub fn dictionary(&self) -> Dictionary<'_> {
+        let Asked { block, lengths, numbers, flags, .. } = self;
         Dictionary { block, lengths, numbers, flags }
     }
 }
@@ -63,18 +68,23 @@ fn odd(number: i64, random: &mut Random) -> i64 {
 }
 
 /// Any label: half of them of a good dictionary, and most of a row that is there.
-pub fn probe_line(requests: &mut Requests, random: &mut Random) {
-    let mut columns = Columns::good(random);
+pub fn any(random: &mut Random) -> Asked {
+    let mut asked = Asked::good(random);
     if random.once_in(2) {
-        columns.damage(random);
+        asked.damage(random);
     }
-    let row = match random.below(16) {
+    asked.row = match random.below(16) {
         0 => random.any(),
-        1 => columns.flags.len() as u64,
-        _ => random.below(columns.flags.len().max(1)) as u64,
+        1 => asked.flags.len() as u64,
+        _ => random.below(asked.flags.len().max(1)) as u64,
     };
-    let fallback: Vec<u8> = (0..random.below(4)).map(|_| random.byte()).collect();
-    requests.label(row, columns.dictionary(), &fallback);
+    asked
+}
+
+/// Any label, as a line for the probe.
+pub fn probe_line(requests: &mut Requests, random: &mut Random) {
+    let asked = any(random);
+    requests.label(asked.row, asked.dictionary(), &asked.fallback);
 }
 
 /// Each answer and each refusal, the refusals' order, and every row.
