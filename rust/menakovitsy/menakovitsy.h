@@ -32,16 +32,17 @@ extern "C" {
 
 /* The version of these functions: each change of them makes it one more. A program compares what
  * orc_version answers with the header that it was compiled with. */
-#define ORC_VERSION UINT64_C(3)
+#define ORC_VERSION UINT64_C(4)
 
 uint64_t orc_version(void);
 
 /* The answer. A function that is lent words writes its whole answer into the first ORC_WORDS of
- * them, the stream reader into the first ORC_STREAM_WORDS, and leaves the others as they were. It
- * returns the refusal's number (the word ORC_NUMBER), 0 where nothing is refused. Later versions
+ * them, the stream reader into the first ORC_STREAM_WORDS, orc_label into the first ORC_LABEL_WORDS,
+ * and leaves the others as they were. It returns the refusal's number (the word ORC_NUMBER), 0 where nothing is refused. Later versions
  * append words: none changes its meaning. */
 #define ORC_WORDS 9
 #define ORC_STREAM_WORDS 14
+#define ORC_LABEL_WORDS 5
 
 /* What it returns where it was lent fewer: then it has touched nothing, no word, row or byte. */
 #define ORC_TOO_FEW_WORDS UINT64_MAX
@@ -78,12 +79,22 @@ enum orc_word {
     ORC_LAST_BYTES = 13
 };
 
+/* The words of a label behind ORC_CASE, ORC_NUMBER and ORC_PLACE. */
+enum orc_label_word {
+    /* The byte of the block where the name begins; 0 unless the case is ORC_CASE_READ. */
+    ORC_LABEL_START = 3,
+    /* How many bytes the name or the fallback has; 0 where refused. */
+    ORC_LABEL_SIZE = 4
+};
+
 enum orc_case {
     /* The input is empty: there is no run. orc_read_run_at only. */
     ORC_CASE_END = 0,
-    /* A run, booleans or a byte value; of the stream: it was read whole. */
+    /* A run, booleans or a byte value; of the stream: it was read whole; of a label: a name. */
     ORC_CASE_READ = 1,
-    ORC_CASE_REFUSED = 2
+    ORC_CASE_REFUSED = 2,
+    /* Of a label alone: the row has no name, and is called by the fallback. */
+    ORC_CASE_FALLBACK = 3
 };
 
 enum orc_kind {
@@ -133,6 +144,14 @@ enum orc_answer {
     ORC_ROWS_CUT = 13,
     /* A patch list is cut. */
     ORC_LIST_CUT = 14,
+    /* There is no such row: it has no flag. Ask for one below the number of flags. */
+    ORC_NO_SUCH_ROW = 16,
+    /* Dictionary: a length is below 0, or they do not add up to the block (as whole numbers, never
+     * modulo 2^64). Give the lengths and the block of one dictionary, both whole. */
+    ORC_LENGTHS_NOT_THE_BLOCK = 18,
+    /* Dictionary: the row's number is outside it, or the numbers end before the row's entry. Give the
+     * numbers of the rows that the flags are of. */
+    ORC_NO_SUCH_NAME = 19,
     /* Of orc_read_run, from here on: 65536 times the bytes consumed, plus the rows. */
     ORC_RUN = 65536
 };
@@ -178,6 +197,17 @@ uint64_t orc_write_run(const int64_t *rows, size_t rows_len, uint64_t flag, uint
 
 /* The narrowest width code that holds x: 0 to 31. */
 uint64_t orc_narrowest_code(uint64_t x);
+
+/* What a row is called. The dictionary is a block of names, one behind the other, and the length of
+ * each; numbers has an entry for each row that has a name (whose flag is any byte but 0), and for no
+ * other. Where the case is ORC_CASE_READ, the name is the ORC_LABEL_SIZE bytes of block from
+ * ORC_LABEL_START on; where it is ORC_CASE_FALLBACK, the row has none, and is called by fallback,
+ * whole. Refused in this order: ORC_NO_SUCH_ROW, ORC_LENGTHS_NOT_THE_BLOCK (for every row, named or
+ * not), ORC_NO_SUCH_NAME (by the asked row's entry alone); the place is 0. */
+uint64_t orc_label(const int64_t *lengths, size_t lengths_len, const int64_t *numbers,
+                   size_t numbers_len, const uint8_t *flags, size_t flags_len, const uint8_t *block,
+                   size_t block_len, const uint8_t *fallback, size_t fallback_len, uint64_t row,
+                   uint64_t *words, size_t words_len);
 
 /* Reads the run at the start of input, and answers by one number: an orc_answer, or, from ORC_RUN on,
  * a run. Rows are laid into out as eight bytes each, lowest first; a trailing part of fewer than eight

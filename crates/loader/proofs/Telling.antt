@@ -1,14 +1,16 @@
 -- An answer put into words, and what a call with lent words promises by it. Assumes nothing.
-use mathlib.Core.Path.{_≡_, refl}
+use mathlib.Core.Path.{_≡_, refl, sym, _∙_}
 use Prim.Native.Nat.{ℕ, _<_, _≤_}
 use mathlib.Core.List.{List}
 use lib.ListN.{length}
 use borrow.Author.Tests.{le-leb, lt-leb}
 use Rattle.format.specs.declared.Answer.{Answer}
 use Rattle.format.specs.declared.Stream.{Stream}
+use Rattle.labels.specs.declared.Label.{Label}
+use Rattle.loader.specs.Labels.{labelWords, labelWordCount, LabelToldDetermined}
 use Rattle.format.specs.Loader.{answerWords, streamWords, wordCount, streamWordCount, tooFewWords, Put, Told, ToldOf}
 
--- every answer has as many words, and every stream's
+-- every answer has as many words, every stream's and every label's
 pub answer-long : (a : Answer) → length (answerWords a) ≡ wordCount
 unfolding answerWords
 answer-long a = refl
@@ -16,6 +18,10 @@ answer-long a = refl
 pub stream-long : (s : Stream) → length (streamWords s) ≡ streamWordCount
 unfolding streamWords
 stream-long s = refl
+
+pub label-long : (l : Label) → length (labelWords l) ≡ labelWordCount
+unfolding labelWords
+label-long l = refl
 
 -- over any answers whose words are counted
 module _ {B : Type 0} {wordsOf : B → List ℕ} {numberOf : B → ℕ} {n : ℕ} (long : (b : B) → length (wordsOf b) ≡ n) where
@@ -35,3 +41,8 @@ module _ {B : Type 0} {wordsOf : B → List ℕ} {numberOf : B → ℕ} {n : ℕ
   pub put-of : {A : Type 0} {a b : B} {words words′ : List ℕ} {r : ℕ} {done places places′ : List A} → a ≡ b → n ≤ length words → places′ ≡ done
       → Put wordsOf numberOf a words words′ r → ToldOf wordsOf numberOf b words words′ r done places places′
   put-of {A} {a} {b} {words} q h d p = let e = le-leb n (length words) h in record { told = put q h p; places-are = rw (long b, e) d }
+
+-- the label's promise determines the number and the words
+pub label-told-determined : LabelToldDetermined
+label-told-determined lengths numbers flags block fall row words words′ words″ r r′ p q =
+    (p .words-are ∙ sym (q .words-are), p .number-is ∙ sym (q .number-is))

@@ -4,11 +4,13 @@
 ghost use mathlib.Core.Path.{_≡_};
 ghost use Rattle.format.specs.Fields.{Narrowest};
 ghost use Rattle.format.specs.Loader.{Loaded, faceVersion, RunTold, StreamTold, BooleansTold, ValueTold, WriteTold};
+ghost use Rattle.loader.specs.Labels.{LabelTold};
 use format::ByteOffset;
 use format::RowNumber;
 
 mod bytes;
 mod forms;
+mod label_words;
 mod words;
 
 // The version of these functions: one more with each change of what they take or answer.
@@ -16,7 +18,7 @@ mod words;
 pub extern "C" fn orc_version() -> u64
     ensures { λ r. ⌜ r ≡ faceVersion ⌝ }
 {
-    3
+    4
 }
 
 // One run at the start of the input, its rows as eight bytes each, lowest first. The flag is 0 for unsigned, and any other number for signed.
@@ -136,4 +138,32 @@ pub extern "C" fn orc_narrowest_code(x: u64) -> u64
     ensures { λ r. ⌜ Narrowest x r ⌝ }
 {
     writer::narrowest_code(x) as u64
+}
+
+// What a row is called, by a dictionary (its block and the lengths of its names), the named rows' numbers and a flag for each row; or the
+// fallback. The caller has the bytes: a name is the part of the block from where it begins on, of its size, and a fallback is all of it.
+#[no_mangle]
+pub extern "C" fn orc_label(
+    lengths: &[i64],
+    numbers: &[i64],
+    flags: &[u8],
+    block: &[u8],
+    fallback: &[u8],
+    row: u64,
+    words: &mut [u64],
+) -> u64
+    ensures { λ r. ⌜ LabelTold (now (lengths .entry)) (now (numbers .entry)) (now (flags .entry)) (now (block .entry)) (now (fallback .entry)) row (now (words .entry)) (now (words .exit)) r ⌝ }
+{
+    if words.len() < label_words::COUNT {
+        return words::TOO_FEW;
+    }
+    let label = labels::label_of(
+        lengths,
+        numbers,
+        flags,
+        block,
+        fallback,
+        RowNumber { rows: row as usize },
+    );
+    label_words::put_label(label, words)
 }

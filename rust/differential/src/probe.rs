@@ -7,7 +7,7 @@ use std::path::PathBuf;
 use std::process::{Command, Stdio};
 use std::{env, thread};
 
-use model::{Answer, Booleans, Form, Info, Kind, Refusal, Stream, Value, Written};
+use model::{Answer, Booleans, Dictionary, Form, Info, Kind, Label, Refusal, Stream, Value, Written};
 
 use crate::tally::{Hex, Tally};
 
@@ -92,6 +92,23 @@ impl Requests {
 
     pub fn narrowest(&mut self, number: u64) {
         self.ask(format!("06{number:016x}"), format!("code {}", model::narrowest_code(number)));
+    }
+
+    pub fn label(&mut self, row: u64, dictionary: Dictionary, fallback: &[u8]) {
+        let expected = match model::label(row, dictionary, fallback) {
+            Label::Refused(refusal) => refused(refusal),
+            Label::Name(part) => format!("name {}", Hex(part)).to_lowercase(),
+            Label::Fallback(part) => format!("fallback {}", Hex(part)).to_lowercase(),
+        };
+        let Dictionary { block, lengths, numbers, flags } = dictionary;
+        let mut line = format!("0f{row:016x}");
+        for count in [lengths.len(), numbers.len(), flags.len(), block.len(), fallback.len()] {
+            write!(line, "{count:04x}").expect("a string takes it");
+        }
+        for number in lengths.iter().chain(numbers) {
+            write!(line, "{number:016x}").expect("a string takes it");
+        }
+        self.ask(format!("{line}{}{}{}", Hex(flags), Hex(block), Hex(fallback)), expected);
     }
 
     /// A line that the probe says is bad.

@@ -1,5 +1,6 @@
 //! What is compared, stage by stage.
 mod cuts;
+pub mod labels;
 mod lines;
 mod patches;
 mod varints;

@@ -1,8 +1,9 @@
 //! A call, and what the model of documents 01 and 02 answers it.
 use differential::frames;
 use differential::random::Random;
-use menakovitsy::exported::{case, kind, STREAM_WORDS, TOO_FEW_WORDS, WORDS};
-use model::{Answer, Booleans, Form, Info, Kind, Refusal, Stream, Value, Written};
+use differential::stages::labels::{self, Asked};
+use menakovitsy::exported::{case, kind, LABEL_WORDS, STREAM_WORDS, TOO_FEW_WORDS, WORDS};
+use model::{Answer, Booleans, Form, Info, Kind, Label, Refusal, Stream, Value, Written};
 
 /// The most places that are lent for rows, and for bytes.
 pub const MOST: usize = 5000;
@@ -17,6 +18,7 @@ pub enum Call {
     Value { input: Vec<u8>, at: u64, n: u64 },
     Write { rows: Vec<i64>, flag: u64, form: u64, width: u64, places: usize },
     Narrowest { number: u64 },
+    Label(Asked),
 }
 
 /// What a call comes to: what it returns, its words (none where it is lent too few, or takes none),
@@ -82,7 +84,7 @@ impl Call {
     pub fn any(random: &mut Random) -> Self {
         let flag = if random.once_in(8) { random.any() } else { random.below(2) as u64 };
         let places = random.pick(&[0, 1, 5, 12, 64, 512, 1000]);
-        match random.below(16) {
+        match random.below(18) {
             0..=1 => {
                 let bytes = 8 * places + if random.once_in(2) { random.below(8) } else { 0 };
                 Call::Run { input: frames::any_frame(random), flag, bytes: bytes.min(MOST) }
@@ -109,6 +111,7 @@ impl Call {
                 Call::Value { at: frames::any_position(input.len(), random), input, n }
             }
             12..=14 => Self::any_writing(flag, random),
+            15..=16 => Call::Label(labels::any(random)),
             _ => {
                 let shift = random.below(64);
                 Call::Narrowest { number: random.any() >> shift }
@@ -139,6 +142,7 @@ impl Call {
             Call::Value { .. } => "orc_byte_value",
             Call::Write { .. } => "orc_write_run",
             Call::Narrowest { .. } => "orc_narrowest_code",
+            Call::Label(_) => "orc_label",
         }
     }
 
@@ -147,6 +151,7 @@ impl Call {
         match self {
             Call::Run { .. } | Call::Narrowest { .. } => 0,
             Call::Stream { .. } => STREAM_WORDS,
+            Call::Label(_) => LABEL_WORDS,
             _ => WORDS,
         }
     }
@@ -195,11 +200,25 @@ impl Call {
             Call::Write { rows, flag, form, width, places } => {
                 written(rows, *flag != 0, *form, *width, *places)
             }
+            Call::Label(asked) => label(asked),
             Call::Narrowest { number } => {
                 Outcome { returned: u64::from(model::narrowest_code(*number)), ..Outcome::default() }
             }
         }
     }
+}
+
+/// The words of a label: where a name begins is by its place in the block.
+fn label(asked: &Asked) -> Outcome {
+    let words = match model::label(asked.row, asked.dictionary(), &asked.fallback) {
+        Label::Name(part) => {
+            let start = part.as_ptr() as usize - asked.block.as_ptr() as usize;
+            [case::READ, 0, 0, start as u64, part.len() as u64]
+        }
+        Label::Fallback(part) => [case::FALLBACK, 0, 0, 0, part.len() as u64],
+        Label::Refused(refusal) => [case::REFUSED, refusal.number.into(), 0, 0, 0],
+    };
+    Outcome { returned: words[1], words: words.to_vec(), ..Outcome::default() }
 }
 
 /// The one number of `orc_read_run`, and the rows as bytes.

@@ -22,6 +22,10 @@ const LONGEST: usize = 1 << 16;
 pub struct Session {
     input: Fenced<u8>,
     given: Fenced<i64>,
+    /// What only a label is asked of, beside the lengths and the block.
+    numbers: Fenced<i64>,
+    flags: Fenced<u8>,
+    fallback: Fenced<u8>,
     rows: Fenced<i64>,
     bytes: Fenced<u8>,
     words: Fenced<u64>,
@@ -35,6 +39,9 @@ impl Default for Session {
         Session {
             input: Fenced::new(LONGEST),
             given: Fenced::new(LONGEST / 8),
+            numbers: Fenced::new(MOST),
+            flags: Fenced::new(MOST),
+            fallback: Fenced::new(MOST),
             rows: Fenced::new(MOST),
             bytes: Fenced::new(MOST),
             words: Fenced::new(STREAM_WORDS + 8),
@@ -47,6 +54,14 @@ impl Default for Session {
 fn lent<T: fence::Mark>(slice: &Fenced<T>, null: bool) -> (*mut T, usize) {
     let pointer = if null && slice.is_empty() { ptr::null_mut() } else { slice.pointer() };
     (pointer, slice.len())
+}
+
+/// What only a label is asked of: empty for any other call.
+fn only_labels(call: &Call) -> (&[i64], &[u8], &[u8]) {
+    match call {
+        Call::Label(asked) => (&asked.numbers, &asked.flags, &asked.fallback),
+        _ => (&[], &[], &[]),
+    }
 }
 
 impl Session {
@@ -85,21 +100,32 @@ impl Session {
             Call::Value { input, .. } => (input, &[], 0, 0),
             Call::Write { rows, places, .. } => (&[], rows, 0, *places),
             Call::Narrowest { .. } => (&[], &[], 0, 0),
+            Call::Label(asked) => (&asked.block, &asked.lengths, 0, 0),
         };
+        let (numbers, flags, fallback) = only_labels(call);
         self.input.holding(input, side());
         self.given.holding(rows, side());
+        self.numbers.holding(numbers, side());
+        self.flags.holding(flags, side());
+        self.fallback.holding(fallback, side());
         self.rows.places(places, side());
         self.bytes.places(bytes, side());
         self.words.places(words, side());
         let null = random.once_in(2);
         let (i, il) = lent(&self.input, null);
         let (g, gl) = lent(&self.given, null);
+        let (n, nl) = lent(&self.numbers, null);
+        let (f, fl) = lent(&self.flags, null);
+        let (o, ol) = lent(&self.fallback, null);
         let (r, rl) = lent(&self.rows, null);
         let (b, bl) = lent(&self.bytes, null);
         let (w, wl) = lent(&self.words, null);
         // SAFETY: the pointers are of mapped pages, of these lengths, and none is borrowed meanwhile.
         unsafe {
             match *call {
+                Call::Label(ref asked) => {
+                    exported::orc_label(g, gl, n, nl, f, fl, i, il, o, ol, asked.row, w, wl)
+                }
                 Call::Run { flag, .. } => exported::orc_read_run(i, il, b, bl, flag),
                 Call::RunAt { at, flag, .. } => exported::orc_read_run_at(i, il, at, flag, r, rl, w, wl),
                 Call::Stream { at, flag, .. } => exported::orc_read_stream(i, il, at, flag, r, rl, w, wl),
@@ -123,7 +149,10 @@ impl Session {
             | Call::Value { input, .. } => self.input.is(input) && self.given.is(&[]),
             Call::Write { rows, .. } => self.given.is(rows) && self.input.is(&[]),
             Call::Narrowest { .. } => true,
+            Call::Label(asked) => self.given.is(&asked.lengths) && self.input.is(&asked.block),
         };
+        let (numbers, flags, fallback) = only_labels(call);
+        let kept = kept && self.numbers.is(numbers) && self.flags.is(flags) && self.fallback.is(fallback);
         let right = [
             (returned == expected.returned, "what it returned"),
             (self.words.is(&expected.words), "its words"),

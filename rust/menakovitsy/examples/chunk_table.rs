@@ -1,7 +1,7 @@
 //! A chunk table of an audio source splitter: for each window of half a second the sample that it
-//! begins at, whether it is normalised already, and its label. It is written, read back, and asked:
-//! is window 24 already normalised, and where does it begin? Then the same of a damaged copy and of
-//! a cut one.
+//! begins at, whether it is normalised already, and its name, by a dictionary. It is written, read
+//! back, and asked: is window 24 already normalised, where does it begin, and what is it called? Then
+//! the same of damaged copies and of cut ones.
 //!
 //! ```text
 //! cargo run --offline -p menakovitsy --example chunk_table
@@ -10,12 +10,20 @@ use std::error::Error;
 use std::fmt::{self, Write};
 
 use menakovitsy::{
-    byte_value, narrowest_code, read_booleans, write_run, ByteOffset, Column, Form, RowNumber, Sign,
-    MAX_WRITTEN,
+    label, narrowest_code, read_booleans, read_stream, write_run, ByteOffset, Dictionary, Form, Label,
+    RowNumber, Sign, MAX_WRITTEN,
 };
 
 /// How many windows the table has. The first 24 are normalised.
 const WINDOWS: usize = 32;
+
+/// The names of the stems. The first eight windows have the first, and so on; the last four have none.
+const STEMS: [&str; 4] = ["drums", "bass", "vocals", "other"];
+
+const NAMED: usize = WINDOWS - 4;
+
+/// What a window is called that has no name.
+const FALLBACK: &[u8] = b"unnamed";
 
 /// Samples in half a second, at 44,100 in a second.
 const HALF_SECOND: i64 = 22_050;
@@ -27,9 +35,12 @@ struct Table {
     offsets: Vec<u8>,
     /// Whether it is normalised.
     flags: Vec<u8>,
-    /// How many bytes its label has, and the labels, one behind the other.
+    /// Whether it has a name, and for each that has one the name's number.
+    named: Vec<u8>,
+    numbers: Vec<u8>,
+    /// How many bytes each name has, and the names, one behind the other.
     lengths: Vec<u8>,
-    labels: Vec<u8>,
+    names: Vec<u8>,
 }
 
 /// One window of it.
@@ -56,10 +67,6 @@ fn of<E: Error + 'static>(column: &'static str) -> impl Fn(E) -> Told {
     move |why| Told { column, why: Box::new(why) }
 }
 
-fn label(window: usize) -> &'static str {
-    ["drums", "bass", "vocals", "other"][window / 8]
-}
-
 /// The writer's bytes for some rows.
 fn written(rows: &[i64], form: Form, width: u8) -> Result<Vec<u8>, menakovitsy::Refused> {
     let mut out = vec![0; MAX_WRITTEN];
@@ -74,39 +81,55 @@ fn write_table() -> Result<Table, Told> {
     let late = |window: usize| if window < 20 { 0 } else { 150 };
     let begins: Vec<i64> = (0..WINDOWS).map(|window| HALF_SECOND * window as i64 + late(window)).collect();
     let width = narrowest_code(HALF_SECOND as u64 + 150);
-    let lengths: Vec<i64> = (0..WINDOWS).map(|window| label(window).len() as i64).collect();
+    let numbers: Vec<i64> = (0..NAMED).map(|window| window as i64 / 8).collect();
+    let lengths = STEMS.map(|name| name.len() as i64);
     Ok(Table {
         offsets: written(&begins, Form::PackedDelta, width).map_err(of("offsets"))?,
         // Byte runs, by hand: a repeat of 3 times FF, 24 flags that are true; then one literal byte.
         flags: vec![0x00, 0xFF, 0xFF, 0x00],
+        // The same, with four more that are true.
+        named: vec![0x00, 0xFF, 0xFF, 0xF0],
+        numbers: written(&numbers, Form::Direct, narrowest_code(3)).map_err(of("numbers"))?,
         lengths: written(&lengths, Form::Direct, narrowest_code(6)).map_err(of("lengths"))?,
-        labels: (0..WINDOWS).flat_map(|window| label(window).bytes()).collect(),
+        names: STEMS.concat().into_bytes(),
     })
 }
 
-/// A column of a row for each window.
-fn rows(bytes: &[u8], column: &'static str) -> Result<[i64; WINDOWS], Told> {
-    let mut rows = [0; WINDOWS];
-    let read = Column::new(bytes, Sign::Unsigned).read_into(&mut rows).map_err(of(column))?;
-    match read.rows {
-        RowNumber(WINDOWS) => Ok(rows),
-        RowNumber(other) => Err(Told { column, why: format!("{other} rows, for {WINDOWS} windows").into() }),
+/// A column of so many rows.
+fn rows(bytes: &[u8], column: &'static str, many: usize) -> Result<Vec<i64>, Told> {
+    let mut rows = vec![0; many];
+    let read = read_stream(bytes, ByteOffset(0), Sign::Unsigned, &mut rows).map_err(of(column))?;
+    if read.rows == RowNumber(many) {
+        return Ok(rows);
     }
+    Err(Told { column, why: format!("{} rows, for {many}", read.rows.0).into() })
+}
+
+/// A flag for each window.
+fn flags(bytes: &[u8], column: &'static str) -> Result<[u8; WINDOWS], Told> {
+    let mut flags = [0; WINDOWS];
+    read_booleans(bytes, ByteOffset(0), RowNumber(WINDOWS), &mut flags).map_err(of(column))?;
+    Ok(flags)
+}
+
+/// What a window is called: from the bytes of the columns to a part of the names, or the fallback.
+fn name(table: &Table, number: usize) -> Result<Label<'_>, Told> {
+    let flags = flags(&table.named, "named")?;
+    let named = flags.iter().filter(|flag| **flag != 0).count();
+    let dictionary = Dictionary {
+        block: &table.names,
+        lengths: &rows(&table.lengths, "lengths", STEMS.len())?,
+        numbers: &rows(&table.numbers, "numbers", named)?,
+        flags: &flags,
+    };
+    label(dictionary, RowNumber(number), FALLBACK).map_err(of("names"))
 }
 
 fn window(table: &Table, number: usize) -> Result<Window, Told> {
-    let begins = rows(&table.offsets, "offsets")?;
-    let mut normalised = [0; WINDOWS];
-    read_booleans(&table.flags, ByteOffset(0), RowNumber(WINDOWS), &mut normalised).map_err(of("flags"))?;
-    let lengths = rows(&table.lengths, "lengths")?.map(|length| length as usize);
-    // The label begins behind those of the windows before it.
-    let before = lengths[..number].iter().copied().map(ByteOffset).fold(ByteOffset(0), |sum, one| sum + one);
-    let label = byte_value(&table.labels, before, lengths[number]);
-    Ok(Window {
-        begins: begins[number],
-        normalised: normalised[number] == 1,
-        label: String::from_utf8_lossy(label.map_err(of("labels"))?).into_owned(),
-    })
+    let begins = rows(&table.offsets, "offsets", WINDOWS)?[number];
+    let normalised = flags(&table.flags, "flags")?[number] == 1;
+    let label = String::from_utf8_lossy(name(table, number)?.bytes()).into_owned();
+    Ok(Window { begins, normalised, label })
 }
 
 /// The answer for a window, or what a person is told.
@@ -128,20 +151,24 @@ pub fn report() -> String {
         Ok(table) => table,
         Err(told) => return told.to_string(),
     };
-    let Table { offsets, flags, lengths, labels } = &table;
+    let Table { offsets, flags, named, numbers, lengths, names } = &table;
+    let [offsets, flags, named, numbers, lengths, names] =
+        [offsets, flags, named, numbers, lengths, names].map(Vec::len);
     say(format!(
-        "written: offsets {} bytes, flags {}, lengths {}, labels {}",
-        offsets.len(),
-        flags.len(),
-        lengths.len(),
-        labels.len()
+        "written: offsets {offsets} bytes, flags {flags}, named {named}, numbers {numbers}, lengths {lengths}, \
+         names {names}"
     ));
-    say(answer(&table, 23));
-    say(answer(&table, 24));
+    for number in [23, 24, 28] {
+        say(answer(&table, number));
+    }
     // The header's second byte reads 0: one row and packed steps, which no run has.
     let mut damaged = table.clone();
     damaged.offsets[1] = 0;
     say(format!("damaged: {}", answer(&damaged, 24)));
+    // The names lost their last byte: the lengths show it, for a window without a name too.
+    let mut damaged = table.clone();
+    damaged.names.pop();
+    say(format!("damaged: {}", answer(&damaged, 28)));
     // The last byte of the flags was not copied. The first 24 flags are there, and window 23 is one
     // of them; but the table says 32.
     let mut cut = table.clone();

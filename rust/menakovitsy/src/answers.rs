@@ -3,7 +3,7 @@
 use std::error::Error;
 use std::fmt;
 
-use crate::exported::{case, kind, word, TOO_FEW_WORDS};
+use crate::exported::{case, kind, label_word, word, TOO_FEW_WORDS};
 use crate::{ByteOffset, Refusal, RowNumber};
 
 /// The kind of what was read or written.
@@ -181,6 +181,25 @@ impl Words {
         }
     }
 
+    /// The case, and the words of a label; or its refusal.
+    pub fn label(&self) -> Result<(u64, usize, usize), Refused> {
+        match self.lent[word::CASE] {
+            case @ (case::READ | case::FALLBACK) if self.number == 0 => {
+                Ok((case, self.lent[label_word::START] as usize, self.lent[label_word::SIZE] as usize))
+            }
+            case::REFUSED if self.number != TOO_FEW_WORDS => {
+                let at = ByteOffset(self.lent[word::PLACE] as usize);
+                Err(Refused::whole(Refusal::of_number(self.lent[word::NUMBER]), at))
+            }
+            _ => Err(self.unknown()),
+        }
+    }
+
+    /// What an answer is that contradicts itself, or what was lent.
+    pub fn unknown(&self) -> Refused {
+        Refused::whole(Refusal::Unknown(self.number), ByteOffset(self.lent[word::PLACE] as usize))
+    }
+
     /// The case. None where the library wants more words than were lent, and so wrote none, or counts
     /// more than there is.
     fn case(&self) -> Option<u64> {
@@ -222,7 +241,7 @@ impl Words {
     fn refused(&self) -> Refused {
         let at = ByteOffset(self.lent[word::PLACE] as usize);
         if self.case() != Some(case::REFUSED) {
-            return Refused::whole(Refusal::Unknown(self.number), at);
+            return self.unknown();
         }
         let cut = (self.lent[word::CUT] == 1).then_some(ByteOffset(self.lent[word::CUT_AT] as usize));
         Refused { refusal: Refusal::of_number(self.lent[word::NUMBER]), at, cut }

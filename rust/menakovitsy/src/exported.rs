@@ -5,17 +5,22 @@
 //! allowed. Nothing that is written may overlap another argument. Calls share no state.
 //!
 //! A function that takes words writes its whole answer into the first [`WORDS`] of them, the stream
-//! reader into the first [`STREAM_WORDS`], leaves the others as they were, and returns the refusal's number, 0 where nothing is refused; lent fewer, it
-//! returns [`TOO_FEW_WORDS`] and touches nothing. What each word means stands in [`word`].
+//! reader into the first [`STREAM_WORDS`] and `orc_label` into the first [`LABEL_WORDS`], leaves the
+//! others as they were, and returns the refusal's number, 0 where nothing is refused; lent fewer, it
+//! returns [`TOO_FEW_WORDS`] and touches nothing. What each word means stands in [`word`], and of a
+//! label in [`label_word`].
 
 /// The version of these functions that this crate is written for.
-pub const VERSION: u64 = 3;
+pub const VERSION: u64 = 4;
 
 /// How many words an answer has; the stream reader's has [`STREAM_WORDS`].
 pub const WORDS: usize = 9;
 
 /// How many words an answer of the stream reader has.
 pub const STREAM_WORDS: usize = 14;
+
+/// How many words an answer of `orc_label` has.
+pub const LABEL_WORDS: usize = 5;
 
 /// What a function returns that was lent fewer words than its answer has.
 pub const TOO_FEW_WORDS: u64 = u64::MAX;
@@ -61,14 +66,26 @@ pub mod word {
     pub const LAST_BYTES: usize = 13;
 }
 
+/// The words of a label behind the case, the refusal's number and its place, which are those of
+/// [`word`].
+pub mod label_word {
+    /// The byte of the block where the name begins, 0 unless it is a name.
+    pub const START: usize = 3;
+    /// How many bytes the name or the fallback has, 0 where refused.
+    pub const SIZE: usize = 4;
+}
+
 /// What the word `CASE` may hold.
 pub mod case {
     /// The input is empty. Run readers only.
     pub const END: u64 = 0;
-    /// A run, booleans or a byte value; of the stream reader: the whole stream was read.
+    /// A run, booleans or a byte value; of the stream reader: the whole stream was read; of a label: a
+    /// name.
     pub const READ: u64 = 1;
     /// A refusal.
     pub const REFUSED: u64 = 2;
+    /// Of a label alone: the row has no name, and is called by the fallback.
+    pub const FALLBACK: u64 = 3;
 }
 
 /// What the word `KIND` may hold.
@@ -148,4 +165,20 @@ extern "C" {
     ) -> u64;
 
     pub fn orc_narrowest_code(x: u64) -> u64;
+
+    pub fn orc_label(
+        lengths: *const i64,
+        lengths_len: usize,
+        numbers: *const i64,
+        numbers_len: usize,
+        flags: *const u8,
+        flags_len: usize,
+        block: *const u8,
+        block_len: usize,
+        fallback: *const u8,
+        fallback_len: usize,
+        row: u64,
+        words: *mut u64,
+        words_len: usize,
+    ) -> u64;
 }

@@ -11,6 +11,7 @@
 //! | one integer run, or all to the end | [`read_run`], [`read_stream`] |
 //! | a column of flags | [`read_booleans`] |
 //! | a byte value, as a part of the input | [`byte_value`] |
+//! | the name of a row, by a dictionary | [`label`] |
 //! | a run written | [`write_run`], [`narrowest_code`] |
 //! | the library that is linked | [`check_version`], [`library_version`] |
 //!
@@ -40,6 +41,7 @@ compile_error!("libloader.a is for a little-endian processor with 64-bit pointer
 mod answers;
 mod column;
 pub mod exported;
+mod labels;
 mod library;
 mod refusal;
 mod units;
@@ -48,6 +50,7 @@ mod version;
 pub use answers::{Kind, Refused, Run, Stream, StreamRefused};
 pub use column::{Column, Rows, RunAt, Runs};
 pub use exported::{MAX_ROWS, MAX_RUN_BYTES};
+pub use labels::{label, Dictionary, Label};
 pub use library::{
     byte_value, library_version, narrowest_code, read_booleans, read_run, read_run_bytes, read_stream,
     unpack, write_run, Counts,

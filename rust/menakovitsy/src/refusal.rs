@@ -2,7 +2,8 @@
 use std::error::Error;
 use std::fmt;
 
-/// A refusal, by its number. Readers give 1 to 8 and 12 to 14; 9 to 11 are the run writer's.
+/// A refusal, by its number. Readers give 1 to 8 and 12 to 14; 9 to 11 are the run writer's; labels are
+/// refused with 16, 18 and 19.
 #[derive(Debug, Clone, Copy, PartialEq, Eq, Hash)]
 #[non_exhaustive]
 pub enum Refusal {
@@ -35,14 +36,20 @@ pub enum Refusal {
     RowsCut,
     /// 14: a patch list is cut.
     ListCut,
+    /// 16: there is no such row.
+    NoSuchRow,
+    /// 18: a length of the dictionary is below 0, or they do not add up to its block.
+    LengthsNotTheBlock,
+    /// 19: the row's number is outside the dictionary, or the numbers end before its entry.
+    NoSuchName,
     /// A number that this version of the wrapper does not know: a later library is linked, or
     /// another one than the proved one.
     Unknown(u64),
 }
 
 impl Refusal {
-    /// All that have a number of their own, in the order of the numbers, from 1 on.
-    pub const ALL: [Refusal; 14] = [
+    /// All that have a number of their own, in the order of the numbers.
+    pub const ALL: [Refusal; 17] = [
         Refusal::HeaderCut,
         Refusal::EntryOver64,
         Refusal::PatchTooLarge,
@@ -57,6 +64,9 @@ impl Refusal {
         Refusal::VarintCut,
         Refusal::RowsCut,
         Refusal::ListCut,
+        Refusal::NoSuchRow,
+        Refusal::LengthsNotTheBlock,
+        Refusal::NoSuchName,
     ];
 
     /// Its number.
@@ -77,6 +87,9 @@ impl Refusal {
             Refusal::VarintCut => 12,
             Refusal::RowsCut => 13,
             Refusal::ListCut => 14,
+            Refusal::NoSuchRow => 16,
+            Refusal::LengthsNotTheBlock => 18,
+            Refusal::NoSuchName => 19,
             Refusal::Unknown(number) => number,
         }
     }
@@ -110,6 +123,13 @@ impl Refusal {
             Refusal::VarintCut => "a varint is cut",
             Refusal::RowsCut => "a block of packed rows or of bytes is cut",
             Refusal::ListCut => "a patch list is cut",
+            Refusal::NoSuchRow => "there is no such row",
+            Refusal::LengthsNotTheBlock => {
+                "dictionary: a length is below 0, or the lengths do not add up to the block"
+            }
+            Refusal::NoSuchName => {
+                "dictionary: the row's number is outside it, or the numbers end before the row's entry"
+            }
             Refusal::Unknown(_) => "a number that this wrapper does not know",
         }
     }
@@ -160,6 +180,14 @@ impl Refusal {
             }
             Refusal::NotTheForm => "choose another form or width",
             Refusal::TooNarrow => "choose a wider width",
+            Refusal::NoSuchRow => "ask for a row below the number of flags",
+            Refusal::LengthsNotTheBlock => {
+                "give the lengths and the block of one dictionary, both whole; if they are, the file is damaged"
+            }
+            Refusal::NoSuchName => {
+                "give the numbers of the same rows as the flags, and the dictionary that they are for; if they \
+                 are, the file is damaged"
+            }
             Refusal::Unknown(_) => "link the library of the wrapper's own revision; check_version compares",
         }
     }

@@ -4,13 +4,18 @@ mod chunk_table;
 
 /// Window 24 begins 24 times 22,050 samples on, and 150 late: 529,350. The offsets: two bytes of
 /// header, one of the first row, three of the first step, and 30 steps of 15 bits, in 57 bytes: so
-/// these begin at byte 6. The flag byte that is lost is the one behind the control byte at byte 2.
+/// these begin at byte 6. The flag byte that is lost is the one behind the control byte at byte 2. The
+/// numbers: two bytes of header and 28 of 2 bits; the lengths: 4 of 3 bits. Window 28 begins 28 times
+/// 22,050 samples on, and 150 late.
 const EXPECTED: &str = "\
-written: offsets 63 bytes, flags 4, lengths 14, labels 160
+written: offsets 63 bytes, flags 4, named 4, numbers 9, lengths 4, names 20
 window 23 (vocals) is already normalised, and begins at sample 507300
 window 24 (other) is not normalised yet, and begins at sample 529350
+window 28 (unnamed) is not normalised yet, and begins at sample 617550
 damaged: column offsets: the run at byte 0, after 0 rows: refusal 4: delta: packed magnitudes announced for a \
 single row (no run begins like this: the bytes are damaged, or the offset is not a run's first byte)
+damaged: column names: at byte 0: refusal 18: dictionary: a length is below 0, or the lengths do not add up to \
+the block (give the lengths and the block of one dictionary, both whole; if they are, the file is damaged)
 cut: column flags: at byte 0: refusal 13: the block of packed rows or of bytes that begins at byte 3 is cut \
 (call again with more bytes; if there are none, the stream is cut or the offset is wrong)
 cut: column offsets: the run at byte 0, after 0 rows: refusal 13: the block of packed rows or of bytes that \

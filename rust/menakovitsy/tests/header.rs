@@ -4,7 +4,7 @@ use std::path::{Path, PathBuf};
 use std::process::Command;
 use std::{env, fs};
 
-use menakovitsy::exported::{self, case, kind, word};
+use menakovitsy::exported::{self, case, kind, label_word, word};
 use menakovitsy::Refusal;
 
 const HEADER: &str = include_str!("../menakovitsy.h");
@@ -30,6 +30,7 @@ fn the_header_has_the_same_numbers() {
     has(&format!("#define ORC_VERSION UINT64_C({})\n", exported::VERSION));
     has(&format!("#define ORC_WORDS {}\n", exported::WORDS));
     has(&format!("#define ORC_STREAM_WORDS {}\n", exported::STREAM_WORDS));
+    has(&format!("#define ORC_LABEL_WORDS {}\n", exported::LABEL_WORDS));
     has("#define ORC_TOO_FEW_WORDS UINT64_MAX\n");
     has(&format!("#define ORC_MAX_ROWS {}\n", exported::MAX_ROWS));
     has(&format!("#define ORC_MAX_RUN_BYTES {}\n", exported::MAX_RUN_BYTES));
@@ -48,12 +49,17 @@ fn the_header_has_the_same_numbers() {
         ("LAST_WIDTH", word::LAST_WIDTH),
         ("LAST_ROWS", word::LAST_ROWS),
         ("LAST_BYTES", word::LAST_BYTES),
+        ("LABEL_START", label_word::START),
+        ("LABEL_SIZE", label_word::SIZE),
     ] {
         has(&format!("    ORC_{name} = {place}"));
     }
-    for (name, number) in
-        [("CASE_END", case::END), ("CASE_READ", case::READ), ("CASE_REFUSED", case::REFUSED)]
-    {
+    for (name, number) in [
+        ("CASE_END", case::END),
+        ("CASE_READ", case::READ),
+        ("CASE_REFUSED", case::REFUSED),
+        ("CASE_FALLBACK", case::FALLBACK),
+    ] {
         has(&format!("    ORC_{name} = {number}"));
     }
     for (name, number) in [

@@ -14,6 +14,7 @@
 
 mod bits;
 mod booleans;
+mod labels;
 mod runs;
 mod streams;
 mod values;
@@ -21,6 +22,7 @@ mod writer;
 
 pub use bits::{zigzag, WIDTHS};
 pub use booleans::{first_run, read_booleans, Booleans};
+pub use labels::{label, Dictionary, Label};
 pub use runs::{list_faults, read_run, Faults};
 pub use streams::{read_stream, Stream};
 pub use values::{read_value, Value};

@@ -1,7 +1,7 @@
 //! The words of an answer, and what is said of them.
 use std::fmt::Write as _;
 
-use menakovitsy::exported::{case, kind, word, STREAM_WORDS, WORDS};
+use menakovitsy::exported::{case, kind, label_word, word, LABEL_WORDS, STREAM_WORDS, WORDS};
 
 use crate::lent::Lent;
 
@@ -16,13 +16,17 @@ pub struct Answer {
 }
 
 impl Answer {
-    /// Of any function but the stream reader.
+    /// Of any function but the stream reader and the label.
     pub fn of(call: impl FnOnce(&mut [u64]) -> u64) -> Self {
         Self::of_words(WORDS, call)
     }
 
     pub fn of_stream(call: impl FnOnce(&mut [u64]) -> u64) -> Self {
         Self::of_words(STREAM_WORDS, call)
+    }
+
+    pub fn of_label(call: impl FnOnce(&mut [u64]) -> u64) -> Self {
+        Self::of_words(LABEL_WORDS, call)
     }
 
     fn of_words(own: usize, call: impl FnOnce(&mut [u64]) -> u64) -> Self {
@@ -57,9 +61,9 @@ impl Answer {
         match self.case() {
             case::REFUSED => {
                 let refused = format!("refused {} {}", self.word(word::NUMBER), self.word(word::PLACE));
-                match self.word(word::CUT) {
-                    0 => refused,
-                    _ => format!("{refused} cut {}", self.word(word::CUT_AT)),
+                match self.own != LABEL_WORDS && self.word(word::CUT) != 0 {
+                    false => refused,
+                    true => format!("{refused} cut {}", self.word(word::CUT_AT)),
                 }
             }
             case::END => "end".into(),
@@ -134,6 +138,26 @@ impl Answer {
         fits && returned && self.cut_fits() && (!stream || self.last_fits())
     }
 
+    /// The part of a block, or of the fallback, that a label names; nothing where it is not within.
+    pub fn part_of<'a>(&self, block: &'a [u8]) -> Option<&'a [u8]> {
+        let [start, size] =
+            [label_word::START, label_word::SIZE].map(|place| usize::try_from(self.word(place)).ok());
+        block.get(start?..)?.get(..size?)
+    }
+
+    /// Whether a label's words fit together: a refusal has place 0 and no part, and only a name begins
+    /// somewhere.
+    pub fn label_fits(&self) -> bool {
+        use label_word::{SIZE, START};
+        let fits = match self.case() {
+            case::READ => self.zero(&[word::NUMBER, word::PLACE]),
+            case::FALLBACK => self.zero(&[word::NUMBER, word::PLACE, START]),
+            case::REFUSED => !self.zero(&[word::NUMBER]) && self.zero(&[word::PLACE, START, SIZE]),
+            _ => false,
+        };
+        fits && self.returned == self.word(word::NUMBER)
+    }
+
     /// Whether a word behind the answer, or beside the lent ones, has changed.
     pub fn touched(&self) -> bool {
         self.words.touched(self.own)
@@ -190,6 +214,32 @@ mod tests {
             lent[word::LAST..][..last.len()].copy_from_slice(last);
             0
         })
+    }
+
+    #[test]
+    fn labels_that_contradict_themselves_are_odd() {
+        let label = |returned, words: [u64; LABEL_WORDS]| {
+            Answer::of_label(|lent| {
+                lent[..LABEL_WORDS].copy_from_slice(&words);
+                returned
+            })
+        };
+        for (returned, words) in [(0, [1, 0, 0, 3, 2]), (0, [3, 0, 0, 0, 2]), (18, [2, 18, 0, 0, 0])] {
+            assert!(label(returned, words).label_fits(), "{words:?}");
+            assert!(!label(returned + 1, words).label_fits(), "{words:?}");
+        }
+        for words in [[0; 5], [1, 0, 1, 3, 2], [3, 0, 0, 1, 2], [2, 0, 0, 0, 0], [4, 0, 0, 0, 0]] {
+            assert!(!label(0, words).label_fits(), "{words:?}");
+        }
+        for words in [[2, 18, 1, 0, 0], [2, 18, 0, 1, 0], [2, 18, 0, 0, 1], [1, 18, 0, 3, 2]] {
+            assert!(!label(18, words).label_fits(), "{words:?}");
+        }
+        let name = |start, size| label(0, [1, 0, 0, start, size]);
+        assert_eq!(name(3, 2).part_of(b"drums"), Some(&b"ms"[..]));
+        for (start, size) in [(3, 3), (6, 0), (u64::MAX, 1), (1, u64::MAX)] {
+            assert_eq!(name(start, size).part_of(b"drums"), None);
+        }
+        assert_eq!(label(19, [2, 19, 0, 0, 0]).say_other(), "refused 19 0");
     }
 
     /// What a wrong library could answer shows.

@@ -48,6 +48,38 @@ pub fn write_run(rows: &[i64], writing: Writing, out: &mut [u8], words: &mut [u6
     }
 }
 
+/// What a label is asked of.
+#[derive(Clone, Copy)]
+pub struct Columns<'a> {
+    pub lengths: &'a [i64],
+    pub numbers: &'a [i64],
+    pub flags: &'a [u8],
+    pub block: &'a [u8],
+    pub fallback: &'a [u8],
+}
+
+pub fn label(given: Columns, row: u64, words: &mut [u64]) -> u64 {
+    let Columns { lengths, numbers, flags, block, fallback } = given;
+    let (words_len, words) = (words.len(), words.as_mut_ptr());
+    unsafe {
+        exported::orc_label(
+            lengths.as_ptr(),
+            lengths.len(),
+            numbers.as_ptr(),
+            numbers.len(),
+            flags.as_ptr(),
+            flags.len(),
+            block.as_ptr(),
+            block.len(),
+            fallback.as_ptr(),
+            fallback.len(),
+            row,
+            words,
+            words_len,
+        )
+    }
+}
+
 pub fn narrowest_code(number: u64) -> u64 {
     unsafe { exported::orc_narrowest_code(number) }
 }

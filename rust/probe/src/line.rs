@@ -48,6 +48,24 @@ impl<'a> Fields<'a> {
         self.number(2).map(|places| places as usize).filter(|places| *places <= MAX_PLACES)
     }
 
+    /// How many there are of something that the line holds: two bytes.
+    pub fn count(&mut self) -> Option<usize> {
+        self.number(2).map(|count| count as usize)
+    }
+
+    /// So many bytes.
+    pub fn bytes(&mut self, count: usize) -> Option<&'a [u8]> {
+        let (bytes, rest) = self.0.split_at_checked(count)?;
+        self.0 = rest;
+        Some(bytes)
+    }
+
+    /// So many numbers of a column, of eight bytes each.
+    pub fn words(&mut self, count: usize) -> Option<Vec<i64>> {
+        let bytes = self.bytes(8 * count)?;
+        Fields(bytes).rows()
+    }
+
     /// All that is left, as it is.
     pub fn rest(self) -> &'a [u8] {
         self.0
@@ -90,5 +108,9 @@ mod tests {
         assert_eq!(Fields::new(&[0; 7]).word(), None);
         assert_eq!(Fields::new(&[0xFF; 16]).rows(), Some(vec![-1, -1]));
         assert_eq!(Fields::new(&[0xFF; 15]).rows(), None);
+        let mut fields = Fields::new(&[0xFF; 13]);
+        assert_eq!((fields.count(), fields.words(2), fields.words(1)), (Some(65_535), None, Some(vec![-1])));
+        assert_eq!((fields.bytes(4), fields.bytes(3)), (None, Some(&[0xFF; 3][..])));
+        assert_eq!(fields.end(), Some(()));
     }
 }

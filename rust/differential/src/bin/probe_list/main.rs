@@ -17,7 +17,7 @@ use differential::frames;
 use differential::listed::{self, Call, LIST};
 use differential::probe::Requests;
 use differential::random::Random;
-use differential::stages::probe_line;
+use differential::stages::{labels, probe_line};
 use model::Form;
 
 use by_hand::{DOCUMENT, FRAMES, SPECIFICATION};
@@ -298,6 +298,10 @@ fn list() -> Requests {
     }
     for _ in 0..300 {
         probe_line(&mut requests, &mut random);
+    }
+    labels::fixed_lines(&mut requests);
+    for _ in 0..100 {
+        labels::probe_line(&mut requests, &mut random);
     }
     requests
 }

@@ -1,0 +1,198 @@
+// Labels for the chunk list: stem names are a dictionary (one byte block and a column of lengths), a column of numbers, and flags that say
+// which rows have a name.
+ghost use mathlib.Core.Path.{_≡_};
+ghost use mathlib.Core.Bool.{true};
+ghost use Prim.Native.Nat.{_≤_, _<_};
+ghost use lib.IntN.{pos};
+ghost use lib.ListN.{length, getD};
+ghost use Rattle.labels.specs.Labels.{nameAt, fallbackOf, refusedWith, addUp, startOf, entryOf, Labelled, Handed};
+ghost use Rattle.labels.specs.Labels as Labels;
+ghost use Rattle.labels.specs.Whole.{wholeOf};
+use format::ByteOffset;
+use format::Refusal;
+use format::RowNumber;
+
+// A name: the byte of the block where it begins, and how many bytes it has.
+pub struct Name {
+    pub start: ByteOffset,
+    pub size: ByteOffset,
+}
+
+// What a row is called: a name of the dictionary; the caller's own fallback, by its length; or a refusal.
+pub enum Label {
+    Name(Name),
+    Fallback(ByteOffset),
+    Refused(Refusal),
+}
+
+// A length or a number of a column: not below 0, or below.
+enum Whole {
+    Number(usize),
+    Below,
+}
+
+impl Label {
+    pub fn name(start: usize, size: usize) -> Self
+        ensures { λ r. ⌜ r ≡ nameAt start size ⌝ }
+    {
+        Label::Name(Name {
+            start: ByteOffset { bytes: start },
+            size: ByteOffset { bytes: size },
+        })
+    }
+
+    pub fn fallback(size: usize) -> Self
+        ensures { λ r. ⌜ r ≡ fallbackOf size ⌝ }
+    {
+        Label::Fallback(ByteOffset { bytes: size })
+    }
+
+    pub fn refused(number: u8) -> Self
+        ensures { λ r. ⌜ r ≡ refusedWith number ⌝ }
+    {
+        Label::Refused(Refusal::new(number, 0))
+    }
+}
+
+fn as_whole(x: i64) -> Whole
+    ensures { λ r. ⌜ r ≡ wholeOf x ⌝ }
+{
+    if x < 0 {
+        return Whole::Below;
+    }
+    Whole::Number(x as usize)
+}
+
+fn entry(column: &[i64], i: usize) -> Whole
+    requires { ⌜ i < length (now column) ⌝ }
+    ensures { λ r. ⌜ r ≡ wholeOf (getD (now (column .entry)) i (pos 0)) ⌝ }
+{
+    as_whole(column[i])
+}
+
+// No length is below 0, and they add up to the block. The sum stops where it passes the block, so it never wraps.
+fn add_up(lengths: &[i64], block: &[u8]) -> bool
+    ensures { λ r. ⌜ r ≡ addUp (now (lengths .entry)) (now (block .entry)) ⌝ }
+{
+    let mut sum: usize = 0;
+    let mut i: usize = 0;
+    while i < lengths.len() {
+        let Whole::Number(size) = entry(lengths, i) else {
+            return false;
+        };
+        if block.len() - sum < size {
+            return false;
+        }
+        sum += size;
+        i += 1;
+    }
+    sum == block.len()
+}
+
+// Where name k begins: the sum of the lengths before it.
+fn start_of(lengths: &[i64], block: &[u8], k: usize) -> usize
+    requires { ⌜ (addUp (now lengths) (now block) ≡ true) × (k ≤ length (now lengths)) ⌝ }
+    ensures { λ r. ⌜ r ≡ startOf (now (lengths .entry)) k ⌝ }
+{
+    let mut sum: usize = 0;
+    let mut i: usize = 0;
+    while i < k {
+        let Whole::Number(size) = entry(lengths, i) else {
+            return sum;
+        };
+        sum += size;
+        i += 1;
+    }
+    sum
+}
+
+// Which entry of the numbers is the row's: as many as the rows before it have names.
+fn entry_of(flags: &[u8], row: usize) -> usize
+    requires { ⌜ row ≤ length (now flags) ⌝ }
+    ensures { λ r. ⌜ r ≡ entryOf (now (flags .entry)) row ⌝ }
+{
+    let mut names: usize = 0;
+    let mut i: usize = 0;
+    while i < row {
+        if flags[i] != 0 {
+            names += 1;
+        }
+        i += 1;
+    }
+    names
+}
+
+// The name of the number that stands in this entry.
+fn named(lengths: &[i64], numbers: &[i64], block: &[u8], at: usize) -> Label
+    requires { ⌜ addUp (now lengths) (now block) ≡ true ⌝ }
+    ensures { λ r. ⌜ r ≡ Labels.named (now (lengths .entry)) (now (numbers .entry)) at ⌝ }
+{
+    if numbers.len() <= at {
+        return Label::refused(19);
+    }
+    let Whole::Number(k) = entry(numbers, at) else {
+        return Label::refused(19);
+    };
+    if lengths.len() <= k {
+        return Label::refused(19);
+    }
+    // none is: they add up
+    let Whole::Number(size) = entry(lengths, k) else {
+        return Label::refused(18);
+    };
+    Label::name(start_of(lengths, block, k), size)
+}
+
+// What the row is called. Refusals: 16 no such row, 18 lengths below 0 or not adding up to the block, 19 a number outside the dictionary or
+// a missing entry.
+pub fn label_of(
+    lengths: &[i64],
+    numbers: &[i64],
+    flags: &[u8],
+    block: &[u8],
+    fallback: &[u8],
+    row: RowNumber,
+) -> Label
+    ensures { λ r. ⌜ Labelled (now (lengths .entry)) (now (numbers .entry)) (now (flags .entry)) (now (block .entry)) (now (fallback .entry)) (row .rows) r ⌝ }
+{
+    let i = row.rows;
+    if flags.len() <= i {
+        return Label::refused(16);
+    }
+    if !add_up(lengths, block) {
+        return Label::refused(18);
+    }
+    if flags[i] == 0 {
+        return Label::fallback(fallback.len());
+    }
+    named(lengths, numbers, block, entry_of(flags, i))
+}
+
+// The name itself, a part of the block, or the fallback, lent and not copied: empty if `label_of` refuses.
+pub fn part_of<'a>(
+    lengths: &[i64],
+    numbers: &[i64],
+    flags: &[u8],
+    block: &'a [u8],
+    fallback: &'a [u8],
+    row: RowNumber,
+) -> &'a [u8]
+    ensures { λ r. ⌜ Handed (now (lengths .entry)) (now (numbers .entry)) (now (flags .entry)) (now (block .entry)) (now (fallback .entry)) (row .rows) (now r) ⌝ }
+{
+    let said = label_of(lengths, numbers, flags, block, fallback, row);
+    match said {
+        Label::Name(name) => {
+            let start = name.start;
+            let size = name.size;
+            let from = start.bytes;
+            let to = from + size.bytes;
+            return &block[from..to];
+        }
+        Label::Fallback(_) => {
+            return fallback;
+        }
+        Label::Refused(_) => {
+            return &block[..0];
+        }
+    }
+}
