@@ -44,7 +44,7 @@ fn least(a: usize, b: usize) -> usize
 }
 
 // Reads a run into the rows, of which there are enough for it, and lays them out as bytes.
-pub fn read_by(input: &[u8], signed: bool, rows: &mut [i64], out: &mut [u8]) -> u64
+pub(crate) fn read_by(input: &[u8], signed: bool, rows: &mut [i64], out: &mut [u8]) -> u64
     requires { ⌜ Enough (length (now rows)) (now input) ⌝ }
     ensures { λ r. ⌜ LoadedAs (now (input .entry)) signed (now (out .entry)) (now (out .exit)) r ⌝ }
 {
@@ -55,16 +55,16 @@ pub fn read_by(input: &[u8], signed: bool, rows: &mut [i64], out: &mut [u8]) -> 
 }
 
 // Places for the rows of a short run, and of any. What stands in them is of no account.
-pub fn few_rows() -> [i64; Kind::MAX_REPEAT] {
+pub(crate) fn few_rows() -> [i64; Kind::MAX_REPEAT] {
     [0; Kind::MAX_REPEAT]
 }
 
-pub fn all_rows() -> [i64; Kind::MAX_ROWS] {
+pub(crate) fn all_rows() -> [i64; Kind::MAX_ROWS] {
     [0; Kind::MAX_ROWS]
 }
 
 // Whether ten rows are enough for the run that the input begins with: a short repeat, or a header that says ten rows at most.
-pub fn is_short(input: &[u8]) -> bool
+pub(crate) fn is_short(input: &[u8]) -> bool
     ensures { λ r. ⌜ (r ≡ true → Enough 10 (now (input .entry))) ⌝ }
 {
     if input.len() < 2 {

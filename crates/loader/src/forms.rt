@@ -24,7 +24,7 @@ fn byte_width(width: u64) -> u8
 }
 
 // Writes one run; a form that is none of the four is refused, whatever the rows are.
-pub fn write(rows: &[i64], signed: bool, form: u64, width: u64, out: &mut [u8]) -> Answer
+pub(crate) fn write(rows: &[i64], signed: bool, form: u64, width: u64, out: &mut [u8]) -> Answer
     ensures { λ r. ⌜ WrittenBy (now (rows .entry)) signed form width (now (out .entry)) (now (out .exit)) r ⌝ }
 {
     if 3 < form {

@@ -60,7 +60,7 @@ fn size(label: Label) -> usize
 }
 
 // The words of a label, in the first of the words lent. Answers the refusal's number.
-pub fn put_label(label: Label, words: &mut [u64]) -> u64
+pub(crate) fn put_label(label: Label, words: &mut [u64]) -> u64
     requires { ⌜ labelWordCount ≤ length (now words) ⌝ }
     ensures { λ r. ⌜ Put labelWords labelNumber label (now (words .entry)) (now (words .exit)) r ⌝ }
 {

@@ -59,7 +59,7 @@ fn cut_byte(field: CutField) -> usize
 }
 
 // The words of a call's answer, in the first of the words lent. Answers the refusal's number.
-pub fn put_answer(answer: Answer, words: &mut [u64]) -> u64
+pub(crate) fn put_answer(answer: Answer, words: &mut [u64]) -> u64
     requires { ⌜ wordCount ≤ length (now words) ⌝ }
     ensures { λ r. ⌜ Put answerWords answerNumber answer (now (words .entry)) (now (words .exit)) r ⌝ }
 {
@@ -150,7 +150,7 @@ fn last_answer(last: LastRun) -> Answer
 
 // The words of a stream's answer: of no one kind and width, with the counts of the runs that were read and the last of them, also where a
 // run is refused.
-pub fn put_stream(stream: Stream, words: &mut [u64]) -> u64
+pub(crate) fn put_stream(stream: Stream, words: &mut [u64]) -> u64
     requires { ⌜ streamWordCount ≤ length (now words) ⌝ }
     ensures { λ r. ⌜ Put streamWords streamNumber stream (now (words .entry)) (now (words .exit)) r ⌝ }
 {
