@@ -161,6 +161,17 @@ two-set [] a b h = absurd (omega arith)
 two-set (x ∷ []) a b h = absurd (omega arith)
 two-set (x ∷ y ∷ l) a b h = refl
 
+-- two more bytes, behind two that stand in front
+pub four-set : (p before out : List ℕ) (c d : ℕ) → length p ≡ 2 → 4 ≤ length before → out ≡ p ++ drop 2 before → set (set out 2 c) 3 d ≡ p ++ (c ∷ d ∷ drop 4 before)
+four-set (a ∷ b ∷ []) (x ∷ y ∷ z ∷ w ∷ l) out c d n h e = rw e
+four-set (a ∷ b ∷ []) [] out c d n h e = absurd (omega arith)
+four-set (a ∷ b ∷ []) (x ∷ []) out c d n h e = absurd (omega arith)
+four-set (a ∷ b ∷ []) (x ∷ y ∷ []) out c d n h e = absurd (omega arith)
+four-set (a ∷ b ∷ []) (x ∷ y ∷ z ∷ []) out c d n h e = absurd (omega arith)
+four-set [] l out c d n h e = absurd (omega arith)
+four-set (a ∷ []) l out c d n h e = absurd (omega arith)
+four-set (a ∷ b ∷ c′ ∷ p) l out c d n h e = absurd (omega arith)
+
 -- a piece of k bytes, written behind what stands in front
 pub behind : (p q before out out′ : List ℕ) (at k : ℕ) → at ≡ length p → length q ≡ k → out ≡ p ++ drop (length p) before
     → out′ ≡ take at out ++ q ++ drop (at + k) out → out′ ≡ (p ++ q) ++ drop (length (p ++ q)) before

@@ -3,3 +3,5 @@ pub mod Laws
 pub mod Forms
 pub mod PatchedLaws
 pub mod PatchedFill
+pub mod PatchedLay
+pub mod PatchedHeader

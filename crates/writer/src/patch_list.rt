@@ -43,12 +43,13 @@ pub(crate) fn fill(vals: &[u64], n: usize, bits: usize, pw: usize, list: &mut [u
             if from + 255 < i {
                 list[k] = entry(255, 0, pw);
                 from += 255;
+                k += 1;
             } else {
                 list[k] = entry(i - from, patch, pw);
                 from = i;
                 i += 1;
+                k += 1;
             }
-            k += 1;
         }
     }
     k

@@ -1,93 +1,106 @@
+-- `patched_base::lay` meets its contract. Assumes nothing.
+use mathlib.Core.Path.{_≡_, _∙_}
+use Prim.Native.Nat.{ℕ, _+_}
+use native.Mathlib.Omega.{arith}
+use lib.ListN.{length}
+use denote.Ref.{now}
+use Rattle.format.specs.Fields.{leastWidth}
+use Rattle.format.proofs.Widths.{IsWidth, least-is}
+use Rattle.writer.proofs.Laws.{width-known, block-small}
+use Rattle.writer.proofs.PatchedLay.{Sized, no-room, laid}
 use borrow.Author.Needs.{needs}
 use Rattle.writer.proofs.patched_base.lay.Statement.{statement}
 use Rattle.writer.proofs.patched_base.lay.Tie as tie
-use Rattle.writer.proofs.patched_base.lay.Reads as reads
-use Rattle.writer.proofs.patched_base.lay.Lts as lts
-use Rattle.format.proofs.Answer.refused.Reads as refused-reads
-use Rattle.format.proofs.Answer.run.Reads as run-reads
-use Rattle.util.proofs.big_endian.write.Reads as write-reads
-use Rattle.util.proofs.packed.block_size.Reads as block-size-reads
-use Rattle.util.proofs.packed.pack.Reads as pack-reads
-use Rattle.util.proofs.width.bits_of.Reads as bits-of-reads
-use Rattle.util.proofs.width.entry_width.Reads as entry-width-reads
-use Rattle.writer.proofs.patched_base.sign_magnitude.Reads as sign-magnitude-reads
-use Rattle.writer.proofs.patched_base.write_head.Reads as write-head-reads
 
--- src/patched_base.rt:133:9
+-- the sizes, once both blocks are measured
+sized : (c : tie.After-block-size2) → Sized (c .before .before .before .before .before .before .before .before .before .before .args .h) (c .before .before .before .before .before .before .bits-of .result) (c .before .before .before .entry-width .result) (c .before .block-size .result) (c .block-size2 .result)
+sized c = record {
+  bits-is = c .before .before .before .before .before .before .bits-of .ensures;
+  entry-is = c .before .before .before .entry-width .ensures ∙ rw (c .before .before .before .before .before .bits-of2 .ensures);
+  values-are = c .before .block-size .ensures;
+  list-is = c .block-size2 .ensures;
+}
+
 bits-of-requires : tie.Need-bits-of-requires
 bits-of-requires c κs = search needs
 
--- src/patched_base.rt:134:36
 bits-of-requires-2 : tie.Need-bits-of-requires-2
 bits-of-requires-2 c κs = search needs
 
--- src/patched_base.rt:134:36
 add-entry-width : tie.Need-add-entry-width
 add-entry-width c = search needs
 
--- src/patched_base.rt:134:9
 entry-width-requires : tie.Need-entry-width-requires
 entry-width-requires c κs = search needs
 
--- src/patched_base.rt:135:18
 add-values : tie.Need-add-values
 add-values c = search needs
 
--- src/patched_base.rt:136:28
 block-size-requires : tie.Need-block-size-requires
-block-size-requires c κs = ?
+block-size-requires c κs = (width-known _ (c .before .before .before .before .bits-of .ensures) .le, omega arith)
 
--- src/patched_base.rt:136:19
 add-patches : tie.Need-add-patches
-add-patches c = ?
+add-patches c =
+    omega (arith, c .block-size .ensures, block-small (c .before .before .before .before .before .before .before .before .before .args .h .rows) (c .before .before .before .before .before .bits-of .result) (omega arith) (width-known _ (c .before .before .before .before .before .bits-of .ensures) .le))
 
--- src/patched_base.rt:137:25
 block-size-requires-2 : tie.Need-block-size-requires-2
-block-size-requires-2 c κs = ?
+block-size-requires-2 c κs = (rw (c .before .before .entry-width .ensures) (least-is _ .le), omega arith)
 
--- src/patched_base.rt:137:15
 add-end : tie.Need-add-end
-add-end c = ?
+add-end c =
+    let a = c .before .before .before .before .before .before .before .before .before .before .args in
+    omega (
+      arith,
+      c .before .block-size .ensures,
+      c .block-size2 .ensures,
+      block-small (a .h .rows) (c .before .before .before .before .before .before .bits-of .result) (omega arith) (width-known _ (c .before .before .before .before .before .before .bits-of .ensures) .le),
+      block-small (a .h .entries) (c .before .before .before .entry-width .result) (omega arith) (rw (c .before .before .before .entry-width .ensures) (least-is _ .le)),
+    )
 
--- src/patched_base.rt:139:9
 refused-requires : tie.Need-refused-requires
 refused-requires c κs = search needs
 
--- src/patched_base.rt:139:9
 returns : tie.Need-returns
-returns c = ?
+returns c =
+    let b = c .before .before in
+    let a = b .before .before .before .before .before .before .before .before .before .before in
+    no-room (a .pre) (sized b) (now (a .args .out)) (c .refused .result) (c .before .if1 .taken) (c .refused .ensures)
 
--- src/patched_base.rt:141:5
 write-head-requires : tie.Need-write-head-requires
 write-head-requires c κs = search needs
 
--- src/patched_base.rt:142:23
 sign-magnitude-requires : tie.Need-sign-magnitude-requires
 sign-magnitude-requires c κs = search needs
 
--- src/patched_base.rt:142:5
 write-requires : tie.Need-write-requires
 write-requires c κs = search needs
 
--- src/patched_base.rt:143:5
 pack-requires : tie.Need-pack-requires
-pack-requires c κs = ?
+pack-requires c κs =
+    let b = c .before .before .before .before .before .before .before .before .before .before .before in
+    let a = b .before .before .before .before .before .before .before .before .before .before in
+    let w = width-known _ (sized b .bits-is) in
+    ((w .pos, w .le, w .window), ((omega (arith, a .pre .rows), a .pre .rows-there, omega (arith, sized b .values-are)), rw (sized b .bits-is) (a .pre .values-fit)))
 
--- src/patched_base.rt:144:5
 pack-requires-2 : tie.Need-pack-requires-2
-pack-requires-2 c κs = ?
+pack-requires-2 c κs =
+    let b = c .before .before .before .before .before .before .before .before .before .before .before .before .before .before .before in
+    let a = b .before .before .before .before .before .before .before .before .before .before in
+    let w : IsWidth (b .before .before .before .entry-width .result) = rw (b .before .before .before .entry-width .ensures) (least-is _) in
+    ((w .pos, w .le, w .window), ((omega (arith, a .pre .entries), a .pre .entries-there, omega (arith, sized b .list-is)), rw (sized b .entry-is) (a .pre .list-fits)))
 
--- src/patched_base.rt:145:5
 run-requires : tie.Need-run-requires
 run-requires c κs = search needs
 
--- src/patched_base.rt:129:1
 same-length : tie.Need-same-length
 same-length c = search needs
 
--- src/patched_base.rt:129:1
 returns-2 : tie.Need-returns-2
-returns-2 c = ?
+returns-2 c =
+    let b = c .before .before .before .before .before .before .before .before .before .before .before .before .before .before .before .before .before .before .before in
+    let a = b .before .before .before .before .before .before .before .before .before .before in
+    laid (a .pre) (sized b) (now (a .args .out)) (c .before .before .before .before .before .before .before .before .before .before .before .before .before .before .before .before .write-head .last .1 .0) (c .before .before .before .before .before .before .before .before .before .before .before .write .last .1 .1 .0) (c .before .before .before .before .before .before .before .pack .last .1 .1 .1 .0) (c .before .before .before .pack2 .last .1 .1 .1 .0) (c .run .result)
+    (c .before .before .before .before .before .before .before .before .before .before .before .before .before .before .before .before .before .before .if1 .left) (c .run .ensures) (c .before .before .before .before .before .before .before .before .before .before .before .before .before .before .before .before .write-head .ensures) (rw (c .before .before .before .before .before .before .before .before .before .before .before .before .before .sign-magnitude .ensures) at (c .before .before .before .before .before .before .before .before .before .before .before .write .ensures)) (c .before .before .before .before .before .before .before .pack .ensures) (c .before .before .before .pack2 .ensures)
 
 pub lay-spec : {M : Type 1} → statement M
 lay-spec =

@@ -5,7 +5,7 @@ use Prim.Native.Nat.{ℕ, _+_, _-_, _%_, _/_, _^_, _≤_, _<_}
 use native.Mathlib.Nat.{div-one}
 use native.Mathlib.Omega.{arith}
 use lib.ListN.{length, getD, take, drop, length-set}
-use lib.Seq.{slice, getD-drop, length-take-le}
+use lib.Seq.{slice, getD-take, length-take-le}
 use denote.Ref.{now}
 use Rattle.format.specs.PatchedWriting.{lows}
 use Rattle.util.proofs.Grow.{grow, kept, filled}
@@ -45,13 +45,30 @@ loop-less : tie.Need-loop-less Inv-loop μ-loop
 loop-less c = omega arith
 
 loop-again : tie.Need-loop-again Inv-loop μ-loop
-loop-again c = ?
+loop-again c =
+    let l = c .before .before .before .loop in
+    let a = c .before .before .before .before .before .args in
+    let vs : List ℕ = take (a .n) (now (a .vals)) in
+    let h : l .i < length vs = rw (length-take-le (a .n) (now (a .vals)) (omega arith)) (omega arith) in
+    let g : getD vs (l .i) 0 ≡ getD (l .vals) (l .i) 0 = getD-take (a .n) (now (a .vals)) (l .i) 0 (omega arith) ∙ sym (same-at (l .vals) (now (a .vals)) (l .i) (l .inv .3)) in
+    let e : c .cut .result ≡ getD vs (l .i) 0 % 2 ^ a .bits = c .cut .ensures ∙ rw (div-one, g) in (
+      omega arith,
+      simp length-set (l .inv .1),
+      grow (l .vals) (l .i) _ _ _ (omega arith) (rw (map-next (λ d. d % 2 ^ a .bits) vs (l .i) h, ← e) at (l .inv .2)),
+      kept (l .vals) (now (a .vals)) (l .i) _ (l .inv .3),
+    )
 
 same-length : tie.Need-same-length Inv-loop μ-loop
 same-length c = c .before .loop .inv .1
 
 returns : tie.Need-returns Inv-loop μ-loop
-returns c = ?
+returns c =
+    let l = c .before .loop in
+    let a = c .before .before .before .args in
+    let vs : List ℕ = take (a .n) (now (a .vals)) in
+    let n : l .i ≡ a .n = omega arith in
+    let z : lows (a .bits) (drop (l .i) vs) ≡ [] = map-end (λ d. d % 2 ^ a .bits) vs (l .i) (rw (length-take-le (a .n) (now (a .vals)) (omega arith)) (omega arith)) in
+    filled (l .vals) (now (a .vals)) _ (a .n) (rw (z, n) at (l .inv .2)) (rw n at (l .inv .3))
 
 pub keep-low-spec : {M : Type 1} → statement M
 keep-low-spec =

@@ -1,7 +1,9 @@
 -- `values::largest` meets its contract. The loop's invariant: a bound holds for the whole exactly if it holds for the largest so far and for what is
 -- left. Assumes nothing.
 use mathlib.Core.Path.{_≡_, refl}
+use mathlib.Core.Logic.{⊎-elim}
 use Prim.Native.Nat.{ℕ, _-_, _≤_}
+use native.Mathlib.Nat.{le-of-lt}
 use native.Mathlib.Omega.{arith}
 use denote.Ref.{now}
 use Rattle.writer.proofs.Laws.{Most, most-first, most-next, most-same, most-all}
@@ -36,7 +38,15 @@ loop-less : tie.Need-loop-less Inv-loop μ-loop
 loop-less c = omega arith
 
 loop-again : tie.Need-loop-again Inv-loop μ-loop
-loop-again c = ?
+loop-again c =
+    let l = c .before .before .before .loop in
+    let a = c .before .before .before .before .args in (
+      omega arith,
+      ⊎-elim
+          (λ w. rw (w .2) (most-next (now (a .vals)) (a .n) (l .most) (l .i) (l .inv .1) (omega arith) (omega arith) (le-of-lt (w .0 .taken))))
+          (λ w. rw (w .1) (most-same (now (a .vals)) (a .n) (l .most) (l .i) (l .inv .1) (omega arith) (omega arith) (w .0 .left)))
+          (c .if1 .came),
+    )
 
 returns : tie.Need-returns Inv-loop μ-loop
 returns c =
