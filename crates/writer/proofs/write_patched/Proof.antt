@@ -1,6 +1,7 @@
 -- `write_patched` meets its contract. Assumes nothing.
 use mathlib.Core.Path.{sym, _∙_}
 use lib.ListN.{length}
+use mir.Facts.{toZ-ofZ}
 use borrow.Author.Tests.{not-true, not-false}
 use denote.Ref.{now}
 use Rattle.writer.proofs.Laws.{within}
@@ -27,7 +28,7 @@ same-length : tie.Need-same-length
 same-length c = search needs
 
 returns-2 : tie.Need-returns-2
-returns-2 c = c .before .before .write .ensures
+returns-2 c = rw (toZ-ofZ (c .before .before .before .before .before .before .before .fits .base)) at (c .before .before .write .ensures)
 
 pub write-patched-spec : {M : Type 1} → statement M
 write-patched-spec =

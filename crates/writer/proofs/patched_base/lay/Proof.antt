@@ -1,10 +1,10 @@
 -- `patched_base::lay` meets its contract. Assumes nothing.
 use mathlib.Core.Path.{_≡_, _∙_}
-use Prim.Native.Nat.{ℕ, _+_}
+use Prim.Native.Nat.{ℕ, _+_, _*_, _≤_}
 use native.Mathlib.Omega.{arith}
 use lib.ListN.{length}
 use denote.Ref.{now}
-use Rattle.format.specs.Fields.{leastWidth}
+use Rattle.format.specs.Fields.{bytesFor}
 use Rattle.format.proofs.Widths.{IsWidth, least-is}
 use Rattle.writer.proofs.Laws.{width-known, block-small}
 use Rattle.writer.proofs.PatchedLay.{Sized, no-room, laid}
@@ -80,14 +80,18 @@ pack-requires c κs =
     let b = c .before .before .before .before .before .before .before .before .before .before .before in
     let a = b .before .before .before .before .before .before .before .before .before .before in
     let w = width-known _ (sized b .bits-is) in
-    ((w .pos, w .le, w .window), ((omega (arith, a .pre .rows), a .pre .rows-there, omega (arith, sized b .values-are)), rw (sized b .bits-is) (a .pre .values-fit)))
+    let room : 4 + a .args .h .base + bytesFor (a .args .h .rows * b .before .before .before .before .before .before .bits-of .result) ≤ length (c .before .before .before .write .last .1 .1 .0) =
+    omega (arith, sized b .values-are, c .before .before .before .before .before .before .before .before .before .before .if1 .left, c .before .before .before .write .kept .1 .1 .0, c .before .before .before .before .before .before .before .before .write-head .kept .1 .0) in
+    ((w .pos, w .le, w .window), ((omega (arith, a .pre .rows), a .pre .rows-there, room), rw (sized b .bits-is) (a .pre .values-fit)))
 
 pack-requires-2 : tie.Need-pack-requires-2
 pack-requires-2 c κs =
     let b = c .before .before .before .before .before .before .before .before .before .before .before .before .before .before .before in
     let a = b .before .before .before .before .before .before .before .before .before .before in
     let w : IsWidth (b .before .before .before .entry-width .result) = rw (b .before .before .before .entry-width .ensures) (least-is _) in
-    ((w .pos, w .le, w .window), ((omega (arith, a .pre .entries), a .pre .entries-there, omega (arith, sized b .list-is)), rw (sized b .entry-is) (a .pre .list-fits)))
+    let room : 4 + a .args .h .base + b .before .block-size .result + bytesFor (a .args .h .entries * b .before .before .before .entry-width .result) ≤ length (c .before .before .before .pack .last .1 .1 .1 .0) =
+    omega (arith, sized b .list-is, c .before .before .before .before .before .before .before .before .before .before .before .before .before .before .if1 .left, c .before .before .before .pack .kept .1 .1 .1 .0, c .before .before .before .before .before .before .before .write .kept .1 .1 .0, c .before .before .before .before .before .before .before .before .before .before .before .before .write-head .kept .1 .0) in
+    ((w .pos, w .le, w .window), ((omega (arith, a .pre .entries), a .pre .entries-there, room), rw (sized b .entry-is) (a .pre .list-fits)))
 
 run-requires : tie.Need-run-requires
 run-requires c κs = search needs
