@@ -65,3 +65,9 @@ module _ (test : ℕ → Bool) where
       by : Dec (leastFrom test n k < n + k) → leastFrom test n k ≡ n + k
       by (yes m) = absurd (none (leastFrom test n k) (least-low n k) m (least-passes n k m))
       by (no m) = omega (arith, least-high n k)
+
+-- equal tests find the same number
+pub least-same : (f g : ℕ → Bool) → ((i : ℕ) → f i ≡ g i) → (n k : ℕ) → leastFrom f n k ≡ leastFrom g n k
+unfolding leastFrom
+least-same f g e n zero = refl
+least-same f g e n (suc k) = rw (e n, least-same f g e (suc n) k)

@@ -15,3 +15,4 @@ pub mod Reading
 pub mod Writing
 pub mod Least
 pub mod PatchedWriting
+pub mod PatchedExamples

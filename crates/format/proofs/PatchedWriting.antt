@@ -1,7 +1,7 @@
 -- What is written of a patched run (document 02, item 9): its fields have room in the widths that it chooses, and no lesser width holds them.
 -- Assumes nothing.
 use mathlib.Core.Path.{_≡_, _∙_}
-use Prim.Native.Nat.{ℕ, zero, suc, _+_, _-_, _/_, _^_, _<_, _≤_, _%_}
+use Prim.Native.Nat.{ℕ, zero, suc, _+_, _-_, _*_, _/_, _^_, _<_, _≤_, _%_}
 use native.Mathlib.Nat.{mod-lt, lt-of-lt-of-le, lt-of-le-of-lt, le-of-lt}
 use native.Mathlib.Omega.{arith}
 use native.Mathlib.Decide.{decLt}
@@ -48,6 +48,23 @@ pub patches-below : (b before : ℕ) (qs : List Patch) → 0 < b → AllBelow b 
 unfolding entriesFrom
 patches-below b before [] h r = tt
 patches-below b before (q ∷ qs) h r = skips-below (λ e. e .patch) b (skipsIn (q .place - before)) _ h (r .0, patches-below b (q .place) qs h (r .1))
+
+-- a gap above 255 begins with a skip, and a lesser one with its entry
+pub skip-next : (from : ℕ) (q : Patch) (qs : List Patch) → from + 255 < q .place → entriesFrom from (q ∷ qs) ≡ skip ∷ entriesFrom (from + 255) (q ∷ qs)
+unfolding entriesFrom
+skip-next from q qs h =
+    let n : ℕ = skipsIn (q .place - (from + 255)) in
+    let e : skipsIn (q .place - from) ≡ suc n = omega arith in
+    let g : q .place - from - 255 * suc n ≡ q .place - (from + 255) - 255 * n = omega arith in
+    rw (e, g)
+
+pub entry-next : (from : ℕ) (q : Patch) (qs : List Patch) → q .place ≤ from + 255
+    → entriesFrom from (q ∷ qs) ≡ record { gap = q .place - from; patch = q .patch } ∷ entriesFrom (q .place) qs
+unfolding entriesFrom
+entry-next from q qs h =
+    let e : skipsIn (q .place - from) ≡ 0 = omega arith in
+    let g : q .place - from - 255 * 0 ≡ q .place - from = omega arith in
+    rw (e, g)
 
 -- ---- PATCHES: what is above w bits, below b where each number's is
 

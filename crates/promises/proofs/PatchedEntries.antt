@@ -19,7 +19,7 @@ use Rattle.format.proofs.Widths.{and-left, and-right}
 use Rattle.format.specs.PatchedWriting.{patchesAbove, Entry, skip, skipsIn, entriesFrom, field}
 use Rattle.promises.specs.Patched.{OnlySkips}
 use Rattle.format.proofs.Writing.{below-mono}
-use Rattle.format.proofs.PatchedWriting.{gaps-255}
+use Rattle.format.proofs.PatchedWriting.{gaps-255, skip-next}
 use Rattle.promises.proofs.PatchedPlaces.{or-not, and-false, Rising, rising-from, kept}
 
 -- ---- NO LIST IS SHORTER: of those that have these patches, each gap at most 255
@@ -170,21 +170,12 @@ above-small w (q ∷ qs) b =
 
 -- ---- ONE LIST ONLY: of those without other entries, the shortest is that of the entries
 
-skip-first : (before : ℕ) (q : Patch) (qs : List Patch) → skipsIn (q .place - (before + 255)) < skipsIn (q .place - before)
-    → entriesFrom before (q ∷ qs) ≡ skip ∷ entriesFrom (before + 255) (q ∷ qs)
-unfolding entriesFrom
-skip-first before q qs h =
-    let n : ℕ = skipsIn (q .place - (before + 255)) in
-    let e : skipsIn (q .place - before) ≡ suc n = omega arith in
-    let g : q .place - before - 255 * suc n ≡ q .place - (before + 255) - 255 * n = omega arith in
-    rw (e, g)
-
 behind-skip : (pw before e : ℕ) (es : List ℕ) (qs : List Patch) → e ≡ field pw skip → suc (length es) ≤ length (entriesFrom before qs)
     → length (entriesFrom (before + 255) qs) ≤ length es → (length es ≤ length (entriesFrom (before + 255) qs) → es ≡ map (field pw) (entriesFrom (before + 255) qs))
     → e ∷ es ≡ map (field pw) (entriesFrom before qs)
 behind-skip pw before e es [] k l f ih = absurd (omega (arith, no-entries before))
 behind-skip pw before e es (q ∷ qs) k l f ih =
-    let s = skip-first before q qs (omega (arith, length-entries before q qs, length-entries (before + 255) q qs)) in
+    let s = skip-next before q qs (omega (arith, length-entries before q qs, length-entries (before + 255) q qs)) in
     rw s (ap₂ (λ (x : ℕ) (t : List ℕ). x ∷ t) k (ih (omega (arith, ap (λ (t : List Entry). length t) s))))
 
 pub same-entries : (pw before : ℕ) (es : List ℕ) → OnlySkips pw es → AllBelow 256 (map (gapOf pw) es) → length es ≤ length (entriesFrom before (kept (patchesFrom pw before es)))

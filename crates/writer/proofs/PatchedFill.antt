@@ -3,17 +3,15 @@ use mathlib.Core.Path.{_≡_, refl, sym, ap, _∙_}
 use Prim.Native.Nat.{ℕ, suc, _+_, _-_, _*_, _/_, _^_, _<_, _≤_}
 use native.Mathlib.Numerals.{add-one}
 use native.Mathlib.Omega.{arith}
-use mathlib.Core.Bool.{Bool, true, false, _&&_}
 use mathlib.Core.List.{List, [], _∷_, _++_, map, append-nil}
-use lib.Dec.{ltb}
-use lib.ListN.{length, getD, take, drop, set, length-set, length-append, length-map, length-replicate}
+use lib.ListN.{length, getD, take, set, length-set, length-append, length-map, length-replicate}
 use lib.Seq.{slice, slice-cons, slice-empty, length-take-le}
-use borrow.Author.Tests.{eq-eqb, ne-eqb, lt-ltb, le-ltb}
+use borrow.Author.Tests.{eq-eqb, ne-eqb}
 use Rattle.format.specs.Runs.{Patch}
-use Rattle.format.specs.Writing.{every}
-use Rattle.format.specs.PatchedWriting.{patchesAbove, Entry, skip, skipsIn, entriesFrom, field}
+use Rattle.format.specs.PatchedWriting.{patchesAbove, Entry, skip, entriesFrom, field}
+use Rattle.format.proofs.PatchedWriting.{skip-next, entry-next}
 use Rattle.util.proofs.Grow.{grow}
-use Rattle.writer.specs.PatchedBase.{Largest, Listed}
+use Rattle.writer.specs.PatchedBase.{Listed}
 
 -- ---- rows and their patches
 
@@ -26,22 +24,6 @@ unfolding patchesAbove
 above-one w p d ds n = rw (ne-eqb (d / 2 ^ w) 0 n)
 
 -- ---- patches and their entries
-
-skip-next : (from : ℕ) (q : Patch) (qs : List Patch) → from + 255 < q .place → entriesFrom from (q ∷ qs) ≡ skip ∷ entriesFrom (from + 255) (q ∷ qs)
-unfolding entriesFrom
-skip-next from q qs h =
-    let n : ℕ = skipsIn (q .place - (from + 255)) in
-    let e : skipsIn (q .place - from) ≡ suc n = omega arith in
-    let g : q .place - from - 255 * suc n ≡ q .place - (from + 255) - 255 * n = omega arith in
-    rw (e, g)
-
-entry-next : (from : ℕ) (q : Patch) (qs : List Patch) → q .place ≤ from + 255
-    → entriesFrom from (q ∷ qs) ≡ record { gap = q .place - from; patch = q .patch } ∷ entriesFrom (q .place) qs
-unfolding entriesFrom
-entry-next from q qs h =
-    let e : skipsIn (q .place - from) ≡ 0 = omega arith in
-    let g : q .place - from - 255 * 0 ≡ q .place - from = omega arith in
-    rw (e, g)
 
 some-entry : (from : ℕ) (q : Patch) (qs : List Patch) → 1 ≤ length (entriesFrom from (q ∷ qs))
 unfolding entriesFrom

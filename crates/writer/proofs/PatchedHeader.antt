@@ -1,28 +1,26 @@
 -- The header of the run that is written: none where a field has no room in it, and else its fields with the values and the list. Assumes nothing.
-use mathlib.Core.Path.{_≡_, refl, sym, ap, _∙_}
-use Prim.Native.Nat.{ℕ, _+_, _-_, _*_, _/_, _%_, _^_, _<_, _≤_}
+use mathlib.Core.Path.{_≡_, ap}
+use Prim.Native.Nat.{ℕ, _+_, _-_, _*_, _^_, _<_, _≤_}
 use native.Mathlib.Omega.{arith}
-use mathlib.Core.Bool.{Bool, true, false, _&&_}
-use mathlib.Core.List.{List, _++_, map}
+use mathlib.Core.Bool.{true, false}
+use mathlib.Core.List.{List, map}
 use lib.Dec.{leb, ltb, ltb→lt}
 use lib.IntN.{ℤ}
-use lib.ListN.{length, take, drop, length-map}
+use lib.ListN.{length, take, length-map}
 use lib.Pow.{pow-pos}
-use lib.Seq.{take-at}
 use borrow.Author.Tests.{lt-ltb, le-ltb, lt-leb, le-leb}
 use Rattle.format.specs.declared.Answer.{Answer}
 use Rattle.format.specs.Answers.{refusedAt}
-use Rattle.format.specs.Digits.{AllBelow, digits}
+use Rattle.format.specs.Digits.{digits}
 use Rattle.format.specs.Rows.{asU64}
-use Rattle.format.specs.Fields.{width, Narrowest}
-use Rattle.format.specs.Runs.{Patch, entryWidth}
+use Rattle.format.specs.Fields.{width}
 use Rattle.format.specs.Writing.{padded, between}
-use Rattle.format.specs.PatchedWriting.{differences, lows, patchesAbove, Entry, entriesFrom, field, codeFor, patchCode, gapWidth, magnitude, baseSize, baseBytes, Parts, patchesIn, entriesOf, parts, headerHolds, writingPatched, PatchedWritten}
+use Rattle.format.specs.PatchedWriting.{differences, lows, field, codeFor, patchCode, gapWidth, magnitude, baseSize, baseBytes, Parts, patchesIn, entriesOf, parts, headerHolds, writingPatched, PatchedWritten}
 use Rattle.format.proofs.Least.{least-passes}
 use Rattle.format.proofs.Widths.{least-holds}
 use Rattle.format.proofs.PatchedWriting.{below-mods, size-low, size-is, code-width, width-56, gap-1, gap-8, gap-holds, es-below, fields-below}
 use Rattle.writer.specs.declared.patched_base.Header.{Header}
-use Rattle.writer.specs.PatchedBase.{signMagnitude, headed, Ready, Headed, Laid}
+use Rattle.writer.specs.PatchedBase.{signMagnitude, headed, Headed, Laid}
 use Rattle.writer.proofs.Laws.{and-false}
 
 -- ---- a field that has no room

@@ -1,21 +1,20 @@
 -- The numbers of a patched run as its functions come by them: the largest value bounds every patch, and the largest entry every gap.
 -- Assumes nothing.
-use mathlib.Core.Path.{_≡_, refl, sym, ap, _∙_}
-use Prim.Native.Nat.{ℕ, zero, suc, _+_, _-_, _*_, _/_, _^_, _<_, _≤_}
+use mathlib.Core.Path.{_≡_, refl, sym, _∙_}
+use Prim.Native.Nat.{ℕ, suc, _+_, _-_, _*_, _/_, _^_, _<_, _≤_}
 use native.Mathlib.Nat.{div-lt-iff-lt-mul, lt-of-lt-of-le}
-use native.Mathlib.Decide.{decLt, ℕ-discrete}
+use native.Mathlib.Decide.{decLt}
 use native.Mathlib.Omega.{arith}
 use mathlib.Core.Bool.{Bool, true, false, _&&_}
 use mathlib.Core.List.{List, [], _∷_, map}
-use lib.Dec.{T, ltb, leb, eqb, ltb→lt, lt→ltb, eqb→eq, eqb-refl}
+use lib.Dec.{T, ltb, eqb, ltb→lt, lt→ltb, eqb→eq, eqb-refl}
 use lib.Pow.{pow-pos, pow-add, pow-mono, shr-lt, high}
-use borrow.Author.Tests.{lt-ltb, le-ltb, eqb-true, ltb-true}
+use borrow.Author.Tests.{lt-ltb, le-ltb, eqb-true}
 use Rattle.format.specs.Digits.{AllBelow}
-use Rattle.format.specs.Fields.{pick, width, leastWidth, Narrowest}
-use Rattle.format.specs.Runs.{Patch}
+use Rattle.format.specs.Fields.{pick, width, Narrowest}
 use Rattle.format.specs.Writing.{every}
-use Rattle.format.specs.PatchedWriting.{patchesAbove, Entry, entriesFrom, field, leastFrom, allFit, codeFor, patchCode, gapWidth, magnitude, baseSize}
-use Rattle.format.proofs.Least.{the-least, least-none}
+use Rattle.format.specs.PatchedWriting.{patchesAbove, Entry, field, leastFrom, allFit, codeFor, patchCode, gapWidth, magnitude, baseSize}
+use Rattle.format.proofs.Least.{the-least, least-none, least-same}
 use Rattle.format.proofs.Widths.{least-holds}
 use Rattle.format.proofs.Writing.{below-every, every-below}
 use Rattle.format.proofs.PatchedWriting.{width-mono}
@@ -36,11 +35,6 @@ above-test x a w = by (decLt (x / 2 ^ w) (2 ^ a))
         not-below : Dec (x < 2 ^ (a + w)) → ltb x (2 ^ (a + w)) ≡ false
         not-below (yes l) = absurd (h (shr-lt a w l))
         not-below (no l) = le-ltb x (2 ^ (a + w)) (omega arith)
-
-least-same : (f g : ℕ → Bool) → ((i : ℕ) → f i ≡ g i) → (n k : ℕ) → leastFrom f n k ≡ leastFrom g n k
-unfolding leastFrom
-least-same f g e n zero = refl
-least-same f g e n (suc k) = rw (e n, least-same f g e (suc n) k)
 
 -- ---- PATCHES: each fits exactly if its whole number does
 

@@ -147,11 +147,11 @@ pub(crate) fn write(rows: &[i64], base: i64, width: u8, out: &mut [u8]) -> Answe
     requires { ⌜ (1 ≤ length (now rows)) × (length (now rows) ≤ 512) ⌝ }
     ensures { λ r. ⌜ PatchedWritten (now (rows .entry)) base width (now (out .entry)) (now (out .exit)) r ⌝ }
 {
-    let low = pattern::to_u64(base);
+    let base_bits = pattern::to_u64(base);
     let mut vals = values::scratch();
     let mut list = patch_list::scratch();
-    match header_of(rows, low, width as usize, &mut vals, &mut list) {
+    match header_of(rows, base_bits, width as usize, &mut vals, &mut list) {
         Found::None => Answer::refused(10, 0),
-        Found::Header(h) => lay(h, low, &vals, &list, out),
+        Found::Header(h) => lay(h, base_bits, &vals, &list, out),
     }
 }
