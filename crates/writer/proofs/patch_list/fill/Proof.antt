@@ -86,7 +86,7 @@ loop-again-2 : tie.Need-loop-again-2 Inv-loop μ-loop
 loop-again-2 c =
     let l = c .before .before .before .before .before .before .before .loop in (
       simp length-set (l .inv .0),
-      put-skip (l .inv .1) (omega arith) (omega arith) (λ z. c .before .before .before .if1 .left (c .before .before .before .before .above .ensures ∙ z)) (omega (arith, l .inv .1 .room)) (c .before .if3 .taken) _ (c .entry .ensures),
+      put-skip (l .inv .1) (omega arith) (omega arith) (λ z. c .before .before .before .if1 .left (c .before .before .before .before .above .ensures ∙ z)) (omega (arith, l .inv .1 .room)) (omega arith) _ (c .entry .ensures),
     )
 
 sub-entry : tie.Need-sub-entry Inv-loop μ-loop
@@ -114,7 +114,7 @@ loop-again-3 : tie.Need-loop-again-3 Inv-loop μ-loop
 loop-again-3 c =
     let l = c .before .before .before .before .before .before .before .loop in (
       simp length-set (l .inv .0),
-      put-entry (l .inv .1) (omega arith) (omega arith) (λ z. c .before .before .before .if1 .left (c .before .before .before .before .above .ensures ∙ z)) (omega (arith, l .inv .1 .room)) (c .before .if3 .left) _ (rw (c .before .before .before .before .above .ensures) at (c .entry2 .ensures)),
+      put-entry (l .inv .1) (omega arith) (omega arith) (λ z. c .before .before .before .if1 .left (c .before .before .before .before .above .ensures ∙ z)) (omega (arith, l .inv .1 .room)) (omega arith) _ (rw (c .before .before .before .before .above .ensures) at (c .entry2 .ensures)),
     )
 
 same-length-2 : tie.Need-same-length-2 Inv-loop μ-loop
