@@ -2,7 +2,7 @@
 use mathlib.Core.Path.{_≡_, refl, sym, ap, ap₂, _∙_}
 use mathlib.Core.Logic.{_⊎_, inl, inr}
 use Prim.Native.Nat.{ℕ, zero, suc, _+_, _-_, _*_, _/_, _^_, _<_, _≤_}
-use native.Mathlib.Nat.{mod-lt, add-zero}
+use native.Mathlib.Nat.{add-zero}
 use native.Mathlib.Omega.{arith}
 use mathlib.Core.Bool.{Bool, true, false, not}
 use mathlib.Core.List.{List, [], _∷_, _++_, map}
@@ -133,22 +133,6 @@ module _ (pw : ℕ) where
   only-skips before (q ∷ qs) s b = skips-only (skipsIn (q .place - before)) _ (inr (rw (low _ pw (b .0)) (s .0)), only-skips (q .place) qs (s .1) (b .1))
 
 -- ---- how large the patches are
-
--- those of a list have its patch width
-pub patches-fit : (pw before : ℕ) (es : List ℕ) → AllBelow (2 ^ pw) (map (λ q. q .patch) (kept (patchesFrom pw before es)))
-unfolding patchesFrom kept
-patches-fit pw before [] = tt
-patches-fit pw before (e ∷ es) = by (isSkip pw e) (patchesFrom pw (before + gapOf pw e) es) (patches-fit pw (before + gapOf pw e) es)
-  where
-    keep : (u : Bool) (qs : List Patch) → AllBelow (2 ^ pw) (map (λ q. q .patch) qs)
-        → AllBelow (2 ^ pw) (map (λ q. q .patch) (pick u qs (record { place = before + gapOf pw e; patch = patchOf pw e } ∷ qs)))
-    keep true qs h = h
-    keep false qs h = (mod-lt e (pow-pos pw), h)
-
-    by : (t : Bool) (qs : List Patch) → AllBelow (2 ^ pw) (map (λ q. q .patch) (kept qs))
-        → AllBelow (2 ^ pw) (map (λ q. q .patch) (kept (pick t qs (record { place = before + gapOf pw e; patch = patchOf pw e } ∷ qs))))
-    by true qs h = h
-    by false qs h = keep (eqb (patchOf pw e) 0) (kept qs) h
 
 -- those above w bits are not 0 ..
 pub above-some : (w p : ℕ) (ds : List ℕ) → AllSome (patchesAbove w p ds)

@@ -1,15 +1,16 @@
 -- Any description of the same rows has the same patches, and no lesser widths. Assumes nothing.
 use mathlib.Core.Path.{_≡_}
 use Prim.Native.Nat.{ℕ, _+_, _^_, _<_, _≤_}
-use native.Mathlib.Nat.{lt-of-le-of-lt, zero-add}
+use native.Mathlib.Nat.{lt-of-le-of-lt, zero-add, mod-lt}
 use native.Mathlib.Omega.{arith}
-use mathlib.Core.Bool.{Bool, not}
-use mathlib.Core.List.{List, map}
+use mathlib.Core.Bool.{Bool, true, false, not}
+use lib.Dec.{eqb}
+use mathlib.Core.List.{List, [], _∷_, map}
 use lib.ListN.{length, length-map}
-use lib.Pow.{pow-mono}
+use lib.Pow.{pow-pos, pow-mono}
 use Rattle.format.specs.Digits.{AllBelow}
-use Rattle.format.specs.Fields.{two64, width, widths}
-use Rattle.format.specs.Runs.{Patch, Valid, gapOf, patches, lastIsSkip, shared, outside, outOfPlace}
+use Rattle.format.specs.Fields.{pick, two64, width}
+use Rattle.format.specs.Runs.{Patch, Valid, gapOf, patchOf, isSkip, patches, patchesFrom, lastIsSkip, shared, outside, outOfPlace}
 use Rattle.format.specs.Rows.{baseValue, rowsOf, plus}
 use Rattle.format.specs.Writing.{minus}
 use Rattle.format.proofs.Rows.{width-le}
@@ -19,11 +20,27 @@ use Rattle.promises.specs.Patched.{Describes, OnlySkips}
 use Rattle.promises.proofs.PatchedBase.{base-least}
 use Rattle.format.proofs.PatchedWriting.{width-mono, width-56, code-found, code-least, code-fits, gap-least, gap-8, size-is}
 use Rattle.promises.proofs.PatchedPlaces.{Rising, rises, or-left, or-right, sums, rows-sums, sums-below, kept, lows-sums, above-sums}
-use Rattle.promises.proofs.PatchedEntries.{fewest, least-gaps, patches-fit}
+use Rattle.promises.proofs.PatchedEntries.{fewest, least-gaps}
 use Rattle.promises.proofs.PatchedValid.{Room}
 
 back : (base x : ℕ) → base < two64 → x < two64 → minus (plus base x) base ≡ x
 back base x h l = omega arith
+
+-- a list's patches have its patch width
+patches-fit : (pw before : ℕ) (es : List ℕ) → AllBelow (2 ^ pw) (map (λ q. q .patch) (kept (patchesFrom pw before es)))
+unfolding patchesFrom kept
+patches-fit pw before [] = tt
+patches-fit pw before (e ∷ es) = by (isSkip pw e) (patchesFrom pw (before + gapOf pw e) es) (patches-fit pw (before + gapOf pw e) es)
+  where
+    keep : (u : Bool) (qs : List Patch) → AllBelow (2 ^ pw) (map (λ q. q .patch) qs)
+        → AllBelow (2 ^ pw) (map (λ q. q .patch) (pick u qs (record { place = before + gapOf pw e; patch = patchOf pw e } ∷ qs)))
+    keep true qs h = h
+    keep false qs h = (mod-lt e (pow-pos pw), h)
+
+    by : (t : Bool) (qs : List Patch) → AllBelow (2 ^ pw) (map (λ q. q .patch) (kept qs))
+        → AllBelow (2 ^ pw) (map (λ q. q .patch) (kept (pick t qs (record { place = before + gapOf pw e; patch = patchOf pw e } ∷ qs))))
+    by true qs h = h
+    by false qs h = keep (eqb (patchOf pw e) 0) (kept qs) h
 
 -- ---- ANY DESCRIPTION OF THE SAME ROWS
 
