@@ -12,7 +12,7 @@ use Rattle.format.specs.Fields.{width}
 use Rattle.format.specs.Runs.{Patch}
 use Rattle.format.specs.Rows.{asU64}
 use Rattle.format.specs.Writing.{minus}
-use Rattle.format.specs.PatchedWriting.{differences, lows, Entry, entriesFrom, field, patchCode, patchesIn, entriesOf, codeFor}
+use Rattle.format.specs.PatchedWriting.{differences, lows, Entry, entriesFrom, field, patchCode, patchesIn, codeFor}
 use Rattle.format.proofs.Rows.{width-le}
 use Rattle.format.proofs.Widths.{width-pos}
 use Rattle.format.proofs.PatchedWriting.{code-width, width-56, es-below, gaps-255}

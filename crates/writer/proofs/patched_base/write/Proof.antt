@@ -1,8 +1,7 @@
 -- `patched_base::write` meets its contract. Assumes nothing.
-use mathlib.Core.Path.{_≡_, refl, sym, _∙_}
+use mathlib.Core.Path.{_≡_}
 use mathlib.Core.Bool.{true, false}
-use mathlib.Core.List.{List, map}
-use native.Mathlib.Omega.{arith}
+use mathlib.Core.List.{map}
 use mir.Facts.{toZ-ofZ}
 use denote.Ref.{now}
 use Rattle.format.specs.Rows.{asU64}

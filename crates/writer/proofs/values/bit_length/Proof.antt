@@ -4,7 +4,6 @@ use Prim.Native.Nat.{_-_}
 use native.Mathlib.Omega.{arith}
 use lib.Count.{leadingZeros, leading-le, leading-length}
 use borrow.Author.Needs.{needs}
-use Rattle.writer.specs.PatchedBase.{BitLength}
 use Rattle.writer.proofs.values.bit_length.Statement.{statement}
 use Rattle.writer.proofs.values.bit_length.Tie as tie
 

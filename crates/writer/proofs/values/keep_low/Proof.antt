@@ -1,11 +1,11 @@
 -- `values::keep_low` meets its contract. The loop's invariant: the low bits so far, then those still to come, are the whole. Assumes nothing.
-use mathlib.Core.Path.{_≡_, refl, sym, ap, _∙_}
+use mathlib.Core.Path.{_≡_, refl, sym, _∙_}
 use mathlib.Core.List.{List, [], _++_}
-use Prim.Native.Nat.{ℕ, _+_, _-_, _%_, _/_, _^_, _≤_, _<_}
+use Prim.Native.Nat.{ℕ, _-_, _%_, _^_, _≤_, _<_}
 use native.Mathlib.Nat.{div-one}
 use native.Mathlib.Omega.{arith}
 use lib.ListN.{length, getD, take, drop, length-set}
-use lib.Seq.{slice, getD-take, length-take-le}
+use lib.Seq.{getD-take, length-take-le}
 use denote.Ref.{now}
 use Rattle.format.specs.PatchedWriting.{lows}
 use Rattle.util.proofs.Grow.{grow, kept, filled}

@@ -1,8 +1,7 @@
 -- `values::largest` meets its contract. The loop's invariant: a bound holds for the whole exactly if it holds for the largest so far and for what is
 -- left. Assumes nothing.
-use mathlib.Core.Path.{_≡_, refl}
 use mathlib.Core.Logic.{⊎-elim}
-use Prim.Native.Nat.{ℕ, _-_, _≤_}
+use Prim.Native.Nat.{_-_, _≤_}
 use native.Mathlib.Nat.{le-of-lt}
 use native.Mathlib.Omega.{arith}
 use denote.Ref.{now}
