@@ -2,7 +2,7 @@
 mod cuts;
 pub mod labels;
 mod lines;
-mod patched_runs;
+pub mod patched_runs;
 mod patches;
 mod varints;
 
