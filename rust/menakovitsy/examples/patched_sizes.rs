@@ -17,7 +17,7 @@ struct Sample {
 
 /// Small numbers that look like no pattern: 0 to 63.
 fn small(k: i64) -> i64 {
-    (k * 2_654_435_761 >> 13) % 64
+    ((k * 2_654_435_761) >> 13) % 64
 }
 
 const SAMPLES: [Sample; 6] = [
@@ -43,7 +43,7 @@ const SAMPLES: [Sample; 6] = [
 fn direct(rows: &[i64]) -> usize {
     let mut out = [0; MAX_WRITTEN];
     let unsigned = rows.iter().map(|row| *row as u64).max().unwrap_or(0);
-    let signed = rows.iter().map(|row| (row << 1 ^ row >> 63) as u64).max().unwrap_or(0);
+    let signed = rows.iter().map(|row| ((row << 1) ^ (row >> 63)) as u64).max().unwrap_or(0);
     [(Sign::Unsigned, unsigned), (Sign::Signed, signed)]
         .into_iter()
         .filter_map(|(sign, most)| {
