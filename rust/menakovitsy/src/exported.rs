@@ -164,6 +164,17 @@ extern "C" {
         words_len: usize,
     ) -> u64;
 
+    pub fn orc_write_patched(
+        rows: *const i64,
+        rows_len: usize,
+        base: i64,
+        width: u64,
+        out: *mut u8,
+        out_len: usize,
+        words: *mut u64,
+        words_len: usize,
+    ) -> u64;
+
     pub fn orc_narrowest_code(x: u64) -> u64;
 
     pub fn orc_label(
