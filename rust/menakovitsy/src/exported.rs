@@ -11,7 +11,7 @@
 //! label in [`label_word`].
 
 /// The version of these functions that this crate is written for.
-pub const VERSION: u64 = 4;
+pub const VERSION: u64 = 5;
 
 /// How many words an answer has; the stream reader's has [`STREAM_WORDS`].
 pub const WORDS: usize = 9;
