@@ -32,7 +32,7 @@ extern "C" {
 
 /* The version of these functions: each change of them makes it one more. A program compares what
  * orc_version answers with the header that it was compiled with. */
-#define ORC_VERSION UINT64_C(4)
+#define ORC_VERSION UINT64_C(5)
 
 uint64_t orc_version(void);
 
@@ -129,12 +129,13 @@ enum orc_answer {
     ORC_VALUE_CUT = 6,
     /* Patched base: a patch is outside the run or at another's place, or the list ends with a skip. */
     ORC_PATCH_OUT_OF_PLACE = 7,
-    /* The output has too few places. Lend more: 512 rows hold any run, 4102 bytes any that is
+    /* The output has too few places. Lend more: 512 rows hold any run, 4108 bytes any that is
      * written. */
     ORC_TOO_FEW_PLACES = 8,
     /* Writer: the form does not allow this many rows. */
     ORC_ROW_COUNT = 9,
-    /* Writer: the rows do not have the form, the width is none of its widths, or the form is none. */
+    /* Writer: the rows do not have the form, the width is none of its widths, or the form is none; of
+     * orc_write_patched: no patched run has those rows with that base and width. */
     ORC_NOT_THE_FORM = 10,
     /* Writer: a row or a magnitude needs more bits than the width. */
     ORC_TOO_NARROW = 11,
@@ -194,6 +195,14 @@ enum orc_form {
 uint64_t orc_write_run(const int64_t *rows, size_t rows_len, uint64_t flag, uint64_t form,
                        uint64_t width, uint8_t *out, size_t out_len, uint64_t *words,
                        size_t words_len);
+
+/* Writes rows, 1 to 512, as one patched run into the first bytes of out: every row as its difference
+ * from base, of which the low width bits are packed, and what is above becomes a patch. The width is in
+ * bits and must be one of the table's. The run reads back as the rows whatever the flag. Refused in
+ * this order: ORC_ROW_COUNT, ORC_NOT_THE_FORM (over 31 list entries, a patch of over 56 bits, a base of
+ * -2^63, or such a width), ORC_TOO_FEW_PLACES; the place is 0. */
+uint64_t orc_write_patched(const int64_t *rows, size_t rows_len, int64_t base, uint64_t width,
+                           uint8_t *out, size_t out_len, uint64_t *words, size_t words_len);
 
 /* The narrowest width code that holds x: 0 to 31. */
 uint64_t orc_narrowest_code(uint64_t x);

@@ -13,3 +13,6 @@ pub mod Booleans
 pub mod ByteValues
 pub mod Reading
 pub mod Writing
+pub mod Least
+pub mod PatchedWriting
+pub mod PatchedExamples

@@ -11,3 +11,4 @@ pub mod Loader
 pub mod Booleans
 pub mod ByteValues
 pub mod Writing
+pub mod PatchedWriting

@@ -5,6 +5,7 @@ ghost use mathlib.Core.Path.{_≡_};
 ghost use Rattle.format.specs.Fields.{Narrowest};
 ghost use Rattle.format.specs.Loader.{Loaded, faceVersion, RunTold, StreamTold, BooleansTold, ValueTold, WriteTold};
 ghost use Rattle.loader.specs.Labels.{LabelTold};
+ghost use Rattle.loader.specs.Patched.{PatchedTold};
 use format::ByteOffset;
 use format::RowNumber;
 
@@ -18,7 +19,7 @@ mod words;
 pub extern "C" fn orc_version() -> u64
     ensures { λ r. ⌜ r ≡ faceVersion ⌝ }
 {
-    4
+    5
 }
 
 // One run at the start of the input, its rows as eight bytes each, lowest first. The flag is 0 for unsigned, and any other number for signed.
@@ -129,6 +130,24 @@ pub extern "C" fn orc_write_run(
         return words::TOO_FEW;
     }
     let answer = forms::write(rows, flag != 0, form, width, out);
+    words::put_answer(answer, words)
+}
+
+// Writes one patched run: the base is subtracted from every row, and the width counts the bits that a row's value keeps of the difference.
+#[no_mangle]
+pub extern "C" fn orc_write_patched(
+    rows: &[i64],
+    base: i64,
+    width: u64,
+    out: &mut [u8],
+    words: &mut [u64],
+) -> u64
+    ensures { λ r. ⌜ PatchedTold (now (rows .entry)) base width (now (out .entry)) (now (out .exit)) (now (words .entry)) (now (words .exit)) r ⌝ }
+{
+    if words.len() < words::COUNT {
+        return words::TOO_FEW;
+    }
+    let answer = forms::write_patched(rows, base, width, out);
     words::put_answer(answer, words)
 }
 

@@ -15,5 +15,14 @@ pub mod CutFile
 -- the change requests of document 02
 pub mod BrokeOff
 pub mod Longest
+-- writing patched runs
+pub mod PatchedPlaces
+pub mod PatchedEntries
+pub mod PatchedBase
+pub mod PatchedValid
+pub mod PatchedLeast
+pub mod Patched
+pub mod PatchedTable
+pub mod PatchedExamples
 -- any two outcomes are equal
 pub mod Outcomes

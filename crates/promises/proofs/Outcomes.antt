@@ -8,7 +8,7 @@ use mathlib.Core.List.{List}
 use lib.IntN.{ℤ}
 use Rattle.format.specs.Fields.{width, widths, two64, Narrowest}
 use Rattle.format.proofs.Widths.{narrowest-unique}
-use Rattle.promises.specs.Outcomes.{Determines, RunDetermined, StreamDetermined, BooleansDetermined, ValueDetermined, WriterDetermined, LoaderDetermined, RunToldDetermined, StreamToldDetermined, BooleansToldDetermined, ValueToldDetermined, WriteToldDetermined, VersionDetermined, NarrowestDetermined}
+use Rattle.promises.specs.Outcomes.{Determines, RunDetermined, StreamDetermined, BooleansDetermined, ValueDetermined, WriterDetermined, LoaderDetermined, RunToldDetermined, StreamToldDetermined, BooleansToldDetermined, ValueToldDetermined, WriteToldDetermined, VersionDetermined, NarrowestDetermined, PatchedDetermined}
 
 -- a promise that says what the places and the answer are
 determined : {P A : Type 0} (Allows : P → A → Type 0) (p₀ : P) (r₀ : A) → Allows p₀ r₀ → ((p : P) (r : A) → Allows p r → (p ≡ p₀) × (r ≡ r₀)) → Determines P A Allows
@@ -32,6 +32,9 @@ value-determined input at n = determined _ _ _ (record { part-is = refl }, recor
 
 pub writer-determined : WriterDetermined
 writer-determined rows signed form width out = determined _ _ _ (record { answer = refl; places = refl }) (λ p r a. (a .places, a .answer))
+
+pub patched-determined : PatchedDetermined
+patched-determined rows base width out = determined _ _ _ (record { answer = refl; places = refl }) (λ p r a. (a .places, a .answer))
 
 pub loader-determined : LoaderDetermined
 loader-determined input flag out = determined _ _ _ (record { number = refl; bytes = refl }) (λ p r a. (a .bytes, a .number))

@@ -13,6 +13,7 @@ use Rattle.format.specs.Booleans.{BooleansRead}
 use Rattle.format.specs.ByteValues.{ValueRead, ValueGiven}
 use Rattle.format.specs.Loader.{Loaded, faceVersion, RunTold, StreamTold, BooleansTold, ValueTold, WriteTold}
 use Rattle.format.specs.Writing.{Written}
+use Rattle.format.specs.PatchedWriting.{PatchedWritten}
 use Rattle.format.specs.declared.Form.{Form}
 
 -- A promise, as a relation of the places at exit and the answer: some outcome is allowed, and any two that are allowed are equal.
@@ -39,6 +40,10 @@ ValueDetermined = (input : List ℕ) (at n : ℕ) → Determines (List ℕ) Answ
 -- for all rows, flags, forms and widths, and all lent places
 abbrev pub WriterDetermined : Type 0
 WriterDetermined = (rows : List ℤ) (signed : Bool) (form : Form) (width : ℕ) (out : List ℕ) → Determines (List ℕ) Answer (λ p r. Written rows signed form width out p r)
+
+-- for all rows, bases and widths, and all lent places
+abbrev pub PatchedDetermined : Type 0
+PatchedDetermined = (rows : List ℤ) (base : ℤ) (width : ℕ) (out : List ℕ) → Determines (List ℕ) Answer (λ p r. PatchedWritten rows base width out p r)
 
 -- the loader's number and bytes: for every input, flag and lent bytes
 abbrev pub LoaderDetermined : Type 0

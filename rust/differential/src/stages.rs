@@ -2,6 +2,7 @@
 mod cuts;
 pub mod labels;
 mod lines;
+pub mod patched_runs;
 mod patches;
 mod varints;
 
@@ -69,6 +70,7 @@ impl Session {
         self.booleans();
         self.values();
         self.written();
+        self.patched_runs();
         self.probe_lines();
     }
 

@@ -2,6 +2,7 @@
 use differential::frames;
 use differential::random::Random;
 use differential::stages::labels::{self, Asked};
+use differential::stages::patched_runs::any_patched_rows;
 use menakovitsy::exported::{case, kind, LABEL_WORDS, STREAM_WORDS, TOO_FEW_WORDS, WORDS};
 use model::{Answer, Booleans, Form, Info, Kind, Label, Refusal, Stream, Value, Written};
 
@@ -17,6 +18,7 @@ pub enum Call {
     Booleans { input: Vec<u8>, at: u64, n: u64, places: usize },
     Value { input: Vec<u8>, at: u64, n: u64 },
     Write { rows: Vec<i64>, flag: u64, form: u64, width: u64, places: usize },
+    Patched { rows: Vec<i64>, base: i64, width: u64, places: usize },
     Narrowest { number: u64 },
     Label(Asked),
 }
@@ -84,7 +86,7 @@ impl Call {
     pub fn any(random: &mut Random) -> Self {
         let flag = if random.once_in(8) { random.any() } else { random.below(2) as u64 };
         let places = random.pick(&[0, 1, 5, 12, 64, 512, 1000]);
-        match random.below(18) {
+        match random.below(20) {
             0..=1 => {
                 let bytes = 8 * places + if random.once_in(2) { random.below(8) } else { 0 };
                 Call::Run { input: frames::any_frame(random), flag, bytes: bytes.min(MOST) }
@@ -112,6 +114,7 @@ impl Call {
             }
             12..=14 => Self::any_writing(flag, random),
             15..=16 => Call::Label(labels::any(random)),
+            17..=18 => Self::any_patched(random),
             _ => {
                 let shift = random.below(64);
                 Call::Narrowest { number: random.any() >> shift }
@@ -132,6 +135,15 @@ impl Call {
         Call::Write { rows, flag, form, width, places: random.pick(&[0, 2, 9, 40, MOST]) }
     }
 
+    fn any_patched(random: &mut Random) -> Self {
+        let (rows, base, width) = match random.below(32) {
+            0 => (vec![7; random.pick(&[0, 513])], 5, 64),
+            _ => any_patched_rows(random),
+        };
+        let width = if random.once_in(32) { random.any() >> random.below(64) } else { width as u64 };
+        Call::Patched { rows, base, width, places: random.pick(&[0, 5, 9, 40, MOST]) }
+    }
+
     /// The function's name.
     pub fn function(&self) -> &'static str {
         match self {
@@ -141,6 +153,7 @@ impl Call {
             Call::Booleans { .. } => "orc_read_booleans",
             Call::Value { .. } => "orc_byte_value",
             Call::Write { .. } => "orc_write_run",
+            Call::Patched { .. } => "orc_write_patched",
             Call::Narrowest { .. } => "orc_narrowest_code",
             Call::Label(_) => "orc_label",
         }
@@ -200,6 +213,10 @@ impl Call {
             Call::Write { rows, flag, form, width, places } => {
                 written(rows, *flag != 0, *form, *width, *places)
             }
+            Call::Patched { rows, base, width, places } => {
+                let width = usize::try_from(*width).unwrap_or(usize::MAX);
+                of_written(&model::write_patched(rows, *base, width, *places))
+            }
             Call::Label(asked) => label(asked),
             Call::Narrowest { number } => {
                 Outcome { returned: u64::from(model::narrowest_code(*number)), ..Outcome::default() }
@@ -243,8 +260,11 @@ fn written(rows: &[i64], signed: bool, form: u64, width: u64, places: usize) -> 
         3 => Form::PackedDelta,
         _ => return Outcome::refused(Refusal::whole(10, 0)),
     };
-    let answer = model::write_run(rows, signed, form, u8::try_from(width).unwrap_or(255), places);
-    match (&answer, answer.info()) {
+    of_written(&model::write_run(rows, signed, form, u8::try_from(width).unwrap_or(255), places))
+}
+
+fn of_written(answer: &Written) -> Outcome {
+    match (answer, answer.info()) {
         (Written::Run { bytes, .. }, Some(info)) => Outcome { bytes: bytes.clone(), ..Outcome::read(info) },
         (Written::Refused(refusal), _) => Outcome::refused(*refusal),
         (Written::Run { .. }, None) => unreachable!("what is written is named"),

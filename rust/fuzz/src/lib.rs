@@ -98,7 +98,7 @@ impl Session {
             }
             Call::Booleans { input, places, .. } => (input, &[], 0, *places),
             Call::Value { input, .. } => (input, &[], 0, 0),
-            Call::Write { rows, places, .. } => (&[], rows, 0, *places),
+            Call::Write { rows, places, .. } | Call::Patched { rows, places, .. } => (&[], rows, 0, *places),
             Call::Narrowest { .. } => (&[], &[], 0, 0),
             Call::Label(asked) => (&asked.block, &asked.lengths, 0, 0),
         };
@@ -134,6 +134,9 @@ impl Session {
                 Call::Write { flag, form, width, .. } => {
                     exported::orc_write_run(g, gl, flag, form, width, b, bl, w, wl)
                 }
+                Call::Patched { base, width, .. } => {
+                    exported::orc_write_patched(g, gl, base, width, b, bl, w, wl)
+                }
                 Call::Narrowest { number } => exported::orc_narrowest_code(number),
             }
         }
@@ -147,7 +150,9 @@ impl Session {
             | Call::Stream { input, .. }
             | Call::Booleans { input, .. }
             | Call::Value { input, .. } => self.input.is(input) && self.given.is(&[]),
-            Call::Write { rows, .. } => self.given.is(rows) && self.input.is(&[]),
+            Call::Write { rows, .. } | Call::Patched { rows, .. } => {
+                self.given.is(rows) && self.input.is(&[])
+            }
             Call::Narrowest { .. } => true,
             Call::Label(asked) => self.given.is(&asked.lengths) && self.input.is(&asked.block),
         };

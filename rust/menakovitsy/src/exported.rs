@@ -11,7 +11,7 @@
 //! label in [`label_word`].
 
 /// The version of these functions that this crate is written for.
-pub const VERSION: u64 = 4;
+pub const VERSION: u64 = 5;
 
 /// How many words an answer has; the stream reader's has [`STREAM_WORDS`].
 pub const WORDS: usize = 9;
@@ -157,6 +157,17 @@ extern "C" {
         rows_len: usize,
         flag: u64,
         form: u64,
+        width: u64,
+        out: *mut u8,
+        out_len: usize,
+        words: *mut u64,
+        words_len: usize,
+    ) -> u64;
+
+    pub fn orc_write_patched(
+        rows: *const i64,
+        rows_len: usize,
+        base: i64,
         width: u64,
         out: *mut u8,
         out_len: usize,

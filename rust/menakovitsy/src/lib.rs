@@ -12,7 +12,7 @@
 //! | a column of flags | [`read_booleans`] |
 //! | a byte value, as a part of the input | [`byte_value`] |
 //! | the name of a row, by a dictionary | [`label`] |
-//! | a run written | [`write_run`], [`narrowest_code`] |
+//! | a run written | [`write_run`], [`write_patched`], [`narrowest_code`] |
 //! | the library that is linked | [`check_version`], [`library_version`] |
 //!
 //! ```
@@ -43,6 +43,7 @@ mod column;
 pub mod exported;
 mod labels;
 mod library;
+mod patched;
 mod refusal;
 mod units;
 mod version;
@@ -55,13 +56,14 @@ pub use library::{
     byte_value, library_version, narrowest_code, read_booleans, read_run, read_run_bytes, read_stream,
     unpack, write_run, Counts,
 };
+pub use patched::write_patched;
 pub use refusal::Refusal;
 pub use units::{ByteOffset, RowNumber};
 pub use version::{check_version, OtherVersion};
 
 /// The most bytes that one written run takes up: with so many places, none is refused for want of
-/// them.
-pub const MAX_WRITTEN: usize = 4102;
+/// them. It is a patched run of 512 rows of 64 bits over a base of 8 bytes.
+pub const MAX_WRITTEN: usize = 4108;
 
 /// Whether a column's rows are signed.
 #[derive(Debug, Clone, Copy, PartialEq, Eq, Hash)]

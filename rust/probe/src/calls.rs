@@ -48,6 +48,14 @@ pub fn write_run(rows: &[i64], writing: Writing, out: &mut [u8], words: &mut [u6
     }
 }
 
+pub fn write_patched(rows: &[i64], base: i64, width: u64, out: &mut [u8], words: &mut [u64]) -> u64 {
+    let (out_len, words_len) = (out.len(), words.len());
+    let (out, words) = (out.as_mut_ptr(), words.as_mut_ptr());
+    unsafe {
+        exported::orc_write_patched(rows.as_ptr(), rows.len(), base, width, out, out_len, words, words_len)
+    }
+}
+
 /// What a label is asked of.
 #[derive(Clone, Copy)]
 pub struct Columns<'a> {
