@@ -15,5 +15,8 @@ pub mod CutFile
 -- the change requests of document 02
 pub mod BrokeOff
 pub mod Longest
+pub mod Feeding
+pub mod Parts
+pub mod PartsFollow
 -- any two outcomes are equal
 pub mod Outcomes

@@ -1,0 +1,169 @@
+-- The reader in parts gives what the whole-stream reader gives of the joined bytes, however they are cut. Assumes nothing.
+use mathlib.Core.Path.{_≡_, refl, sym, ap, _∙_}
+use Prim.Native.Nat.{ℕ, _+_, _-_, _%_, _<_, _≤_}
+use native.Mathlib.Omega.{arith}
+use mathlib.Core.Bool.{Bool, true, false}
+use mathlib.Core.List.{List, [], _∷_, _++_, append-assoc, append-nil}
+use lib.ListN.{length, length-append}
+use borrow.Author.Tests.{le-ltb, lt-ltb}
+use Rattle.format.specs.declared.Refusal.{Refusal}
+use Rattle.format.specs.Digits.{AllBelow}
+use Rattle.format.specs.Fields.{pick, two64}
+use Rattle.format.specs.Runs.{Description, layout, joined}
+use Rattle.format.specs.Parse.{Reason, plain, cut, unfinished, Parsed, end, got, refused, parse}
+use Rattle.format.specs.Streams.{Reading, readAll, runsOf, totalRows}
+use Rattle.format.proofs.Runs.{parse-empty, parse-complete}
+use Rattle.format.proofs.Streams.{into-refused, stream-whole, stream-broken, Reads, reads-whole, reads-broken, stream-post}
+use Rattle.format.specs.declared.Standing.{Standing}
+use Rattle.format.specs.declared.Standing.the-variants.{Opened, Broken, Closed}
+use Rattle.format.specs.Parts as reader
+use Rattle.format.specs.Parts.{broke, ended, State, start, Call, onPart, takePart, close}
+use Rattle.promises.specs.Parts.{Fed, Given, feed, together, readParts, starting, streamGives, rowsIn, SameAsStream, AnyCut, AtOnce, ByThatCall, Begins, Repeats, AfterRefusal, AfterClosing, TooFewPlaces, HeldBelow}
+use Rattle.format.proofs.Length.{unfinished-short}
+use Rattle.promises.proofs.Feeding.{Waits, nothing-held, begun, after, Result, waiting, barred, fed}
+
+-- ---- starts and rows of runs one after another
+
+after-is : (at : ℕ) (ds : List Description) → at < two64 → after at ds ≡ (at + length (joined ds)) % two64
+unfolding after joined
+after-is at [] h = omega arith
+after-is at (d ∷ ds) h = after-is ((at + length (layout d)) % two64) ds (omega arith) ∙ omega (arith, length-append (layout d) (joined ds))
+
+rows-of : (at : ℕ) (ds : List Description) → rowsIn (starting at ds) ≡ totalRows ds
+unfolding rowsIn starting totalRows
+rows-of at [] = refl
+rows-of at (d ∷ ds) = rw (rows-of ((at + length (layout d)) % two64) ds)
+
+-- the byte of a cut field, by its run's start modulo 2^64
+cut-there : (start field : ℕ) → (start % two64 + field) % two64 ≡ (start + field) % two64
+cut-there start field = omega arith
+
+-- ---- the theorem
+
+given : {bs : List ℕ} {f : Fed} → Result 0 bs f → (n : ℕ) → rowsIn (f .runs) ≤ n
+    → _≡_ {A = Given} (record { runs = f .runs; answer = close 512 (f .state) .reply }) (streamGives (readAll n bs))
+unfolding close reader.inPlaces reader.unlessStopped reader.onClose
+given (waiting ds v e (nothing-held z)) n l =
+    rw (e, z, append-nil (joined ds), stream-whole n ds v (rw (rows-of 0 ds) at l), parse-empty)
+given (waiting ds {rest} v e (begun {r = plain k} b p u)) n l =
+    rw (e, stream-broken n ds rest (plain k) v (rw (rows-of 0 ds) at l) (rw p (into-refused (n - totalRows ds) (plain k))), p, after-is 0 ds (omega arith))
+given (waiting ds {rest} v e (begun {r = cut k left} b p u)) n l =
+    rw (
+      e,
+      stream-broken n ds rest (cut k left) v (rw (rows-of 0 ds) at l) (rw p (into-refused (n - totalRows ds) (cut k left))),
+      p,
+      after-is 0 ds (omega arith),
+      cut-there (0 + length (joined ds)) (length rest - left),
+    )
+given (barred ds rest k v e w p u) n l =
+    rw (e, stream-broken n ds rest (plain k) v (rw (rows-of 0 ds) at l) (rw p (into-refused (n - totalRows ds) (plain k))), after-is 0 ds (omega arith))
+
+all-fed : (ps : List (List ℕ)) → AllBelow 256 (together ps) → Result 0 (together ps) (feed start ps)
+all-fed ps h = fed [] 0 ps (nothing-held refl) h
+
+in-room : {n : ℕ} {bs : List ℕ} {m : Reading} → Reads n bs m → totalRows (runsOf m) ≤ n
+in-room (reads-whole v e l) = l
+in-room (reads-broken v e l r) = l
+
+pub same-as-stream : SameAsStream
+same-as-stream ps h n = (
+  λ e. rw (← (rows-of 0 (runsOf (readAll n (together ps)))), ← (ap (λ (g : Given). g .runs) e)) at (in-room (stream-post n (together ps) h)),
+  λ l. given (all-fed ps h) n l,
+)
+
+pub any-cut : AnyCut
+any-cut ps qs h e =
+    let n : ℕ = rowsIn (readParts ps .runs) + rowsIn (readParts qs .runs) in
+    given (all-fed ps h) n (omega arith) ∙ ap (λ (bs : List ℕ). streamGives (readAll n bs)) e ∙ sym (given (all-fed qs (rw e at h)) n (omega arith))
+
+-- ---- before closing
+
+pub at-once : AtOnce
+at-once ps h n l = ap (λ (g : Given). g .runs) (given (all-fed ps h) n l)
+
+pub by-that-call : ByThatCall
+unfolding takePart reader.inPlaces reader.unlessStopped onPart
+by-that-call places s part d rest h o v e = rw (le-ltb places 512 h, o, e, parse-complete d rest v)
+
+feed-append : (s : State) (ps qs : List (List ℕ)) → feed s (ps ++ qs) .runs ≡ feed s ps .runs ++ feed (feed s ps .state) qs .runs
+unfolding feed
+feed-append s [] qs = refl
+feed-append s (p ∷ ps) qs = rw (feed-append _ ps qs, append-assoc)
+
+together-append : (ps qs : List (List ℕ)) → together (ps ++ qs) ≡ together ps ++ together qs
+together-append [] qs = refl
+together-append (p ∷ ps) qs = rw (together-append ps qs, append-assoc)
+
+pub begins : Begins
+begins ps qs h n l = (
+  feed (feed start ps .state) qs .runs,
+  rw (← (together-append ps qs)) (sym (at-once (ps ++ qs) (rw (together-append ps qs) h) n l)) ∙ feed-append start ps qs,
+)
+
+-- ---- after a refusal, after closing, and without room
+
+refusal-repeats : (s : State) (f : Refusal) → s .standing ≡ Broken f → Repeats s (broke f)
+unfolding takePart close reader.inPlaces reader.unlessStopped
+refusal-repeats s f e = record { takes = λ places part h. rw (le-ltb places 512 h, e); closes = λ places h. rw (le-ltb places 512 h, e) }
+
+end-repeats : (s : State) → s .standing ≡ Closed → Repeats s ended
+unfolding takePart close reader.inPlaces reader.unlessStopped
+end-repeats s e = record { takes = λ places part h. rw (le-ltb places 512 h, e); closes = λ places h. rw (le-ltb places 512 h, e) }
+
+pub too-few-places : TooFewPlaces
+unfolding takePart close reader.inPlaces
+too-few-places places s h = record { takes = λ part. rw (lt-ltb places 512 h); closes = rw (lt-ltb places 512 h) }
+
+pub after-closing : AfterClosing
+unfolding close reader.inPlaces reader.unlessStopped reader.onClose
+after-closing ps h = go (all-fed ps h)
+  where
+    go : {f : Fed} → Result 0 (together ps) f → Repeats (close 512 (f .state) .state) (close 512 (f .state) .reply)
+    go (waiting ds v e (nothing-held z)) = rw (z, parse-empty) (end-repeats _ refl)
+    go (waiting ds v e (begun b p u)) = rw p (refusal-repeats _ _ refl)
+    go (barred ds rest n v e w p u) = refusal-repeats _ _ refl
+
+-- a call that refuses takes nothing, and is repeated
+abbrev Sticks : Call → Type 0
+Sticks c = (f : Refusal) → c .reply ≡ broke f → (c .taken ≡ 0) × Repeats (c .state) (broke f)
+
+pub after-refusal : AfterRefusal
+unfolding takePart reader.inPlaces reader.unlessStopped onPart
+after-refusal places s part f h e =
+    let all : Sticks (takePart places s part) = rw (le-ltb places 512 h) (by-standing (s .standing) refl) in
+    all f e
+  where
+    by-kind : (r : Reason) (u : Bool) → Sticks (pick u (reader.hold s part) (reader.refuse s (length (s .held ++ part)) r))
+    by-kind r true f e =
+        let z : _≡_ {A = ℕ} 0 1 = cc in
+        absurd (omega arith)
+    by-kind r false f e = (refl, refusal-repeats _ f (cc))
+
+    by-parse : (m : Parsed Description) → Sticks (onPart s part m)
+    by-parse end f e =
+        let z : _≡_ {A = ℕ} 0 1 = cc in
+        absurd (omega arith)
+    by-parse (got d rest) f e =
+        let z : _≡_ {A = ℕ} 0 1 = cc in
+        absurd (omega arith)
+    by-parse (refused r) f e = by-kind r (unfinished r) f e
+
+    by-standing : (t : Standing) → s .standing ≡ t → Sticks (reader.unlessStopped t (reader.idle s) (onPart s part (parse (s .held ++ part))))
+    by-standing Opened p f e = by-parse (parse (s .held ++ part)) f e
+    by-standing (Broken g) p f e = (refl, refusal-repeats s f (cc))
+    by-standing Closed p f e =
+        let z : _≡_ {A = ℕ} 0 1 = cc in
+        absurd (omega arith)
+
+-- ---- what is held
+
+pub held-below : HeldBelow
+held-below ps h = go (all-fed ps h)
+  where
+    few : {bs : List ℕ} → Waits bs → length bs < 4356
+    few (nothing-held z) = rw z (omega arith)
+    few {bs} (begun {r} b p u) = unfinished-short bs r b p u
+
+    go : {f : Fed} → Result 0 (together ps) f → length (f .state .held) < 4356
+    go (waiting ds v e w) = few w
+    go (barred ds rest n v e w p u) = few w
