@@ -18,5 +18,6 @@ pub mod Longest
 pub mod Feeding
 pub mod Parts
 pub mod PartsFollow
+pub mod PartsSample
 -- any two outcomes are equal
 pub mod Outcomes

@@ -1,24 +1,31 @@
 -- The reader in parts gives what the whole-stream reader gives of the joined bytes, however they are cut. Assumes nothing.
+use mathlib.Core.Logic.{_↔_}
 use mathlib.Core.Path.{_≡_, refl, sym, ap, _∙_}
 use Prim.Native.Nat.{ℕ, _+_, _-_, _%_, _<_, _≤_}
 use native.Mathlib.Omega.{arith}
 use mathlib.Core.Bool.{Bool, true, false}
 use mathlib.Core.List.{List, [], _∷_, _++_, append-assoc, append-nil}
 use lib.ListN.{length, length-append}
+use lib.Dec.{T, eqb, eqb→eq}
 use borrow.Author.Tests.{le-ltb, lt-ltb}
 use Rattle.format.specs.declared.Refusal.{Refusal}
 use Rattle.format.specs.Digits.{AllBelow}
 use Rattle.format.specs.Fields.{pick, two64}
 use Rattle.format.specs.Runs.{Description, layout, joined}
-use Rattle.format.specs.Parse.{Reason, plain, cut, unfinished, Parsed, end, got, refused, parse}
+use Rattle.format.specs.Parse.{Reason, plain, cut, unfinished, Parsed, end, got, refused, parse, into}
 use Rattle.format.specs.Streams.{Reading, readAll, runsOf, totalRows}
 use Rattle.format.proofs.Runs.{parse-empty, parse-complete}
 use Rattle.format.proofs.Streams.{into-refused, stream-whole, stream-broken, Reads, reads-whole, reads-broken, stream-post}
 use Rattle.format.specs.declared.Standing.{Standing}
 use Rattle.format.specs.declared.Standing.the-variants.{Opened, Broken, Closed}
 use Rattle.format.specs.Parts as reader
-use Rattle.format.specs.Parts.{broke, ended, State, start, Call, onPart, takePart, close}
-use Rattle.promises.specs.Parts.{Fed, Given, feed, together, readParts, starting, streamGives, rowsIn, SameAsStream, AnyCut, AtOnce, ByThatCall, Begins, Repeats, AfterRefusal, AfterClosing, TooFewPlaces, HeldBelow}
+use Rattle.format.specs.Parts.{refusalFrom, broke, ended, State, start, Call, onPart, takePart, close}
+use Rattle.format.proofs.Parts.{goes-on}
+use Rattle.promises.specs.Refusals
+use Rattle.promises.specs.Refusals.{Table, by-number, by-field}
+use Rattle.promises.proofs.Refusals.{refusals, field-pos}
+use Rattle.promises.proofs.BrokeOff.{others, cut-numbers}
+use Rattle.promises.specs.Parts.{Fed, Given, feed, together, readParts, starting, streamGives, rowsIn, SameAsStream, AnyCut, AtOnce, ByThatCall, Begins, OfUnfinished, in-header, in-field, TheNumbers, WhenRefused, Repeats, AfterRefusal, AfterClosing, TooFewPlaces, MorePlaces, HeldBelow}
 use Rattle.format.proofs.Length.{unfinished-short}
 use Rattle.promises.proofs.Feeding.{Waits, nothing-held, begun, after, Result, waiting, barred, fed}
 
@@ -100,6 +107,56 @@ begins ps qs h n l = (
   rw (← (together-append ps qs)) (sym (at-once (ps ++ qs) (rw (together-append ps qs) h) n l)) ∙ feed-append start ps qs,
 )
 
+-- ---- when a part is refused
+
+pub the-numbers : TheNumbers
+the-numbers bs b r e at = go r (refusals 0 bs b r .0 (ap (into 0) e ∙ into-refused 0 r))
+  where
+    only-1 : {n : ℕ} → Table 0 bs n → OfUnfinished n → T (eqb n 1)
+    only-1 t in-header = tt
+    only-1 t (in-field c) =
+        let (l, ne) = others 0 bs t in
+        absurd (ne (cut-numbers c l))
+
+    go : (r : Reason) → Refusals.Given 0 bs r → T (unfinished r) ↔ OfUnfinished (refusalFrom at (length bs) r .number)
+    go r (by-number {n} t) = ((λ u. rw (eqb→eq n 1 u) in-header), only-1 t)
+    go r (by-field {n} l) = ((λ u. in-field (field-pos bs l .1)), λ f. tt)
+
+pub when-refused : WhenRefused
+unfolding takePart onPart
+when-refused places s part b h o f =
+    let c : takePart places s part ≡ onPart s part (parse bs) = goes-on places (s .standing) _ _ h o in
+    ((λ e. fore (parse bs) refl (rw c at e)), λ (r, p, q, n). rw (c, p) (back r p q n (unfinished r) refl))
+  where
+    bs : List ℕ
+    bs = s .held ++ part
+
+    Refuses : Type 0
+    Refuses = (r : Reason) × (parse bs ≡ refused r) × (refusalFrom (s .at) (length bs) r ≡ f) × (OfUnfinished (f .number) → ⊥)
+
+    by-kind : (r : Reason) → parse bs ≡ refused r → (u : Bool) → unfinished r ≡ u
+        → pick u (reader.hold s part) (reader.refuse s (length bs) r) .reply ≡ broke f → Refuses
+    by-kind r p true u e =
+        let z : _≡_ {A = ℕ} 0 1 = cc in
+        absurd (omega arith)
+    by-kind r p false u e =
+        let q : refusalFrom (s .at) (length bs) r ≡ f = cc in
+        (r, p, q, λ n. rw u at (the-numbers bs b r p (s .at) .1 (rw q n)))
+
+    fore : (m : Parsed Description) → parse bs ≡ m → onPart s part m .reply ≡ broke f → Refuses
+    fore end p e =
+        let z : _≡_ {A = ℕ} 0 1 = cc in
+        absurd (omega arith)
+    fore (got d rest) p e =
+        let z : _≡_ {A = ℕ} 0 1 = cc in
+        absurd (omega arith)
+    fore (refused r) p e = by-kind r p (unfinished r) refl e
+
+    back : (r : Reason) → parse bs ≡ refused r → refusalFrom (s .at) (length bs) r ≡ f → (OfUnfinished (f .number) → ⊥) → (u : Bool) → unfinished r ≡ u
+        → pick u (reader.hold s part) (reader.refuse s (length bs) r) .reply ≡ broke f
+    back r p q n true u = absurd (n (rw q at (the-numbers bs b r p (s .at) .0 (rw u tt))))
+    back r p q n false u = ap broke q
+
 -- ---- after a refusal, after closing, and without room
 
 refusal-repeats : (s : State) (f : Refusal) → s .standing ≡ Broken f → Repeats s (broke f)
@@ -113,6 +170,10 @@ end-repeats s e = record { takes = λ places part h. rw (le-ltb places 512 h, e)
 pub too-few-places : TooFewPlaces
 unfolding takePart close reader.inPlaces
 too-few-places places s h = record { takes = λ part. rw (lt-ltb places 512 h); closes = rw (lt-ltb places 512 h) }
+
+pub more-places : MorePlaces
+unfolding takePart close reader.inPlaces
+more-places places s h = record { takes = λ part. rw (le-ltb places 512 h); closes = rw (le-ltb places 512 h) }
 
 pub after-closing : AfterClosing
 unfolding close reader.inPlaces reader.unlessStopped reader.onClose
