@@ -12,6 +12,7 @@ use Rattle.format.specs.declared.CutField.the-variants as field
 use Rattle.format.specs.declared.Refusal as refusal
 use Rattle.format.specs.declared.Answer.{Answer}
 use Rattle.format.specs.declared.Answer.the-variants as answer
+use Rattle.format.specs.declared.Standing.{Standing}
 use Rattle.format.specs.declared.Standing.the-variants.{Opened, Broken, Closed}
 use Rattle.format.specs.declared.PartReader.{PartReader}
 use Rattle.format.specs.declared.PartAnswer.{PartAnswer}
@@ -42,9 +43,14 @@ tooFew s = still s (Refused (refusing 8 0))
 abbrev pub holds : PartReader → ℕ → ℕ → PartStep
 holds s seen part = record { answer = More; taken = record { bytes = part }; reader = record { held = seen; at = s .at; standing = Opened } }
 
-abbrev pub refuses : PartReader → refusal.Refusal → PartStep
-refuses s f = record { answer = Refused f; taken = record { bytes = 0 }; reader = record { held = s .held; at = s .at; standing = Broken f } }
+-- nothing is taken, and the reader stops
+abbrev pub stops : PartReader → Standing → PartAnswer → PartStep
+stops s t a = record { answer = a; taken = record { bytes = 0 }; reader = record { held = s .held; at = s .at; standing = t } }
 
+abbrev pub refuses : PartReader → refusal.Refusal → PartStep
+refuses s f = stops s (Broken f) (Refused f)
+
+-- the run is handed out, and the next one starts behind it
 abbrev pub hands : PartReader → ℕ → run.Run → PartStep
 hands s taken r = record {
   answer = Run (s .at) r;
@@ -72,6 +78,6 @@ byAnswer s held seen part (answer.Refused f) = pick (cutShort (f .number) (f .cu
 
 -- the closing call of an open reader
 unfoldable pub byLast : PartReader → Answer → PartStep
-byLast s answer.End = record { answer = End; taken = record { bytes = 0 }; reader = record { held = s .held; at = s .at; standing = Closed } }
+byLast s answer.End = stops s Closed End
 byLast s (answer.Run r) = hands s 0 r
 byLast s (answer.Refused f) = refuses s (fromFirst (s .at .bytes) f)

@@ -4,7 +4,7 @@ ghost use Prim.Native.Nat.{_+_, _-_, _≤_, min};
 ghost use lib.ListN.{length};
 ghost use lib.Seq.{paste};
 ghost use Rattle.format.specs.Parts.{fresh, Takes, Closes};
-ghost use Rattle.parts.specs.Steps.{still, tooFew, holds, refuses, hands, fromFirst, cutShort, byAnswer, byLast, Goes, goes};
+ghost use Rattle.parts.specs.Steps.{still, tooFew, holds, stops, refuses, hands, fromFirst, cutShort, byAnswer, byLast, Goes, goes};
 use format::Answer;
 use format::ByteOffset;
 use format::CutField;
@@ -31,9 +31,10 @@ pub fn start() -> PartReader
 fn idle(reader: PartReader, answer: PartAnswer) -> PartStep
     ensures { λ r. ⌜ r ≡ still reader answer ⌝ }
 {
+    let none = ByteOffset { bytes: 0 };
     PartStep {
         answer,
-        taken: ByteOffset { bytes: 0 },
+        taken: none,
         reader,
     }
 }
@@ -80,19 +81,29 @@ fn hand(reader: PartReader, taken: usize, run: Run) -> PartStep
 }
 
 // Nothing is taken, and the reader stops.
-fn refuse(reader: PartReader, refusal: Refusal) -> PartStep
-    ensures { λ r. ⌜ r ≡ refuses reader refusal ⌝ }
+fn stop(reader: PartReader, standing: Standing, answer: PartAnswer) -> PartStep
+    ensures { λ r. ⌜ r ≡ stops reader standing answer ⌝ }
 {
     let at = reader.at;
     PartStep {
-        answer: PartAnswer::Refused(refusal),
+        answer,
         taken: ByteOffset { bytes: 0 },
         reader: PartReader {
             held: reader.held,
             at,
-            standing: Standing::Broken(refusal),
+            standing,
         },
     }
+}
+
+fn refuse(reader: PartReader, refusal: Refusal) -> PartStep
+    ensures { λ r. ⌜ r ≡ refuses reader refusal ⌝ }
+{
+    stop(
+        reader,
+        Standing::Broken(refusal),
+        PartAnswer::Refused(refusal),
+    )
 }
 
 // A refusal of the bytes from a run's first on, with its bytes counted from the first part, modulo 2^64.
@@ -232,15 +243,7 @@ fn on_close(reader: PartReader, a: Answer) -> PartStep
     match a {
         Answer::Run(r) => hand(reader, 0, r),
         Answer::Refused(f) => refuse(reader, from_first(at, f)),
-        Answer::End => PartStep {
-            answer: PartAnswer::End,
-            taken: ByteOffset { bytes: 0 },
-            reader: PartReader {
-                held: reader.held,
-                at,
-                standing: Standing::Closed,
-            },
-        },
+        Answer::End => stop(reader, Standing::Closed, PartAnswer::End),
     }
 }
 

@@ -22,6 +22,9 @@ refuse-requires c κs = search needs
 enum-told : tie.Need-enum-told
 enum-told c = search needs
 
+stop-requires : tie.Need-stop-requires
+stop-requires c κs = search needs
+
 returns : tie.Need-returns
 unfolding byLast
 returns c = rw (c .before .before .a .given .1, c .hand .ensures)
@@ -32,7 +35,7 @@ returns-2 c = rw (c .before .before .before .a2 .given .1, c .refuse .ensures, c
 
 returns-3 : tie.Need-returns-3
 unfolding byLast
-returns-3 c = rw (c .enum-told .given .1)
+returns-3 c = rw (c .before .enum-told .given .1, c .stop .ensures)
 
 pub on-close-spec : {M : Type 1} → statement M
 on-close-spec =
@@ -44,6 +47,7 @@ on-close-spec =
     from-first-requires
     refuse-requires
     enum-told
+    stop-requires
     returns
     returns-2
     returns-3)
