@@ -30,7 +30,7 @@ pub data Waits (h : List ℕ) : Type 0 where
   nothing-held : h ≡ [] → Waits h
   begun : {r : Reason} → AllBelow 256 h → parse h ≡ refused r → T (unfinished r) → Waits h
 
-bytes-held : {h : List ℕ} → Waits h → AllBelow 256 h
+pub bytes-held : {h : List ℕ} → Waits h → AllBelow 256 h
 bytes-held (nothing-held z) = rw z tt
 bytes-held (begun b p u) = b
 
@@ -75,7 +75,7 @@ none-whole d s (begun b p u) v e =
 
 -- so a run that the part makes whole ends in the part, and what is not taken of the part is what is behind the run
 module _ (h part rest : List ℕ) (d : Description) (w : Waits h) (v : Valid d) (e : h ++ part ≡ layout d ++ rest) where
-  ends-in : length h < length (layout d)
+  pub ends-in : length h < length (layout d)
   ends-in = go (decLt (length h) (length (layout d)))
     where
       n : ℕ
@@ -87,7 +87,7 @@ module _ (h part rest : List ℕ) (d : Description) (w : Waits h) (v : Valid d) 
           let f : layout d ≡ take n h = sym (take-append-seam (layout d) rest) ∙ ap (take n) (sym e) ∙ take-append-le n h part (omega arith) in
           absurd (none-whole d (drop n h) w v (sym (take-append-drop n h) ∙ ap (λ (x : List ℕ). x ++ drop n h) (sym f)))
 
-  lengths : length h + length part ≡ length (layout d) + length rest
+  pub lengths : length h + length part ≡ length (layout d) + length rest
   lengths = sym (length-append h part) ∙ ap length e ∙ length-append (layout d) rest
 
   untaken : drop (length part - length rest) part ≡ rest

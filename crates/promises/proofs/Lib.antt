@@ -18,6 +18,7 @@ pub mod Longest
 pub mod Feeding
 pub mod Parts
 pub mod PartsFollow
+pub mod PartsDelivered
 pub mod PartsSample
 -- any two outcomes are equal
 pub mod Outcomes
