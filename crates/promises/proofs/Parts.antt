@@ -19,13 +19,13 @@ use Rattle.format.proofs.Streams.{into-refused, stream-whole, stream-broken, Re
 use Rattle.format.specs.declared.Standing.{Standing}
 use Rattle.format.specs.declared.Standing.the-variants.{Opened, Broken, Closed}
 use Rattle.format.specs.Parts as reader
-use Rattle.format.specs.Parts.{refusalFrom, broke, ended, State, start, Call, onPart, takePart, close}
+use Rattle.format.specs.Parts.{refusalFrom, Reply, broke, ended, answered, State, start, Call, onPart, takePart, close}
 use Rattle.format.proofs.Parts.{goes-on}
 use Rattle.promises.specs.Refusals
 use Rattle.promises.specs.Refusals.{Table, by-number, by-field}
 use Rattle.promises.proofs.Refusals.{refusals, field-pos}
 use Rattle.promises.proofs.BrokeOff.{others, cut-numbers}
-use Rattle.promises.specs.Parts.{Fed, Given, feed, together, readParts, starting, streamGives, rowsIn, SameAsStream, AnyCut, AtOnce, ByThatCall, Begins, OfUnfinished, in-header, in-field, TheNumbers, WhenRefused, Repeats, AfterRefusal, AfterClosing, TooFewPlaces, MorePlaces, HeldBelow}
+use Rattle.promises.specs.Parts.{Fed, Given, feed, together, readParts, starting, streamGives, rowsIn, SameAsStream, AnyCut, AtOnce, ByThatCall, Begins, OfUnfinished, in-header, in-field, TheNumbers, WhenRefused, NoRun, Repeats, AfterRefusal, AfterLast, AfterClosing, TooFewPlaces, MorePlaces, HeldBelow}
 use Rattle.format.proofs.Length.{unfinished-short}
 use Rattle.promises.proofs.Feeding.{Waits, nothing-held, begun, after, Result, waiting, barred, fed}
 
@@ -183,6 +183,25 @@ after-closing ps h = go (all-fed ps h)
     go (waiting ds v e (nothing-held z)) = rw (z, parse-empty) (end-repeats _ refl)
     go (waiting ds v e (begun b p u)) = rw p (refusal-repeats _ _ refl)
     go (barred ds rest n v e w p u) = refusal-repeats _ _ refl
+
+pub after-last : AfterLast
+unfolding close reader.inPlaces reader.unlessStopped reader.onClose
+after-last places s a h e n =
+    let all : Ends (close places s) = rw (le-ltb places 512 h) (by-standing (s .standing) refl) in
+    all a e n
+  where
+    Ends : Call → Type 0
+    Ends c = (a : Reply) → c .reply ≡ a → NoRun (answered a) → (c .taken ≡ 0) × Repeats (c .state) a
+
+    by-parse : (m : Parsed Description) → Ends (reader.onClose s m)
+    by-parse end a e n = (refl, rw (← e) (end-repeats _ refl))
+    by-parse (got d rest) a e n = absurd (rw (← e) at n)
+    by-parse (refused r) a e n = (refl, rw (← e) (refusal-repeats _ _ refl))
+
+    by-standing : (t : Standing) → s .standing ≡ t → Ends (reader.unlessStopped t (reader.idle s) (reader.onClose s (parse (s .held))))
+    by-standing Opened p a e n = by-parse (parse (s .held)) a e n
+    by-standing (Broken g) p a e n = (refl, rw (← e) (refusal-repeats s g p))
+    by-standing Closed p a e n = (refl, rw (← e) (end-repeats s p))
 
 -- a call that refuses takes nothing, and is repeated
 abbrev Sticks : Call → Type 0

@@ -13,7 +13,7 @@ use lib.IntN.{ℤ}
 use Rattle.format.specs.Digits.{AllBelow}
 use Rattle.format.specs.Fields.{pick}
 use Rattle.format.specs.Runs.{Description}
-use Rattle.format.specs.Parse.{unfinished, Parsed, parse}
+use Rattle.format.specs.Parse.{unfinished, Parsed, end, got, refused, parse}
 use Rattle.format.specs.Answers.{refusing}
 use Rattle.format.proofs.Fields.{below-append, below-take}
 use Rattle.format.proofs.Runs.{Outcome, nothing, run, refusal, outcome}
@@ -22,9 +22,9 @@ use Rattle.format.specs.declared.PartStep.{PartStep}
 use Rattle.format.specs.declared.Standing.{Standing}
 use Rattle.format.specs.declared.Standing.the-variants.{Opened, Broken, Closed}
 use Rattle.format.specs.Parts as reader
-use Rattle.format.specs.Parts.{Call, onPart, unlessStopped, inPlaces, takePart}
+use Rattle.format.specs.Parts.{Call, onPart, unlessStopped, inPlaces, takePart, close, onClose}
 use Rattle.format.specs.Parts.{stateOf, heldAfter, copied, bufferAfter, room}
-use Rattle.promises.specs.Parts.{Follows}
+use Rattle.promises.specs.Parts.{Follows, FollowsClosing}
 use Rattle.format.proofs.Length.{unfinished-short}
 use Rattle.format.proofs.Parts.{take-min}
 
@@ -117,3 +117,24 @@ follows s part buffer buffer′ signed out out′ r b c t =
         follows-open s part buffer (parse (here ++ part)) (outcome (here ++ part) below) refl below (long-enough buffer out e)
     by false e (Broken f) = refl
     by false e Closed = refl
+
+pub follows-closing : FollowsClosing
+unfolding close inPlaces unlessStopped onClose
+follows-closing s buffer signed out out′ r t =
+    let d : Call = close (room buffer out) (stateOf s buffer) in
+    ap (λ (x : PartStep). stateOf (x .reader) buffer) (t .step)
+    ∙ ap (λ (x : List ℕ). record { held = x; at = d .state .at; standing = d .state .standing }) (by (ltb (room buffer out) 512) (s .standing))
+  where
+    call : Bool → Standing → Call
+    call u x = pick u (reader.idle (stateOf s buffer) (reader.broke (refusing 8 0))) (unlessStopped x (reader.idle (stateOf s buffer)) (onClose (stateOf s buffer) (parse (take (s .held) buffer))))
+
+    by-parse : (m : Parsed Description) → take (heldAfter (s .held) (onClose (stateOf s buffer) m) (onClose (stateOf s buffer) m .reply)) buffer ≡ onClose (stateOf s buffer) m .state .held
+    by-parse end = refl
+    by-parse (got d rest) = refl
+    by-parse (refused r) = refl
+
+    by : (u : Bool) (x : Standing) → take (heldAfter (s .held) (call u x) (call u x .reply)) buffer ≡ call u x .state .held
+    by true x = refl
+    by false Opened = by-parse (parse (take (s .held) buffer))
+    by false (Broken f) = refl
+    by false Closed = refl

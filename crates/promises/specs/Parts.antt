@@ -136,6 +136,13 @@ WhenRefused = (places : ℕ) (s : State) (part : List ℕ) → AllBelow 256 (s .
     → (takePart places s part .reply ≡ broke f)
     ↔ ((r : Reason) × (parse (s .held ++ part) ≡ refused r) × (refusalFrom (s .at) (length (s .held ++ part)) r ≡ f) × (OfUnfinished (f .number) → ⊥))
 
+-- an answer that is no run
+abbrev pub NoRun : PartAnswer → Type 0
+NoRun (said.Run at r) = ⊥
+NoRun said.More = Unit {0}
+NoRun (said.Refused f) = Unit {0}
+NoRun said.End = Unit {0}
+
 -- each later call with 512 places repeats the answer a, takes nothing and changes nothing
 pub record Repeats (s : State) (a : Reply) : Type 0 where
   pub takes : (places : ℕ) (part : List ℕ) → 512 ≤ places → takePart places s part ≡ idle s a
@@ -145,6 +152,11 @@ pub record Repeats (s : State) (a : Reply) : Type 0 where
 abbrev pub AfterRefusal : Type 0
 AfterRefusal = (places : ℕ) (s : State) (part : List ℕ) (f : Refusal) → 512 ≤ places → takePart places s part .reply ≡ broke f
     → (takePart places s part .taken ≡ 0) × Repeats (takePart places s part .state) (broke f)
+
+-- (a whole run that is held, which no reader from `start` holds, is handed out first)
+abbrev pub AfterLast : Type 0
+AfterLast = (places : ℕ) (s : State) (a : Reply) → 512 ≤ places → close places s .reply ≡ a → NoRun (answered a)
+    → (close places s .taken ≡ 0) × Repeats (close places s .state) a
 
 abbrev pub AfterClosing : Type 0
 AfterClosing = (ps : List (List ℕ)) → AllBelow 256 (together ps) → Repeats (close 512 (feed start ps .state) .state) (readParts ps .answer)
@@ -174,6 +186,11 @@ abbrev pub Follows : Type 0
 Follows = (s : PartReader) (part buffer buffer′ : List ℕ) (signed : Bool) (out out′ : List ℤ) (r : PartStep) → AllBelow 256 buffer → AllBelow 256 part
     → Takes s part buffer buffer′ signed out out′ r → stateOf (r .reader) buffer′ ≡ takePart (room buffer out) (stateOf s buffer) part .state
 
+-- and so after the closing call, which leaves the lent bytes
+abbrev pub FollowsClosing : Type 0
+FollowsClosing = (s : PartReader) (buffer : List ℕ) (signed : Bool) (out out′ : List ℤ) (r : PartStep)
+    → Closes s buffer signed out out′ r → stateOf (r .reader) buffer ≡ close (room buffer out) (stateOf s buffer) .state
+
 -- ---- THE CODE'S CALLS, one after another, by their promises alone
 
 -- a run as a call gives it: its start, what the answer says of it, and its rows in the first places
@@ -184,12 +201,6 @@ pub record Shown : Type 0 where
 
 abbrev pub shown : Bool → Handed → Shown
 shown signed h = record { at = h .at; run = runOf (h .run); rows = i64Rows signed (h .run) }
-
-abbrev pub NoRun : PartAnswer → Type 0
-NoRun (said.Run at r) = ⊥
-NoRun said.More = Unit {0}
-NoRun (said.Refused f) = Unit {0}
-NoRun said.End = Unit {0}
 
 -- what is lent to a call: bytes, 4,356 of them at least, and 512 places at least
 pub record Lent (buffer : List ℕ) (out : List ℤ) : Type 0 where
