@@ -1,6 +1,6 @@
 -- The code's calls, one after another, hand out what `feed` hands out. Assumes nothing.
 use mathlib.Core.Path.{_≡_, refl, sym, ap, _∙_}
-use Prim.Native.Nat.{ℕ, zero, suc, _+_, _-_, _<_, _≤_}
+use Prim.Native.Nat.{ℕ, zero, suc, _+_, _-_, _%_, _<_, _≤_}
 use native.Mathlib.Omega.{arith}
 use mathlib.Core.Bool.{Bool, true, false}
 use mathlib.Core.List.{List, [], _∷_, _++_, map}
@@ -16,20 +16,22 @@ use Rattle.format.specs.declared.Standing.the-variants.{Opened, Broken, Closed}
 use Rattle.format.specs.declared.PartReader.{PartReader}
 use Rattle.format.specs.declared.PartAnswer.the-variants as said
 use Rattle.format.specs.declared.PartStep.{PartStep}
+use Rattle.format.specs.declared.Stream.{Stream}
 use Rattle.format.specs.Digits.{AllBelow}
-use Rattle.format.specs.Fields.{pick}
-use Rattle.format.specs.Runs.{Description, rowCount}
+use Rattle.format.specs.Fields.{pick, two64}
+use Rattle.format.specs.Runs.{Description, rowCount, layout}
 use Rattle.format.specs.Rows.{i64Rows}
 use Rattle.format.specs.Parse.{Reason, unfinished, Parsed, parse}
+use Rattle.format.specs.Streams.{Reading, readAll, runsOf, totalRows, joinedRows}
 use Rattle.format.specs.Promises.{runOf}
 use Rattle.format.specs.Parts as reader
 use Rattle.format.specs.Parts.{Handed, Reply, handed, more, broke, ended, State, Call, onPart, takePart, close, stateOf, answered, placesAfter, room, Takes, Closes}
 use Rattle.format.proofs.Fields.{below-append, append-below, below-drop}
 use Rattle.format.proofs.Runs.{Outcome, nothing, run, refusal, outcome, layout-pos}
-use Rattle.format.proofs.Rows.{i64-count}
-use Rattle.promises.specs.Parts.{Fed, goOn, offer, feed, together, Shown, shown, NoRun, Lent, Offers, last, gives, Offered, no-part, a-part, Delivers}
+use Rattle.format.proofs.Rows.{i64-count, joined-count}
+use Rattle.promises.specs.Parts.{Fed, goOn, offer, feed, Given, readParts, together, starting, lastAnswer, streamGives, rowsIn, rowsShown, AsStreamHolds, Shown, shown, NoRun, Lent, Offers, last, gives, Offered, no-part, a-part, Delivers}
 use Rattle.promises.proofs.Feeding.{Waits, nothing-held, begun, bytes-held, Result, waiting, barred, offered, ends-in, lengths}
-use Rattle.promises.proofs.Parts.{more-places}
+use Rattle.promises.proofs.Parts.{more-places, same-as-stream}
 use Rattle.promises.proofs.PartsFollow.{follows}
 
 -- a state between two calls: open, with what waits; or stopped
@@ -204,3 +206,31 @@ delivers signed ps buffer b hs t out out′ r below o l c =
       ap (λ (x : PartStep). x .answer) (c .step) ∙ ap (λ (x : Call). answered (x .reply)) (closing l (stateOf t b))
           ∙ ap (λ (x : State). answered (close 512 x .reply)) (d .state),
     )
+
+-- ---- beside the stream reader
+
+counted : (signed : Bool) (hs : List Handed) → length (rowsShown (map (shown signed) hs)) ≡ rowsIn hs
+unfolding rowsIn
+counted signed [] = refl
+counted signed (h ∷ hs) =
+    omega (arith, length-append (i64Rows signed (h .run)) (rowsShown (map (shown signed) hs)), i64-count signed (h .run), counted signed hs)
+
+rows-are : (signed : Bool) (at : ℕ) (ds : List Description) → rowsShown (map (shown signed) (starting at ds)) ≡ joinedRows signed ds
+unfolding starting joinedRows
+rows-are signed at [] = refl
+rows-are signed at (d ∷ ds) = ap (λ (x : List ℤ). i64Rows signed d ++ x) (rows-are signed ((at + length (layout d)) % two64) ds)
+
+pub as-stream : AsStreamHolds
+as-stream signed ps buffer b hs t out out′ r below o l c all all′ w s room =
+    let (runs, answer) = delivers signed ps buffer b hs t out out′ r below o l c in
+    let m : Reading = readAll (length all) (together ps) in
+    let n : rowsIn (readParts ps .runs) ≤ length all = omega (arith, ap (λ (x : List Shown). length (rowsShown x)) runs, counted signed (readParts ps .runs)) in
+    let given : readParts ps ≡ streamGives m = same-as-stream ps below (length all) .1 n in
+    let shows : hs ≡ map (shown signed) (starting 0 (runsOf m)) = runs ∙ ap (λ (g : Given). map (shown signed) (g .runs)) given in
+    let rows : rowsShown hs ≡ joinedRows signed (runsOf m) = ap rowsShown shows ∙ rows-are signed 0 (runsOf m) in
+    let count : length (rowsShown hs) ≡ totalRows (runsOf m) = ap length rows ∙ joined-count signed (runsOf m) in
+    record {
+      rows = rw (count, rows) (s .places);
+      runs = shows;
+      answer = answer ∙ ap (λ (g : Given). answered (g .answer)) given ∙ ap (λ (x : Stream). answered (lastAnswer x)) (sym (s .answer));
+    }

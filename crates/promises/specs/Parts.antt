@@ -27,7 +27,7 @@ use Rattle.format.specs.Runs.{Description, rowCount, Valid, layout}
 use Rattle.format.specs.Parse.{Reason, unfinished, refused, parse}
 use Rattle.format.specs.Answers.{refusing}
 use Rattle.format.specs.Streams.{Reading, readAll, runsOf}
-use Rattle.format.specs.Promises.{runOf, streamAnswer}
+use Rattle.format.specs.Promises.{runOf, streamAnswer, StreamRead}
 use Rattle.format.specs.Rows.{i64Rows}
 use Rattle.format.specs.Parts.{refusalFrom, Handed, Reply, handed, more, broke, ended, State, start, Call, idle, handOut, takePart, close, fresh, stateOf, answered, room, Takes, Closes}
 use Rattle.promises.specs.Refusals.{CutNumber}
@@ -229,3 +229,20 @@ abbrev pub Delivers : Type 0
 Delivers = (signed : Bool) (ps : List (List ℕ)) (buffer b : List ℕ) (hs : List Shown) (t : PartReader) (out out′ : List ℤ) (r : PartStep) → AllBelow 256 (together ps)
     → Offered signed fresh buffer ps hs t b → Lent b out → Closes t b signed out out′ r
     → (hs ≡ map (shown signed) (readParts ps .runs)) × (r .answer ≡ answered (readParts ps .answer))
+
+-- THE WHOLE, of promises alone: the calls of the reader in parts, and one call of the stream reader over the joined bytes with room enough for the rows. The
+-- rows are the same, and the answer; and each run has the start that the runs before it give.
+abbrev pub rowsShown : List Shown → List ℤ
+rowsShown [] = []
+rowsShown (h ∷ hs) = h .rows ++ rowsShown hs
+
+pub record AsStream (signed : Bool) (bytes : List ℕ) (hs : List Shown) (r : PartStep) (all all′ : List ℤ) (w : Stream) : Type 0 where
+  pub rows : all′ ≡ rowsShown hs ++ drop (length (rowsShown hs)) all
+  pub runs : hs ≡ map (shown signed) (starting 0 (runsOf (readAll (length all) bytes)))
+  pub answer : r .answer ≡ answered (lastAnswer w)
+
+abbrev pub AsStreamHolds : Type 0
+AsStreamHolds = (signed : Bool) (ps : List (List ℕ)) (buffer b : List ℕ) (hs : List Shown) (t : PartReader) (out out′ : List ℤ) (r : PartStep) → AllBelow 256 (together ps)
+    → Offered signed fresh buffer ps hs t b → Lent b out → Closes t b signed out out′ r
+    → (all all′ : List ℤ) (w : Stream) → StreamRead (together ps) 0 signed all all′ w → length (rowsShown hs) ≤ length all
+    → AsStream signed (together ps) hs r all all′ w
