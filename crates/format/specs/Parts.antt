@@ -147,12 +147,12 @@ placesAfter signed out (broke f) = out
 placesAfter signed out ended = out
 
 -- how many of the part's bytes are copied behind the h bytes held: where none are held, those that are held afterwards (a run that lies whole in its part
--- is read from there); else as many as there is room for
-abbrev pub copied : ℕ → List ℕ → List ℕ → Call → ℕ
-copied h part buffer c = pick (eqb h 0) (length (c .state .held)) (min (length part) (length buffer - h))
+-- is read from there); else as many as the longest run can have behind them
+abbrev pub copied : ℕ → List ℕ → Call → ℕ
+copied h part c = pick (eqb h 0) (length (c .state .held)) (min (length part) (4356 - h))
 
 abbrev pub bufferAfter : List ℕ → List ℕ → List ℕ → Call → List ℕ
-bufferAfter held part buffer c = paste buffer (length held) part (copied (length held) part buffer c)
+bufferAfter held part buffer c = paste buffer (length held) part (copied (length held) part c)
 
 -- fewer than 4,356 lent bytes, the most that a run has, are like no places
 abbrev pub room : List ℕ → List ℤ → ℕ

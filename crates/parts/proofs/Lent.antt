@@ -179,7 +179,7 @@ module _ (s : PartReader) (z : s .held ≡ 0) (part buffer : List ℕ) (signed :
   pub from-part : (buffer′ : List ℕ) → buffer′ ≡ paste buffer 0 part (r .reader .held) → Goes s part buffer buffer′ signed out out′ r (goes s part buffer)
   from-part buffer′ p = record {
     step = stepped;
-    lent = p ∙ ap (paste buffer 0 part) size-is ∙ sym (ap (λ (n : ℕ). paste buffer n part (copied n part buffer (goes s part buffer))) no-length);
+    lent = p ∙ ap (paste buffer 0 part) size-is ∙ sym (ap (λ (n : ℕ). paste buffer n part (copied n part (goes s part buffer))) no-length);
     places = same-part .places;
   }
 
@@ -187,7 +187,7 @@ module _ (s : PartReader) (z : s .held ≡ 0) (part buffer : List ℕ) (signed :
 
 module _ (s : PartReader) (part buffer buffer′ : List ℕ) (signed : Bool) (out out′ : List ℤ) (a : Answer) (h k : ℕ)
     (b : AllBelow 256 buffer) (c : AllBelow 256 part) (room : 512 ≤ length out) (long : 4356 ≤ length buffer) (eh : h ≡ min (s .held) (length buffer)) (some : h ≢ 0)
-    (ek : k ≡ min (length part) (length buffer - h)) (p : buffer′ ≡ paste buffer h part k) (g : RunRead (take (h + k) buffer′) 0 signed out out′ a) where
+    (ek : k ≡ min (length part) (4356 - h)) (p : buffer′ ≡ paste buffer h part k) (g : RunRead (take (h + k) buffer′) 0 signed out out′ a) where
   pub crossing : Goes s part buffer buffer′ signed out out′ (byAnswer s h (h + k) (length part) a) (goes s part buffer)
   crossing =
       let l : length (take (s .held) buffer) ≡ h = length-take (s .held) buffer ∙ sym eh in
@@ -196,10 +196,10 @@ module _ (s : PartReader) (part buffer buffer′ : List ℕ) (signed : Bool) (ou
       = ap (take (h + k)) p ∙ take-paste buffer h part k (omega arith) (omega arith) ∙ ap (λ (x : List ℕ). x ++ take k part) front in
       let m : Same s part buffer signed out out′ a k
       = same s part buffer signed out out′ a k (below-append 256 (take (s .held) buffer) part (below-take 256 (s .held) buffer b) c) room (omega arith) (λ f. omega (arith, l)) (rw (← seen) g) in
-      let d : copied h part buffer (goes s part buffer) ≡ k = rw (ne-eqb h 0 some) (sym ek) in
+      let d : copied h part (goes s part buffer) ≡ k = rw (ne-eqb h 0 some) (sym ek) in
       record {
         step = rw (← l) (m .step);
-        lent = p ∙ ap (paste buffer h part) (sym d) ∙ ap (λ (n : ℕ). paste buffer n part (copied n part buffer (goes s part buffer))) (sym l);
+        lent = p ∙ ap (paste buffer h part) (sym d) ∙ ap (λ (n : ℕ). paste buffer n part (copied n part (goes s part buffer))) (sym l);
         places = m .places;
       }
 

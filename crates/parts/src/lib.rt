@@ -147,7 +147,7 @@ fn least(a: usize, b: usize) -> usize
     if a < b { a } else { b }
 }
 
-// A call with a part, by what reading gave of the bytes looked at: those held, and as many of the part's behind them as there was room for.
+// A call with a part, by what reading gave of the bytes looked at: those held, and as many of the part's behind them as a run can have.
 fn on_part(reader: PartReader, held: usize, seen: usize, part: usize, a: Answer) -> PartStep
     ensures { λ r. ⌜ r ≡ byAnswer reader held seen part a ⌝ }
 {
@@ -204,7 +204,7 @@ fn opened(
         copy(part, kept.held, buffer, 0);
         return step;
     }
-    let k = least(n, buffer.len() - h);
+    let k = least(n, beyond(Kind::MAX_BYTES, h));
     copy(part, k, buffer, h);
     let a = rle_v2::read_run(&buffer[..h + k], ByteOffset { bytes: 0 }, signed, out);
     on_part(reader, h, h + k, n, a)

@@ -39,14 +39,14 @@ module _ (s : PartReader) (part buffer : List ℕ) where
   front = ap (λ (n : ℕ). take n buffer) size ∙ take-min (s .held) buffer
 
   -- all is held: the part stands behind the bytes held
-  holding : length (held ++ part) ≤ length buffer → take (length (held ++ part)) (bufferAfter held part buffer (reader.hold (stateOf s buffer) part)) ≡ held ++ part
-  holding l =
+  holding : length (held ++ part) ≤ 4356 → 4356 ≤ length buffer → take (length (held ++ part)) (bufferAfter held part buffer (reader.hold (stateOf s buffer) part)) ≡ held ++ part
+  holding h l =
       ap (λ (n : ℕ). take n (bufferAfter held part buffer (reader.hold (stateOf s buffer) part))) (length-append held part)
       ∙ ap (λ (n : ℕ). take (length held + length part) (paste buffer (length held) part n)) (all (eqb (length held) 0) refl)
-      ∙ take-paste buffer (length held) part (length part) (omega (arith, size)) (le-refl (length part))
+      ∙ take-paste buffer (length held) part (length part) (omega (arith, size, length-append held part)) (le-refl (length part))
       ∙ ap (λ (x : List ℕ). x ++ take (length part) part) front ∙ ap (λ (x : List ℕ). held ++ x) (take-length part)
     where
-      all : (t : Bool) → eqb (length held) 0 ≡ t → pick t (length (held ++ part)) (min (length part) (length buffer - length held)) ≡ length part
+      all : (t : Bool) → eqb (length held) 0 ≡ t → pick t (length (held ++ part)) (min (length part) (4356 - length held)) ≡ length part
       all true e = omega (arith, length-append held part, eqb→eq (length held) 0 (rw e tt))
       all false e = omega (arith, length-append held part)
 
@@ -65,10 +65,10 @@ module _ (s : PartReader) (part buffer : List ℕ) where
           let e : n ≡ 0 = omega arith in
           rw (e, ← (paste-zero buffer (length held) part))
 
-  few : (c : Call) → c .state .held ≡ held → copied (length held) part buffer c ≤ length buffer - length held
-  few c e = go (eqb (length held) 0) refl
+  few : (c : Call) → 4356 ≤ length buffer → c .state .held ≡ held → copied (length held) part c ≤ length buffer - length held
+  few c l e = go (eqb (length held) 0) refl
     where
-      go : (t : Bool) → eqb (length held) 0 ≡ t → pick t (length (c .state .held)) (min (length part) (length buffer - length held)) ≤ length buffer - length held
+      go : (t : Bool) → eqb (length held) 0 ≡ t → pick t (length (c .state .held)) (min (length part) (4356 - length held)) ≤ length buffer - length held
       go true z = omega (arith, ap length e, eqb→eq (length held) 0 (rw z tt))
       go false z = omega arith
 
@@ -77,7 +77,7 @@ module _ (s : PartReader) (part buffer : List ℕ) where
       → take (heldAfter (s .held) (onPart (stateOf s buffer) part m) (onPart (stateOf s buffer) part m .reply)) (bufferAfter held part buffer (onPart (stateOf s buffer) part m))
       ≡ onPart (stateOf s buffer) part m .state .held
   unfolding onPart
-  follows-open m (nothing z) e b l = holding (omega (arith, ap length z))
+  follows-open m (nothing z) e b l = holding (omega (arith, ap length z)) l
   follows-open m (run {d} t) e b l = refl
   follows-open m (refusal {r} z) e b l = go (unfinished r) refl
     where
@@ -85,8 +85,8 @@ module _ (s : PartReader) (part buffer : List ℕ) where
           → take (heldAfter (s .held) (pick u (reader.hold (stateOf s buffer) part) (reader.refuse (stateOf s buffer) (length (held ++ part)) r)) (pick u (reader.hold (stateOf s buffer) part) (reader.refuse (stateOf s buffer) (length (held ++ part)) r) .reply))
           (bufferAfter held part buffer (pick u (reader.hold (stateOf s buffer) part) (reader.refuse (stateOf s buffer) (length (held ++ part)) r)))
           ≡ pick u (reader.hold (stateOf s buffer) part) (reader.refuse (stateOf s buffer) (length (held ++ part)) r) .state .held
-      go true u = holding (omega (arith, unfinished-short (held ++ part) r b e (rw u tt)))
-      go false u = keeping (copied (length held) part buffer (reader.refuse (stateOf s buffer) (length (held ++ part)) r)) (few (reader.refuse (stateOf s buffer) (length (held ++ part)) r) refl)
+      go true u = holding (omega (arith, unfinished-short (held ++ part) r b e (rw u tt))) l
+      go false u = keeping (copied (length held) part (reader.refuse (stateOf s buffer) (length (held ++ part)) r)) (few (reader.refuse (stateOf s buffer) (length (held ++ part)) r) l refl)
 
 long-enough : (buffer : List ℕ) (out : List ℤ) → ltb (room buffer out) 512 ≡ false → 4356 ≤ length buffer
 long-enough buffer out e = go (ltb (length buffer) 4356) refl (nltb→le (room buffer out) 512 (rw e tt))
