@@ -15,6 +15,7 @@
 mod bits;
 mod booleans;
 mod labels;
+mod parts;
 mod runs;
 mod streams;
 mod values;
@@ -23,6 +24,7 @@ mod writer;
 pub use bits::{zigzag, WIDTHS};
 pub use booleans::{first_run, read_booleans, Booleans};
 pub use labels::{label, Dictionary, Label};
+pub use parts::{read_parts, Parts};
 pub use runs::{list_faults, read_run, Faults};
 pub use streams::{read_stream, Stream};
 pub use values::{read_value, Value};
