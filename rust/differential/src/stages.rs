@@ -2,6 +2,7 @@
 mod cuts;
 pub mod labels;
 mod lines;
+pub mod parts;
 mod patches;
 mod varints;
 
