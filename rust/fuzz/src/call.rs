@@ -2,7 +2,9 @@
 use differential::frames;
 use differential::random::Random;
 use differential::stages::labels::{self, Asked};
-use menakovitsy::exported::{case, kind, LABEL_WORDS, PART_WORDS, STATE_WORDS, STREAM_WORDS, TOO_FEW_WORDS, WORDS};
+use menakovitsy::exported::{
+    case, kind, LABEL_WORDS, PART_WORDS, STATE_WORDS, STREAM_WORDS, TOO_FEW_WORDS, WORDS,
+};
 use model::{Answer, Booleans, Form, Info, Kind, Label, Refusal, Stream, Value, Written};
 
 use crate::parts;

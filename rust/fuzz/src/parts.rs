@@ -140,9 +140,7 @@ impl State {
         let cut = (words[5] != 0).then_some(words[6] as usize);
         let standing = match words[0] {
             0 => Standing::Open,
-            1 => {
-                Standing::Refused(Refusal { number: (words[3] % 256) as u8, place: words[4] as usize, cut })
-            }
+            1 => Standing::Refused(Refusal { number: (words[3] % 256) as u8, place: words[4] as usize, cut }),
             _ => Standing::Closed,
         };
         State { held: words[1] as usize, at: words[2], standing }

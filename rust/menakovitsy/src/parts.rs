@@ -15,7 +15,7 @@ use crate::{ByteOffset, Refusal, Refused, Run, Sign, MAX_ROWS, MAX_RUN_BYTES};
 ///
 /// let column = [0x0A, 0x01, 0x2C, 0x46, 0x02, 0x12, 0x30];
 /// let mut reader = PartReader::new(Sign::Unsigned);
-/// let mut rows = Vec::new();
+/// let mut rows: Vec<i64> = Vec::new();
 /// for mut part in column.chunks(2) {
 ///     while let Some(run) = reader.next_run(&mut part)? {
 ///         println!("a run of {} rows starts at {}", run.rows.len(), run.at);

@@ -42,7 +42,9 @@ pub fn any(random: &mut Random) -> Cut {
             stream[at] ^= 1 << random.below(8);
         }
         // A run of more bytes than most parts have.
-        2 => stream.extend(frames::of_kind(random.from(1, 3), random.below(32), random.from(100, 512), random)),
+        2 => {
+            stream.extend(frames::of_kind(random.from(1, 3), random.below(32), random.from(100, 512), random))
+        }
         _ => {}
     }
     Cut::any(&stream, random)
