@@ -83,7 +83,7 @@ impl PartReader {
                 words.lent.len(),
             )
         };
-        let (run, taken) = took(words)?;
+        let (run, taken) = took(&mut words)?;
         // Whatever library is linked, what is taken is of the part, and the rows are of the places.
         *part = part.get(taken..).ok_or_else(unknown)?;
         let Some((at, run)) = run else { return Ok(None) };
@@ -108,7 +108,7 @@ impl PartReader {
                 words.lent.len(),
             )
         };
-        match took(words)? {
+        match took(&mut words)? {
             (None, 0) => Ok(()),
             // A run at the closing call, or "more": not the proved library's.
             _ => Err(unknown()),
@@ -117,7 +117,7 @@ impl PartReader {
 }
 
 /// The words behind an answer's are a part's own; the others are as in every answer.
-fn took(mut words: Words) -> Result<Took, Refused> {
+fn took(words: &mut Words) -> Result<Took, Refused> {
     let [start, taken] = [part_word::START, part_word::TAKEN]
         .map(|place| usize::try_from(std::mem::take(&mut words.lent[place])).unwrap_or(usize::MAX));
     if words.number == 0 && words.lent[word::CASE] == case::MORE {
