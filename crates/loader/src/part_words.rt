@@ -109,11 +109,17 @@ pub(crate) fn put_reader(reader: PartReader, state: &mut [u64]) -> u64
     0
 }
 
+// A run field by field: one that is moved whole goes through memory in pieces.
 fn plain(answer: PartAnswer) -> Answer
     ensures { λ r. ⌜ r ≡ plainAnswer answer ⌝ }
 {
     match answer {
-        PartAnswer::Run(_, r) => Answer::Run(r),
+        PartAnswer::Run(_, r) => {
+            let kind = r.kind;
+            let rows = r.rows;
+            let consumed = r.consumed;
+            Answer::run(kind, r.width, rows.rows, consumed.bytes)
+        }
         PartAnswer::Refused(f) => Answer::Refused(f),
         PartAnswer::More => Answer::End,
         PartAnswer::End => Answer::End,

@@ -13,6 +13,7 @@ use format::PartAnswer;
 use format::PartReader;
 use format::PartStep;
 use format::Refusal;
+use format::RowNumber;
 use format::Run;
 use format::Standing;
 
@@ -69,8 +70,19 @@ fn hand(reader: PartReader, taken: usize, run: Run) -> PartStep
     let at = reader.at;
     let consumed = run.consumed;
     let next = std::num::wrapping_add_usize(at.bytes, consumed.bytes);
+    // field by field: a run that is moved whole goes through memory in pieces, padding too
+    let rows = run.rows;
+    let kind = run.kind;
+    let handed = Run {
+        kind,
+        width: run.width,
+        rows: RowNumber { rows: rows.rows },
+        consumed: ByteOffset {
+            bytes: consumed.bytes,
+        },
+    };
     PartStep {
-        answer: PartAnswer::Run(at, run),
+        answer: PartAnswer::Run(at, handed),
         taken: ByteOffset { bytes: taken },
         reader: PartReader {
             held: 0,

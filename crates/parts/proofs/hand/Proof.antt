@@ -7,7 +7,7 @@ wrapping-add-usize-requires : tie.Need-wrapping-add-usize-requires
 wrapping-add-usize-requires c κs = search needs
 
 returns : tie.Need-returns
-returns c = rw (c .wrapping-add-usize .ensures)
+returns c = rw (c .before .wrapping-add-usize .ensures)
 
 pub hand-spec : {M : Type 1} → statement M
 hand-spec = tie.close (tie.spec wrapping-add-usize-requires returns)

@@ -6,6 +6,9 @@ use Rattle.loader.proofs.part_words.plain.Tie as tie
 enum-known-answer : tie.Need-enum-known-answer
 enum-known-answer c = search needs
 
+run-requires : tie.Need-run-requires
+run-requires c κs = search needs
+
 enum-known-answer-2 : tie.Need-enum-known-answer-2
 enum-known-answer-2 c = search needs
 
@@ -16,7 +19,7 @@ enum-told-2 : tie.Need-enum-told-2
 enum-told-2 c = search needs
 
 returns : tie.Need-returns
-returns c = rw (c .before .answer .given .1)
+returns c = rw (c .run .ensures, c .before .before .before .before .answer .given .1)
 
 returns-2 : tie.Need-returns-2
 returns-2 c = rw (c .before .answer2 .given .1)
@@ -32,6 +35,7 @@ plain-spec =
     tie.close
     (tie.spec
     enum-known-answer
+    run-requires
     enum-known-answer-2
     enum-told
     enum-told-2
