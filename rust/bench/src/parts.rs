@@ -61,10 +61,12 @@ pub fn measure(case: &Case, samples: usize) -> PartTimes {
     ours::stream_into(case, &mut places);
     assert!(places == case.rows, "{}: other rows", case.name);
     let mut stream = || ours::stream_into(black_box(case), black_box(&mut places));
-    let mut take = |size| ours::parts_of(black_box(case), size, &mut |run| drop(black_box(run)));
-    let mut large = || take(SIZES[0]);
-    let mut take = |size| ours::parts_of(black_box(case), size, &mut |run| drop(black_box(run)));
-    let mut small = || take(SIZES[1]);
+    let take = |size| {
+        ours::parts_of(black_box(case), size, &mut |run| {
+            black_box(run);
+        });
+    };
+    let (mut large, mut small) = (|| take(SIZES[0]), || take(SIZES[1]));
     let times = take_turns(case.rows.len(), 1, samples, &mut [&mut stream, &mut large, &mut small]);
     PartTimes { stream: times.first().copied(), parts: [times.get(1).copied(), times.get(2).copied()] }
 }
