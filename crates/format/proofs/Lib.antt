@@ -9,6 +9,8 @@ pub mod Varints
 pub mod Examples
 pub mod Rows
 pub mod Cut
+pub mod Length
+pub mod Parts
 pub mod Booleans
 pub mod ByteValues
 pub mod Reading

@@ -24,5 +24,10 @@ pub mod PatchedLeast
 pub mod Patched
 pub mod PatchedTable
 pub mod PatchedExamples
+pub mod Feeding
+pub mod Parts
+pub mod PartsFollow
+pub mod PartsDelivered
+pub mod PartsSample
 -- any two outcomes are equal
 pub mod Outcomes

@@ -17,5 +17,6 @@ pub mod CutFile
 pub mod BrokeOff
 pub mod Longest
 pub mod Patched
+pub mod Parts
 -- any two outcomes are equal
 pub mod Outcomes

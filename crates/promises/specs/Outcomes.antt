@@ -14,7 +14,10 @@ use Rattle.format.specs.ByteValues.{ValueRead, ValueGiven}
 use Rattle.format.specs.Loader.{Loaded, faceVersion, RunTold, StreamTold, BooleansTold, ValueTold, WriteTold}
 use Rattle.format.specs.Writing.{Written}
 use Rattle.format.specs.PatchedWriting.{PatchedWritten}
+use Rattle.format.specs.Parts.{Takes, Closes}
 use Rattle.format.specs.declared.Form.{Form}
+use Rattle.format.specs.declared.PartReader.{PartReader}
+use Rattle.format.specs.declared.PartStep.{PartStep}
 
 -- A promise, as a relation of the places at exit and the answer: some outcome is allowed, and any two that are allowed are equal.
 pub record Determines (P A : Type 0) (Allows : P → A → Type 0) : Type 0 where
@@ -81,3 +84,12 @@ VersionDetermined = Determines (Unit {0}) ℕ (λ p r. r ≡ faceVersion)
 
 abbrev pub NarrowestDetermined : Type 0
 NarrowestDetermined = (x : ℕ) → x < two64 → Determines (Unit {0}) ℕ (λ p r. Narrowest x r)
+
+-- the lent bytes and places, and what a call with a part does: for every reader, part, flag and all that is lent; the closing call leaves the lent bytes
+abbrev pub PartDetermined : Type 0
+PartDetermined =
+    (s : PartReader) (part buffer : List ℕ) (signed : Bool) (out : List ℤ)
+    → Determines (List ℕ × List ℤ) PartStep (λ p r. Takes s part buffer (p .0) signed out (p .1) r)
+
+abbrev pub ClosingDetermined : Type 0
+ClosingDetermined = (s : PartReader) (buffer : List ℕ) (signed : Bool) (out : List ℤ) → Determines (List ℤ) PartStep (λ p r. Closes s buffer signed out p r)

@@ -108,6 +108,21 @@ impl Requests {
         self.ask(format!("{line}{}{}{}", Hex(flags), Hex(block), Hex(fallback)), expected);
     }
 
+    pub fn parts(&mut self, parts: &[&[u8]], signed: bool, places: u16) {
+        let read = model::read_parts(parts, signed, places.into());
+        let mut expected = String::from("parts");
+        for (start, run) in &read.runs {
+            expected = with_rows(format!("{expected} run {start} {}", words(run.info(), "/")), &run.rows);
+        }
+        let last = read.refusal.map_or_else(|| "whole".into(), refused);
+        expected += &format!(" {last} taken {}", read.taken);
+        let mut line = format!("07{:02x}{places:04x}{:04x}", u8::from(signed), parts.len());
+        for part in parts {
+            write!(line, "{:04x}", part.len()).expect("a string takes it");
+        }
+        self.ask(format!("{line}{}", Hex(&parts.concat())), expected);
+    }
+
     /// A line that the probe says is bad.
     pub fn bad(&mut self, line: &str) {
         self.ask(line.into(), "bad line".into());

@@ -2,6 +2,7 @@
 mod cuts;
 pub mod labels;
 mod lines;
+pub mod parts;
 pub mod patched_runs;
 mod patches;
 mod varints;

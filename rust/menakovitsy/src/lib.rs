@@ -8,6 +8,7 @@
 //! | What | Functions |
 //! |---|---|
 //! | a column of integers | [`Column`]: [`read_into`](Column::read_into), [`rows`](Column::rows), [`runs`](Column::runs) |
+//! | a column that arrives in parts | [`PartReader`]: [`next_run`](PartReader::next_run), [`close`](PartReader::close) |
 //! | one integer run, or all to the end | [`read_run`], [`read_stream`] |
 //! | a column of flags | [`read_booleans`] |
 //! | a byte value, as a part of the input | [`byte_value`] |
@@ -43,6 +44,7 @@ mod column;
 pub mod exported;
 mod labels;
 mod library;
+mod parts;
 mod patched;
 mod refusal;
 mod units;
@@ -56,6 +58,7 @@ pub use library::{
     byte_value, library_version, narrowest_code, read_booleans, read_run, read_run_bytes, read_stream,
     unpack, write_run, Counts,
 };
+pub use parts::{PartReader, PartRun};
 pub use patched::write_patched;
 pub use refusal::Refusal;
 pub use units::{ByteOffset, RowNumber};

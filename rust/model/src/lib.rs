@@ -15,6 +15,7 @@
 mod bits;
 mod booleans;
 mod labels;
+mod parts;
 mod patched_writer;
 mod runs;
 mod streams;
@@ -24,6 +25,7 @@ mod writer;
 pub use bits::{zigzag, WIDTHS};
 pub use booleans::{first_run, read_booleans, Booleans};
 pub use labels::{label, Dictionary, Label};
+pub use parts::{read_parts, Parts};
 pub use patched_writer::write_patched;
 pub use runs::{list_faults, read_run, Faults};
 pub use streams::{read_stream, Stream};

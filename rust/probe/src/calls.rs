@@ -88,6 +88,52 @@ pub fn label(given: Columns, row: u64, words: &mut [u64]) -> u64 {
     }
 }
 
+/// What the reader in parts is kept in from call to call.
+pub struct Kept<'a> {
+    pub state: &'a mut [u64],
+    pub held: &'a mut [u8],
+}
+
+pub fn part_start(state: &mut [u64]) -> u64 {
+    unsafe { exported::orc_part_start(state.as_mut_ptr(), state.len()) }
+}
+
+pub fn part_take(kept: Kept, part: &[u8], flag: u64, rows: &mut [i64], words: &mut [u64]) -> u64 {
+    let Kept { state, held } = kept;
+    unsafe {
+        exported::orc_part_take(
+            state.as_mut_ptr(),
+            state.len(),
+            held.as_mut_ptr(),
+            held.len(),
+            part.as_ptr(),
+            part.len(),
+            flag,
+            rows.as_mut_ptr(),
+            rows.len(),
+            words.as_mut_ptr(),
+            words.len(),
+        )
+    }
+}
+
+pub fn part_close(kept: Kept, flag: u64, rows: &mut [i64], words: &mut [u64]) -> u64 {
+    let Kept { state, held } = kept;
+    unsafe {
+        exported::orc_part_close(
+            state.as_mut_ptr(),
+            state.len(),
+            held.as_mut_ptr(),
+            held.len(),
+            flag,
+            rows.as_mut_ptr(),
+            rows.len(),
+            words.as_mut_ptr(),
+            words.len(),
+        )
+    }
+}
+
 pub fn narrowest_code(number: u64) -> u64 {
     unsafe { exported::orc_narrowest_code(number) }
 }
