@@ -15,8 +15,10 @@ use Rattle.format.specs.Runs.{Description, rowCount, layout}
 use Rattle.format.specs.Rows.{i64Rows}
 use Rattle.format.specs.Parse.{Reason, plain, cutIn, Parsed, end, got, refused, bytes, unpack, block, into}
 use Rattle.format.specs.Answers.{ran, refusal, refusedAt, cutAt, cutting}
-use Rattle.format.specs.Promises.{kindOf, widthOf, answerOf, Gives}
+use Rattle.format.specs.Promises.{kindOf, widthOf, runOf, answerOf, Gives}
 use Rattle.format.specs.declared.Kind.{Kind}
+use Rattle.format.specs.declared.Run.{Run}
+use Rattle.format.specs.declared.Refusal.{Refusal}
 use Rattle.format.specs.declared.Answer.{Answer}
 use Rattle.format.specs.declared.Answer.the-variants as answer
 use Rattle.format.proofs.Streams.{into-got, into-refused, into-end}
@@ -75,6 +77,13 @@ pub answer-cut : (s : List ℕ) (at p n : ℕ) (m : Parsed Description) → at �
     → cutAt n at p ≡ answerOf at (length s - at) m
 answer-cut s at p n m h l e = rw e (ap answer.Refused (sym (field-at s at p n h l)))
 
+-- an answer that names a run names one run, and refuses nothing
+pub run-inj : (r r′ : Run) → answer.Run r ≡ answer.Run r′ → r ≡ r′
+run-inj r r′ e = cc
+
+pub run-not-refused : (r : Run) (f : Refusal) → answer.Run r ≡ answer.Refused f → ⊥
+run-not-refused r f e = let z : _≡_ {A = ℕ} 0 1 = cc in omega arith
+
 -- ---- what a call gives, by its measure: nothing but the answer, where no run is named ..
 
 abbrev pub NoRun : Answer → Type 0
@@ -100,3 +109,32 @@ module _ (at total : ℕ) (signed : Bool) (m : Parsed Description) (out : List �
     pub gives-run : (out′ : List ℤ) (a : Answer) → a ≡ answerOf at total m → rowCount d ≤ length out → out′ ≡ i64Rows signed d ++ drop (rowCount d) out
         → Gives at total signed m out out′ a
     gives-run out′ a ea h eo = record { answer = rw (e, into-got (length out) d rest h) (rw e at ea); places = rw (e, into-got (length out) d rest h) eo }
+
+-- ---- a measured run in so many places
+
+module _ (at total places : ℕ) (m : Parsed Description) where
+  module _ (r : Run) (e : answer.Run r ≡ answerOf at total m) where
+    pub placed-8 : places < r .rows .rows → refusedAt 8 at ≡ answerOf at total (into places m)
+    unfolding into
+    placed-8 h = go m e
+      where
+        go : (x : Parsed Description) → answer.Run r ≡ answerOf at total x → refusedAt 8 at ≡ answerOf at total (into places x)
+        go end q = let z : _≡_ {A = ℕ} 0 1 = cc in absurd (omega arith)
+        go (got d rest) q = rw (lt-ltb places (rowCount d) (rw (run-inj r (runOf d) q) at h))
+        go (refused f) q = absurd (run-not-refused r _ q)
+
+    pub placed-run : r .rows .rows ≤ places → answer.Run r ≡ answerOf at total (into places m)
+    placed-run h = go m e
+      where
+        go : (x : Parsed Description) → answer.Run r ≡ answerOf at total x → answer.Run r ≡ answerOf at total (into places x)
+        go end q = rw (into-end places) q
+        go (got d rest) q = rw (into-got places d rest (rw (run-inj r (runOf d) q) at h)) q
+        go (refused f) q = rw (into-refused places f) q
+
+  pub placed-none : (a : Answer) → NoRun a → a ≡ answerOf at total m → a ≡ answerOf at total (into places m)
+  placed-none a u e = go m e
+    where
+      go : (x : Parsed Description) → a ≡ answerOf at total x → a ≡ answerOf at total (into places x)
+      go end q = rw (into-end places) q
+      go (got d rest) q = absurd (rw q at u)
+      go (refused f) q = rw (into-refused places f) q
