@@ -1,97 +1,113 @@
+-- Each turn counts one run more, or ends with what document 01 says. Assumes nothing.
+use mathlib.Core.Path.{_≡_, _∙_}
+use Prim.Native.Nat.{_-_}
+use native.Mathlib.Omega.{arith}
+use mathlib.Core.List.{[]}
+use lib.ListN.{length, drop, drop-of-length-le}
+use borrow.Author.Needs.{needs}
+use Rattle.format.specs.Fields.{two64}
+use Rattle.format.proofs.Fields.{below-all}
+use Rattle.format.proofs.Runs.{layout-pos}
+use Rattle.rle_v2.proofs.StreamWalk.{OneRun, NoRun, Step, step-is, Counted, counted-first, counted-run, counted-whole, counted-refused}
 use Rattle.rle_v2.proofs.measure_stream.Statement.{statement}
 use Rattle.rle_v2.proofs.measure_stream.Tie as tie
-use Rattle.rle_v2.proofs.measure_stream.Reads as reads
-use Rattle.rle_v2.proofs.measure_stream.Lts as lts
-use Rattle.format.proofs.Stream.refused.Reads as refused-reads
-use Rattle.format.proofs.Stream.whole.Reads as whole-reads
-use Rattle.rle_v2.proofs.in_places.Reads as in-places-reads
-use Rattle.rle_v2.proofs.measure.Reads as measure-reads
 
 abbrev Inv-loop : tie.InvT-loop
-Inv-loop input from p₀ k₀ last₀ p k last = ?
+Inv-loop input from p₀ k₀ last₀ p k last = Counted input from (two64 - 1) p k last
 
 abbrev μ-loop : tie.MeasureT-loop
-μ-loop input from p₀ k₀ last₀ p k last = ?
+μ-loop input from p₀ k₀ last₀ p k last = length input - p
 
--- src/lib.rt:120:5
+-- what a turn's run comes to, and its three cases
+step : (x : tie.After-in-places Inv-loop μ-loop) → let l = x .before .before .before .loop in let a = x .before .before .before .before .before .args in Step (a .input .now) (l .p) (two64 - 1 - l .k) (x .in-places .result)
+step x =
+    let l = x .before .before .before .loop in
+    let a = x .before .before .before .before .before .args in
+    step-is (a .input .now) (l .p) (two64 - 1 - l .k) (x .in-places .result) (below-all 256 (a .input .now) (λ i. x .before .before .before .before .shared-slice-known .given i .fits))
+    (x .in-places .ensures _ _ (x .before .measure .ensures))
+
+ran-is : (m : tie.After-a Inv-loop μ-loop) → let l = m .before .before .before .before .before .loop in let a = m .before .before .before .before .before .before .before .args in OneRun (a .input .now) (l .p) (two64 - 1 - l .k) (m .a .given .0 .0)
+ran-is m = rw (m .a .given .1) at (step (m .before .before))
+
+refused-is : (m : tie.After-a2 Inv-loop μ-loop) → let l = m .before .before .before .before .before .loop in let a = m .before .before .before .before .before .before .before .args in NoRun (a .input .now) (l .p) (two64 - 1 - l .k) (m .a2 .given .0 .0)
+refused-is m = rw (m .a2 .given .1) at (step (m .before .before))
+
+ended-is : (m : tie.After-enum-told Inv-loop μ-loop) → let l = m .before .before .before .before .before .loop in let a = m .before .before .before .before .before .before .before .args in drop (l .p) (a .input .now) ≡ []
+ended-is m = rw (m .enum-told .given .1) at (step (m .before .before))
+
 loop-holds : tie.Need-loop-holds Inv-loop μ-loop
-loop-holds c = ?
+loop-holds c = counted-first _ _ _
 
--- src/lib.rt:121:13
 measure-requires : tie.Need-measure-requires Inv-loop μ-loop
-measure-requires c κs = ?
+measure-requires c κs = search needs
 
--- src/lib.rt:122:33
 sub-in-places : tie.Need-sub-in-places Inv-loop μ-loop
-sub-in-places c = ?
+sub-in-places c = c .before .before .loop .inv .fits
 
--- src/lib.rt:122:13
 in-places-requires : tie.Need-in-places-requires Inv-loop μ-loop
-in-places-requires c κs = ?
+in-places-requires c κs = search needs
 
--- src/lib.rt:124:25
 enum-known-a : tie.Need-enum-known-a Inv-loop μ-loop
-enum-known-a c = ?
+enum-known-a c = search needs
 
--- src/lib.rt:127:17
 add-k : tie.Need-add-k Inv-loop μ-loop
-add-k c = ?
+add-k c = omega (arith, ran-is (c .before .before .before .before) .fits, c .before .before .before .before .before .before .before .before .before .loop .inv .fits)
 
--- src/lib.rt:128:17
 add-p : tie.Need-add-p Inv-loop μ-loop
-add-p c = ?
+add-p c = omega (arith, ran-is (c .before .before .before .before .before) .within)
 
--- src/lib.rt:120:5
 loop-less : tie.Need-loop-less Inv-loop μ-loop
-loop-less c = ?
+loop-less c =
+    let o = ran-is (c .before .before .before .before .before) in
+    omega (arith, o .within, o .bytes-are, layout-pos (o .run), c .before .before .before .before .before .before .before .before .before .loop-test .taken)
 
--- src/lib.rt:120:5
 loop-again : tie.Need-loop-again Inv-loop μ-loop
-loop-again c = ?
+loop-again c =
+    let l = c .before .before .before .before .before .before .before .before .before .before .loop in
+    let a = c .before .before .before .before .before .before .before .before .before .before .before .before .args in
+    counted-run (a .input .now) (a .at .bytes) (two64 - 1) (l .p) (l .k) (l .last) (l .inv) _ (c .before .before .before .before .before .before .before .before .before .loop-test .taken) (ran-is (c .before .before .before .before .before))
 
--- src/lib.rt:131:29
 enum-known-a-2 : tie.Need-enum-known-a-2 Inv-loop μ-loop
-enum-known-a-2 c = ?
+enum-known-a-2 c = search needs
 
--- src/lib.rt:132:46
 sub-refused : tie.Need-sub-refused Inv-loop μ-loop
-sub-refused c = ?
+sub-refused c = omega (arith, c .before .before .before .before .before .before .loop .inv .bytes)
 
--- src/lib.rt:132:17
 refused-requires : tie.Need-refused-requires Inv-loop μ-loop
-refused-requires c κs = ?
+refused-requires c κs = search needs
 
--- src/lib.rt:132:17
 returns : tie.Need-returns Inv-loop μ-loop
-returns c = ?
+returns c =
+    let l = c .before .before .before .before .before .before .before .loop in
+    let a = c .before .before .before .before .before .before .before .before .before .args in
+    c .refused .ensures ∙ counted-refused (a .input .now) (a .at .bytes) (two64 - 1) (l .p) (l .k) (l .last) (l .inv) _ (refused-is (c .before .before))
 
--- src/lib.rt:135:41
 enum-told : tie.Need-enum-told Inv-loop μ-loop
-enum-told c = ?
+enum-told c = search needs
 
--- src/lib.rt:135:41
 sub-whole : tie.Need-sub-whole Inv-loop μ-loop
-sub-whole c = ?
+sub-whole c = omega (arith, c .before .before .before .before .before .loop .inv .bytes)
 
--- src/lib.rt:135:17
 whole-requires : tie.Need-whole-requires Inv-loop μ-loop
-whole-requires c κs = ?
+whole-requires c κs = search needs
 
--- src/lib.rt:135:17
 returns-2 : tie.Need-returns-2 Inv-loop μ-loop
-returns-2 c = ?
+returns-2 c =
+    let l = c .before .before .before .before .before .before .loop in
+    let a = c .before .before .before .before .before .before .before .before .args in
+    c .whole .ensures ∙ counted-whole (a .input .now) (a .at .bytes) (two64 - 1) (l .p) (l .k) (l .last) (l .inv) (ended-is (c .before))
 
--- src/lib.rt:139:22
 sub-whole-2 : tie.Need-sub-whole-2 Inv-loop μ-loop
-sub-whole-2 c = ?
+sub-whole-2 c = omega (arith, c .before .loop .inv .bytes)
 
--- src/lib.rt:139:5
 whole-requires-2 : tie.Need-whole-requires-2 Inv-loop μ-loop
-whole-requires-2 c κs = ?
+whole-requires-2 c κs = search needs
 
--- src/lib.rt:113:1
 returns-3 : tie.Need-returns-3 Inv-loop μ-loop
-returns-3 c = ?
+returns-3 c =
+    let l = c .before .before .loop in
+    let a = c .before .before .before .before .args in
+    c .whole2 .ensures ∙ counted-whole (a .input .now) (a .at .bytes) (two64 - 1) (l .p) (l .k) (l .last) (l .inv) (drop-of-length-le (a .input .now) (c .before .loop-test .left))
 
 pub measure-stream-spec : {M : Type 1} → statement M
 measure-stream-spec =
