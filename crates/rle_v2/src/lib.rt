@@ -114,27 +114,27 @@ pub fn measure_stream(input: &[u8], at: ByteOffset) -> Stream
     ensures { λ r. ⌜ StreamMeasured (now (input .entry)) (at .bytes) r ⌝ }
 {
     let from = at.bytes;
-    let mut p = from;
-    let mut k: usize = 0;
+    let mut place = from;
+    let mut count: usize = 0;
     let mut last = LastRun::None;
-    while p < input.len() {
-        let m = measure(input, ByteOffset { bytes: p });
-        let a = in_places(m, p, 18446744073709551615 - k);
+    while place < input.len() {
+        let m = measure(input, ByteOffset { bytes: place });
+        let a = in_places(m, place, 18446744073709551615 - count);
         match a {
-            Answer::Run(r) => {
-                let rows = r.rows;
-                let consumed = r.consumed;
-                k += rows.rows;
-                p += consumed.bytes;
-                last = LastRun::Run(r);
+            Answer::Run(run) => {
+                let rows = run.rows;
+                let consumed = run.consumed;
+                count += rows.rows;
+                place += consumed.bytes;
+                last = LastRun::Run(run);
             }
             Answer::Refused(f) => {
-                return Stream::refused(f, k, p - from, last);
+                return Stream::refused(f, count, place - from, last);
             }
             Answer::End => {
-                return Stream::whole(k, p - from, last);
+                return Stream::whole(count, place - from, last);
             }
         }
     }
-    Stream::whole(k, p - from, last)
+    Stream::whole(count, place - from, last)
 }

@@ -19,20 +19,20 @@ abbrev μ-loop : tie.MeasureT-loop
 μ-loop input from p₀ k₀ last₀ p k last = length input - p
 
 -- what a turn's run comes to, and its three cases
-step : (x : tie.After-in-places Inv-loop μ-loop) → let l = x .before .before .before .loop in let a = x .before .before .before .before .before .args in Step (a .input .now) (l .p) (two64 - 1 - l .k) (x .in-places .result)
+step : (x : tie.After-in-places Inv-loop μ-loop) → let l = x .before .before .before .loop in let a = x .before .before .before .before .before .args in Step (a .input .now) (l .place) (two64 - 1 - l .count) (x .in-places .result)
 step x =
     let l = x .before .before .before .loop in
     let a = x .before .before .before .before .before .args in
-    step-is (a .input .now) (l .p) (two64 - 1 - l .k) (x .in-places .result) (below-all 256 (a .input .now) (λ i. x .before .before .before .before .shared-slice-known .given i .fits))
+    step-is (a .input .now) (l .place) (two64 - 1 - l .count) (x .in-places .result) (below-all 256 (a .input .now) (λ i. x .before .before .before .before .shared-slice-known .given i .fits))
     (x .in-places .ensures _ _ (x .before .measure .ensures))
 
-ran-is : (m : tie.After-a Inv-loop μ-loop) → let l = m .before .before .before .before .before .loop in let a = m .before .before .before .before .before .before .before .args in OneRun (a .input .now) (l .p) (two64 - 1 - l .k) (m .a .given .0 .0)
+ran-is : (m : tie.After-a Inv-loop μ-loop) → let l = m .before .before .before .before .before .loop in let a = m .before .before .before .before .before .before .before .args in OneRun (a .input .now) (l .place) (two64 - 1 - l .count) (m .a .given .0 .0)
 ran-is m = rw (m .a .given .1) at (step (m .before .before))
 
-refused-is : (m : tie.After-a2 Inv-loop μ-loop) → let l = m .before .before .before .before .before .loop in let a = m .before .before .before .before .before .before .before .args in NoRun (a .input .now) (l .p) (two64 - 1 - l .k) (m .a2 .given .0 .0)
+refused-is : (m : tie.After-a2 Inv-loop μ-loop) → let l = m .before .before .before .before .before .loop in let a = m .before .before .before .before .before .before .before .args in NoRun (a .input .now) (l .place) (two64 - 1 - l .count) (m .a2 .given .0 .0)
 refused-is m = rw (m .a2 .given .1) at (step (m .before .before))
 
-ended-is : (m : tie.After-enum-told Inv-loop μ-loop) → let l = m .before .before .before .before .before .loop in let a = m .before .before .before .before .before .before .before .args in drop (l .p) (a .input .now) ≡ []
+ended-is : (m : tie.After-enum-told Inv-loop μ-loop) → let l = m .before .before .before .before .before .loop in let a = m .before .before .before .before .before .before .before .args in drop (l .place) (a .input .now) ≡ []
 ended-is m = rw (m .enum-told .given .1) at (step (m .before .before))
 
 loop-holds : tie.Need-loop-holds Inv-loop μ-loop
@@ -50,11 +50,11 @@ in-places-requires c κs = search needs
 enum-known-a : tie.Need-enum-known-a Inv-loop μ-loop
 enum-known-a c = search needs
 
-add-k : tie.Need-add-k Inv-loop μ-loop
-add-k c = omega (arith, ran-is (c .before .before .before .before) .fits, c .before .before .before .before .before .before .before .before .before .loop .inv .fits)
+add-count : tie.Need-add-count Inv-loop μ-loop
+add-count c = omega (arith, ran-is (c .before .before .before .before) .fits, c .before .before .before .before .before .before .before .before .before .loop .inv .fits)
 
-add-p : tie.Need-add-p Inv-loop μ-loop
-add-p c = omega (arith, ran-is (c .before .before .before .before .before) .within)
+add-place : tie.Need-add-place Inv-loop μ-loop
+add-place c = omega (arith, ran-is (c .before .before .before .before .before) .within)
 
 loop-less : tie.Need-loop-less Inv-loop μ-loop
 loop-less c =
@@ -65,7 +65,7 @@ loop-again : tie.Need-loop-again Inv-loop μ-loop
 loop-again c =
     let l = c .before .before .before .before .before .before .before .before .before .before .loop in
     let a = c .before .before .before .before .before .before .before .before .before .before .before .before .args in
-    counted-run (a .input .now) (a .at .bytes) (two64 - 1) (l .p) (l .k) (l .last) (l .inv) _ (c .before .before .before .before .before .before .before .before .before .loop-test .taken) (ran-is (c .before .before .before .before .before))
+    counted-run (a .input .now) (a .at .bytes) (two64 - 1) (l .place) (l .count) (l .last) (l .inv) _ (c .before .before .before .before .before .before .before .before .before .loop-test .taken) (ran-is (c .before .before .before .before .before))
 
 enum-known-a-2 : tie.Need-enum-known-a-2 Inv-loop μ-loop
 enum-known-a-2 c = search needs
@@ -80,7 +80,7 @@ returns : tie.Need-returns Inv-loop μ-loop
 returns c =
     let l = c .before .before .before .before .before .before .before .loop in
     let a = c .before .before .before .before .before .before .before .before .before .args in
-    c .refused .ensures ∙ counted-refused (a .input .now) (a .at .bytes) (two64 - 1) (l .p) (l .k) (l .last) (l .inv) _ (refused-is (c .before .before))
+    c .refused .ensures ∙ counted-refused (a .input .now) (a .at .bytes) (two64 - 1) (l .place) (l .count) (l .last) (l .inv) _ (refused-is (c .before .before))
 
 enum-told : tie.Need-enum-told Inv-loop μ-loop
 enum-told c = search needs
@@ -95,7 +95,7 @@ returns-2 : tie.Need-returns-2 Inv-loop μ-loop
 returns-2 c =
     let l = c .before .before .before .before .before .before .loop in
     let a = c .before .before .before .before .before .before .before .before .args in
-    c .whole .ensures ∙ counted-whole (a .input .now) (a .at .bytes) (two64 - 1) (l .p) (l .k) (l .last) (l .inv) (ended-is (c .before))
+    c .whole .ensures ∙ counted-whole (a .input .now) (a .at .bytes) (two64 - 1) (l .place) (l .count) (l .last) (l .inv) (ended-is (c .before))
 
 sub-whole-2 : tie.Need-sub-whole-2 Inv-loop μ-loop
 sub-whole-2 c = omega (arith, c .before .loop .inv .bytes)
@@ -107,7 +107,7 @@ returns-3 : tie.Need-returns-3 Inv-loop μ-loop
 returns-3 c =
     let l = c .before .before .loop in
     let a = c .before .before .before .before .args in
-    c .whole2 .ensures ∙ counted-whole (a .input .now) (a .at .bytes) (two64 - 1) (l .p) (l .k) (l .last) (l .inv) (drop-of-length-le (a .input .now) (c .before .loop-test .left))
+    c .whole2 .ensures ∙ counted-whole (a .input .now) (a .at .bytes) (two64 - 1) (l .place) (l .count) (l .last) (l .inv) (drop-of-length-le (a .input .now) (c .before .loop-test .left))
 
 pub measure-stream-spec : {M : Type 1} → statement M
 measure-stream-spec =
@@ -120,8 +120,8 @@ measure-stream-spec =
     sub-in-places
     in-places-requires
     enum-known-a
-    add-k
-    add-p
+    add-count
+    add-place
     loop-less
     loop-again
     enum-known-a-2
