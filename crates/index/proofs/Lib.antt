@@ -1,0 +1,9 @@
+-- The theorems of specs/Theorems.antt, and the laws of the walks.
+
+pub mod Entries
+pub mod Held
+pub mod Checked
+pub mod Building
+pub mod Turns
+pub mod Index
+pub mod Columns
