@@ -34,7 +34,7 @@ pub columns-are : (ds : List Description) → asColumns (entries ds) ≡ columns
 columns-are ds = rw (firsts-are 0 0 ds, offsets-are 0 0 ds, counts-are 0 0 ds)
 
 -- two tables are the same by their columns
-regrouped : (a b c s t u all : Bool) → all ≡ s && (t && u) → (a && (b && c)) && all ≡ (a && s) && ((b && t) && (c && u))
+pub regrouped : (a b c s t u all : Bool) → all ≡ s && (t && u) → (a && (b && c)) && all ≡ (a && s) && ((b && t) && (c && u))
 regrouped false b c s t u all e = refl
 regrouped true false c false t u all e = refl
 regrouped true false c true t u all e = refl

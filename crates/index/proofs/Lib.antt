@@ -7,3 +7,7 @@ pub mod Building
 pub mod Turns
 pub mod Index
 pub mod Columns
+pub mod Totals
+pub mod Walks
+pub mod Fills
+pub mod Lists

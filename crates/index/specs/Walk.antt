@@ -10,7 +10,7 @@ use Rattle.format.specs.Fields.{pick, two64}
 use Rattle.format.specs.Runs.{Description, rowCount, AllValid, joined}
 use Rattle.format.specs.Streams.{Reading, whole, broken, stream, totalRows, joinedRows}
 use Rattle.format.specs.Answers.{refusal}
-use Rattle.index.specs.Entries.{gives, same}
+use Rattle.index.specs.Entries.{gives, same, holdsRow}
 use Rattle.index.specs.Columns.{sumsBefore, byteCount, columnsAt}
 use Rattle.index.specs.declared.walk.Total.{Total}
 use Rattle.index.specs.declared.walk.Total.the-variants as total
@@ -40,9 +40,9 @@ sameThree f o n first at rows = eqb f first && (eqb o at && eqb n rows)
 
 -- the first place whose rows hold row r; as many as there are, where none does
 unfoldable pub placeOf : ℕ → List ℕ → List ℕ → ℕ
-placeOf r (f ∷ fs) (n ∷ ns) = pick (leb f r && ltb r (f + n)) 0 (suc (placeOf r fs ns))
 placeOf r [] ns = 0
 placeOf r (f ∷ fs) [] = suc (placeOf r fs [])
+placeOf r (f ∷ fs) (n ∷ ns) = pick (holdsRow (record { first = f; at = 0; rows = n }) r) 0 (suc (placeOf r fs ns))
 
 -- columns that have room for a whole stream's ..
 pub record Roomy (input : List ℕ) (places offsets counts : ℕ) : Type 0 where

@@ -4,6 +4,7 @@ ghost use mathlib.Core.Path.{_≡_};
 ghost use Prim.Native.Nat.{_+_, _-_, _≤_, _<_};
 ghost use lib.ListN.{length, take, drop};
 ghost use mathlib.Core.List.{_++_};
+ghost use Rattle.index.specs.Entries.{holdsRow};
 ghost use Rattle.index.specs.Promises.{builtWith, notBuilt, foundAt, notFound, readRows, notRead, BuiltIn, LookedUp, ReadFrom};
 ghost use Rattle.index.specs.Walk.{placeOf, leftOf, Ready, Laid};
 use crate::walk::Survey;
@@ -129,20 +130,25 @@ pub fn build(input: &[u8], first: &mut [u64], at: &mut [u64], counts: &mut [u64]
     }
 }
 
+// Whether a run's rows hold a row. Not row < from + rows: the sum may pass 2^64 - 1.
+fn holds(from: usize, rows: usize, row: usize) -> bool
+    ensures { λ r. ⌜ r ≡ holdsRow (record { first = from; at = 0; rows = rows }) row ⌝ }
+{
+    if row < from {
+        return false;
+    }
+    row - from < rows
+}
+
 // The place of the entry that holds a row: as many as there are entries, where none does.
 fn place_of(first: &[u64], counts: &[u64], row: usize) -> usize
-    requires { ⌜ length (now first) ≡ length (now counts) ⌝ }
+    requires { ⌜ length (now counts) ≡ length (now first) ⌝ }
     ensures { λ r. ⌜ r ≡ placeOf row (now (first .entry)) (now (counts .entry)) ⌝ }
 {
     let mut i: usize = 0;
     while i < first.len() {
-        let from = first[i] as usize;
-        let rows = counts[i] as usize;
-        // not row < from + rows: the sum may pass 2^64 - 1
-        if from <= row {
-            if row - from < rows {
-                return i;
-            }
+        if holds(first[i] as usize, counts[i] as usize, row) {
+            return i;
         }
         i += 1;
     }
