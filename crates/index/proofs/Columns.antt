@@ -64,7 +64,7 @@ table-alike es = record {
   counts = length-map es (λ e. e .first) ∙ sym (length-map es (λ e. e .rows));
 }
 
-alike-true : (f o n : ℕ) → f ≡ o → f ≡ n → alike f o n ≡ true
+pub alike-true : (f o n : ℕ) → f ≡ o → f ≡ n → alike f o n ≡ true
 alike-true f o n p q = rw (eq-eqb f o p, eq-eqb f n q)
 
 alike-false : (f o n : ℕ) → ((f ≡ o) × (f ≡ n) → ⊥) → alike f o n ≡ false

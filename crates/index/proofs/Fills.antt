@@ -22,6 +22,14 @@ after-inv : (d : Description) (m : Reading) (rest : List Description) → after 
 after-inv d (whole x) rest e = (x, refl, sym (whole-inj e))
 after-inv d (broken ds r t) rest e = let z : _≡_ {A = ℕ} 0 1 = cc in absurd (omega arith)
 
+-- one number more in a column
+sums-next : (col : List ℕ) (i x n k : ℕ) (ns all : List ℕ) → n ≡ k → i < length col → take i col ++ sumsBefore x (k ∷ ns) ≡ all → take (i + 1) (set col i x) ++ sumsBefore (x + n) ns ≡ all
+unfolding sumsBefore
+sums-next col i x n k ns all e h q = rw e (grow col i x (sumsBefore (x + k) ns) all h q)
+
+counts-next : (col : List ℕ) (i n k : ℕ) (ns all : List ℕ) → n ≡ k → i < length col → take i col ++ (k ∷ ns) ≡ all → take (i + 1) (set col i n) ++ ns ≡ all
+counts-next col i n k ns all e h q = rw e (grow col i k ns all h q)
+
 module _ (s first₀ at₀ counts₀ : List ℕ) where
   pub record Filling (first at counts : List ℕ) (p row i : ℕ) : Type 0 where
     pub runs : List Description
@@ -102,7 +110,7 @@ module _ (s first₀ at₀ counts₀ : List ℕ) where
           }
 
       pub filling-run : Filling (set first i row) (set at i p) (set counts i (r .rows .rows)) (p + r .consumed .bytes) (row + r .rows .rows) (i + 1)
-      unfolding totalRows sumsBefore
+      unfolding totalRows
       filling-run =
           let (x, e, q) = next in
           let y = has-room in
@@ -123,9 +131,9 @@ module _ (s first₀ at₀ counts₀ : List ℕ) where
             long-first = length-set first i row ∙ w .long-first;
             long-at = length-set at i p ∙ w .long-at;
             long-counts = length-set counts i (r .rows .rows) ∙ w .long-counts;
-            firsts-are = rw (o .rows-are) (grow first i row (sumsBefore (row + rowCount (o .run)) (map rowCount x)) (sumsBefore 0 (map rowCount (w .runs))) (y .in-first) (rw q at (w .firsts-are)));
-            offsets-are = rw (o .bytes-are) (grow at i p (sumsBefore (p + byteCount (o .run)) (map byteCount x)) (sumsBefore 0 (map byteCount (w .runs))) (y .in-at) (rw q at (w .offsets-are)));
-            counts-are = rw (o .rows-are) (grow counts i (rowCount (o .run)) (map rowCount x) (map rowCount (w .runs)) (y .in-counts) (rw q at (w .counts-are)));
+            firsts-are = sums-next first i row (r .rows .rows) (rowCount (o .run)) (map rowCount x) _ (o .rows-are) (y .in-first) (rw q at (w .firsts-are));
+            offsets-are = sums-next at i p (r .consumed .bytes) (byteCount (o .run)) (map byteCount x) _ (o .bytes-are) (y .in-at) (rw q at (w .offsets-are));
+            counts-are = counts-next counts i (r .rows .rows) (rowCount (o .run)) (map rowCount x) _ (o .rows-are) (y .in-counts) (rw q at (w .counts-are));
             kept-first = kept first first₀ i row (w .kept-first);
             kept-at = kept at at₀ i p (w .kept-at);
             kept-counts = kept counts counts₀ i (r .rows .rows) (w .kept-counts);

@@ -11,3 +11,6 @@ pub mod Totals
 pub mod Walks
 pub mod Fills
 pub mod Lists
+pub mod Laying
+pub mod Builds
+pub mod LookUps
