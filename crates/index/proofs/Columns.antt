@@ -90,7 +90,7 @@ a-table (f ∷ fs) (o ∷ os) (n ∷ ns) p q =
 
 -- ---- what is checked
 
-checked-same : (es : List Entry) (bs : List ℕ) → checkedIn (asColumns es) bs ≡ checked es bs
+pub checked-same : (es : List Entry) (bs : List ℕ) → checkedIn (asColumns es) bs ≡ checked es bs
 unfolding checkedIn checked
 checked-same es bs =
     let a = table-alike es in

@@ -14,3 +14,4 @@ pub mod Lists
 pub mod Laying
 pub mod Builds
 pub mod LookUps
+pub mod Previews

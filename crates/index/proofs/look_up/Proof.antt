@@ -1,84 +1,85 @@
+-- Each test of the columns, in the order of the refusals. Assumes nothing.
+use mathlib.Core.Path.{sym, _∙_}
 use borrow.Author.Needs.{needs}
+use Rattle.index.proofs.Walks.{not-yes, not-no}
+use Rattle.index.proofs.LookUps.{unequal-offsets, unequal-counts, wrong-so, none-so, found-so}
 use Rattle.index.proofs.look_up.Statement.{statement}
 use Rattle.index.proofs.look_up.Tie as tie
-use Rattle.index.proofs.look_up.Reads as reads
-use Rattle.index.proofs.look_up.Lts as lts
-use Rattle.index.proofs.Found.entry.Reads as entry-reads
-use Rattle.index.proofs.Found.refused.Reads as refused-reads
-use Rattle.index.proofs.place_of.Reads as place-of-reads
-use Rattle.index.proofs.walk.right.Reads as right-reads
 
--- src/lib.rt:165:9
 refused-requires : tie.Need-refused-requires
 refused-requires c κs = search needs
 
--- src/lib.rt:165:9
 returns : tie.Need-returns
-returns c = ?
+returns c =
+    let a = c .before .before .before .before .before .before .args in
+    c .refused .ensures ∙ unequal-offsets (a .input .now) (a .first .now) (a .at .now) (a .counts .now) (a .row .rows) (c .before .if1 .taken)
 
--- src/lib.rt:168:9
 refused-requires-2 : tie.Need-refused-requires-2
 refused-requires-2 c κs = search needs
 
--- src/lib.rt:168:9
 returns-2 : tie.Need-returns-2
-returns-2 c = ?
+returns-2 c =
+    let a = c .before .before .before .before .before .before .before .args in
+    c .refused2 .ensures ∙ unequal-counts (a .input .now) (a .first .now) (a .at .now) (a .counts .now) (a .row .rows) (c .before .if2 .taken)
 
--- src/lib.rt:170:9
 right-requires : tie.Need-right-requires
 right-requires c κs = search needs
 
--- src/lib.rt:171:9
 refused-requires-3 : tie.Need-refused-requires-3
 refused-requires-3 c κs = search needs
 
--- src/lib.rt:171:9
 returns-3 : tie.Need-returns-3
-returns-3 c = ?
+returns-3 c =
+    let x = c .before .before in
+    let e = x .before in
+    let a = e .before .before .before .before .before .before .args in
+    c .refused3 .ensures ∙ wrong-so (a .input .now) (a .first .now) (a .at .now) (a .counts .now) (a .row .rows) (e .before .if1 .left) (e .if2 .left) (sym (x .right .ensures) ∙ not-yes (x .right .result) (c .before .if3 .taken))
 
--- src/lib.rt:173:9
 place-of-requires : tie.Need-place-of-requires
 place-of-requires c κs = search needs
 
--- src/lib.rt:175:9
 refused-requires-4 : tie.Need-refused-requires-4
 refused-requires-4 c κs = search needs
 
--- src/lib.rt:175:9
 returns-4 : tie.Need-returns-4
-returns-4 c = ?
+returns-4 c =
+    let p = c .before .before in
+    let x = p .before .before in
+    let e = x .before in
+    let a = e .before .before .before .before .before .before .args in
+    c .refused4 .ensures
+    ∙ none-so (a .input .now) (a .first .now) (a .at .now) (a .counts .now) (a .row .rows) (e .before .if1 .left) (e .if2 .left) (sym (x .right .ensures) ∙ not-no (x .right .result) (p .before .if3 .left)) _ (p .place-of .ensures) (c .before .if4 .taken)
 
--- src/lib.rt:177:18
 mul-entry : tie.Need-mul-entry
 mul-entry c = search needs
 
--- src/lib.rt:177:18
 shared-slice-read-entry : tie.Need-shared-slice-read-entry
 shared-slice-read-entry c = search needs
 
--- src/lib.rt:177:37
 mul-entry-2 : tie.Need-mul-entry-2
 mul-entry-2 c = search needs
 
--- src/lib.rt:177:37
 shared-slice-read-entry-2 : tie.Need-shared-slice-read-entry-2
 shared-slice-read-entry-2 c = search needs
 
--- src/lib.rt:177:53
 mul-entry-3 : tie.Need-mul-entry-3
 mul-entry-3 c = search needs
 
--- src/lib.rt:177:53
 shared-slice-read-entry-3 : tie.Need-shared-slice-read-entry-3
 shared-slice-read-entry-3 c = search needs
 
--- src/lib.rt:177:5
 entry-requires : tie.Need-entry-requires
 entry-requires c κs = search needs
 
--- src/lib.rt:160:1
 returns-5 : tie.Need-returns-5
-returns-5 c = ?
+returns-5 c =
+    let i = c .before .before .before .before in
+    let p = i .before in
+    let x = p .before .before in
+    let e = x .before in
+    let a = e .before .before .before .before .before .before .args in
+    c .entry .ensures
+    ∙ found-so (a .input .now) (a .first .now) (a .at .now) (a .counts .now) (a .row .rows) (e .before .if1 .left) (e .if2 .left) (sym (x .right .ensures) ∙ not-no (x .right .result) (p .before .if3 .left)) _ (p .place-of .ensures) (i .if4 .left)
 
 pub look-up-spec : {M : Type 1} → statement M
 look-up-spec =

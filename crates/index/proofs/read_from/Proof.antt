@@ -1,89 +1,112 @@
+-- What looking up answered, how many rows are left, and the rows laid. Assumes nothing.
+use mathlib.Core.Path.{_≡_, sym, _∙_}
+use native.Mathlib.Omega.{arith}
 use borrow.Author.Needs.{needs}
+use Rattle.format.proofs.Fields.{below-all}
+use Rattle.index.specs.declared.Found.the-variants as found
+use Rattle.index.proofs.Previews.{Through, After, what-looked, left-many, left-rows, some, n-long, last-is, row-below, ready, eight-so, rows-so}
 use Rattle.index.proofs.read_from.Statement.{statement}
 use Rattle.index.proofs.read_from.Tie as tie
-use Rattle.index.proofs.read_from.Reads as reads
-use Rattle.index.proofs.read_from.Lts as lts
-use Rattle.index.proofs.Preview.refused.Reads as refused-reads
-use Rattle.index.proofs.Preview.rows.Reads as rows-reads
-use Rattle.index.proofs.lay.Reads as lay-reads
-use Rattle.index.proofs.left_from.Reads as left-from-reads
-use Rattle.index.proofs.look_up.Reads as look-up-reads
 
--- src/lib.rt:258:11
+after : (x : tie.After-look-up) → let a = x .before .before .before .before .before .args in After (a .input .now) (a .first .now) (a .at .now) (a .counts .now) (a .row .rows) (x .look-up .result)
+after x =
+    let k = x .before .before .before .before in
+    let a = k .before .args in
+    what-looked (a .input .now) (a .first .now) (a .at .now) (a .counts .now) (a .row .rows) _ (below-all 256 (a .input .now) (λ i. k .shared-slice-known .given i .fits)) (x .look-up .ensures)
+
+through : (m : tie.After-e) → let a = m .before .before .before .before .before .before .before .args in Through (a .input .now) (a .first .now) (a .at .now) (a .counts .now) (a .row .rows) (m .e .given .0 .0 .first .rows) (m .e .given .0 .0 .at .bytes)
+through m = rw (m .e .given .1) at (after (m .before .before))
+
 look-up-requires : tie.Need-look-up-requires
 look-up-requires c κs = search needs
 
--- src/lib.rt:259:24
 enum-known-f : tie.Need-enum-known-f
 enum-known-f c = search needs
 
--- src/lib.rt:260:22
 enum-known-e : tie.Need-enum-known-e
 enum-known-e c = search needs
 
--- src/lib.rt:263:24
 sub-last : tie.Need-sub-last
-sub-last c = ?
+sub-last c =
+    let m = c .before .before .before in
+    let a = m .before .before .before .before .before .before .before .args in
+    some (a .input .now) (a .first .now) (a .at .now) (a .counts .now) (a .row .rows) (m .e .given .0 .0 .first .rows) (m .e .given .0 .0 .at .bytes) (through m)
 
--- src/lib.rt:264:29
 mul-left-from : tie.Need-mul-left-from
 mul-left-from c = search needs
 
--- src/lib.rt:264:29
 shared-slice-read-left-from : tie.Need-shared-slice-read-left-from
-shared-slice-read-left-from c = ?
+shared-slice-read-left-from c =
+    let m = c .before .before .before .before in
+    let a = m .before .before .before .before .before .before .before .args in
+    omega (arith, some (a .input .now) (a .first .now) (a .at .now) (a .counts .now) (a .row .rows) (m .e .given .0 .0 .first .rows) (m .e .given .0 .0 .at .bytes) (through m))
 
--- src/lib.rt:264:51
 mul-left-from-2 : tie.Need-mul-left-from-2
 mul-left-from-2 c = search needs
 
--- src/lib.rt:264:51
 shared-slice-read-left-from-2 : tie.Need-shared-slice-read-left-from-2
-shared-slice-read-left-from-2 c = ?
+shared-slice-read-left-from-2 c =
+    let m = c .before .before .before .before .before in
+    let a = m .before .before .before .before .before .before .before .args in
+    omega (arith, some (a .input .now) (a .first .now) (a .at .now) (a .counts .now) (a .row .rows) (m .e .given .0 .0 .first .rows) (m .e .given .0 .0 .at .bytes) (through m), n-long (a .input .now) (a .first .now) (a .at .now) (a .counts .now) (a .row .rows) (m .e .given .0 .0 .first .rows) (m .e .given .0 .0 .at .bytes) (through m))
 
--- src/lib.rt:264:19
 left-from-requires : tie.Need-left-from-requires
-left-from-requires c κs = ?
+left-from-requires c κs =
+    let m = c .before .before .before .before .before in
+    let a = m .before .before .before .before .before .before .before .args in
+    row-below (a .input .now) (a .first .now) (a .at .now) (a .counts .now) (a .row .rows) (m .e .given .0 .0 .first .rows) (m .e .given .0 .0 .at .bytes) (through m)
 
--- src/lib.rt:265:34
 enum-told : tie.Need-enum-told
 enum-told c = search needs
 
--- src/lib.rt:265:34
 refused-requires : tie.Need-refused-requires
 refused-requires c κs = search needs
 
--- src/lib.rt:266:28
 enum-known-n : tie.Need-enum-known-n
 enum-known-n c = search needs
 
--- src/lib.rt:267:45
 sub-lay : tie.Need-sub-lay
-sub-lay c = ?
+sub-lay c = through (c .before .before .before .before .before .before .before .before .before .before) .from
 
--- src/lib.rt:267:21
 lay-requires : tie.Need-lay-requires
-lay-requires c κs = ?
+lay-requires c κs =
+    let n = c .before .before .before in
+    let l = n .before .before in
+    let m = l .before .before .before .before .before .before in
+    let a = m .before .before .before .before .before .before .before .args in
+    let (k, q) = left-rows _ _ _ _ _ (sym (n .n .given .1) ∙ l .left-from .ensures) in
+    ready (a .input .now) (a .first .now) (a .at .now) (a .counts .now) (a .row .rows) (m .e .given .0 .0 .first .rows) (m .e .given .0 .0 .at .bytes) (through m) _ (omega (arith, k, q, last-is (a .input .now) (a .first .now) (a .at .now) (a .counts .now) (a .row .rows) (m .e .given .0 .0 .first .rows) (m .e .given .0 .0 .at .bytes) (through m)))
 
--- src/lib.rt:268:21
 rows-requires : tie.Need-rows-requires
 rows-requires c κs = search needs
 
--- src/lib.rt:246:1
 returns : tie.Need-returns
-returns c = ?
+returns c =
+    let x = c .before .before .before in
+    let a = x .before .before .before .before .before .args in
+    let q : After (a .input .now) (a .first .now) (a .at .now) (a .counts .now) (a .row .rows) (found.Refused (c .before .f .given .0 .0)) = rw (c .before .f .given .1) at (after x) in
+    q (a .signed) (a .out .now)
 
--- src/lib.rt:246:1
 returns-2 : tie.Need-returns-2
-returns-2 c = ?
+returns-2 c =
+    let l = c .before .before .before in
+    let m = l .before .before .before .before .before .before in
+    let a = m .before .before .before .before .before .before .before .args in
+    let k = left-many _ _ _ _ (sym (c .before .enum-told .given .1) ∙ l .left-from .ensures) in
+    rw (c .refused .ensures) (eight-so (a .input .now) (a .first .now) (a .at .now) (a .counts .now) (a .row .rows) (m .e .given .0 .0 .first .rows) (m .e .given .0 .0 .at .bytes) (through m) (a .signed) (a .out .now) (omega (arith, k, last-is (a .input .now) (a .first .now) (a .at .now) (a .counts .now) (a .row .rows) (m .e .given .0 .0 .first .rows) (m .e .given .0 .0 .at .bytes) (through m))))
 
--- src/lib.rt:246:1
 same-length : tie.Need-same-length
 same-length c = search needs
 
--- src/lib.rt:246:1
 returns-3 : tie.Need-returns-3
-returns-3 c = ?
+returns-3 c =
+    let n = c .before .before .before .before .before .before in
+    let l = n .before .before in
+    let m = l .before .before .before .before .before .before in
+    let a = m .before .before .before .before .before .before .before .args in
+    let (k, q) = left-rows _ _ _ _ _ (sym (n .n .given .1) ∙ l .left-from .ensures) in
+    rw (c .rows .ensures)
+    (rows-so (a .input .now) (a .first .now) (a .at .now) (a .counts .now) (a .row .rows) (m .e .given .0 .0 .first .rows) (m .e .given .0 .0 .at .bytes) (through m) (a .signed) (a .out .now) _ (omega (arith, k, last-is (a .input .now) (a .first .now) (a .at .now) (a .counts .now) (a .row .rows) (m .e .given .0 .0 .first .rows) (m .e .given .0 .0 .at .bytes) (through m))) q _ (c .before .before .lay .ensures))
 
 pub read-from-spec : {M : Type 1} → statement M
 read-from-spec =
