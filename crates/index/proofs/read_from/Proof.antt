@@ -1,6 +1,8 @@
 -- What looking up answered, how many rows are left, and the rows laid. Assumes nothing.
 use mathlib.Core.Path.{_≡_, sym, _∙_}
+use Prim.Native.Nat.{_-_}
 use native.Mathlib.Omega.{arith}
+use lib.ListN.{length, getD}
 use borrow.Author.Needs.{needs}
 use Rattle.format.proofs.Fields.{below-all}
 use Rattle.index.specs.declared.Found.the-variants as found
@@ -74,7 +76,7 @@ lay-requires c κs =
     let l = n .before .before in
     let m = l .before .before .before .before .before .before in
     let a = m .before .before .before .before .before .before .before .args in
-    let (k, q) = left-rows _ _ _ _ _ (sym (n .n .given .1) ∙ l .left-from .ensures) in
+    let (k, q) = left-rows (getD (a .first .now) (length (a .first .now) - 1) 0) (getD (a .counts .now) (length (a .first .now) - 1) 0) (a .row .rows) (length (a .out .now)) (n .n .given .0 .0) (sym (n .n .given .1) ∙ l .left-from .ensures) in
     ready (a .input .now) (a .first .now) (a .at .now) (a .counts .now) (a .row .rows) (m .e .given .0 .0 .first .rows) (m .e .given .0 .0 .at .bytes) (through m) _ (omega (arith, k, q, last-is (a .input .now) (a .first .now) (a .at .now) (a .counts .now) (a .row .rows) (m .e .given .0 .0 .first .rows) (m .e .given .0 .0 .at .bytes) (through m)))
 
 rows-requires : tie.Need-rows-requires
@@ -92,7 +94,7 @@ returns-2 c =
     let l = c .before .before .before in
     let m = l .before .before .before .before .before .before in
     let a = m .before .before .before .before .before .before .before .args in
-    let k = left-many _ _ _ _ (sym (c .before .enum-told .given .1) ∙ l .left-from .ensures) in
+    let k = left-many (getD (a .first .now) (length (a .first .now) - 1) 0) (getD (a .counts .now) (length (a .first .now) - 1) 0) (a .row .rows) (length (a .out .now)) (sym (c .before .enum-told .given .1) ∙ l .left-from .ensures) in
     rw (c .refused .ensures) (eight-so (a .input .now) (a .first .now) (a .at .now) (a .counts .now) (a .row .rows) (m .e .given .0 .0 .first .rows) (m .e .given .0 .0 .at .bytes) (through m) (a .signed) (a .out .now) (omega (arith, k, last-is (a .input .now) (a .first .now) (a .at .now) (a .counts .now) (a .row .rows) (m .e .given .0 .0 .first .rows) (m .e .given .0 .0 .at .bytes) (through m))))
 
 same-length : tie.Need-same-length
@@ -104,7 +106,7 @@ returns-3 c =
     let l = n .before .before in
     let m = l .before .before .before .before .before .before in
     let a = m .before .before .before .before .before .before .before .args in
-    let (k, q) = left-rows _ _ _ _ _ (sym (n .n .given .1) ∙ l .left-from .ensures) in
+    let (k, q) = left-rows (getD (a .first .now) (length (a .first .now) - 1) 0) (getD (a .counts .now) (length (a .first .now) - 1) 0) (a .row .rows) (length (a .out .now)) (n .n .given .0 .0) (sym (n .n .given .1) ∙ l .left-from .ensures) in
     rw (c .rows .ensures)
     (rows-so (a .input .now) (a .first .now) (a .at .now) (a .counts .now) (a .row .rows) (m .e .given .0 .0 .first .rows) (m .e .given .0 .0 .at .bytes) (through m) (a .signed) (a .out .now) _ (omega (arith, k, last-is (a .input .now) (a .first .now) (a .at .now) (a .counts .now) (a .row .rows) (m .e .given .0 .0 .first .rows) (m .e .given .0 .0 .at .bytes) (through m))) q _ (c .before .before .lay .ensures))
 
