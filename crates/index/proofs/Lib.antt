@@ -4,6 +4,7 @@ pub mod Entries
 pub mod Held
 pub mod Checked
 pub mod Building
+pub mod Own
 pub mod Turns
 pub mod Index
 pub mod Columns
@@ -14,4 +15,6 @@ pub mod Lists
 pub mod Laying
 pub mod Builds
 pub mod LookUps
+pub mod Looked
 pub mod Previews
+pub mod Outcomes
