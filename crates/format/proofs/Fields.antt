@@ -70,6 +70,10 @@ pub append-below : (b : ℕ) (s t : List ℕ) → AllBelow b (s ++ t) → AllBel
 append-below b [] t p = tt
 append-below b (x ∷ s) t p = (p .0, append-below b s t (p .1))
 
+pub behind-below : (b : ℕ) (s t : List ℕ) → AllBelow b (s ++ t) → AllBelow b t
+behind-below b [] t p = p
+behind-below b (x ∷ s) t p = behind-below b s t (p .1)
+
 pub below-take : (b n : ℕ) (s : List ℕ) → AllBelow b s → AllBelow b (take n s)
 below-take b zero s p = tt
 below-take b (suc n) [] p = tt

@@ -1,5 +1,5 @@
 -- What the small readers give at a place p of a lent slice s: by the tests that a reader makes on lengths. Assumes nothing.
-use mathlib.Core.Path.{_≡_}
+use mathlib.Core.Path.{_≡_, refl, sym, ap}
 use Prim.Native.Nat.{ℕ, suc, _+_, _-_, _*_, _<_, _≤_}
 use native.Mathlib.Omega.{arith}
 use native.Mathlib.Numerals.{add-one}
@@ -15,9 +15,12 @@ use Rattle.format.specs.Runs.{Description, rowCount, layout}
 use Rattle.format.specs.Rows.{i64Rows}
 use Rattle.format.specs.Parse.{Reason, plain, cutIn, Parsed, end, got, refused, bytes, unpack, block, into}
 use Rattle.format.specs.Answers.{ran, refusal, refusedAt, cutAt, cutting}
-use Rattle.format.specs.Promises.{kindOf, widthOf, answerOf, Gives}
+use Rattle.format.specs.Promises.{kindOf, widthOf, runOf, answerOf, Gives}
 use Rattle.format.specs.declared.Kind.{Kind}
-use Rattle.format.specs.declared.Answer.the-variants.{Refused}
+use Rattle.format.specs.declared.Run.{Run}
+use Rattle.format.specs.declared.Refusal.{Refusal}
+use Rattle.format.specs.declared.Answer.{Answer}
+use Rattle.format.specs.declared.Answer.the-variants as answer
 use Rattle.format.proofs.Streams.{into-got, into-refused, into-end}
 
 module _ (s : List ℕ) (p : ℕ) where
@@ -59,31 +62,79 @@ field-at s at p n h l =
     let e : at + (length s - at - (length s - p)) ≡ p = omega arith in
     rw (length-drop, e)
 
--- ---- what a call gives, by what reading gives
+-- ---- what a measure answers, by what reading gives
+
+module _ (at total : ℕ) (m : Parsed Description) where
+  pub answer-refused : (n : ℕ) → m ≡ refused (plain n) → refusedAt n at ≡ answerOf at total m
+  answer-refused n e = rw e
+
+  pub answer-run : (d : Description) (rest : List ℕ) → m ≡ got d rest → (k : Kind) (w n b : ℕ) → k ≡ kindOf d → w ≡ widthOf d → n ≡ rowCount d
+      → b ≡ length (layout d) → ran k w n b ≡ answerOf at total m
+  answer-run d rest e k w n b ek ew en eb = rw (e, ek, ew, en, eb)
+
+-- the input ends in the field that begins at p
+pub answer-cut : (s : List ℕ) (at p n : ℕ) (m : Parsed Description) → at ≤ p → p ≤ length s → m ≡ refused (cutIn n (drop p s))
+    → cutAt n at p ≡ answerOf at (length s - at) m
+answer-cut s at p n m h l e = rw e (ap answer.Refused (sym (field-at s at p n h l)))
+
+-- an answer that names a run names one run, and refuses nothing
+pub run-inj : (r r′ : Run) → answer.Run r ≡ answer.Run r′ → r ≡ r′
+run-inj r r′ e = cc
+
+pub run-not-refused : (r : Run) (f : Refusal) → answer.Run r ≡ answer.Refused f → ⊥
+run-not-refused r f e = let z : _≡_ {A = ℕ} 0 1 = cc in omega arith
+
+-- ---- what a call gives, by its measure: nothing but the answer, where no run is named ..
+
+abbrev pub NoRun : Answer → Type 0
+NoRun answer.End = Unit {0}
+NoRun (answer.Run r) = ⊥
+NoRun (answer.Refused f) = Unit {0}
 
 module _ (at total : ℕ) (signed : Bool) (m : Parsed Description) (out : List ℤ) where
-  pub gives-end : m ≡ end → Gives at total signed m out out (answerOf at total end)
-  gives-end e = record { answer = rw (e, into-end (length out)); places = rw (e, into-end (length out)) }
+  pub gives-none : (a : Answer) → NoRun a → a ≡ answerOf at total m → Gives at total signed m out out a
+  gives-none a u e = go m refl e
+    where
+      go : (x : Parsed Description) → m ≡ x → a ≡ answerOf at total x → Gives at total signed m out out a
+      go end q e = record { answer = rw (q, into-end (length out)) e; places = rw (q, into-end (length out)) }
+      go (got d rest) q e = absurd (rw e at u)
+      go (refused r) q e = record { answer = rw (q, into-refused (length out) r) e; places = rw (q, into-refused (length out) r) }
 
-  pub gives-reason : (r : Reason) → m ≡ refused r → Gives at total signed m out out (Refused (refusal at total r))
-  gives-reason r e = record { answer = rw (e, into-refused (length out) r); places = rw (e, into-refused (length out) r) }
-
-  pub gives-refused : (n : ℕ) → m ≡ refused (plain n) → Gives at total signed m out out (refusedAt n at)
-  gives-refused n e = gives-reason (plain n) e
-
+  -- .. and a run where there is room for its rows
   module _ (d : Description) (rest : List ℕ) (e : m ≡ got d rest) where
     pub gives-8 : length out < rowCount d → Gives at total signed m out out (refusedAt 8 at)
     unfolding into
     gives-8 h = record { answer = rw (e, lt-ltb _ _ h); places = rw (e, lt-ltb _ _ h) }
 
-    pub gives-run : (out′ : List ℤ) (k : Kind) (w n b : ℕ) → rowCount d ≤ length out → k ≡ kindOf d → w ≡ widthOf d → n ≡ rowCount d → b ≡ length (layout d)
-        → out′ ≡ i64Rows signed d ++ drop n out → Gives at total signed m out out′ (ran k w n b)
-    gives-run out′ k w n b h ek ew en eb eo = record {
-      answer = rw (e, into-got (length out) d rest h, ek, ew, en, eb);
-      places = rw (e, into-got (length out) d rest h, ← en) eo;
-    }
+    pub gives-run : (out′ : List ℤ) (a : Answer) → a ≡ answerOf at total m → rowCount d ≤ length out → out′ ≡ i64Rows signed d ++ drop (rowCount d) out
+        → Gives at total signed m out out′ a
+    gives-run out′ a ea h eo = record { answer = rw (e, into-got (length out) d rest h) (rw e at ea); places = rw (e, into-got (length out) d rest h) eo }
 
--- the input ends in the field that begins at p
-pub gives-cut : (s : List ℕ) (at p n : ℕ) (signed : Bool) (m : Parsed Description) (out : List ℤ) → at ≤ p → p ≤ length s → m ≡ refused (cutIn n (drop p s))
-    → Gives at (length s - at) signed m out out (cutAt n at p)
-gives-cut s at p n signed m out h l e = rw (← (field-at s at p n h l)) (gives-reason at (length s - at) signed m out (cutIn n (drop p s)) e)
+-- ---- a measured run in so many places
+
+module _ (at total places : ℕ) (m : Parsed Description) where
+  module _ (r : Run) (e : answer.Run r ≡ answerOf at total m) where
+    pub placed-8 : places < r .rows .rows → refusedAt 8 at ≡ answerOf at total (into places m)
+    unfolding into
+    placed-8 h = go m e
+      where
+        go : (x : Parsed Description) → answer.Run r ≡ answerOf at total x → refusedAt 8 at ≡ answerOf at total (into places x)
+        go end q = let z : _≡_ {A = ℕ} 0 1 = cc in absurd (omega arith)
+        go (got d rest) q = rw (lt-ltb places (rowCount d) (rw (run-inj r (runOf d) q) at h))
+        go (refused f) q = absurd (run-not-refused r _ q)
+
+    pub placed-run : r .rows .rows ≤ places → answer.Run r ≡ answerOf at total (into places m)
+    placed-run h = go m e
+      where
+        go : (x : Parsed Description) → answer.Run r ≡ answerOf at total x → answer.Run r ≡ answerOf at total (into places x)
+        go end q = rw (into-end places) q
+        go (got d rest) q = rw (into-got places d rest (rw (run-inj r (runOf d) q) at h)) q
+        go (refused f) q = rw (into-refused places f) q
+
+  pub placed-none : (a : Answer) → NoRun a → a ≡ answerOf at total m → a ≡ answerOf at total (into places m)
+  placed-none a u e = go m e
+    where
+      go : (x : Parsed Description) → a ≡ answerOf at total x → a ≡ answerOf at total (into places x)
+      go end q = rw (into-end places) q
+      go (got d rest) q = absurd (rw q at u)
+      go (refused f) q = rw (into-refused places f) q

@@ -15,7 +15,7 @@ use Rattle.format.specs.declared.LastRun.{LastRun}
 use Rattle.format.specs.declared.LastRun.the-variants as last
 use Rattle.format.specs.declared.Stream.{Stream}
 use Rattle.format.specs.Answers.{running, refusal, readWhole, brokeAt}
-use Rattle.format.specs.Fields.{width}
+use Rattle.format.specs.Fields.{width, two64}
 use Rattle.format.specs.Runs.{Description, short, direct, fixed, delta, patched, rowCount, layout, joined}
 use Rattle.format.specs.Rows.{i64Rows}
 use Rattle.format.specs.Parse.{Parsed, end, got, refused, parse, into}
@@ -64,6 +64,10 @@ pub record Gives (at total : ℕ) (signed : Bool) (m : Parsed Description) (out 
 abbrev pub RunRead : List ℕ → ℕ → Bool → List ℤ → List ℤ → Answer → Type 0
 RunRead input at signed out out′ r = Gives at (length input - at) signed (parse (drop at input)) out out′ r
 
+-- THE MEASURE: the run reader's answer with room enough; no place is lent, and none is touched
+abbrev pub RunMeasured : List ℕ → ℕ → Answer → Type 0
+RunMeasured input at r = r ≡ answerOf at (length input - at) (parse (drop at input))
+
 -- ---- the stream
 
 -- the last of some runs, or what is given where there are none
@@ -83,3 +87,8 @@ streamAnswer at (broken ds r rest) = brokeAt (refusal (at + length (joined ds)) 
 pub record StreamRead (input : List ℕ) (at : ℕ) (signed : Bool) (out out′ : List ℤ) (r : Stream) : Type 0 where
   pub answer : r ≡ streamAnswer at (readAll (length out) (drop at input))
   pub places : out′ ≡ joinedRows signed (runsOf (readAll (length out) (drop at input))) ++ drop (totalRows (runsOf (readAll (length out) (drop at input)))) out
+
+-- THE STREAM'S MEASURE: the stream reader's answer with as many places as a count can name. They are room enough for every stream of less than 2^55
+-- bytes (`counted-all`); in a longer one, refusal 8 stands at the run whose rows would pass 2^64 - 1.
+abbrev pub StreamMeasured : List ℕ → ℕ → Stream → Type 0
+StreamMeasured input at r = r ≡ streamAnswer at (readAll (two64 - 1) (drop at input))

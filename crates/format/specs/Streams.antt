@@ -1,6 +1,6 @@
 -- A stream of runs, read into n places: the runs one after another, until the bytes end or a run is refused.
 -- Assumes nothing.
-use Prim.Native.Nat.{ℕ, zero, suc, _+_, _-_}
+use Prim.Native.Nat.{ℕ, zero, suc, _+_, _-_, _*_}
 use mathlib.Core.Bool.{Bool}
 use mathlib.Core.List.{List, [], _∷_, _++_}
 use lib.ListN.{length}
@@ -31,6 +31,10 @@ runsFrom (suc fuel) n bs = next (λ m rest. runsFrom fuel m rest) n bs (into n (
 
 unfoldable pub readAll : ℕ → List ℕ → Reading
 readAll n bs = runsFrom (length bs) n bs
+
+-- with room enough: a run takes a byte at least, and holds 512 rows at most
+unfoldable pub stream : List ℕ → Reading
+stream bs = readAll (512 * length bs) bs
 
 -- the runs that were read, their rows in all, and the rows joined
 abbrev pub runsOf : Reading → List Description

@@ -1,7 +1,7 @@
 // The nouns of document 01: units, kinds, answers. What bytes mean stands in specs/, and the laws of that meaning in proofs/.
 ghost use mathlib.Core.Path.{_≡_};
 ghost use Prim.Native.Nat.{_<_};
-ghost use Rattle.format.specs.Answers.{ran, refusing, cutting, refusedAt, cutAt, kindNumber, answerNumber, answerPlace, answerCut, answerWidth, answerRows, answerBytes, answerPacked, readWhole, brokeAt};
+ghost use Rattle.format.specs.Answers.{running, ran, refusing, cutting, refusedAt, cutAt, kindNumber, answerNumber, answerPlace, answerCut, answerWidth, answerRows, answerBytes, answerPacked, readWhole, brokeAt};
 
 // File offsets count bytes.
 pub struct ByteOffset {
@@ -154,6 +154,19 @@ impl Kind {
     }
 }
 
+impl Run {
+    pub fn new(kind: Kind, width: usize, rows: usize, consumed: usize) -> Self
+        ensures { λ r. ⌜ r ≡ running kind width rows consumed ⌝ }
+    {
+        Run {
+            kind,
+            width,
+            rows: RowNumber { rows },
+            consumed: ByteOffset { bytes: consumed },
+        }
+    }
+}
+
 impl Refusal {
     pub fn new(number: u8, place: usize) -> Self
         ensures { λ r. ⌜ r ≡ refusing number place ⌝ }
@@ -187,12 +200,7 @@ impl Answer {
     pub fn run(kind: Kind, width: usize, rows: usize, consumed: usize) -> Self
         ensures { λ r. ⌜ r ≡ ran kind width rows consumed ⌝ }
     {
-        Answer::Run(Run {
-            kind,
-            width,
-            rows: RowNumber { rows },
-            consumed: ByteOffset { bytes: consumed },
-        })
+        Answer::Run(Run::new(kind, width, rows, consumed))
     }
 
     pub fn refused(number: u8, place: usize) -> Self

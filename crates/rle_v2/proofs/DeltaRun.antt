@@ -11,22 +11,26 @@ use Rattle.util.proofs.Grow.{back-is, rest-is}
 use lib.IntN.{ℤ}
 use lib.Dec.{leb}
 use borrow.Author.Tests.{eq-eqb, ne-eqb}
-use Rattle.format.specs.Fields.{width, bytesFor}
-use Rattle.format.specs.Runs.{Description, fixed, delta}
+use Rattle.format.specs.Fields.{width, bytesFor, row, zigzag}
+use Rattle.format.specs.Runs.{Description, fixed, delta, rowCount, layout}
 use Rattle.format.specs.Rows as Rows
 use Rattle.format.specs.Rows.{plus, asI64, i64Rows, rowsOf}
 use Rattle.format.specs.Parse.{Parsed, got, codeOf, rowsLess, fixedBody, deltaBody, deltaRun}
-use Rattle.format.specs.Promises.{Gives}
-use Rattle.format.specs.Answers.{ran, refusedAt, cutAt}
+use Rattle.format.specs.Promises.{answerOf, Gives}
+use Rattle.format.specs.Answers.{running, refusedAt, cutAt}
 use Rattle.format.specs.declared.Refusal.{Refusal}
-use Rattle.format.specs.declared.Answer.the-variants.{Refused}
+use Rattle.format.specs.declared.Run.{Run}
+use Rattle.format.specs.declared.Answer.the-variants as answer
 use Rattle.format.specs.declared.Kind.the-variants.{Delta}
 use Rattle.format.proofs.Rows.{width-le, bytes-count}
-use Rattle.format.proofs.Reading.{byte-after, none-after, blockAt, block-here, block-cut, gives-reason, gives-refused, gives-cut, gives-8, gives-run}
+use Rattle.format.proofs.Reading.{byte-after, none-after, blockAt, block-here, block-cut, answer-refused, answer-cut, gives-8, gives-run}
 use Rattle.rle_v2.specs.Pass.{stepped, summed, laid}
-use Rattle.rle_v2.specs.DeltaStart.{Started, NotStarted}
+use Rattle.rle_v2.specs.declared.delta.Start.{Start}
+use Rattle.rle_v2.specs.DeltaStart.{both, Started, NotStarted, Passed, deltaRows}
+use Rattle.util.specs.Packed.{fields}
+use Rattle.format.proofs.Widths.{width-pos}
 use Rattle.rle_v2.proofs.Pass.{stepped-is, summed-is}
-use Rattle.rle_v2.proofs.Blocks.{block-count, block-patterns}
+use Rattle.rle_v2.proofs.Blocks.{block-count, block-patterns, code-width}
 
 -- the first two rows, and a part from there on that came back with the others
 pub laid-is : (first step n : ℕ) (ms out one part : List ℤ) → n + 2 ≤ length out → one ≡ stepped first step (take 2 out) ++ drop 2 out
@@ -39,15 +43,20 @@ laid-is first step n ms out one part h e f =
     let t : take 2 one ≡ asI64 first ∷ asI64 (plus first step) ∷ [] = ap (λ (l : List ℤ). take 2 l) g in
     back-is one part (summed (leb (2 ^ 63) step) (plus first step) ms) 2 n (rw (rest-is one 2) at f) ∙ rw (t, d)
 
-module _ (s : List ℕ) (at : ℕ) (signed : Bool) (out : List ℤ) where
+-- what reading gives is refused, by one of the varints
+pub refused-too : (s : List ℕ) (at : ℕ) (body : List ℕ → List ℕ → List ℕ → Parsed Description) (f : Refusal) → NotStarted s at f
+    → answer.Refused f ≡ answerOf at (length s - at) (both body (drop (at + 2) s))
+refused-too s at body f n = rw (n .refusal-is, n .parsed body)
+
+module _ (s : List ℕ) (at : ℕ) where
   -- ---- the header
 
-  abbrev run : Parsed Description
+  abbrev pub run : Parsed Description
   run = deltaRun (getD s at 0) (drop (at + 1) s)
 
-  pub no-header : at < length s → length s - at < 2 → Gives at (length s - at) signed run out out (refusedAt 1 at)
+  pub no-header : at < length s → length s - at < 2 → refusedAt 1 at ≡ answerOf at (length s - at) run
   unfolding deltaRun
-  no-header h l = gives-refused at (length s - at) signed run out 1 (rw (none-after s at h l))
+  no-header h l = answer-refused at (length s - at) run 1 (rw (none-after s at h l))
 
   module _ (h : 2 ≤ length s - at) where
     -- code 0: a fixed delta
@@ -55,9 +64,11 @@ module _ (s : List ℕ) (at : ℕ) (signed : Bool) (out : List ℤ) where
     unfolding deltaRun
     is-fixed e = rw (byte-after s at h, eq-eqb (codeOf (getD s at 0)) 0 e)
 
-    pub one-row : (codeOf (getD s at 0) ≡ 0 → ⊥) → rowsLess (getD s at 0) (getD s (at + 1) 0) ≡ 0 → Gives at (length s - at) signed run out out (refusedAt 4 at)
+    pub one-row : (codeOf (getD s at 0) ≡ 0 → ⊥) → rowsLess (getD s at 0) (getD s (at + 1) 0) ≡ 0 → refusedAt 4 at ≡ answerOf at (length s - at) run
     unfolding deltaRun
-    one-row e r = gives-refused at (length s - at) signed run out 4 (rw (byte-after s at h, ne-eqb (codeOf (getD s at 0)) 0 e, eq-eqb (rowsLess (getD s at 0) (getD s (at + 1) 0)) 0 r))
+    one-row e r =
+        answer-refused at (length s - at) run 4
+        (rw (byte-after s at h, ne-eqb (codeOf (getD s at 0)) 0 e, eq-eqb (rowsLess (getD s at 0) (getD s (at + 1) 0)) 0 r))
 
     pub is-packed : (codeOf (getD s at 0) ≡ 0 → ⊥) → (rowsLess (getD s at 0) (getD s (at + 1) 0) ≡ 0 → ⊥)
         → run ≡ deltaBody (codeOf (getD s at 0)) (rowsLess (getD s at 0) (getD s (at + 1) 0) - 1) (drop (at + 2) s)
@@ -67,53 +78,94 @@ module _ (s : List ℕ) (at : ℕ) (signed : Bool) (out : List ℤ) where
   -- ---- a fixed delta
 
   module _ (rows : ℕ) where
-    pub fixed-refused : (f : Refusal) → NotStarted s at f → Gives at (length s - at) signed (fixedBody rows (drop (at + 2) s)) out out (Refused f)
+    pub fixed-refused : (f : Refusal) → NotStarted s at f → answer.Refused f ≡ answerOf at (length s - at) (fixedBody rows (drop (at + 2) s))
     unfolding fixedBody
-    fixed-refused f n = rw (n .refusal-is) (gives-reason at (length s - at) signed _ out (n .reason) (n .parsed _))
+    fixed-refused f n = refused-too s at _ f n
 
-    module _ (first step next : ℕ) (t : Started s (at + 2) signed first step next) where
-      fixed-is : fixedBody rows (drop (at + 2) s) ≡ got (fixed rows (t .first-bytes) (t .base-bytes)) (drop next s)
-      unfolding fixedBody
-      fixed-is = t .parsed _
-
-      pub fixed-8 : length out < rows → Gives at (length s - at) signed (fixedBody rows (drop (at + 2) s)) out out (refusedAt 8 at)
-      fixed-8 l = gives-8 at (length s - at) signed _ out _ _ fixed-is l
-
-      pub fixed-read : (out′ : List ℤ) → rows ≤ length out → out′ ≡ stepped first step (take rows out) ++ drop rows out
-          → Gives at (length s - at) signed (fixedBody rows (drop (at + 2) s)) out out′ (ran Delta 0 rows (next - at))
-      unfolding i64Rows rowsOf
-      fixed-read out′ l e =
-          gives-run at (length s - at) signed _ out _ _ fixed-is out′ Delta 0 rows (next - at) l refl refl refl
-          (omega (arith, bytes-count (fixed rows (t .first-bytes) (t .base-bytes)), t .next-is))
-          (e ∙ rw (stepped-is first step rows out l, t .first-is, t .step-is))
+    pub fixed-passed : (t : Start) → Started s (at + 2) t → Passed s (fixedBody rows (drop (at + 2) s)) (running Delta 0 rows (t .next - at)) t
+    unfolding fixedBody i64Rows rowsOf
+    fixed-passed t b =
+        let n : t .next - at ≡ length (layout (fixed rows (b .first-bytes) (b .base-bytes)))
+        = omega (arith, bytes-count (fixed rows (b .first-bytes) (b .base-bytes)), b .next-is) in
+        record {
+          d = fixed rows (b .first-bytes) (b .base-bytes);
+          rest = drop (t .next) s;
+          read = b .parsed _;
+          run-is = rw n;
+          ready = λ z. absurd (z refl);
+          rows-are = λ signed. rw (b .first-is, b .base-is);
+        }
 
   -- ---- packed magnitudes: n of them
 
   module _ (code n : ℕ) where
-    pub packed-refused : (f : Refusal) → NotStarted s at f → Gives at (length s - at) signed (deltaBody code n (drop (at + 2) s)) out out (Refused f)
+    pub packed-refused : (f : Refusal) → NotStarted s at f → answer.Refused f ≡ answerOf at (length s - at) (deltaBody code n (drop (at + 2) s))
     unfolding deltaBody
-    packed-refused f b = rw (b .refusal-is) (gives-reason at (length s - at) signed _ out (b .reason) (b .parsed _))
+    packed-refused f b = refused-too s at _ f b
 
-    module _ (first step next : ℕ) (t : Started s (at + 2) signed first step next) where
-      pub packed-cut : length s - next < bytesFor (n * width code) → Gives at (length s - at) signed (deltaBody code n (drop (at + 2) s)) out out (cutAt 13 at next)
+    module _ (t : Start) (b : Started s (at + 2) t) where
+      pub packed-cut : length s - t .next < bytesFor (n * width code) → cutAt 13 at (t .next) ≡ answerOf at (length s - at) (deltaBody code n (drop (at + 2) s))
       unfolding deltaBody
-      packed-cut l = gives-cut s at next 13 signed _ out (omega (arith, t .next-is)) (t .within) (t .parsed _ ∙ rw (block-cut s next 13 (width code) n l))
+      packed-cut l = answer-cut s at (t .next) 13 _ (omega (arith, b .next-is)) (b .within) (b .parsed _ ∙ rw (block-cut s (t .next) 13 (width code) n l))
 
-      module _ (l : bytesFor (n * width code) ≤ length s - next) where
-        packed-is : deltaBody code n (drop (at + 2) s)
-            ≡ got (delta code (t .first-bytes) (t .base-bytes) (blockAt s next (width code) n)) (drop (next + bytesFor (n * width code)) s)
-        unfolding deltaBody
-        packed-is = t .parsed _ ∙ rw (block-here s next 13 (width code) n l)
+      pub packed-passed : n ≤ 510 → bytesFor (n * width code) ≤ length s - t .next
+          → Passed s (deltaBody code n (drop (at + 2) s)) (running Delta (width code) (n + 2) (t .next + bytesFor (n * width code) - at)) t
+      unfolding deltaBody i64Rows rowsOf
+      packed-passed few l =
+          let k = blockAt s (t .next) (width code) n in
+          let c = block-count s (t .next) (width code) n in
+          let two : n + 2 - 2 ≡ n = omega arith in
+          let size : t .next + bytesFor (n * width code) - at ≡ length (layout (delta code (b .first-bytes) (b .base-bytes) k))
+          = omega (arith, rw c at (bytes-count (delta code (b .first-bytes) (b .base-bytes) k)), b .next-is) in
+          record {
+            d = delta code (b .first-bytes) (b .base-bytes) k;
+            rest = drop (t .next + bytesFor (n * width code)) s;
+            read = b .parsed _ ∙ rw (block-here s (t .next) 13 (width code) n l);
+            run-is = rw (size, c);
+            ready = λ z. record { wide = code-width code; two = omega arith; few = omega arith; within = b .within; there = rw two l };
+            rows-are = λ signed.
+                rw (
+                  two,
+                  ne-eqb (width code) 0 (λ e. omega (arith, e, width-pos code)),
+                  summed-is (leb (2 ^ 63) (zigzag (t .base))) (plus (row signed (t .first)) (zigzag (t .base))) (k .values) (block-patterns s (t .next) (width code) n (width-le code)),
+                  b .first-is,
+                  b .base-is,
+                );
+          }
 
-        pub packed-8 : length out < n + 2 → Gives at (length s - at) signed (deltaBody code n (drop (at + 2) s)) out out (refusedAt 8 at)
-        packed-8 r = gives-8 at (length s - at) signed _ out _ _ packed-is (rw (block-count s next (width code) n) r)
+-- ---- the rows, as they are laid down
 
-        pub packed-read : (out′ : List ℤ) → n + 2 ≤ length out
-            → out′ ≡ laid first step (map asI64 (blockAt s next (width code) n .values)) ++ drop (n + 2) out
-            → Gives at (length s - at) signed (deltaBody code n (drop (at + 2) s)) out out′ (ran Delta (width code) (n + 2) (next + bytesFor (n * width code) - at))
-        unfolding i64Rows rowsOf
-        packed-read out′ r e =
-            let c = block-count s next (width code) n in
-            gives-run at (length s - at) signed _ out _ _ packed-is out′ Delta (width code) (n + 2) _ (rw c r) refl refl (rw c)
-            (omega (arith, rw c at (bytes-count (delta code (t .first-bytes) (t .base-bytes) (blockAt s next (width code) n))), t .next-is))
-            (e ∙ rw (summed-is (leb (2 ^ 63) step) (plus first step) (blockAt s next (width code) n .values) (block-patterns s next (width code) n (width-le code)), t .first-is, t .step-is))
+module _ (s : List ℕ) (signed : Bool) (t : Start) (w n : ℕ) (out out′ : List ℤ) where
+  abbrev first : ℕ
+  first = row signed (t .first)
+
+  abbrev step : ℕ
+  step = zigzag (t .base)
+
+  pub steps-laid : w ≡ 0 → n ≤ length out → out′ ≡ stepped first step (take n out) ++ drop n out → out′ ≡ deltaRows s signed t w n ++ drop n out
+  steps-laid z h e = e ∙ rw (eq-eqb w 0 z, stepped-is first step n out h)
+
+  pub packed-laid : (w ≡ 0 → ⊥) → 2 ≤ n → out′ ≡ laid first step (map asI64 (fields w (n - 2) (drop (t .next) s))) ++ drop (n - 2 + 2) out
+      → out′ ≡ deltaRows s signed t w n ++ drop n out
+  packed-laid z h e =
+      let k : n - 2 + 2 ≡ n = omega arith in
+      rw k at e ∙ rw (ne-eqb w 0 z)
+
+-- ---- what a run that passed its tests gives
+
+module _ (s : List ℕ) (at : ℕ) (m : Parsed Description) (r : Run) (t : Start) (p : Passed s m r t) where
+  pub passed-answer : answer.Run r ≡ answerOf at (length s - at) m
+  passed-answer = rw (p .run-is, p .read)
+
+  module _ (signed : Bool) (out : List ℤ) where
+    rows-count : r .rows .rows ≡ rowCount (p .d)
+    rows-count = rw (p .run-is)
+
+    pub passed-8 : length out < r .rows .rows → Gives at (length s - at) signed m out out (refusedAt 8 at)
+    passed-8 h = gives-8 at (length s - at) signed m out _ _ (p .read) (rw rows-count at h)
+
+    pub passed-read : (out′ : List ℤ) → r .rows .rows ≤ length out → out′ ≡ deltaRows s signed t (r .width) (r .rows .rows) ++ drop (r .rows .rows) out
+        → Gives at (length s - at) signed m out out′ (answer.Run r)
+    passed-read out′ h e =
+        gives-run at (length s - at) signed m out _ _ (p .read) out′ (answer.Run r) passed-answer (rw rows-count at h)
+        (rw (← (p .rows-are signed), rows-count) at e)

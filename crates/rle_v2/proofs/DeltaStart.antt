@@ -2,10 +2,8 @@
 use mathlib.Core.Path.{_≡_, refl, sym}
 use Prim.Native.Nat.{ℕ, _+_, _<_, _≤_}
 use native.Mathlib.Omega.{arith}
-use mathlib.Core.Bool.{Bool}
 use mathlib.Core.List.{List}
 use lib.ListN.{length, drop, getD}
-use Rattle.format.specs.Fields.{zigzag, row}
 use Rattle.format.specs.Parse.{plain, cutIn}
 use Rattle.format.specs.Answers.{refusing, cutting}
 use Rattle.format.proofs.Reading.{field-at}
@@ -44,16 +42,15 @@ module _ (s : List ℕ) (at : ℕ) (below : (i : ℕ) → getD s i 0 < 256) wher
       refusal-is = refl;
     }
 
-    pub both-stood : (signed : Bool) (base end first step : ℕ) → varintAt s next ≡ Value base end → first ≡ row signed bits → step ≡ zigzag base
-        → Started s (at + 2) signed first step end
-    both-stood signed base end first step q′ ef es =
+    pub both-stood : (base end : ℕ) → varintAt s next ≡ Value base end → Started s (at + 2) (record { first = bits; base = base; next = end })
+    both-stood base end q′ =
         let x = value-is s (at + 2) below bits next q in
         let y = value-is s next below base end q′ in
         record {
           first-bytes = x .bytes;
           base-bytes = y .bytes;
-          first-is = rw (x .value) ef;
-          step-is = rw (y .value) es;
+          first-is = sym (x .value);
+          base-is = sym (y .value);
           next-is = omega (arith, x .end, y .end);
           within = y .within;
           parsed = λ body. rw (x .parsed, y .parsed);

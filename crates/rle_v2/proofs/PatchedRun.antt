@@ -14,27 +14,33 @@ use Rattle.format.specs.Runs.{Description, patched, entryWidth, patches, tooLar
 use Rattle.format.specs.Rows as Rows
 use Rattle.format.specs.Rows.{asI64, baseValue, i64Rows, rowsOf}
 use Rattle.format.specs.Parse.{Parsed, got, refused, plain, codeOf, rowsLess, unless, patchedBody, patchedRun}
-use Rattle.format.specs.Promises.{Gives}
+use Rattle.format.specs.Promises.{answerOf, Gives}
+use Rattle.format.specs.declared.Answer.the-variants as answer
 use Rattle.format.specs.Answers.{ran, refusedAt}
 use Rattle.format.specs.declared.Kind.the-variants.{PatchedBase}
 use Rattle.format.proofs.Rows.{width-le, bytes-count}
-use Rattle.format.proofs.Reading.{byte-here, bytes-here, bytes-cut, blockAt, block-here, block-cut, gives-refused, gives-cut, gives-8, gives-run}
+use Rattle.format.proofs.Widths.{width-pos}
+use Rattle.format.proofs.Reading.{byte-here, bytes-here, bytes-cut, blockAt, block-here, block-cut, answer-refused, answer-cut, answer-run, gives-8, gives-run}
 use Rattle.rle_v2.specs.Pass.{based}
-use Rattle.rle_v2.specs.PatchList.{listNumber, patchAll}
-use Rattle.rle_v2.specs.PatchedHead.{cutBody}
+use Rattle.util.specs.Packed.{fields}
+use Rattle.rle_v2.specs.PatchList.{Listed, listNumber, patchAll}
+use Rattle.rle_v2.specs.declared.patched_base.Header.{Header}
+use Rattle.rle_v2.specs.declared.patched_base.Widths.{Widths}
+use Rattle.rle_v2.specs.declared.patched_base.Parts.{Parts}
+use Rattle.rle_v2.specs.PatchedHead.{InRange, IsWidths, valueBytes, listBytes, IsParts, cutBody, Passed}
 use Rattle.rle_v2.proofs.Pass.{based-is}
 use Rattle.rle_v2.proofs.PatchList.{none-refused, patched-is}
-use Rattle.rle_v2.proofs.Blocks.{block-count, block-patterns}
+use Rattle.rle_v2.proofs.Blocks.{block-count, block-patterns, entry-width}
 
-module _ (s : List ℕ) (at : ℕ) (signed : Bool) (out : List ℤ) where
+module _ (s : List ℕ) (at : ℕ) where
   -- ---- the header
 
-  abbrev run : Parsed Description
+  abbrev pub run : Parsed Description
   run = patchedRun (getD s at 0) (drop (at + 1) s)
 
-  pub no-header : at < length s → length s - at < 4 → Gives at (length s - at) signed run out out (refusedAt 1 at)
+  pub no-header : at < length s → length s - at < 4 → refusedAt 1 at ≡ answerOf at (length s - at) run
   unfolding patchedRun
-  no-header h l = gives-refused at (length s - at) signed run out 1 (few (drop (at + 1) s) (rw length-drop (omega arith)))
+  no-header h l = answer-refused at (length s - at) run 1 (few (drop (at + 1) s) (rw length-drop (omega arith)))
     where
       few : (bs : List ℕ) → length bs < 3 → patchedRun (getD s at 0) bs ≡ refused (plain 1)
       few [] k = refl
@@ -66,29 +72,29 @@ module _ (s : List ℕ) (at : ℕ) (signed : Bool) (out : List ℤ) where
     abbrev listSize : ℕ
     listSize = bytesFor (len * entryWidth pc gw)
 
-    pub refused-2 : 64 < width pc + gw → Gives at (length s - at) signed body out out (refusedAt 2 at)
+    pub refused-2 : 64 < width pc + gw → refusedAt 2 at ≡ answerOf at (length s - at) body
     unfolding patchedBody
-    refused-2 h = gives-refused at (length s - at) signed body out 2 (rw (lt-ltb 64 (width pc + gw) h))
+    refused-2 h = answer-refused at (length s - at) body 2 (rw (lt-ltb 64 (width pc + gw) h))
 
     module _ (not-2 : width pc + gw ≤ 64) where
       -- the input ends in the base, in the values or in the list
       pub broken-off : at + 4 ≤ length s → length s < at + 4 + bw + size + listSize
-          → Gives at (length s - at) signed body out out (cutBody (length s) at (at + 4 + bw) (at + 4 + bw + size))
+          → answer.Refused (cutBody (length s) at (at + 4 + bw) (at + 4 + bw + size)) ≡ answerOf at (length s - at) body
       unfolding patchedBody cutBody
       broken-off t h = by (decLt (length s) (at + 4 + bw)) (decLt (length s) (at + 4 + bw + size))
         where
-          by : Dec (length s < at + 4 + bw) → Dec (length s < at + 4 + bw + size) → Gives at (length s - at) signed body out out (cutBody (length s) at (at + 4 + bw) (at + 4 + bw + size))
+          by : Dec (length s < at + 4 + bw) → Dec (length s < at + 4 + bw + size) → answer.Refused (cutBody (length s) at (at + 4 + bw) (at + 4 + bw + size)) ≡ answerOf at (length s - at) body
           by (yes l) m =
               rw (lt-ltb (length s) (at + 4 + bw) l)
-              (gives-cut s at (at + 4) 6 signed body out (omega arith) t
+              (answer-cut s at (at + 4) 6 body (omega arith) t
               (rw (le-ltb 64 (width pc + gw) not-2, bytes-cut s (at + 4) 6 bw (omega arith))))
           by (no l) (yes m) =
               rw (le-ltb (length s) (at + 4 + bw) (omega arith), lt-ltb (length s) (at + 4 + bw + size) m)
-              (gives-cut s at (at + 4 + bw) 13 signed body out (omega arith) (omega arith)
+              (answer-cut s at (at + 4 + bw) 13 body (omega arith) (omega arith)
               (rw (le-ltb 64 (width pc + gw) not-2, bytes-here s (at + 4) 6 bw (omega arith), block-cut s (at + 4 + bw) 13 (width code) rows (omega arith))))
           by (no l) (no m) =
               rw (le-ltb (length s) (at + 4 + bw) (omega arith), le-ltb (length s) (at + 4 + bw + size) (omega arith))
-              (gives-cut s at (at + 4 + bw + size) 14 signed body out (omega arith) (omega arith)
+              (answer-cut s at (at + 4 + bw + size) 14 body (omega arith) (omega arith)
               (rw (
                 le-ltb 64 (width pc + gw) not-2,
                 bytes-here s (at + 4) 6 bw (omega arith),
@@ -119,9 +125,9 @@ module _ (s : List ℕ) (at : ℕ) (signed : Bool) (out : List ℤ) where
               block-here s (at + 4 + bw + size) 14 (entryWidth pc gw) len (omega arith),
             )
 
-        pub refused-list : (number ≡ 0 → ⊥) → Gives at (length s - at) signed body out out (refusedAt number at)
+        pub refused-list : (number ≡ 0 → ⊥) → refusedAt number at ≡ answerOf at (length s - at) body
         unfolding listNumber
-        refused-list z = gives-refused at (length s - at) signed body out _ (all-there ∙ by (tooLarge (width code) (patches (width pc) entries)) (outOfPlace (width pc) rows entries) z)
+        refused-list z = answer-refused at (length s - at) body _ (all-there ∙ by (tooLarge (width code) (patches (width pc) entries)) (outOfPlace (width pc) rows entries) z)
           where
             by : (t o : Bool) → (_≡_ {A = ℕ} (pick t 3 (pick o 7 0)) 0 → ⊥) → unless t 3 (unless o 7 all) ≡ refused (plain (pick t 3 (pick o 7 0)))
             by true o z = refl
@@ -134,20 +140,76 @@ module _ (s : List ℕ) (at : ℕ) (signed : Bool) (out : List ℤ) where
               let q = none-refused (width code) (width pc) rows entries z in
               all-there ∙ rw (q .0, q .1)
 
-          pub refused-8 : length out < rows → Gives at (length s - at) signed body out out (refusedAt 8 at)
-          refused-8 r = gives-8 at (length s - at) signed body out _ _ is-run (rw (block-count s (at + 4 + bw) (width code) rows) r)
-
-          pub read-is : (one out′ : List ℤ) → rows ≤ length out
-              → one ≡ based (baseValue (take bw (drop (at + 4) s))) (map asI64 (blockAt s (at + 4 + bw) (width code) rows .values)) ++ drop rows out
-              → out′ ≡ patchAll (width code) (width pc) 0 one entries
-              → Gives at (length s - at) signed body out out′ (ran PatchedBase (width code) rows (at + 4 + bw + size + listSize - at))
-          unfolding i64Rows rowsOf
-          read-is one out′ r e f =
+          pub run-is : ran PatchedBase (width code) rows (at + 4 + bw + size + listSize - at) ≡ answerOf at (length s - at) body
+          run-is =
               let n = block-count s (at + 4 + bw) (width code) rows in
-              let vs = blockAt s (at + 4 + bw) (width code) rows .values in
-              let base = baseValue (take bw (drop (at + 4) s)) in
-              let b : one ≡ map asI64 (Rows.patchedRows base (width code) [] 0 vs) ++ drop rows out
-              = e ∙ ap (λ (x : List ℤ). x ++ drop rows out) (based-is base (width code) 0 vs (block-patterns s (at + 4 + bw) (width code) rows (width-le code))) in
-              gives-run at (length s - at) signed body out _ _ is-run out′ PatchedBase (width code) rows _ (rw n r) refl refl (sym n)
+              answer-run at (length s - at) body _ _ is-run PatchedBase (width code) rows _ refl refl (sym n)
               (sym (bytes-count _ ∙ rw (length-take-le bw (drop (at + 4) s) (rw length-drop (omega arith)), n, block-count s (at + 4 + bw + size) (entryWidth pc gw) len) (omega arith)))
-              (f ∙ rw b (patched-is (width code) (width pc) base vs entries (drop rows out) (rw n (none-refused (width code) (width pc) rows entries z .1))))
+
+          module _ (signed : Bool) (out : List ℤ) where
+            pub refused-8 : length out < rows → Gives at (length s - at) signed body out out (refusedAt 8 at)
+            refused-8 r = gives-8 at (length s - at) signed body out _ _ is-run (rw (block-count s (at + 4 + bw) (width code) rows) r)
+
+            pub read-is : (one out′ : List ℤ) → rows ≤ length out
+                → one ≡ based (baseValue (take bw (drop (at + 4) s))) (map asI64 (blockAt s (at + 4 + bw) (width code) rows .values)) ++ drop rows out
+                → out′ ≡ patchAll (width code) (width pc) 0 one entries
+                → Gives at (length s - at) signed body out out′ (ran PatchedBase (width code) rows (at + 4 + bw + size + listSize - at))
+            unfolding i64Rows rowsOf
+            read-is one out′ r e f =
+                let n = block-count s (at + 4 + bw) (width code) rows in
+                let vs = blockAt s (at + 4 + bw) (width code) rows .values in
+                let base = baseValue (take bw (drop (at + 4) s)) in
+                let b : one ≡ map asI64 (Rows.patchedRows base (width code) [] 0 vs) ++ drop rows out
+                = e ∙ ap (λ (x : List ℤ). x ++ drop rows out) (based-is base (width code) 0 vs (block-patterns s (at + 4 + bw) (width code) rows (width-le code))) in
+                gives-run at (length s - at) signed body out _ _ is-run out′ _ run-is (rw n r)
+                (f ∙ rw (b, n) (patched-is (width code) (width pc) base vs entries (drop rows out) (rw n (none-refused (width code) (width pc) rows entries z .1))))
+
+-- ---- what the tests found
+
+-- the list stands where its walks look for it
+pub listed-is : (s : List ℕ) (at : ℕ) (h : Header) (w : Widths) (q : Parts) → InRange h → IsWidths h w → w .patch + h .gap ≤ 64 → IsParts at h q → q .end ≤ length s
+    → Listed (w .entry) (w .patch) (h .entries) (drop (q .list) s)
+listed-is s at h w q i e f a l =
+    let n : bytesFor (h .entries * w .entry) ≡ listBytes h = rw (e .entry-is) in
+    record {
+      wide = rw (e .entry-is) (entry-width _);
+      some = rw (e .patch-is) (width-pos _);
+      few = omega (arith, i .some-gap);
+      entries = i .entries;
+      there = rw length-drop (omega (arith, a .list-is, a .end-is));
+    }
+
+module _ (s : List ℕ) (at : ℕ) (m : Parsed Description) (h : Header) (w : Widths) (q : Parts) (p : Passed s at m h w q) where
+  pub all-in : at + 4 + h .base + valueBytes h + listBytes h ≤ length s
+  all-in = rw (p .parts .end-is) at (p .there)
+
+  pub values-there : bytesFor (h .rows * w .bits) ≤ length s - q .values
+  values-there = rw (p .widths .bits-is, p .parts .values-is) (omega (arith, all-in))
+
+  pub list-there : Listed (w .entry) (w .patch) (h .entries) (drop (q .list) s)
+  list-there = listed-is s at h w q (p .fields-fit) (p .widths) (p .not-2) (p .parts) (p .there)
+
+  fits : width (h .patch) + h .gap ≤ 64
+  fits = rw (p .widths .patch-is) at (p .not-2)
+
+  none : listNumber (width (h .code)) (width (h .patch)) (h .rows) (blockAt s (at + 4 + h .base + valueBytes h) (entryWidth (h .patch) (h .gap)) (h .entries) .values) ≡ 0
+  none = rw (p .parts .list-is, p .widths .entry-is, p .widths .patch-is, p .widths .bits-is) at (p .list)
+
+  pub passed-answer : ran PatchedBase (w .bits) (h .rows) (q .end - at) ≡ answerOf at (length s - at) m
+  passed-answer =
+      rw (p .body, p .widths .bits-is, p .parts .end-is)
+      (run-is s at (h .code) (h .rows) (h .base) (h .patch) (h .gap) (h .entries) fits all-in none)
+
+  module _ (signed : Bool) (out : List ℤ) where
+    pub passed-8 : length out < h .rows → Gives at (length s - at) signed m out out (refusedAt 8 at)
+    passed-8 l = rw (p .body) (refused-8 s at (h .code) (h .rows) (h .base) (h .patch) (h .gap) (h .entries) fits all-in none signed out l)
+
+    pub passed-read : (one out′ : List ℤ) → h .rows ≤ length out
+        → one ≡ based (baseValue (take (h .base) (drop (at + 4) s))) (map asI64 (fields (w .bits) (h .rows) (drop (q .values) s))) ++ drop (h .rows) out
+        → out′ ≡ patchAll (w .bits) (w .patch) 0 one (fields (w .entry) (h .entries) (drop (q .list) s))
+        → Gives at (length s - at) signed m out out′ (ran PatchedBase (w .bits) (h .rows) (q .end - at))
+    passed-read one out′ l e f =
+        rw (p .body, p .widths .bits-is, p .parts .end-is)
+        (read-is s at (h .code) (h .rows) (h .base) (h .patch) (h .gap) (h .entries) fits all-in none signed out one out′ l
+        (rw (p .parts .values-is, p .widths .bits-is) at e)
+        (rw (p .parts .list-is, p .widths .entry-is, p .widths .patch-is, p .widths .bits-is) at f))

@@ -6,30 +6,44 @@ ghost use lib.ListN.{length, getD, drop};
 ghost use Rattle.format.specs.Fields.{bytesFor};
 ghost use Rattle.format.specs.Rows.{asI64};
 ghost use Rattle.format.specs.Parse.{fixedBody, deltaBody, deltaRun};
-ghost use Rattle.format.specs.Promises.{Gives};
+ghost use Rattle.format.specs.Promises.{answerOf, Gives};
 ghost use Rattle.util.specs.Packed.{fields, Width};
 ghost use Rattle.rle_v2.specs.Pass.{summed, laid};
-ghost use Rattle.rle_v2.specs.DeltaStart.{StartsAt};
+ghost use Rattle.rle_v2.specs.DeltaStart.{StartsAt, IsMeasured, Ready, deltaRows};
 use crate::header;
 use crate::rows;
 use format::Answer;
 use format::Kind;
 use format::Refusal;
+use format::Run;
 use util::packed;
 use util::pattern;
 use util::varint;
 use util::varint::Varint;
 use util::width;
 
-// What the two varints of the delta run at a place say: the first row, the base delta, and the place after them; or the run's refusal.
+// The bits of a delta run's two varints, and the place after them.
+struct Start {
+    first: u64,
+    base: u64,
+    next: usize,
+}
+
+// What the two varints of the delta run at a place say, or the run's refusal.
 enum Starts {
-    At { first: u64, step: u64, next: usize },
+    At(Start),
     Refused(Refusal),
 }
 
-fn starts_at(input: &[u8], at: usize, signed: bool) -> Starts
+// What the tests of a delta run found: the run and its varints, or its refusal.
+enum Found {
+    Run(Run, Start),
+    Refused(Refusal),
+}
+
+fn starts_at(input: &[u8], at: usize) -> Starts
     requires { ⌜ at + 2 ≤ length (now input) ⌝ }
-    ensures { λ r. ⌜ StartsAt (now (input .entry)) at signed r ⌝ }
+    ensures { λ r. ⌜ StartsAt (now (input .entry)) at r ⌝ }
 {
     let body = at + 2;
     match varint::read(input, body) {
@@ -41,29 +55,70 @@ fn starts_at(input: &[u8], at: usize, signed: bool) -> Starts
             Varint::Value {
                 bits: base,
                 next: end,
-            } => Starts::At {
-                first: pattern::row(signed, bits),
-                step: pattern::unzigzag(base),
+            } => Starts::At(Start {
+                first: bits,
+                base,
                 next: end,
-            },
+            }),
         },
     }
 }
 
-// A fixed delta: each next row adds the base delta.
-fn fixed(input: &[u8], at: usize, rows: usize, signed: bool, out: &mut [i64]) -> Answer
+// A fixed delta: nothing stands behind the varints.
+fn fixed(input: &[u8], at: usize, rows: usize) -> Found
     requires { ⌜ at + 2 ≤ length (now input) ⌝ }
-    ensures { λ r. ⌜ Gives at (length (now (input .entry)) - at) signed (fixedBody rows (drop (at + 2) (now (input .entry)))) (now (out .entry)) (now (out .exit)) r ⌝ }
+    ensures { λ r. ⌜ IsMeasured (now (input .entry)) at (fixedBody rows (drop (at + 2) (now (input .entry)))) r ⌝ }
 {
-    match starts_at(input, at, signed) {
-        Starts::Refused(f) => Answer::Refused(f),
-        Starts::At { first, step, next } => {
-            if out.len() < rows {
-                return Answer::refused(8, at);
+    match starts_at(input, at) {
+        Starts::Refused(f) => Found::Refused(f),
+        Starts::At(t) => Found::Run(Run::new(Kind::Delta, 0, rows, t.next - at), t),
+    }
+}
+
+// Packed magnitudes, n of them, which are all rows but two.
+fn packed_rows(input: &[u8], at: usize, code: u8, n: usize) -> Found
+    requires { ⌜ (at + 2 ≤ length (now input)) × (code < 32) × (n ≤ 510) ⌝ }
+    ensures { λ r. ⌜ IsMeasured (now (input .entry)) at (deltaBody code n (drop (at + 2) (now (input .entry)))) r ⌝ }
+{
+    match starts_at(input, at) {
+        Starts::Refused(f) => Found::Refused(f),
+        Starts::At(t) => {
+            let bits = width::bits_of(code);
+            let size = packed::block_size(bits, n);
+            if input.len() - t.next < size {
+                return Found::Refused(Refusal::cut(13, at, t.next));
             }
-            rows::steps(first, step, rows, out);
-            Answer::run(Kind::Delta, 0, rows, next - at)
+            Found::Run(Run::new(Kind::Delta, bits, n + 2, t.next + size - at), t)
         }
+    }
+}
+
+fn measured(input: &[u8], at: usize) -> Found
+    requires { ⌜ at < length (now input) ⌝ }
+    ensures { λ r. ⌜ IsMeasured (now (input .entry)) at (deltaRun (getD (now (input .entry)) at 0) (drop (at + 1) (now (input .entry)))) r ⌝ }
+{
+    if input.len() - at < 2 {
+        return Found::Refused(Refusal::new(1, at));
+    }
+    let h = header::two_bytes(input[at], input[at + 1]);
+    let code = h.code;
+    let count = h.rows;
+    if code == 0 {
+        return fixed(input, at, count);
+    }
+    if count == 1 {
+        return Found::Refused(Refusal::new(4, at));
+    }
+    packed_rows(input, at, code, count - 2)
+}
+
+pub(crate) fn measure(input: &[u8], at: usize) -> Answer
+    requires { ⌜ at < length (now input) ⌝ }
+    ensures { λ r. ⌜ r ≡ answerOf at (length (now (input .entry)) - at) (deltaRun (getD (now (input .entry)) at 0) (drop (at + 1) (now (input .entry)))) ⌝ }
+{
+    match measured(input, at) {
+        Found::Run(r, _) => Answer::Run(r),
+        Found::Refused(f) => Answer::Refused(f),
     }
 }
 
@@ -79,7 +134,7 @@ fn magnitudes(block: &[u8], bits: usize, n: usize, falling: bool, second: u64, o
 
 // All rows of a run with n magnitudes: the first, the second, which is first + base delta, and those after it, which rise or fall as
 // the base delta does.
-fn lay(block: &[u8], bits: usize, n: usize, first: u64, step: u64, out: &mut [i64])
+fn lay_packed(block: &[u8], bits: usize, n: usize, first: u64, step: u64, out: &mut [i64])
     requires { ⌜ Width bits ⌝ }
     requires { ⌜ (n ≤ 512) × (n + 2 ≤ length (now out)) × (bytesFor (n * bits) ≤ length (now block)) ⌝ }
     ensures { λ _. ⌜ now (out .exit) ≡ laid first step (map asI64 (fields bits n (now (block .entry)))) ++ drop (n + 2) (now (out .entry)) ⌝ }
@@ -90,25 +145,18 @@ fn lay(block: &[u8], bits: usize, n: usize, first: u64, step: u64, out: &mut [i6
     magnitudes(block, bits, n, falling, second, &mut out[2..]);
 }
 
-// Packed magnitudes, n of them, which are all rows but two.
-fn packed_rows(input: &[u8], at: usize, code: u8, n: usize, signed: bool, out: &mut [i64]) -> Answer
-    requires { ⌜ (at + 2 ≤ length (now input)) × (code < 32) × (n ≤ 510) ⌝ }
-    ensures { λ r. ⌜ Gives at (length (now (input .entry)) - at) signed (deltaBody code n (drop (at + 2) (now (input .entry)))) (now (out .entry)) (now (out .exit)) r ⌝ }
+// The n rows of a run that passed its tests. Width 0 is a fixed delta: each next row adds the base delta.
+fn lay(input: &[u8], t: Start, bits: usize, n: usize, signed: bool, out: &mut [i64])
+    requires { ⌜ Ready (now input) t bits n × (n ≤ length (now out)) ⌝ }
+    ensures { λ _. ⌜ now (out .exit) ≡ deltaRows (now (input .entry)) signed t bits n ++ drop n (now (out .entry)) ⌝ }
 {
-    match starts_at(input, at, signed) {
-        Starts::Refused(f) => Answer::Refused(f),
-        Starts::At { first, step, next } => {
-            let bits = width::bits_of(code);
-            let size = packed::block_size(bits, n);
-            if input.len() - next < size {
-                return Answer::cut(13, at, next);
-            }
-            if out.len() < n + 2 {
-                return Answer::refused(8, at);
-            }
-            lay(&input[next..], bits, n, first, step, out);
-            Answer::run(Kind::Delta, bits, n + 2, next + size - at)
-        }
+    let first = pattern::row(signed, t.first);
+    let step = pattern::unzigzag(t.base);
+    if bits == 0 {
+        rows::steps(first, step, n, out);
+    } else {
+        let next = t.next;
+        lay_packed(&input[next..], bits, n - 2, first, step, out);
     }
 }
 
@@ -116,17 +164,15 @@ pub(crate) fn read(input: &[u8], at: usize, signed: bool, out: &mut [i64]) -> An
     requires { ⌜ at < length (now input) ⌝ }
     ensures { λ r. ⌜ Gives at (length (now (input .entry)) - at) signed (deltaRun (getD (now (input .entry)) at 0) (drop (at + 1) (now (input .entry)))) (now (out .entry)) (now (out .exit)) r ⌝ }
 {
-    if input.len() - at < 2 {
-        return Answer::refused(1, at);
+    match measured(input, at) {
+        Found::Run(r, t) => {
+            let count = r.rows;
+            if out.len() < count.rows {
+                return Answer::refused(8, at);
+            }
+            lay(input, t, r.width, count.rows, signed, out);
+            Answer::Run(r)
+        }
+        Found::Refused(f) => Answer::Refused(f),
     }
-    let h = header::two_bytes(input[at], input[at + 1]);
-    let code = h.code;
-    let count = h.rows;
-    if code == 0 {
-        return fixed(input, at, count, signed, out);
-    }
-    if count == 1 {
-        return Answer::refused(4, at);
-    }
-    packed_rows(input, at, code, count - 2, signed, out)
 }

@@ -1,8 +1,9 @@
 // Direct: the two-byte header, then the rows packed at the header's width.
+ghost use mathlib.Core.Path.{_≡_};
 ghost use Prim.Native.Nat.{_+_, _-_, _<_};
 ghost use lib.ListN.{length, getD, drop};
 ghost use Rattle.format.specs.Parse.{directRun};
-ghost use Rattle.format.specs.Promises.{Gives};
+ghost use Rattle.format.specs.Promises.{answerOf, Gives};
 use crate::header;
 use crate::rows;
 use format::Answer;
@@ -10,9 +11,9 @@ use format::Kind;
 use util::packed;
 use util::width;
 
-pub(crate) fn read(input: &[u8], at: usize, signed: bool, out: &mut [i64]) -> Answer
+pub(crate) fn measure(input: &[u8], at: usize) -> Answer
     requires { ⌜ at < length (now input) ⌝ }
-    ensures { λ r. ⌜ Gives at (length (now (input .entry)) - at) signed (directRun (getD (now (input .entry)) at 0) (drop (at + 1) (now (input .entry)))) (now (out .entry)) (now (out .exit)) r ⌝ }
+    ensures { λ r. ⌜ r ≡ answerOf at (length (now (input .entry)) - at) (directRun (getD (now (input .entry)) at 0) (drop (at + 1) (now (input .entry)))) ⌝ }
 {
     if input.len() - at < 2 {
         return Answer::refused(1, at);
@@ -25,10 +26,24 @@ pub(crate) fn read(input: &[u8], at: usize, signed: bool, out: &mut [i64]) -> An
     if input.len() - body < size {
         return Answer::cut(13, at, body);
     }
-    if out.len() < count {
-        return Answer::refused(8, at);
-    }
-    packed::unpack(&input[body..], bits, count, out);
-    rows::decode(signed, count, out);
     Answer::run(Kind::Direct, bits, count, 2 + size)
+}
+
+pub(crate) fn read(input: &[u8], at: usize, signed: bool, out: &mut [i64]) -> Answer
+    requires { ⌜ at < length (now input) ⌝ }
+    ensures { λ r. ⌜ Gives at (length (now (input .entry)) - at) signed (directRun (getD (now (input .entry)) at 0) (drop (at + 1) (now (input .entry)))) (now (out .entry)) (now (out .exit)) r ⌝ }
+{
+    match measure(input, at) {
+        Answer::Run(r) => {
+            let count = r.rows;
+            if out.len() < count.rows {
+                return Answer::refused(8, at);
+            }
+            packed::unpack(&input[at + 2..], r.width, count.rows, out);
+            rows::decode(signed, count.rows, out);
+            Answer::Run(r)
+        }
+        Answer::Refused(f) => Answer::Refused(f),
+        Answer::End => Answer::End,
+    }
 }

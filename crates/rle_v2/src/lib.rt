@@ -1,5 +1,9 @@
-// RLE version 2: the run reader, a module for each kind of run, and the stream reader.
-ghost use Rattle.format.specs.Promises.{RunRead, StreamRead};
+// RLE version 2: the run reader, a module for each kind of run, the stream reader; and the measures, which give their answers and no rows.
+ghost use mathlib.Core.Path.{_≡_};
+ghost use Prim.Native.Nat.{ℕ};
+ghost use Rattle.format.specs.Runs.{Description};
+ghost use Rattle.format.specs.Parse.{Parsed, into};
+ghost use Rattle.format.specs.Promises.{answerOf, RunRead, RunMeasured, StreamRead, StreamMeasured};
 use format::Answer;
 use format::ByteOffset;
 use format::LastRun;
@@ -12,6 +16,28 @@ mod patch_list;
 mod patched_base;
 mod rows;
 mod short_repeat;
+
+// What the run reader answers with room enough, for callers that want no rows: a run's kind, width, rows and bytes, or its refusal.
+pub fn measure(input: &[u8], at: ByteOffset) -> Answer
+    ensures { λ r. ⌜ RunMeasured (now (input .entry)) (at .bytes) r ⌝ }
+{
+    let p = at.bytes;
+    if input.len() <= p {
+        return Answer::end();
+    }
+    // the top two bits are the kind
+    let kind = input[p] / 64;
+    if kind == 0 {
+        return short_repeat::measure(input, p);
+    }
+    if kind == 1 {
+        return direct::measure(input, p);
+    }
+    if kind == 2 {
+        return patched_base::measure(input, p);
+    }
+    delta::measure(input, p)
+}
 
 // One run of any kind, from a position of the input on: its rows go into the first places. A refused call consumes nothing and leaves
 // every place as it was; a position past the end is empty input.
@@ -64,4 +90,51 @@ pub fn read_stream(input: &[u8], at: ByteOffset, signed: bool, out: &mut [i64]) 
         }
     }
     Stream::whole(k, p - from, last)
+}
+
+// What a measured run comes to in so many places: refusal 8 if it has more rows.
+fn in_places(measured: Answer, at: usize, places: usize) -> Answer
+    ensures { λ r. ⌜ ((total : ℕ) (m : Parsed Description) → measured ≡ answerOf at total m → r ≡ answerOf at total (into places m)) ⌝ }
+{
+    match measured {
+        Answer::Run(r) => {
+            let count = r.rows;
+            if places < count.rows {
+                return Answer::refused(8, at);
+            }
+            Answer::Run(r)
+        }
+        Answer::Refused(f) => Answer::Refused(f),
+        Answer::End => Answer::End,
+    }
+}
+
+// What the stream reader answers with as many places as a count can name, for callers that want no rows.
+pub fn measure_stream(input: &[u8], at: ByteOffset) -> Stream
+    ensures { λ r. ⌜ StreamMeasured (now (input .entry)) (at .bytes) r ⌝ }
+{
+    let from = at.bytes;
+    let mut place = from;
+    let mut count: usize = 0;
+    let mut last = LastRun::None;
+    while place < input.len() {
+        let m = measure(input, ByteOffset { bytes: place });
+        let a = in_places(m, place, 18446744073709551615 - count);
+        match a {
+            Answer::Run(run) => {
+                let rows = run.rows;
+                let consumed = run.consumed;
+                count += rows.rows;
+                place += consumed.bytes;
+                last = LastRun::Run(run);
+            }
+            Answer::Refused(f) => {
+                return Stream::refused(f, count, place - from, last);
+            }
+            Answer::End => {
+                return Stream::whole(count, place - from, last);
+            }
+        }
+    }
+    Stream::whole(count, place - from, last)
 }

@@ -1,21 +1,21 @@
 // Patched base: four header bytes, the base, packed values, and a list of patches for the values that need more bits.
 ghost use mathlib.Core.Path.{_≡_};
-ghost use mathlib.Core.Bool.{Bool};
 ghost use mathlib.Core.List.{_++_, map};
 ghost use Prim.Native.Nat.{_+_, _-_, _*_, _^_, _≤_, _<_};
 ghost use lib.ListN.{length, getD, drop};
 ghost use Rattle.format.specs.Fields.{bytesFor};
 ghost use Rattle.format.specs.Rows.{asI64};
 ghost use Rattle.format.specs.Parse.{patchedBody, patchedRun};
-ghost use Rattle.format.specs.Promises.{Gives};
+ghost use Rattle.format.specs.Promises.{answerOf, Gives};
 ghost use Rattle.util.specs.Packed.{fields, Width};
 ghost use Rattle.rle_v2.specs.Pass.{based};
-ghost use Rattle.rle_v2.specs.PatchedHead.{InRange, IsWidths, IsParts, cutBody};
+ghost use Rattle.rle_v2.specs.PatchedHead.{InRange, IsWidths, IsParts, cutBody, IsMeasured};
 use crate::header;
 use crate::patch_list;
 use crate::rows;
 use format::Answer;
 use format::Kind;
+use format::Refusal;
 use util::big_endian;
 use util::packed;
 use util::width;
@@ -44,14 +44,10 @@ struct Parts {
     end: usize,
 }
 
-// The values with the base added, in their places.
-fn lay(block: &[u8], bits: usize, n: usize, base: u64, out: &mut [i64])
-    requires { ⌜ Width bits ⌝ }
-    requires { ⌜ (n ≤ 65536) × (n ≤ length (now out)) × (bytesFor (n * bits) ≤ length (now block)) ⌝ }
-    ensures { λ _. ⌜ now (out .exit) ≡ based base (map asI64 (fields bits n (now (block .entry)))) ++ drop n (now (out .entry)) ⌝ }
-{
-    packed::unpack(block, bits, n, out);
-    rows::add_base(base, n, out);
+// What the tests of a patched base run found: its header's fields, widths and parts, or its refusal.
+enum Found {
+    Run(Header, Widths, Parts),
+    Refused(Refusal),
 }
 
 // Where the body's parts begin, and where it ends.
@@ -66,64 +62,63 @@ fn parts_of(at: usize, h: Header, w: Widths) -> Parts
 }
 
 // The input ends in the body: in the base, in the values or in the list.
-fn broke_off(len: usize, at: usize, q: Parts) -> Answer
+fn broke_off(len: usize, at: usize, q: Parts) -> Refusal
     requires { ⌜ at + 4 ≤ len ⌝ }
     ensures { λ r. ⌜ r ≡ cutBody len at (q .values) (q .list) ⌝ }
 {
     if len < q.values {
-        return Answer::cut(6, at, at + 4);
+        return Refusal::cut(6, at, at + 4);
     }
     if len < q.list {
-        return Answer::cut(13, at, q.values);
+        return Refusal::cut(13, at, q.values);
     }
-    Answer::cut(14, at, q.list)
+    Refusal::cut(14, at, q.list)
 }
 
-// The body: everything is tested before a place is written. Patched rows are never zigzag decoded, whatever the flag.
-fn body(input: &[u8], at: usize, h: Header, w: Widths, out: &mut [i64]) -> Answer
+// The body: that it is there, and its list.
+fn body(input: &[u8], at: usize, h: Header, w: Widths) -> Found
     requires { ⌜ (at + 4 ≤ length (now input)) × InRange h × IsWidths h w × (w .patch + h .gap ≤ 64) ⌝ }
-    ensures { λ r. ⌜ ((signed : Bool) → Gives at (length (now (input .entry)) - at) signed (patchedBody (h .code) (h .rows) (h .base) (h .patch) (h .gap) (h .entries) (drop (at + 4) (now (input .entry)))) (now (out .entry)) (now (out .exit)) r) ⌝ }
+    ensures { λ r. ⌜ IsMeasured (now (input .entry)) at (patchedBody (h .code) (h .rows) (h .base) (h .patch) (h .gap) (h .entries) (drop (at + 4) (now (input .entry)))) r ⌝ }
 {
-    let n = h.rows;
     let q = parts_of(at, h, w);
-    let values = q.values;
     let list = q.list;
     if input.len() < q.end {
-        return broke_off(input.len(), at, q);
+        return Found::Refused(broke_off(input.len(), at, q));
     }
-    let number = patch_list::refused_with(&input[list..], w.entry, w.patch, h.entries, w.bits, n);
+    let number = patch_list::refused_with(
+        &input[list..],
+        w.entry,
+        w.patch,
+        h.entries,
+        w.bits,
+        h.rows,
+    );
     if number != 0 {
-        return Answer::refused(number, at);
+        return Found::Refused(Refusal::new(number, at));
     }
-    if out.len() < n {
-        return Answer::refused(8, at);
-    }
-    let base = big_endian::base_value(input, at + 4, h.base);
-    lay(&input[values..], w.bits, n, base, out);
-    patch_list::put(&input[list..], w.entry, w.patch, h.entries, w.bits, n, out);
-    Answer::run(Kind::PatchedBase, w.bits, n, q.end - at)
+    Found::Run(h, w, q)
 }
 
 // What the header's widths refuse, before the body is read.
-fn by_widths(input: &[u8], at: usize, h: Header, out: &mut [i64]) -> Answer
+fn by_widths(input: &[u8], at: usize, h: Header) -> Found
     requires { ⌜ (at + 4 ≤ length (now input)) × InRange h ⌝ }
-    ensures { λ r. ⌜ ((signed : Bool) → Gives at (length (now (input .entry)) - at) signed (patchedBody (h .code) (h .rows) (h .base) (h .patch) (h .gap) (h .entries) (drop (at + 4) (now (input .entry)))) (now (out .entry)) (now (out .exit)) r) ⌝ }
+    ensures { λ r. ⌜ IsMeasured (now (input .entry)) at (patchedBody (h .code) (h .rows) (h .base) (h .patch) (h .gap) (h .entries) (drop (at + 4) (now (input .entry)))) r ⌝ }
 {
     let bits = width::bits_of(h.code);
     let patch = width::bits_of(h.patch);
     if 64 < patch + h.gap {
-        return Answer::refused(2, at);
+        return Found::Refused(Refusal::new(2, at));
     }
     let entry = width::entry_width(patch + h.gap);
-    body(input, at, h, Widths { bits, patch, entry }, out)
+    body(input, at, h, Widths { bits, patch, entry })
 }
 
-pub(crate) fn read(input: &[u8], at: usize, signed: bool, out: &mut [i64]) -> Answer
+fn measured(input: &[u8], at: usize) -> Found
     requires { ⌜ at < length (now input) ⌝ }
-    ensures { λ r. ⌜ Gives at (length (now (input .entry)) - at) signed (patchedRun (getD (now (input .entry)) at 0) (drop (at + 1) (now (input .entry)))) (now (out .entry)) (now (out .exit)) r ⌝ }
+    ensures { λ r. ⌜ IsMeasured (now (input .entry)) at (patchedRun (getD (now (input .entry)) at 0) (drop (at + 1) (now (input .entry)))) r ⌝ }
 {
     if input.len() - at < 4 {
-        return Answer::refused(1, at);
+        return Found::Refused(Refusal::new(1, at));
     }
     let h = header::two_bytes(input[at], input[at + 1]);
     let third = input[at + 2];
@@ -136,5 +131,54 @@ pub(crate) fn read(input: &[u8], at: usize, signed: bool, out: &mut [i64]) -> An
         gap: (fourth / 32) as usize + 1,
         entries: (fourth % 32) as usize,
     };
-    by_widths(input, at, four, out)
+    by_widths(input, at, four)
+}
+
+pub(crate) fn measure(input: &[u8], at: usize) -> Answer
+    requires { ⌜ at < length (now input) ⌝ }
+    ensures { λ r. ⌜ r ≡ answerOf at (length (now (input .entry)) - at) (patchedRun (getD (now (input .entry)) at 0) (drop (at + 1) (now (input .entry)))) ⌝ }
+{
+    match measured(input, at) {
+        Found::Run(h, w, q) => Answer::run(Kind::PatchedBase, w.bits, h.rows, q.end - at),
+        Found::Refused(f) => Answer::Refused(f),
+    }
+}
+
+// The values with the base added, in their places.
+fn lay(block: &[u8], bits: usize, n: usize, base: u64, out: &mut [i64])
+    requires { ⌜ Width bits ⌝ }
+    requires { ⌜ (n ≤ 65536) × (n ≤ length (now out)) × (bytesFor (n * bits) ≤ length (now block)) ⌝ }
+    ensures { λ _. ⌜ now (out .exit) ≡ based base (map asI64 (fields bits n (now (block .entry)))) ++ drop n (now (out .entry)) ⌝ }
+{
+    packed::unpack(block, bits, n, out);
+    rows::add_base(base, n, out);
+}
+
+// Patched rows are never zigzag decoded, whatever the flag.
+pub(crate) fn read(input: &[u8], at: usize, signed: bool, out: &mut [i64]) -> Answer
+    requires { ⌜ at < length (now input) ⌝ }
+    ensures { λ r. ⌜ Gives at (length (now (input .entry)) - at) signed (patchedRun (getD (now (input .entry)) at 0) (drop (at + 1) (now (input .entry)))) (now (out .entry)) (now (out .exit)) r ⌝ }
+{
+    match measured(input, at) {
+        Found::Run(h, w, q) => {
+            if out.len() < h.rows {
+                return Answer::refused(8, at);
+            }
+            let values = q.values;
+            let list = q.list;
+            let base = big_endian::base_value(input, at + 4, h.base);
+            lay(&input[values..], w.bits, h.rows, base, out);
+            patch_list::put(
+                &input[list..],
+                w.entry,
+                w.patch,
+                h.entries,
+                w.bits,
+                h.rows,
+                out,
+            );
+            Answer::run(Kind::PatchedBase, w.bits, h.rows, q.end - at)
+        }
+        Found::Refused(f) => Answer::Refused(f),
+    }
 }

@@ -1,17 +1,18 @@
 // Short repeat: 2 bits kind, 3 bits size-1, 3 bits count-3; then the value's bytes.
+ghost use mathlib.Core.Path.{_≡_};
 ghost use Prim.Native.Nat.{_+_, _-_, _<_};
 ghost use lib.ListN.{length, getD, drop};
 ghost use Rattle.format.specs.Parse.{shortRun};
-ghost use Rattle.format.specs.Promises.{Gives};
+ghost use Rattle.format.specs.Promises.{answerOf, Gives};
 use crate::rows;
 use format::Answer;
 use format::Kind;
 use util::big_endian;
 use util::pattern;
 
-pub(crate) fn read(input: &[u8], at: usize, signed: bool, out: &mut [i64]) -> Answer
+pub(crate) fn measure(input: &[u8], at: usize) -> Answer
     requires { ⌜ (at < length (now input)) × (getD (now input) at 0 < 64) ⌝ }
-    ensures { λ r. ⌜ Gives at (length (now (input .entry)) - at) signed (shortRun (getD (now (input .entry)) at 0) (drop (at + 1) (now (input .entry)))) (now (out .entry)) (now (out .exit)) r ⌝ }
+    ensures { λ r. ⌜ r ≡ answerOf at (length (now (input .entry)) - at) (shortRun (getD (now (input .entry)) at 0) (drop (at + 1) (now (input .entry)))) ⌝ }
 {
     let header = input[at] as usize;
     let size = header / 8 + 1;
@@ -20,10 +21,24 @@ pub(crate) fn read(input: &[u8], at: usize, signed: bool, out: &mut [i64]) -> An
     if input.len() - body < size {
         return Answer::cut(6, at, body);
     }
-    if out.len() < count {
-        return Answer::refused(8, at);
-    }
-    let value = pattern::row(signed, big_endian::read(input, body, size));
-    rows::repeat(value, count, out);
     Answer::run(Kind::ShortRepeat, 8 * size, count, 1 + size)
+}
+
+pub(crate) fn read(input: &[u8], at: usize, signed: bool, out: &mut [i64]) -> Answer
+    requires { ⌜ (at < length (now input)) × (getD (now input) at 0 < 64) ⌝ }
+    ensures { λ r. ⌜ Gives at (length (now (input .entry)) - at) signed (shortRun (getD (now (input .entry)) at 0) (drop (at + 1) (now (input .entry)))) (now (out .entry)) (now (out .exit)) r ⌝ }
+{
+    match measure(input, at) {
+        Answer::Run(r) => {
+            let count = r.rows;
+            if out.len() < count.rows {
+                return Answer::refused(8, at);
+            }
+            let value = pattern::row(signed, big_endian::read(input, at + 1, r.width / 8));
+            rows::repeat(value, count.rows, out);
+            Answer::Run(r)
+        }
+        Answer::Refused(f) => Answer::Refused(f),
+        Answer::End => Answer::End,
+    }
 }

@@ -15,6 +15,7 @@
 mod bits;
 mod booleans;
 mod labels;
+mod index;
 mod parts;
 mod patched_writer;
 mod runs;
@@ -25,6 +26,7 @@ mod writer;
 pub use bits::{zigzag, WIDTHS};
 pub use booleans::{first_run, read_booleans, Booleans};
 pub use labels::{label, Dictionary, Label};
+pub use index::{build_index, look_up, read_from, Columns, Entry, Index, Lookup, Rows};
 pub use parts::{read_parts, Parts};
 pub use patched_writer::write_patched;
 pub use runs::{list_faults, read_run, Faults};

@@ -1,7 +1,8 @@
 -- The run reader keeps its promise: "end" where nothing is left, and else the answer of the kind that the first byte names. Assumes nothing.
 use native.Mathlib.Omega.{arith}
 use denote.Ref.{now}
-use Rattle.format.proofs.Reading.{gives-end}
+use Rattle.format.specs.declared.Answer.the-variants as answer
+use Rattle.format.proofs.Reading.{gives-none}
 use Rattle.rle_v2.proofs.ByKind.{nothing-there, is-short, is-direct, is-patched, is-delta}
 use borrow.Author.Needs.{needs}
 use Rattle.rle_v2.proofs.read_run.Statement.{statement}
@@ -11,7 +12,7 @@ end-requires : tie.Need-end-requires
 end-requires c κs = search needs
 
 returns : tie.Need-returns
-returns c = let a = c .before .before .before .args in rw (c .end .ensures) (gives-end (a .at .bytes) _ (a .signed) _ (now (a .out)) (nothing-there (now (a .input)) (a .at .bytes) (c .before .if1 .taken)))
+returns c = let a = c .before .before .before .args in rw (c .end .ensures) (gives-none (a .at .bytes) _ (a .signed) _ (now (a .out)) answer.End tt (rw (nothing-there (now (a .input)) (a .at .bytes) (c .before .if1 .taken))))
 
 shared-slice-read-kind : tie.Need-shared-slice-read-kind
 shared-slice-read-kind c = search needs

@@ -1,12 +1,15 @@
 -- The stream reader keeps its promise: each turn reads one run more, or ends with what document 01 says. Assumes nothing.
 use Prim.Native.Nat.{_-_}
-use mathlib.Core.Path.{_∙_, ap}
-use lib.ListN.{length, drop, length-drop, drop-of-length-le}
+use mathlib.Core.Path.{_≡_, _∙_, ap}
+use mathlib.Core.List.{[], _++_}
+use Rattle.format.specs.Parse.{parse}
+use Rattle.format.specs.Promises.{Gives}
+use lib.ListN.{length, take, drop, drop-of-length-le}
 use denote.Ref.{now}
 use Rattle.format.proofs.Fields.{below-all}
 use Rattle.format.proofs.Runs.{layout-pos}
 use Rattle.util.proofs.Grow.{rest-is}
-use Rattle.rle_v2.proofs.StreamWalk.{OneRun, NoRun, Nothing, Step, step-is, Walked, walked-first, walked-run, back-same, walked-whole, walked-refused}
+use Rattle.rle_v2.proofs.StreamWalk.{OneRun, NoRun, Step, Walked, walked-first, walked-step, walked-run, back-refused, back-ended, walked-whole, walked-refused}
 use borrow.Author.Needs.{needs}
 use native.Mathlib.Omega.{arith}
 use Rattle.rle_v2.proofs.read_stream.Statement.{statement}
@@ -20,26 +23,47 @@ abbrev μ-loop : tie.MeasureT-loop
 μ-loop input signed out₀ from p₀ k₀ last₀ out p k last = length input - p
 
 -- what the call of a turn says, and its three cases
+given : (x : tie.After-read-run Inv-loop μ-loop) → let l = x .before .before .before .loop in let a = x .before .before .before .before .before .args in
+    Gives (l .p) (length (a .input .now) - l .p) (a .signed) (parse (drop (l .p) (a .input .now))) (drop (l .k) (l .out)) (x .read-run .last .1 .1 .1 .0) (x .read-run .result)
+given x = let l = x .before .before .before .loop in rw (rest-is (l .out) (l .k)) at (x .read-run .ensures)
+
 step : (x : tie.After-read-run Inv-loop μ-loop) → let l = x .before .before .before .loop in let a = x .before .before .before .before .before .args in
-    Step (a .input .now) (l .p) (a .signed) (drop (l .k) (l .out)) (x .read-run .last .1 .1 .1 .0) (x .read-run .result)
+    Step (a .input .now) (l .p) (length (a .out .now) - l .k) (x .read-run .result)
 step x =
     let l = x .before .before .before .loop in
     let n = x .before .before .before .before in
     let a = n .before .args in
-    step-is (a .input .now) (l .p) (a .signed) (drop (l .k) (l .out)) (x .read-run .last .1 .1 .1 .0) (x .read-run .result)
-    (below-all 256 (a .input .now) (λ i. n .shared-slice-known .given i .fits)) (rw (rest-is (l .out) (l .k)) at (x .read-run .ensures))
+    walked-step (a .input .now) (a .at .bytes) (a .signed) (a .out .now) (l .out) (l .p) (l .k) (l .last) (l .inv) _ _ (given x)
+    (below-all 256 (a .input .now) (λ i. n .shared-slice-known .given i .fits))
 
 ran-is : (m : tie.After-a Inv-loop μ-loop) → let x = m .before .before .before in let l = x .before .before .before .loop in let a = x .before .before .before .before .before .args in
-    OneRun (a .input .now) (l .p) (a .signed) (drop (l .k) (l .out)) (x .read-run .last .1 .1 .1 .0) (m .a .given .0 .0)
+    OneRun (a .input .now) (l .p) (length (a .out .now) - l .k) (m .a .given .0 .0)
 ran-is m = rw (m .a .given .1) at (step (m .before .before .before))
 
 refused-is : (m : tie.After-a2 Inv-loop μ-loop) → let x = m .before .before .before in let l = x .before .before .before .loop in let a = x .before .before .before .before .before .args in
-    NoRun (a .input .now) (l .p) (a .signed) (drop (l .k) (l .out)) (x .read-run .last .1 .1 .1 .0) (m .a2 .given .0 .0)
+    NoRun (a .input .now) (l .p) (length (a .out .now) - l .k) (m .a2 .given .0 .0)
 refused-is m = rw (m .a2 .given .1) at (step (m .before .before .before))
 
 ended-is : (m : tie.After-enum-told Inv-loop μ-loop) → let x = m .before .before .before in let l = x .before .before .before .loop in let a = x .before .before .before .before .before .args in
-    Nothing (a .input .now) (l .p) (a .signed) (drop (l .k) (l .out)) (x .read-run .last .1 .1 .1 .0)
+    drop (l .p) (a .input .now) ≡ []
 ended-is m = rw (m .enum-told .given .1) at (step (m .before .before .before))
+
+-- nothing came back
+back-2 : (m : tie.After-a2 Inv-loop μ-loop) → let x = m .before .before .before in let l = x .before .before .before .loop in
+    take (l .k) (l .out) ++ (x .read-run .last .1 .1 .1 .0 ++ drop (length (l .out) - l .k) (drop (l .k) (l .out))) ≡ l .out
+back-2 m =
+    let x = m .before .before .before in
+    let l = x .before .before .before .loop in
+    let a = x .before .before .before .before .before .args in
+    back-refused (a .input .now) (a .at .bytes) (a .signed) (a .out .now) (l .out) (l .p) (l .k) (l .last) (l .inv) _ _ (given x) _ (refused-is m)
+
+back-3 : (m : tie.After-enum-told Inv-loop μ-loop) → let x = m .before .before .before in let l = x .before .before .before .loop in
+    take (l .k) (l .out) ++ (x .read-run .last .1 .1 .1 .0 ++ drop (length (l .out) - l .k) (drop (l .k) (l .out))) ≡ l .out
+back-3 m =
+    let x = m .before .before .before in
+    let l = x .before .before .before .loop in
+    let a = x .before .before .before .before .before .args in
+    back-ended (a .input .now) (a .at .bytes) (a .signed) (a .out .now) (l .out) (l .p) (l .k) (l .last) (l .inv) _ _ (given x) (ended-is m)
 
 loop-holds : tie.Need-loop-holds Inv-loop μ-loop
 loop-holds c = walked-first _ _ _ _
@@ -66,7 +90,7 @@ add-k : tie.Need-add-k Inv-loop μ-loop
 add-k c =
     let m = c .before .before .before .before in
     let l = m .before .before .before .before .before .before .loop in
-    omega (arith, ran-is m .fits, length-drop (l .k) (l .out), l .inv .fits, l .inv .long)
+    omega (arith, ran-is m .fits, l .inv .counted .fits)
 
 add-p : tie.Need-add-p Inv-loop μ-loop
 add-p c = omega (arith, ran-is (c .before .before .before .before .before) .within)
@@ -83,7 +107,7 @@ loop-again c =
     let x = m .before .before .before in
     let l = x .before .before .before .loop in
     let a = x .before .before .before .before .before .args in
-    walked-run (a .input .now) (a .at .bytes) (a .signed) (a .out .now) (l .out) (l .p) (l .k) (l .last) (l .inv) _ _ (x .before .before .loop-test .taken) (ran-is m)
+    walked-run (a .input .now) (a .at .bytes) (a .signed) (a .out .now) (l .out) (l .p) (l .k) (l .last) (l .inv) _ _ (given x) _ (x .before .before .loop-test .taken) (ran-is m)
 
 enum-known-a-2 : tie.Need-enum-known-a-2 Inv-loop μ-loop
 enum-known-a-2 c = search needs
@@ -95,12 +119,7 @@ refused-requires : tie.Need-refused-requires Inv-loop μ-loop
 refused-requires c κs = search needs
 
 same-length : tie.Need-same-length Inv-loop μ-loop
-same-length c =
-    let m = c .before .before in
-    let x = m .before .before .before in
-    let l = x .before .before .before .loop in
-    let a = x .before .before .before .before .before .args in
-    ap length (back-same (a .input .now) (a .at .bytes) (a .signed) (a .out .now) (l .out) (l .p) (l .k) (l .last) (l .inv) _ (refused-is m .same)) ∙ l .inv .long
+same-length c = let m = c .before .before in ap length (back-2 m) ∙ m .before .before .before .before .before .before .loop .inv .long
 
 returns : tie.Need-returns Inv-loop μ-loop
 returns c =
@@ -108,8 +127,8 @@ returns c =
     let x = m .before .before .before in
     let l = x .before .before .before .loop in
     let a = x .before .before .before .before .before .args in
-    rw (c .refused .ensures, back-same (a .input .now) (a .at .bytes) (a .signed) (a .out .now) (l .out) (l .p) (l .k) (l .last) (l .inv) _ (refused-is m .same))
-    (walked-refused (a .input .now) (a .at .bytes) (a .signed) (a .out .now) (l .out) (l .p) (l .k) (l .last) (l .inv) _ _ (refused-is m))
+    rw (c .refused .ensures, back-2 m)
+    (walked-refused (a .input .now) (a .at .bytes) (a .signed) (a .out .now) (l .out) (l .p) (l .k) (l .last) (l .inv) _ (refused-is m))
 
 enum-told : tie.Need-enum-told Inv-loop μ-loop
 enum-told c = search needs
@@ -121,12 +140,7 @@ whole-requires : tie.Need-whole-requires Inv-loop μ-loop
 whole-requires c κs = search needs
 
 same-length-2 : tie.Need-same-length-2 Inv-loop μ-loop
-same-length-2 c =
-    let m = c .before in
-    let x = m .before .before .before in
-    let l = x .before .before .before .loop in
-    let a = x .before .before .before .before .before .args in
-    ap length (back-same (a .input .now) (a .at .bytes) (a .signed) (a .out .now) (l .out) (l .p) (l .k) (l .last) (l .inv) _ (ended-is m .same)) ∙ l .inv .long
+same-length-2 c = let m = c .before in ap length (back-3 m) ∙ m .before .before .before .before .before .before .loop .inv .long
 
 returns-2 : tie.Need-returns-2 Inv-loop μ-loop
 returns-2 c =
@@ -134,8 +148,8 @@ returns-2 c =
     let x = m .before .before .before in
     let l = x .before .before .before .loop in
     let a = x .before .before .before .before .before .args in
-    rw (c .whole .ensures, back-same (a .input .now) (a .at .bytes) (a .signed) (a .out .now) (l .out) (l .p) (l .k) (l .last) (l .inv) _ (ended-is m .same))
-    (walked-whole (a .input .now) (a .at .bytes) (a .signed) (a .out .now) (l .out) (l .p) (l .k) (l .last) (l .inv) (ended-is m .none))
+    rw (c .whole .ensures, back-3 m)
+    (walked-whole (a .input .now) (a .at .bytes) (a .signed) (a .out .now) (l .out) (l .p) (l .k) (l .last) (l .inv) (ended-is m))
 
 sub-whole-2 : tie.Need-sub-whole-2 Inv-loop μ-loop
 sub-whole-2 c = omega arith

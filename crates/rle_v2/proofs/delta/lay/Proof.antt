@@ -1,52 +1,80 @@
--- The first two rows are steps, and the others are laid down behind them. Assumes nothing.
-use mathlib.Core.List.{map}
+-- Each form's rows are those of the law for it. Assumes nothing.
+use native.Mathlib.Omega.{arith}
 use denote.Ref.{now}
-use Rattle.format.specs.Rows.{asI64}
-use Rattle.util.specs.Packed.{fields}
-use Rattle.rle_v2.proofs.DeltaRun.{laid-is}
+use lib.ListN.{length-drop}
+use Rattle.util.proofs.Grow.{rest-is}
+use Rattle.rle_v2.specs.DeltaStart.{Behind}
+use Rattle.rle_v2.proofs.DeltaRun.{steps-laid, packed-laid}
 use borrow.Author.Needs.{needs}
 use Rattle.rle_v2.proofs.delta.lay.Statement.{statement}
 use Rattle.rle_v2.proofs.delta.lay.Tie as tie
 
+-- the magnitudes that the tests found
+behind : (e : tie.Else1) → let a = e .before .before .before .before .args in Behind (now (a .input)) (a .t) (a .bits) (a .n)
+behind e = e .before .before .before .before .pre .0 (e .if1 .left)
+
+row-requires : tie.Need-row-requires
+row-requires c κs = search needs
+
+unzigzag-requires : tie.Need-unzigzag-requires
+unzigzag-requires c κs = search needs
+
 steps-requires : tie.Need-steps-requires
 steps-requires c κs = search needs
 
-add-requires : tie.Need-add-requires
-add-requires c κs = search needs
+sub-lay-packed : tie.Need-sub-lay-packed
+sub-lay-packed c = behind c .within
 
-sub-magnitudes : tie.Need-sub-magnitudes
-sub-magnitudes c = search needs
+part-lay-packed-start : tie.Need-part-lay-packed-start
+part-lay-packed-start c = behind c .within
 
-part-magnitudes-start : tie.Need-part-magnitudes-start
-part-magnitudes-start c = search needs
+part-lay-packed-end : tie.Need-part-lay-packed-end
+part-lay-packed-end c = search needs
 
-part-magnitudes-end : tie.Need-part-magnitudes-end
-part-magnitudes-end c = search needs
+sub-lay-packed-2 : tie.Need-sub-lay-packed-2
+sub-lay-packed-2 c = behind (c .before) .two
 
-magnitudes-requires : tie.Need-magnitudes-requires
-magnitudes-requires c κs = search needs
+lay-packed-requires : tie.Need-lay-packed-requires
+lay-packed-requires c κs =
+    let b = behind (c .before .before) in
+    let s = c .before .before .before .before .before .before in (
+      b .wide,
+      (omega (arith, b .few), omega (arith, b .two, s .pre .1), rw (rest-is (now (s .args .input)) (s .args .t .next), length-drop) (b .there)),
+    )
 
 same-length : tie.Need-same-length
 same-length c = search needs
 
 returns : tie.Need-returns
 returns c =
-    let m = c .before in
-    let d = m .before .before in
-    let p = d .before .before in
-    let a = p .before .before .before .args in
-    laid-is (a .first) (a .step) (a .n) (map asI64 (fields (a .bits) (a .n) (now (a .block)))) (now (a .out)) (p .steps .last .1 .1 .1 .0) (m .magnitudes .last .1 .1 .1 .1 .1 .0)
-    (p .before .before .before .pre .1 .1) (p .steps .ensures) (rw (d .add .ensures) at (m .magnitudes .ensures))
+    let s = c .before .before .before .before .before .before .before in
+    let a = s .args in
+    steps-laid (now (a .input)) (a .signed) (a .t) (a .bits) (a .n) (now (a .out)) (c .before .steps .last .1 .1 .1 .0) (c .before .before .before .if1 .taken) (s .pre .1)
+    (rw (c .before .before .before .before .before .row .ensures, c .before .before .before .before .unzigzag .ensures) at (c .before .steps .ensures))
+
+same-length-2 : tie.Need-same-length-2
+same-length-2 c = search needs
+
+returns-2 : tie.Need-returns-2
+returns-2 c =
+    let e = c .before .before .before .before in
+    let a = e .before .before .before .before .args in
+    packed-laid (now (a .input)) (a .signed) (a .t) (a .bits) (a .n) (now (a .out)) (c .before .lay-packed .last .1 .1 .1 .1 .1 .0) (e .if1 .left) (behind e .two)
+    (rw (rest-is (now (a .input)) (a .t .next), c .before .before .before .before .before .before .row .ensures, c .before .before .before .before .before .unzigzag .ensures) at (c .before .lay-packed .ensures))
 
 pub lay-spec : {M : Type 1} → statement M
 lay-spec =
     tie.close
     (tie.spec
+    row-requires
+    unzigzag-requires
     steps-requires
-    add-requires
-    sub-magnitudes
-    part-magnitudes-start
-    part-magnitudes-end
-    magnitudes-requires
+    sub-lay-packed
+    part-lay-packed-start
+    part-lay-packed-end
+    sub-lay-packed-2
+    lay-packed-requires
     same-length
-    returns)
+    returns
+    same-length-2
+    returns-2)

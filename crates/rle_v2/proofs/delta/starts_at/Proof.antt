@@ -57,12 +57,6 @@ new-requires-2 c κs = search needs
 enum-known-base : tie.Need-enum-known-base
 enum-known-base c = search needs
 
-row-requires : tie.Need-row-requires
-row-requires c κs = search needs
-
-unzigzag-requires : tie.Need-unzigzag-requires
-unzigzag-requires c κs = search needs
-
 returns : tie.Need-returns
 returns c =
     let r = c .before .before .before in
@@ -95,13 +89,11 @@ returns-4 c =
 
 returns-5 : tie.Need-returns-5
 returns-5 c =
-    let m = c .before .before .before in
-    let r2 = m .before .before in
+    let r2 = c .before .before .before in
     let b = first r2 in
     let r = b .before .before in
     let a = start r .args in
-    both-stood (now (a .input)) (a .at) (bytes r) _ _ (sym (r .read .ensures) ∙ b .bits .given .1) (a .signed) _ _ _ _
-    (sym (r2 .read2 .ensures) ∙ m .base .given .1) (c .before .row .ensures) (c .unzigzag .ensures)
+    both-stood (now (a .input)) (a .at) (bytes r) _ _ (sym (r .read .ensures) ∙ b .bits .given .1) _ _ (sym (r2 .read2 .ensures) ∙ c .before .base .given .1)
 
 pub starts-at-spec : {M : Type 1} → statement M
 starts-at-spec =
@@ -120,8 +112,6 @@ starts-at-spec =
     enum-told-4
     new-requires-2
     enum-known-base
-    row-requires
-    unzigzag-requires
     returns
     returns-2
     returns-3

@@ -21,19 +21,16 @@ bits-of-requires-2 : tie.Need-bits-of-requires-2
 bits-of-requires-2 c κs = search needs
 
 add-if1 : tie.Need-add-if1
-add-if1 c =
-    let s = c .before .before .before .before in
-    omega (arith, c .before .bits-of2 .ensures, width-le (s .args .h .patch), s .pre .1 .gap)
+add-if1 c = let s = c .before .before .before .before in omega (arith, c .before .bits-of2 .ensures, width-le (s .args .h .patch), s .pre .1 .gap)
 
-refused-requires : tie.Need-refused-requires
-refused-requires c κs = search needs
+new-requires : tie.Need-new-requires
+new-requires c κs = search needs
 
 returns : tie.Need-returns
 returns c =
     let k = c .before .before in
     let a = k .before .before .before .before .args in
-    λ signed. rw (c .refused .ensures)
-    (refused-2 (now (a .input)) (a .at) signed (now (a .out)) (a .h .code) (a .h .rows) (a .h .base) (a .h .patch) (a .h .gap) (a .h .entries) (rw (sum-2 k) at (c .before .if1 .taken)))
+    rw (c .new .ensures) (refused-2 (now (a .input)) (a .at) (a .h .code) (a .h .rows) (a .h .base) (a .h .patch) (a .h .gap) (a .h .entries) (rw (sum-2 k) at (c .before .if1 .taken)))
 
 add-entry-width : tie.Need-add-entry-width
 add-entry-width c = search needs
@@ -43,21 +40,16 @@ entry-width-requires c κs = search needs
 
 body-requires : tie.Need-body-requires
 body-requires c κs =
-    let z = c .before in
-    let e = z .before .before in
-    let k = e .before in
-    let s = k .before .before .before .before in (
+    let k = c .before .before .before in
+    let s = c .before .before .before .before .before .before .before in (
       s .pre .0,
       s .pre .1,
-      record { bits-is = k .before .before .bits-of .ensures; patch-is = k .before .bits-of2 .ensures; entry-is = z .entry-width .ensures ∙ ap leastWidth (sum-2 k) },
-      e .if1 .left,
+      record { bits-is = c .before .before .before .before .before .bits-of .ensures; patch-is = c .before .before .before .before .bits-of2 .ensures; entry-is = c .entry-width .ensures ∙ ap leastWidth (sum-2 k) },
+      c .before .before .if1 .left,
     )
 
-same-length : tie.Need-same-length
-same-length c = search needs
-
 returns-2 : tie.Need-returns-2
-returns-2 c = c .before .body .ensures
+returns-2 c = search needs
 
 pub by-widths-spec : {M : Type 1} → statement M
 by-widths-spec =
@@ -66,10 +58,9 @@ by-widths-spec =
     bits-of-requires
     bits-of-requires-2
     add-if1
-    refused-requires
+    new-requires
     returns
     add-entry-width
     entry-width-requires
     body-requires
-    same-length
     returns-2)

@@ -1,110 +1,124 @@
--- The patched base reader meets its contract: the four header bytes are taken apart, and the answer is the body's. Assumes nothing.
+-- The patched base reader meets its contract: what the tests found is laid down where there is room. Assumes nothing.
 use native.Mathlib.Omega.{arith}
-use Prim.Native.Nat.{_+_}
 use denote.Ref.{now}
-use Rattle.rle_v2.proofs.PatchedRun.{no-header, is-body}
+use lib.ListN.{length-drop}
+use Rattle.format.specs.declared.Answer.the-variants as answer
+use Rattle.format.proofs.Reading.{gives-none}
+use Rattle.format.proofs.Rows.{width-le}
+use Rattle.util.proofs.Grow.{rest-is}
+use Rattle.rle_v2.specs.PatchedHead.{Passed}
+use Rattle.rle_v2.proofs.Blocks.{code-width}
+use Rattle.rle_v2.proofs.PatchList.{none-refused}
+use Rattle.rle_v2.proofs.PatchedRun.{run, all-in, values-there, list-there, passed-8, passed-read}
 use borrow.Author.Needs.{needs}
 use Rattle.rle_v2.proofs.patched_base.read.Statement.{statement}
 use Rattle.rle_v2.proofs.patched_base.read.Tie as tie
 
-sub-if1 : tie.Need-sub-if1
-sub-if1 c = search needs
+-- what the tests found
+passed : (m : tie.After-h) → let a = m .before .before .before .before .args in
+    Passed (now (a .input)) (a .at) (run (now (a .input)) (a .at)) (m .h .given .0 .0) (m .h .given .0 .1 .0) (m .h .given .0 .1 .1 .0)
+passed m = rw (m .h .given .1) at (m .before .before .measured .ensures)
+
+measured-requires : tie.Need-measured-requires
+measured-requires c κs = search needs
+
+enum-known-h : tie.Need-enum-known-h
+enum-known-h c = search needs
 
 refused-requires : tie.Need-refused-requires
 refused-requires c κs = search needs
 
 returns : tie.Need-returns
-returns c = let a = c .before .before .before .args in rw (c .refused .ensures) (no-header (now (a .input)) (a .at) (a .signed) (now (a .out)) (c .before .before .before .pre) (c .before .if1 .taken))
+returns c = let a = c .before .before .before .before .before .before .before .before .args in rw (c .refused .ensures) (passed-8 (now (c .before .before .before .before .before .before .before .before .args .input)) (c .before .before .before .before .before .before .before .before .args .at) _ _ _ _ (passed (c .before .before .before .before)) (a .signed) (now (a .out)) (c .before .if1 .taken))
 
-shared-slice-read-two-bytes : tie.Need-shared-slice-read-two-bytes
-shared-slice-read-two-bytes c = search needs
+add-base-value : tie.Need-add-base-value
+add-base-value c = search needs
 
-add-two-bytes : tie.Need-add-two-bytes
-add-two-bytes c = search needs
+base-value-requires : tie.Need-base-value-requires
+base-value-requires c κs = let p = passed (c .before .before .before) in (p .fields-fit .some-bytes, p .fields-fit .eight, omega (arith, all-in (now (c .before .before .before .before .before .before .before .args .input)) (c .before .before .before .before .before .before .before .args .at) _ _ _ _ (passed (c .before .before .before))))
 
-shared-slice-read-two-bytes-2 : tie.Need-shared-slice-read-two-bytes-2
-shared-slice-read-two-bytes-2 c = search needs
+sub-lay : tie.Need-sub-lay
+sub-lay c = omega (arith, all-in (now (c .before .before .before .before .before .before .before .before .args .input)) (c .before .before .before .before .before .before .before .before .args .at) _ _ _ _ (passed (c .before .before .before .before)), passed (c .before .before .before .before) .parts .values-is)
 
-two-bytes-requires : tie.Need-two-bytes-requires
-two-bytes-requires c κs = search needs
+part-lay-start : tie.Need-part-lay-start
+part-lay-start c = omega (arith, all-in (now (c .before .before .before .before .before .before .before .before .args .input)) (c .before .before .before .before .before .before .before .before .args .at) _ _ _ _ (passed (c .before .before .before .before)), passed (c .before .before .before .before) .parts .values-is)
 
-add-third : tie.Need-add-third
-add-third c = search needs
+part-lay-end : tie.Need-part-lay-end
+part-lay-end c = search needs
 
-shared-slice-read-third : tie.Need-shared-slice-read-third
-shared-slice-read-third c = search needs
-
-add-fourth : tie.Need-add-fourth
-add-fourth c = search needs
-
-shared-slice-read-fourth : tie.Need-shared-slice-read-fourth
-shared-slice-read-fourth c = search needs
-
-cast-t10 : tie.Need-cast-t10
-cast-t10 c = omega (arith, c .shared-slice-known5 .given (c .before .before .before .before .before .before .before .args .at + 2))
-
-add-t9 : tie.Need-add-t9
-add-t9 c = omega (arith, c .shared-slice-known5 .given (c .before .before .before .before .before .before .before .args .at + 2))
-
-cast-t19 : tie.Need-cast-t19
-cast-t19 c = omega (arith, c .shared-slice-known5 .given (c .before .before .before .before .before .before .before .args .at + 3))
-
-add-t20 : tie.Need-add-t20
-add-t20 c = omega (arith, c .shared-slice-known5 .given (c .before .before .before .before .before .before .before .args .at + 3))
-
-cast-t22 : tie.Need-cast-t22
-cast-t22 c = search needs
-
-by-widths-requires : tie.Need-by-widths-requires
-by-widths-requires c κs =
-    let k = c .before in
-    let h = k .before .before in
-    let a = h .before .before .before .before .before .args in
-    let g = k .shared-slice-known5 .given in (
-      omega arith,
-      record {
-        code = omega (arith, h .two-bytes .ensures .0);
-        rows = h .two-bytes .ensures .2;
-        some-bytes = omega arith;
-        eight = omega (arith, g (a .at + 2));
-        patch = omega arith;
-        some-gap = omega arith;
-        gap = omega (arith, g (a .at + 3));
-        entries = omega arith;
-      },
+lay-requires : tie.Need-lay-requires
+lay-requires c κs =
+    let p = passed (c .before .before .before .before .before .before) in
+    let a = c .before .before .before .before .before .before .before .before .before .before .args in (
+      rw (p .widths .bits-is) (code-width _),
+      (omega (arith, p .fields-fit .rows), c .before .before .before .if1 .left, rw (rest-is (now (a .input)) _, length-drop) (values-there (now (c .before .before .before .before .before .before .before .before .before .before .args .input)) (c .before .before .before .before .before .before .before .before .before .before .args .at) _ _ _ _ (passed (c .before .before .before .before .before .before)))),
     )
+
+sub-put : tie.Need-sub-put
+sub-put c = omega (arith, all-in (now (c .before .before .before .before .before .before .before .before .before .before .before .before .args .input)) (c .before .before .before .before .before .before .before .before .before .before .before .before .args .at) _ _ _ _ (passed (c .before .before .before .before .before .before .before .before)), passed (c .before .before .before .before .before .before .before .before) .parts .list-is)
+
+part-put-start : tie.Need-part-put-start
+part-put-start c = omega (arith, all-in (now (c .before .before .before .before .before .before .before .before .before .before .before .before .args .input)) (c .before .before .before .before .before .before .before .before .before .before .before .before .args .at) _ _ _ _ (passed (c .before .before .before .before .before .before .before .before)), passed (c .before .before .before .before .before .before .before .before) .parts .list-is)
+
+part-put-end : tie.Need-part-put-end
+part-put-end c = search needs
+
+put-requires : tie.Need-put-requires
+put-requires c κs =
+    let p = passed (c .before .before .before .before .before .before .before .before .before .before) in
+    let a = c .before .before .before .before .before .before .before .before .before .before .before .before .before .before .args in
+    rw (rest-is (now (a .input)) (c .before .before .before .before .before .before .before .before .before .before .h .given .0 .1 .1 .0 .list)) (
+      list-there (now (c .before .before .before .before .before .before .before .before .before .before .before .before .before .before .args .input)) (c .before .before .before .before .before .before .before .before .before .before .before .before .before .before .args .at) _ _ _ _ (passed (c .before .before .before .before .before .before .before .before .before .before)),
+      (rw (p .widths .bits-is) (width-le _), p .fields-fit .rows, omega (arith, c .before .before .before .before .before .before .before .if1 .left), none-refused _ _ _ _ (p .list) .1),
+    )
+
+sub-run : tie.Need-sub-run
+sub-run c = omega (arith, passed (c .before .before .before .before .before .before .before .before .before .before .before .before .before) .parts .end-is)
+
+run-requires : tie.Need-run-requires
+run-requires c κs = search needs
+
+enum-known-f : tie.Need-enum-known-f
+enum-known-f c = search needs
 
 same-length : tie.Need-same-length
 same-length c = search needs
 
 returns-2 : tie.Need-returns-2
 returns-2 c =
-    let b = c .before in
-    let h = b .before .before .before .before in
-    let e = h .before .before .before in
-    let a = e .before .before .args in
-    rw (is-body (now (a .input)) (a .at) (a .signed) (now (a .out)) (e .if1 .left)) (rw (h .two-bytes .ensures .0, h .two-bytes .ensures .1) at (b .by-widths .ensures (a .signed)))
+    let q = c .before .before .before .before .before .before .before .before .before .before .before .before .before .before .h .given .0 .1 .1 .0 in
+    let a = c .before .before .before .before .before .before .before .before .before .before .before .before .before .before .before .before .before .before .args in
+    let i = now (a .input) in
+    rw (c .run .ensures)
+    (passed-read (now (c .before .before .before .before .before .before .before .before .before .before .before .before .before .before .before .before .before .before .args .input)) (c .before .before .before .before .before .before .before .before .before .before .before .before .before .before .before .before .before .before .args .at) _ _ _ _ (passed (c .before .before .before .before .before .before .before .before .before .before .before .before .before .before)) (a .signed) (now (a .out)) (c .before .before .before .before .before .before .before .lay .last .1 .1 .1 .1 .0) (c .before .before .before .put .last .1 .1 .1 .1 .1 .1 .0) (c .before .before .before .before .before .before .before .before .before .before .before .if1 .left)
+    (rw (rest-is i (q .values), c .before .before .before .before .before .before .before .before .before .before .base-value .ensures) at (c .before .before .before .before .before .before .before .lay .ensures)) (rw (rest-is i (q .list)) at (c .before .before .before .put .ensures)))
+
+returns-3 : tie.Need-returns-3
+returns-3 c =
+    let a = c .before .before .before .before .before .args in
+    gives-none (a .at) _ (a .signed) (run (now (a .input)) (a .at)) (now (a .out)) (answer.Refused _) tt (rw (c .before .f .given .1) at (c .before .before .before .measured .ensures))
 
 pub read-spec : {M : Type 1} → statement M
 read-spec =
     tie.close
     (tie.spec
-    sub-if1
+    measured-requires
+    enum-known-h
     refused-requires
     returns
-    shared-slice-read-two-bytes
-    add-two-bytes
-    shared-slice-read-two-bytes-2
-    two-bytes-requires
-    add-third
-    shared-slice-read-third
-    add-fourth
-    shared-slice-read-fourth
-    cast-t10
-    add-t9
-    cast-t19
-    add-t20
-    cast-t22
-    by-widths-requires
+    add-base-value
+    base-value-requires
+    sub-lay
+    part-lay-start
+    part-lay-end
+    lay-requires
+    sub-put
+    part-put-start
+    part-put-end
+    put-requires
+    sub-run
+    run-requires
+    enum-known-f
     same-length
-    returns-2)
+    returns-2
+    returns-3)

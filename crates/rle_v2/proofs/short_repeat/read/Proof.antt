@@ -1,47 +1,44 @@
--- The short repeat's reader meets its contract: each answer is that of the law for the tests that led there. Assumes nothing.
-use Prim.Native.Nat.{_<_, _^_}
+-- The short repeat's reader meets its contract: what the measure named is laid down where there is room. Assumes nothing.
+use Prim.Native.Nat.{_+_, _-_, _<_, _^_}
+use mathlib.Core.Path.{_≡_, sym, _∙_}
+use native.Mathlib.Omega.{arith}
+use lib.ListN.{length}
 use denote.Ref.{now}
-use Rattle.rle_v2.proofs.ShortRun.{no-body, no-room, read-is}
+use Rattle.format.specs.declared.Answer.the-variants as answer
+use Rattle.format.specs.Promises.{answerOf}
+use Rattle.format.proofs.Reading.{gives-none}
+use Rattle.rle_v2.proofs.ShortRun.{run, Measured, measured, no-room, read-is}
 use borrow.Author.Needs.{needs}
 use Rattle.rle_v2.proofs.short_repeat.read.Statement.{statement}
 use Rattle.rle_v2.proofs.short_repeat.read.Tie as tie
 
-shared-slice-read-header : tie.Need-shared-slice-read-header
-shared-slice-read-header c = search needs
+-- the run that the measure named
+named : (m : tie.After-r) → let a = m .before .before .before .before .args in answer.Run (m .r .given .0 .0) ≡ answerOf (a .at) (length (now (a .input)) - a .at) (run (now (a .input)) (a .at))
+named m = sym (m .r .given .1) ∙ m .before .before .measure .ensures
 
-cast-header : tie.Need-cast-header
-cast-header c = search needs
+measured-is : (m : tie.After-r) → let a = m .before .before .before .before .args in Measured (now (a .input)) (a .at) (m .r .given .0 .0)
+measured-is m = measured (now (m .before .before .before .before .args .input)) (m .before .before .before .before .args .at) _ (m .before .before .before .before .pre .0) (named m)
 
-add-size : tie.Need-add-size
-add-size c = search needs
+measure-requires : tie.Need-measure-requires
+measure-requires c κs = search needs
 
-add-count : tie.Need-add-count
-add-count c = search needs
-
-add-body : tie.Need-add-body
-add-body c = search needs
-
-sub-if1 : tie.Need-sub-if1
-sub-if1 c = search needs
-
-cut-requires : tie.Need-cut-requires
-cut-requires c κs = search needs
-
-returns : tie.Need-returns
-returns c =
-    let a = c .before .before .before .before .args in
-    rw (c .cut .ensures) (no-body (now (a .input)) (a .at) (a .signed) (now (a .out)) (c .before .before .before .before .pre .0) (c .before .if1 .taken))
+enum-known-r : tie.Need-enum-known-r
+enum-known-r c = search needs
 
 refused-requires : tie.Need-refused-requires
 refused-requires c κs = search needs
 
-returns-2 : tie.Need-returns-2
-returns-2 c =
-    let a = c .before .before .before .before .before .args in
-    rw (c .refused .ensures) (no-room (now (a .input)) (a .at) (a .signed) (now (a .out)) (c .before .before .if1 .left) (c .before .if2 .taken))
+returns : tie.Need-returns
+returns c =
+    let m = c .before .before .before .before .before in
+    let a = m .before .before .before .before .args in
+    rw (c .refused .ensures) (no-room (now (a .input)) (a .at) (a .signed) (now (a .out)) _ (named m) (measured-is m) (c .before .if1 .taken))
+
+add-read : tie.Need-add-read
+add-read c = search needs
 
 read-requires : tie.Need-read-requires
-read-requires c κs = search needs
+read-requires c κs = let m = measured-is (c .before .before .before .before .before) in omega (arith, m .size-is, m .there, c .before .before .before .before .before .before .before .before .before .pre .1)
 
 row-requires : tie.Need-row-requires
 row-requires c κs = search needs
@@ -49,49 +46,51 @@ row-requires c κs = search needs
 repeat-requires : tie.Need-repeat-requires
 repeat-requires c κs = search needs
 
-mul-run : tie.Need-mul-run
-mul-run c = search needs
+enum-known-f : tie.Need-enum-known-f
+enum-known-f c = search needs
 
-add-run : tie.Need-add-run
-add-run c = search needs
-
-run-requires : tie.Need-run-requires
-run-requires c κs = search needs
+enum-told : tie.Need-enum-told
+enum-told c = search needs
 
 same-length : tie.Need-same-length
 same-length c = search needs
 
-returns-3 : tie.Need-returns-3
-returns-3 c =
-    let p = c .before .before in
-    let w = p .before .before in
-    let e = w .before .before in
-    let a = e .before .before .before .before .args in
+returns-2 : tie.Need-returns-2
+returns-2 c =
+    let p = c .before in
+    let w = c .before .before .before in
+    let m = c .before .before .before .before .before .before .before .before .before .before in
+    let a = m .before .before .before .before .args in
     let v = rw (w .before .read .ensures) at (w .row .ensures) in
     let f : w .row .result < 2 ^ 64 = w .row .ok in
-    rw (c .run .ensures)
-    (read-is (now (a .input)) (a .at) (a .signed) (now (a .out)) (e .before .if1 .left) (p .repeat .last .1 .1 .0) (e .if2 .left)
-    (rw v at f) (rw v at (p .repeat .ensures)))
+    read-is (now (a .input)) (a .at) (a .signed) (now (a .out)) _ (named m) (measured-is m) (p .repeat .last .1 .1 .0) (c .before .before .before .before .before .before .if1 .left)
+    (rw v at f) (rw v at (p .repeat .ensures))
+
+returns-3 : tie.Need-returns-3
+returns-3 c =
+    let a = c .before .before .before .before .before .args in
+    gives-none (a .at) _ (a .signed) (run (now (a .input)) (a .at)) (now (a .out)) (answer.Refused _) tt (sym (c .before .f .given .1) ∙ c .before .before .before .measure .ensures)
+
+returns-4 : tie.Need-returns-4
+returns-4 c =
+    let a = c .before .before .before .before .args in
+    gives-none (a .at) _ (a .signed) (run (now (a .input)) (a .at)) (now (a .out)) answer.End tt (sym (c .enum-told .given .1) ∙ c .before .before .measure .ensures)
 
 pub read-spec : {M : Type 1} → statement M
 read-spec =
     tie.close
     (tie.spec
-    shared-slice-read-header
-    cast-header
-    add-size
-    add-count
-    add-body
-    sub-if1
-    cut-requires
-    returns
+    measure-requires
+    enum-known-r
     refused-requires
-    returns-2
+    returns
+    add-read
     read-requires
     row-requires
     repeat-requires
-    mul-run
-    add-run
-    run-requires
+    enum-known-f
+    enum-told
     same-length
-    returns-3)
+    returns-2
+    returns-3
+    returns-4)

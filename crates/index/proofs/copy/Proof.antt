@@ -1,0 +1,81 @@
+-- Each turn copies one row. Assumes nothing.
+use mathlib.Core.Path.{_≡_, _∙_}
+use Prim.Native.Nat.{_+_, _-_, _≤_}
+use native.Mathlib.Omega.{arith}
+use mathlib.Core.List.{[], _++_}
+use lib.ListN.{length, take, drop, length-set}
+use mir.Facts.{toZ-ofZ}
+use borrow.Author.Needs.{needs, sfits-of}
+use Rattle.util.proofs.Grow.{kept}
+use Rattle.index.proofs.Lists.{copy-first, copy-next, copy-last}
+use Rattle.index.proofs.copy.Statement.{statement}
+use Rattle.index.proofs.copy.Tie as tie
+
+abbrev Inv-loop : tie.InvT-loop
+Inv-loop rows skip n out₀ i₀ out i =
+    (i ≤ n) × (length out ≡ length out₀) × (take i out ++ take (n - i) (drop (skip + i) rows) ≡ take n (drop skip rows)) × (drop i out ≡ drop i out₀)
+
+abbrev μ-loop : tie.MeasureT-loop
+μ-loop rows skip n out₀ i₀ out i = n - i
+
+loop-holds : tie.Need-loop-holds Inv-loop μ-loop
+loop-holds c = let a = c .args in copy-first (a .rows .now) (a .out .now) (a .skip) (a .n)
+
+add-r : tie.Need-add-r Inv-loop μ-loop
+add-r c = omega arith
+
+mul-r : tie.Need-mul-r Inv-loop μ-loop
+mul-r c = omega arith
+
+shared-slice-copy-out-r : tie.Need-shared-slice-copy-out-r Inv-loop μ-loop
+shared-slice-copy-out-r c = omega arith
+
+mul-r-2 : tie.Need-mul-r-2 Inv-loop μ-loop
+mul-r-2 c = omega arith
+
+slice-set-from-r : tie.Need-slice-set-from-r Inv-loop μ-loop
+slice-set-from-r c = omega arith
+
+add-i : tie.Need-add-i Inv-loop μ-loop
+add-i c = omega arith
+
+loop-less : tie.Need-loop-less Inv-loop μ-loop
+loop-less c = omega arith
+
+loop-again : tie.Need-loop-again Inv-loop μ-loop
+loop-again c =
+    let l = c .before .before .loop in
+    let b = c .before .before .before in
+    let a = b .args in (
+      omega arith,
+      length-set (l .out) (l .i) _ ∙ l .inv .1,
+      copy-next (a .rows .now) (l .out) (take (a .n) (drop (a .skip) (a .rows .now))) (a .skip) (a .n) (l .i) _ (omega arith) (b .pre .0) (omega arith) (toZ-ofZ (sfits-of (c .r .given))) (l .inv .2),
+      kept (l .out) (a .out .now) (l .i) _ (l .inv .3),
+    )
+
+same-length : tie.Need-same-length Inv-loop μ-loop
+same-length c = c .before .loop .inv .1
+
+returns : tie.Need-returns Inv-loop μ-loop
+returns c =
+    let l = c .before .loop in
+    let a = c .before .before .args in
+    copy-last (a .rows .now) (l .out) (a .out .now) (a .skip) (a .n) (l .i) (omega arith) (l .inv .2) (l .inv .3)
+
+pub copy-spec : {M : Type 1} → statement M
+copy-spec =
+    tie.close
+    (tie.spec
+    Inv-loop
+    μ-loop
+    loop-holds
+    add-r
+    mul-r
+    shared-slice-copy-out-r
+    mul-r-2
+    slice-set-from-r
+    add-i
+    loop-less
+    loop-again
+    same-length
+    returns)

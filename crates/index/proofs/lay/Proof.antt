@@ -1,0 +1,160 @@
+-- The run's rows are read aside, those from the row on are copied, and the runs behind it are read behind them. Assumes nothing.
+use mathlib.Core.Path.{_≡_, sym, ap, _∙_}
+use Prim.Native.Nat.{ℕ, _+_, _-_}
+use mathlib.Core.List.{_++_}
+use native.Mathlib.Omega.{arith}
+use lib.ListN.{length, drop}
+use borrow.Author.Needs.{needs}
+use Rattle.format.specs.Rows.{i64Rows}
+use Rattle.format.specs.Runs.{rowCount, layout}
+use Rattle.util.proofs.Grow.{rest-is}
+use Rattle.index.proofs.Laying.{held-is, rows-are, bytes-are, not-refused, not-ended, bytes-within, rows-within, held-long, laid-is}
+use Rattle.index.proofs.lay.Statement.{statement}
+use Rattle.index.proofs.lay.Tie as tie
+
+-- what the run reader gave
+rows : (m : tie.After-a) → let b = m .before .before .before .before .before .before .before in m .a .given .0 .0 .rows .rows ≡ rowCount (b .pre .run)
+rows m =
+    let x = m .before .before .before in
+    let b = x .before .before .before .before in
+    let a = b .args in
+    rows-are (a .input .now) (a .at) (a .skip) (a .signed) (a .out .now) (b .pre) _ _ _ (x .before .before .scratch .ensures) (x .read-run .ensures) _ (m .a .given .1)
+
+consumed : (m : tie.After-a) → let b = m .before .before .before .before .before .before .before in m .a .given .0 .0 .consumed .bytes ≡ length (layout (b .pre .run))
+consumed m =
+    let x = m .before .before .before in
+    let b = x .before .before .before .before in
+    let a = b .args in
+    bytes-are (a .input .now) (a .at) (a .skip) (a .signed) (a .out .now) (b .pre) _ _ _ (x .before .before .scratch .ensures) (x .read-run .ensures) _ (m .a .given .1)
+
+held : (x : tie.After-read-run) → let b = x .before .before .before .before in
+    x .read-run .last .1 .1 .1 .0 ≡ i64Rows (b .args .signed) (b .pre .run) ++ drop (rowCount (b .pre .run)) (x .before .before .scratch .result)
+held x =
+    let b = x .before .before .before .before in
+    let a = b .args in
+    held-is (a .input .now) (a .at) (a .skip) (a .signed) (a .out .now) (b .pre) _ _ _ (x .before .before .scratch .ensures) (x .read-run .ensures)
+
+scratch-requires : tie.Need-scratch-requires
+scratch-requires c κs = search needs
+
+slice-aggregate-read-run : tie.Need-slice-aggregate-read-run
+slice-aggregate-read-run c = search needs
+
+read-run-requires : tie.Need-read-run-requires
+read-run-requires c κs = search needs
+
+enum-known-a : tie.Need-enum-known-a
+enum-known-a c = search needs
+
+sub-n : tie.Need-sub-n
+sub-n c = let m = c .before .before .before .before in let b = m .before .before .before .before .before .before .before in omega (arith, rows m, b .pre .skips)
+
+slice-aggregate-copy : tie.Need-slice-aggregate-copy
+slice-aggregate-copy c = search needs
+
+copy-requires : tie.Need-copy-requires
+copy-requires c κs =
+    let m = c .before .before .before .before .before .before in
+    let x = m .before .before .before in
+    let b = x .before .before .before .before in
+    let a = b .args in (
+      held-long (a .input .now) (a .at) (a .skip) (a .signed) (a .out .now) (b .pre) _ _ (held x) _ (ap (λ (k : ℕ). k - a .skip) (rows m)),
+      omega (arith, rows m, rows-within (a .input .now) (a .at) (a .skip) (a .signed) (a .out .now) (b .pre)),
+    )
+
+add-read-stream : tie.Need-add-read-stream
+add-read-stream c =
+    let m = c .before .before .before .before .before .before .before .before .before in
+    let x = m .before .before .before in
+    let b = x .before .before .before .before in
+    let a = b .args in
+    omega (arith, consumed m, bytes-within (a .input .now) (a .at) (a .skip) (a .signed) (a .out .now) (b .pre))
+
+mul-read-stream : tie.Need-mul-read-stream
+mul-read-stream c =
+    let m = c .before .before .before .before .before .before .before .before .before in
+    let x = m .before .before .before in
+    let b = x .before .before .before .before in
+    let a = b .args in
+    omega (arith, rows m, rows-within (a .input .now) (a .at) (a .skip) (a .signed) (a .out .now) (b .pre))
+
+sub-read-stream : tie.Need-sub-read-stream
+sub-read-stream c =
+    let m = c .before .before .before .before .before .before .before .before .before in
+    let x = m .before .before .before in
+    let b = x .before .before .before .before in
+    let a = b .args in
+    omega (arith, rows m, rows-within (a .input .now) (a .at) (a .skip) (a .signed) (a .out .now) (b .pre), c .before .before .copy .kept .1 .1 .1 .0)
+
+part-read-stream-start : tie.Need-part-read-stream-start
+part-read-stream-start c =
+    let m = c .before .before .before .before .before .before .before .before .before in
+    let x = m .before .before .before in
+    let b = x .before .before .before .before in
+    let a = b .args in
+    omega (arith, rows m, rows-within (a .input .now) (a .at) (a .skip) (a .signed) (a .out .now) (b .pre), c .before .before .copy .kept .1 .1 .1 .0)
+
+part-read-stream-end : tie.Need-part-read-stream-end
+part-read-stream-end c = search needs
+
+read-stream-requires : tie.Need-read-stream-requires
+read-stream-requires c κs = search needs
+
+enum-told : tie.Need-enum-told
+enum-told c = search needs
+
+enum-told-2 : tie.Need-enum-told-2
+enum-told-2 c = search needs
+
+same-length : tie.Need-same-length
+same-length c = search needs
+
+returns : tie.Need-returns
+returns c =
+    let p = c .before .before .before .before .before in
+    let m = p .before .before .before .before .before .before .before in
+    let x = m .before .before .before in
+    let b = x .before .before .before .before in
+    let a = b .args in
+    let n = m .a .given .0 .0 .rows .rows - a .skip in
+    laid-is (a .input .now) (a .at) (a .skip) (a .signed) (a .out .now) (b .pre) _ _ (held x) _ (ap (λ (k : ℕ). k - a .skip) (rows m)) (p .copy .last .1 .1 .1 .0)
+    (c .before .read-stream .last .1 .1 .1 .0) (p .copy .ensures) _ (ap (λ (k : ℕ). a .at + k) (consumed m)) _
+    (rw (rest-is (p .copy .last .1 .1 .1 .0) n) at (c .before .read-stream .ensures))
+
+returns-2 : tie.Need-returns-2
+returns-2 c =
+    let x = c .before .before .before in
+    let b = x .before .before .before .before in
+    let a = b .args in
+    absurd (not-refused (a .input .now) (a .at) (a .skip) (a .signed) (a .out .now) (b .pre) _ _ _ (x .before .before .scratch .ensures) (x .read-run .ensures) _ (c .enum-told .given .1))
+
+returns-3 : tie.Need-returns-3
+returns-3 c =
+    let x = c .before .before .before in
+    let b = x .before .before .before .before in
+    let a = b .args in
+    absurd (not-ended (a .input .now) (a .at) (a .skip) (a .signed) (a .out .now) (b .pre) _ _ _ (x .before .before .scratch .ensures) (x .read-run .ensures) (c .enum-told2 .given .1))
+
+pub lay-spec : {M : Type 1} → statement M
+lay-spec =
+    tie.close
+    (tie.spec
+    scratch-requires
+    slice-aggregate-read-run
+    read-run-requires
+    enum-known-a
+    sub-n
+    slice-aggregate-copy
+    copy-requires
+    add-read-stream
+    mul-read-stream
+    sub-read-stream
+    part-read-stream-start
+    part-read-stream-end
+    read-stream-requires
+    enum-told
+    enum-told-2
+    same-length
+    returns
+    returns-2
+    returns-3)

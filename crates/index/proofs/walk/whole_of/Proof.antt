@@ -1,0 +1,103 @@
+-- Each turn counts one run more, or ends with what the stream is. Assumes nothing.
+use mathlib.Core.Path.{_≡_}
+use Prim.Native.Nat.{_-_}
+use native.Mathlib.Omega.{arith}
+use mathlib.Core.List.{[]}
+use lib.ListN.{length, drop, drop-of-length-le}
+use borrow.Author.Needs.{needs}
+use Rattle.format.proofs.Fields.{below-all}
+use Rattle.index.proofs.Turns.{Step, step-is, OneRun, NoRun}
+use Rattle.index.proofs.Walks.{Surveyed, surveyed-first, surveyed-run, surveyed-whole, surveyed-refused}
+use Rattle.index.proofs.walk.whole_of.Statement.{statement}
+use Rattle.index.proofs.walk.whole_of.Tie as tie
+
+abbrev Inv-loop : tie.InvT-loop
+Inv-loop input place₀ runs₀ total₀ place runs total = Surveyed input place runs total
+
+abbrev μ-loop : tie.MeasureT-loop
+μ-loop input place₀ runs₀ total₀ place runs total = length input - place
+
+-- what a turn's run comes to, and its three cases
+step : (x : tie.After-measure Inv-loop μ-loop) → let l = x .before .before .loop in let a = x .before .before .before .before .args in Step (a .input .now) (l .place) (x .measure .result)
+step x = let a = x .before .before .before .before .args in
+    step-is (a .input .now) (x .before .before .loop .place) _ (below-all 256 (a .input .now) (λ i. x .before .before .before .shared-slice-known .given i .fits)) (x .measure .ensures)
+
+ran-is : (m : tie.After-a Inv-loop μ-loop) → let l = m .before .before .before .before .loop in let a = m .before .before .before .before .before .before .args in OneRun (a .input .now) (l .place) (m .a .given .0 .0)
+ran-is m = rw (m .a .given .1) at (step (m .before .before))
+
+refused-is : (m : tie.After-a2 Inv-loop μ-loop) → let l = m .before .before .before .before .loop in let a = m .before .before .before .before .before .before .args in NoRun (a .input .now) (l .place) (m .a2 .given .0 .0)
+refused-is m = rw (m .a2 .given .1) at (step (m .before .before))
+
+ended-is : (m : tie.After-enum-told Inv-loop μ-loop) → let l = m .before .before .before .before .loop in let a = m .before .before .before .before .before .before .args in drop (l .place) (a .input .now) ≡ []
+ended-is m = rw (m .enum-told .given .1) at (step (m .before .before))
+
+loop-holds : tie.Need-loop-holds Inv-loop μ-loop
+loop-holds c = surveyed-first _
+
+measure-requires : tie.Need-measure-requires Inv-loop μ-loop
+measure-requires c κs = search needs
+
+enum-known-a : tie.Need-enum-known-a Inv-loop μ-loop
+enum-known-a c = search needs
+
+more-requires : tie.Need-more-requires Inv-loop μ-loop
+more-requires c κs = search needs
+
+add-place : tie.Need-add-place Inv-loop μ-loop
+add-place c = omega (arith, ran-is (c .before .before .before .before .before) .within)
+
+add-runs : tie.Need-add-runs Inv-loop μ-loop
+add-runs c =
+    let m = c .before .before .before .before .before in
+    let l = m .before .before .before .before .loop in
+    omega (arith, l .inv .few, l .inv .within, ran-is m .within, ran-is m .some-bytes)
+
+loop-less : tie.Need-loop-less Inv-loop μ-loop
+loop-less c =
+    let m = c .before .before .before .before .before in
+    omega (arith, ran-is m .within, ran-is m .some-bytes)
+
+loop-again : tie.Need-loop-again Inv-loop μ-loop
+loop-again c =
+    let m = c .before .before .before .before .before in
+    let l = m .before .before .before .before .loop in
+    surveyed-run _ (l .place) (l .runs) (l .total) (l .inv) (m .a .given .0 .0) (c .before .more .result) (ran-is m) (c .before .more .ensures)
+
+enum-known-a-2 : tie.Need-enum-known-a-2 Inv-loop μ-loop
+enum-known-a-2 c = search needs
+
+returns : tie.Need-returns Inv-loop μ-loop
+returns c =
+    let l = c .before .before .before .before .before .loop in
+    surveyed-refused _ (l .place) (l .runs) (l .total) (l .inv) _ (refused-is (c .before))
+
+enum-told : tie.Need-enum-told Inv-loop μ-loop
+enum-told c = search needs
+
+returns-2 : tie.Need-returns-2 Inv-loop μ-loop
+returns-2 c =
+    let l = c .before .before .before .before .loop in
+    surveyed-whole _ (l .place) (l .runs) (l .total) (l .inv) (ended-is c)
+
+returns-3 : tie.Need-returns-3 Inv-loop μ-loop
+returns-3 c = let l = c .before .loop in surveyed-whole _ (l .place) (l .runs) (l .total) (l .inv) (drop-of-length-le _ (c .loop-test .left))
+
+pub whole-of-spec : {M : Type 1} → statement M
+whole-of-spec =
+    tie.close
+    (tie.spec
+    Inv-loop
+    μ-loop
+    loop-holds
+    measure-requires
+    enum-known-a
+    more-requires
+    add-place
+    add-runs
+    loop-less
+    loop-again
+    enum-known-a-2
+    returns
+    enum-told
+    returns-2
+    returns-3)
