@@ -1,0 +1,1 @@
+-- What the code holds is that of the lines that were taken. Assumes nothing.

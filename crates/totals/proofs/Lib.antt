@@ -1,0 +1,8 @@
+-- The theorems of specs/Laws.antt.
+pub mod Order
+pub mod Combining
+pub mod Limits
+pub mod Sums
+pub mod Ones
+pub mod Held
+pub mod Examples

@@ -1,0 +1,26 @@
+-- THE SUM IN TWO WORDS of 64 bits: two's complement, so that sums are added word by word, modulo 2^64, with the low words' carry.
+-- Assumes nothing.
+use Prim.Native.Nat.{ℕ, _+_, _-_, _*_, _/_, _%_, _^_}
+use lib.IntN.{ℤ, pos, negsuc}
+use lib.Dec.{ltb}
+use Rattle.format.specs.Fields.{pick, two64}
+use Rattle.totals.specs.declared.Words.{Words}
+
+-- 64 bits turned over
+abbrev pub turned : ℕ → ℕ
+turned x = two64 - 1 - x
+
+-- -(n + 1) has the bits of n, turned over
+unfoldable pub wordsOf : ℤ → Words
+wordsOf (pos n) = record { high = n / two64; low = n % two64 }
+wordsOf (negsuc n) = record { high = turned (n / two64); low = turned (n % two64) }
+
+-- the whole number that two words stand for: below 0 where the top bit is set
+unfoldable pub wordsValue : Words → ℤ
+wordsValue w = pick (ltb (w .high) (2 ^ 63)) (pos (w .high * two64 + w .low)) (negsuc (turned (w .high) * two64 + turned (w .low)))
+
+abbrev pub addWords : Words → Words → Words
+addWords v w = record {
+  high = (v .high + w .high + (v .low + w .low) / two64) % two64;
+  low = (v .low + w .low) % two64;
+}
