@@ -46,7 +46,7 @@ sum-append (z ∷ zs) ys = rw (sum-append zs ys) (sym (+ℤ-assoc z (sumOf zs) (
 pub joined : (xs ys : List Line) → totals (xs ++ ys) ≡ combine (totals xs) (totals ys)
 unfolding totals
 joined xs ys =
-    same (length-append xs ys) (counted-append isBad xs ys) (counted-append isEnd xs ys) (λ k. counted-append (RowRefusal k) xs ys) (λ k. counted-append (RowRun k) xs ys)
+    same (length-append xs ys) (counted-append isBad xs ys) (counted-append isEnd xs ys) (λ k. counted-append (isRefusal k) xs ys) (λ k. counted-append (isRun k) xs ys)
     (ap length (rows-append xs ys) ∙ length-append (rowsOver xs) (rowsOver ys))
     (ap (ofAll lower) (rows-append xs ys) ∙ ofAll-append _ lower lowers (rowsOver xs) (rowsOver ys))
     (ap (ofAll higher) (rows-append xs ys) ∙ ofAll-append _ higher highers (rowsOver xs) (rowsOver ys))

@@ -2,11 +2,11 @@
 use mathlib.Core.Path.{_≡_, refl, ap, _∙_}
 use Prim.Native.Nat.{ℕ, zero, suc, _+_, _-_, _*_, _/_, _%_, _^_, _<_, _≤_}
 use native.Mathlib.Omega.{arith}
-use native.Mathlib.Decide.{decLe}
+use native.Mathlib.Decide.{decLe, decLt}
 use native.Mathlib.Nat.{mod-lt, zero-lt-suc, pow-suc}
 use mathlib.Core.Bool.{Bool, true, false}
 use mathlib.Core.List.{List, [], _∷_, _++_}
-use lib.ListN.{length, take, replicate}
+use lib.ListN.{length, take, getD, replicate}
 use lib.Seq.{take-append-le, take-append-add, take-at, take-nil}
 use lib.Dec.{leb, ltb, eqb}
 use lib.Count.{ones, ones-step}
@@ -91,3 +91,42 @@ runs-below (literals bs ∷ ds) v = below-append 256 bs (joinedBytes ds) (v .0 .
 pub booleans-counted : BooleansCounted
 unfolding booleansOf
 booleans-counted n ds v m = ones-hold n (joinedBytes ds) (runs-below ds v) .enough (omega (arith, needed-enough (bytesFor n) ds m))
+
+-- ---- the code's count, a byte at a time
+
+-- bytes, as a slice gives them
+abbrev pub Bytes : List ℕ → Type 0
+Bytes bs = (j : ℕ) → getD bs j 0 < 256
+
+no-ones : (bs : List ℕ) → Bytes bs → onesIn 0 bs ≡ 0
+unfolding onesIn ones
+no-ones [] h = refl
+no-ones (b ∷ bs) h =
+    let e : b / 256 ≡ 0 = omega (arith, h 0) in
+    rw e
+
+-- k more bits, of the byte after i whole ones
+pub ones-more : (i k : ℕ) (bs : List ℕ) → i < length bs → 1 ≤ k → k ≤ 8 → Bytes bs → onesIn (8 * i + k) bs ≡ onesIn (8 * i) bs + ones (getD bs i 0 / 2 ^ (8 - k))
+unfolding onesIn
+ones-more i k [] l f m h = absurd (omega arith)
+ones-more zero k (b ∷ bs) l f m h = by (decLt k 8)
+  where
+    z : onesIn 0 (b ∷ bs) ≡ 0
+    z = no-ones (b ∷ bs) h
+
+    by : Dec (k < 8) → onesIn (8 * 0 + k) (b ∷ bs) ≡ onesIn (8 * 0) (b ∷ bs) + ones (b / 2 ^ (8 - k))
+    by (yes s) =
+        let e : 8 * 0 + k ≡ k = omega arith in
+        ap (λ (n : ℕ). onesIn n (b ∷ bs)) e ∙ rw (lt-leb 8 k s) (omega (arith, z))
+    by (no s) =
+        let e : k ≡ 8 = omega arith in
+        let d : b / 2 ^ 0 ≡ b = omega arith in
+        rw (e, d) (omega (arith, z, no-ones bs (λ j. h (suc j))))
+ones-more (suc i) k (b ∷ bs) l f m h =
+    let e : 8 * suc i + k - 8 ≡ 8 * i + k = omega arith in
+    let d : 8 * suc i - 8 ≡ 8 * i = omega arith in
+    rw (le-leb 8 (8 * suc i + k) (omega arith), le-leb 8 (8 * suc i) (omega arith), e, d)
+    (omega (arith, ones-more i k bs (omega arith) f m (λ j. h (suc j))))
+
+pub ones-whole : (bs : List ℕ) → Bytes bs → onesIn (8 * 0) bs ≡ 0
+ones-whole bs h = no-ones bs h

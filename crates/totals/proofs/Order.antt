@@ -1,13 +1,19 @@
 -- The order of whole numbers, and the smallest and the largest of a list. Assumes nothing.
-use mathlib.Core.Path.{_≡_, refl, sym, ap}
+use mathlib.Core.Path.{_≡_, refl, sym, ap, _∙_}
 use mathlib.Core.Logic.{_↔_, _⊎_, inl, inr}
-use Prim.Native.Nat.{ℕ}
+use Prim.Native.Nat.{ℕ, _+_, _<_}
+use native.Mathlib.Numerals.{add-one}
 use native.Mathlib.Omega.{arith}
 use mathlib.Core.Bool.{Bool, true, false}
 use mathlib.Core.List.{List, [], _∷_, _++_, List·Memᴰ, List·Memᴰ·head, List·Memᴰ·tail, List·Memᴰ·not-nil}
+use lib.ListN.{length, take, getD}
+use lib.Seq.{take-suc}
 use lib.Dec.{T, leb→le, le→leb}
 use lib.IntN.{ℤ, pos, negsuc}
 use lib.Signed.{leZ, _≤ℤ_, ≤ℤ-refl}
+use mir.Syntax.{w64}
+use mir.Val.{SFits, toZ, ofZ}
+use mir.Facts.{toZ-ofZ}
 use borrow.Author.Tests.{leb-false}
 use Rattle.format.specs.Fields.{pick}
 use Rattle.totals.specs.Totals.{lower, higher, ofTwo, ofAll}
@@ -165,3 +171,27 @@ extremes-hold zs = record {
   smallest = best-exactly _ lower lowers zs;
   largest = best-exactly _ higher highers zs;
 }
+
+-- ---- the code's tests and rows
+
+module _ (a b : ℤ) (fa : SFits w64 a) (fb : SFits w64 b) where
+  pub at-most : leZ (toZ w64 (ofZ w64 a)) (toZ w64 (ofZ w64 b)) ≡ true → leZ a b ≡ true
+  at-most t = rw (toZ-ofZ fa, toZ-ofZ fb) at t
+
+  pub above : leZ (toZ w64 (ofZ w64 a)) (toZ w64 (ofZ w64 b)) ≡ false → leZ a b ≡ false
+  above t = rw (toZ-ofZ fa, toZ-ofZ fb) at t
+
+pub taken-row : (z : ℤ) → SFits w64 z → toZ w64 (ofZ w64 z) ≡ z
+taken-row z f = toZ-ofZ f
+
+-- one row more
+module _ (R : ℤ → ℤ → Type 0) (choice : ℤ → ℤ → ℤ) (o : Choice R choice) where
+  pub one-row : (zs : List ℤ) → 0 < length zs → ofAll choice (take 1 zs) ≡ Row (getD zs 0 (pos 0))
+  unfolding ofAll
+  one-row [] h = absurd (omega arith)
+  one-row (z ∷ zs) h = refl
+
+  pub more-row : (zs : List ℤ) (i : ℕ) (m : ℤ) → i < length zs → ofAll choice (take i zs) ≡ Row m → ofAll choice (take (i + 1) zs) ≡ Row (choice m (getD zs i (pos 0)))
+  unfolding ofAll
+  more-row zs i m h e =
+      rw (add-one, take-suc zs i (pos 0) h) (ofAll-append R choice o (take i zs) (getD zs i (pos 0) ∷ []) ∙ rw e)

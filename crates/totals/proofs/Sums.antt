@@ -3,13 +3,15 @@ use mathlib.Core.Path.{_≡_, refl, sym, ap, _∙_}
 use Prim.Native.Nat.{ℕ, suc, _+_, _-_, _*_, _/_, _%_, _^_, _<_, _≤_}
 use native.Mathlib.Omega.{arith}
 use native.Mathlib.Decide.{decLt}
-use native.Mathlib.Nat.{mod-lt, div-add-mod', div-le-of-le-mul}
+use native.Mathlib.Nat.{mod-lt, mod-add-mod, add-zero, div-add-mod', div-le-of-le-mul}
+use native.Mathlib.Numerals.{add-one}
 use lib.Arith.{digits-div, digits-mod}
 use lib.Pow.{pow-pos}
 use mathlib.Core.List.{List, [], _∷_, _++_, map}
-use lib.ListN.{length}
+use lib.ListN.{length, take, getD}
+use lib.Seq.{take-suc}
 use lib.Dec.{eqb}
-use lib.IntN.{ℤ, pos, negsuc, natAbs, subℕ, _+ℤ_}
+use lib.IntN.{ℤ, pos, negsuc, natAbs, subℕ, _+ℤ_, +ℤ-idr}
 use mir.Syntax.{w64}
 use mir.Val.{SFits}
 use borrow.Author.Tests.{lt-ltb, le-ltb}
@@ -22,10 +24,11 @@ use Rattle.format.specs.Writing.{AllI64}
 use Rattle.format.proofs.Patterns.{as-low, as-high}
 use Rattle.format.proofs.Rows.{rows-below}
 use Rattle.format.proofs.Streams.{Into, into-nothing, into-run, into-refusal, into-outcome}
-use Rattle.totals.specs.Totals.{lineOf, answered, rowsIn, rowsOver, sumOf, totals}
+use Rattle.totals.specs.Totals.{lineOf, answered, rowsIn, rowsOver, sumOf, totals, limit}
 use Rattle.totals.specs.declared.Words.{Words}
 use Rattle.totals.specs.Words.{turned, wordsOf, wordsValue, addWords}
 use Rattle.totals.specs.Laws.{Within, AllBytes, Sums}
+use Rattle.totals.proofs.Combining.{sum-append}
 
 -- ---- its size
 
@@ -195,6 +198,52 @@ added (pos a) (pos b) h l = up (split a) (split b) (small a h) (small b l) (spli
 added (pos a) (negsuc b) h l = differ (split a) (split b) (small a h) (small b (omega arith))
 added (negsuc a) (pos b) h l = comm (wordsOf (negsuc a)) (wordsOf (pos b)) ∙ differ (split b) (split a) (small b l) (small a (omega arith))
 added (negsuc a) (negsuc b) h l = down (split a) (split b) (small a (omega arith)) (small b (omega arith)) (split (a % two64 + b % two64 + 1))
+
+-- an i64 row in two words
+pub row-low : (n : ℕ) → n < 2 ^ 63 → wordsOf (pos n) ≡ words 0 n
+row-low n h = pos-words {q = 0} (record { number = omega arith; fits = omega arith })
+
+pub row-high : (n : ℕ) → n < 2 ^ 63 → wordsOf (negsuc n) ≡ words (two64 - 1) (two64 - 1 - n)
+row-high n h = neg-words {q = 0} (record { number = omega arith; fits = omega arith })
+
+-- the low words wrap exactly where their sum is below the first
+carried : (a b : ℕ) → a < two64 → b < two64 → (a + b) % two64 < a → (a + b) / two64 ≡ 1
+carried a b h k l = omega arith
+
+kept : (a b : ℕ) → a < two64 → b < two64 → a ≤ (a + b) % two64 → (a + b) / two64 ≡ 0
+kept a b h k l = omega arith
+
+module _ (v w : Words) (hv : v .low < two64) (hw : w .low < two64) where
+  pub carries : (v .low + w .low) % two64 < v .low → words (((v .high + w .high) % two64 + 1) % two64) ((v .low + w .low) % two64) ≡ addWords v w
+  carries l =
+      let e : (v .low + w .low) / two64 ≡ 1 = carried (v .low) (w .low) hv hw l in
+      rw e (same (mod-add-mod (v .high + w .high) two64 1) refl)
+
+  pub no-carry : v .low ≤ (v .low + w .low) % two64 → words ((v .high + w .high) % two64) ((v .low + w .low) % two64) ≡ addWords v w
+  no-carry l =
+      let e : (v .low + w .low) / two64 ≡ 0 = kept (v .low) (w .low) hv hw l in
+      rw (e, add-zero)
+
+-- one row more: the sum so far is at most 2^63 for each row in size
+pub record Summed (rows : List ℤ) (i : ℕ) (w : Words) : Type 0 where
+  pub size : natAbs (sumOf (take i rows)) ≤ i * 2 ^ 63
+  pub sum-is : w ≡ wordsOf (sumOf (take i rows))
+
+pub summed-none : (rows : List ℤ) → Summed rows 0 (words 0 0)
+unfolding sumOf wordsOf
+summed-none rows = record { size = omega arith; sum-is = refl }
+
+pub summed-more : (rows : List ℤ) (i : ℕ) (w : Words) → i < length rows → length rows ≤ limit → SFits w64 (getD rows i (pos 0)) → Summed rows i w
+    → Summed rows (i + 1) (addWords w (wordsOf (getD rows i (pos 0))))
+unfolding sumOf
+summed-more rows i w h l f s =
+    let z = getD rows i (pos 0) in
+    let e : sumOf (take (i + 1) rows) ≡ sumOf (take i rows) +ℤ z =
+    rw (add-one, take-suc rows i (pos 0) h) (sum-append (take i rows) (z ∷ []) ∙ rw +ℤ-idr) in
+    record {
+      size = rw e (omega (arith, sum-size (sumOf (take i rows)) z, row-size z f, s .size));
+      sum-is = rw e (ap (λ (x : Words). addWords x (wordsOf z)) (s .sum-is) ∙ added (sumOf (take i rows)) z (omega (arith, s .size)) (omega (arith, row-size z f)));
+    }
 
 pub sums : Sums
 sums = record { bound = bound; value = value; added = added }

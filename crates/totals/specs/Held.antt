@@ -3,7 +3,7 @@
 -- Assumes nothing.
 use Prim.Native.Nat.{ℕ, _+_}
 use mathlib.Core.List.{List, [], _∷_, map}
-use lib.ListN.{length}
+use lib.ListN.{length, replicate}
 use lib.Dec.{ltb}
 use lib.IntN.{ℤ}
 use Rattle.format.specs.declared.Kind.{Kind}
@@ -15,6 +15,7 @@ use Rattle.format.specs.Fields.{pick}
 use Rattle.format.specs.Rows.{plus}
 use Rattle.totals.specs.declared.Reply.{Reply}
 use Rattle.totals.specs.declared.Reply.the-variants.{Bad, End, Refused, Run}
+use Rattle.totals.specs.declared.Extreme.the-variants.{None}
 use Rattle.totals.specs.declared.Totals.{Totals}
 use Rattle.totals.specs.declared.Taken.{Taken}
 use Rattle.totals.specs.declared.Stop.{Stop}
@@ -59,6 +60,20 @@ held t = record {
   smallest = t .smallest;
   largest = t .largest;
   sum = wordsOf (t .sum);
+}
+
+-- the struct of one line without rows
+abbrev pub counting : ℕ → ℕ → Totals
+counting bads ends = record {
+  lines = 1;
+  bads = bads;
+  ends = ends;
+  refusals = replicate 15 0;
+  runs = replicate 6 0;
+  rows = 0;
+  smallest = None;
+  largest = None;
+  sum = record { high = 0; low = 0 };
 }
 
 -- ---- TWO STRUCTS TOGETHER: counts modulo 2^64, which only those pass that no lines led to

@@ -7,9 +7,9 @@ ghost use lib.ListN.{length};
 ghost use lib.Dec.{ltb};
 ghost use lib.Count.{ones};
 ghost use Rattle.format.specs.Rows.{plus};
-ghost use Rattle.totals.specs.Totals.{lower, higher, ofTwo, ofAll, sumOf, totals, empty, limit, tooMany};
+ghost use Rattle.totals.specs.Totals.{run, rowsIn, lower, higher, ofTwo, ofAll, sumOf, totals, empty, limit};
 ghost use Rattle.totals.specs.Words.{wordsOf, addWords};
-ghost use Rattle.totals.specs.Held.{slot, lineWith, replyTo, held, eachPlus, together, going, stopped, combined, takeLine};
+ghost use Rattle.totals.specs.Held.{slot, lineWith, replyTo, held, counting, eachPlus, together, going, stopped, combined, takeLine};
 ghost use Rattle.totals.specs.Ones.{onesIn, countTrue};
 use format::Answer;
 use format::Kind;
@@ -190,12 +190,31 @@ fn range_of(rows: &[i64]) -> Range
 // Each count and the one at its place, modulo 2^64: no lines lead to so many.
 fn add_each(counts: &mut [u64], more: &[u64])
     requires { ⌜ length (now counts) ≡ length (now more) ⌝ }
-    ensures { ⌜ now (counts .exit) ≡ eachPlus (now (counts .entry)) (now (more .entry)) ⌝ }
+    ensures { λ r. ⌜ now (counts .exit) ≡ eachPlus (now (counts .entry)) (now (more .entry)) ⌝ }
 {
     let mut i: usize = 0;
     while i < more.len() {
         counts[i] = std::num::wrapping_add_u64(counts[i], more[i]);
         i += 1;
+    }
+}
+
+// Where a refusal is counted.
+fn slot(number: u8) -> usize
+    ensures { λ r. ⌜ r ≡ slot number ⌝ }
+{
+    if number < 15 { number as usize } else { 0 }
+}
+
+// Only a run has rows.
+fn row_count(reply: Reply, rows: &[i64]) -> u64
+    ensures { λ r. ⌜ r ≡ length (rowsIn (lineWith reply (now (rows .entry)))) ⌝ }
+{
+    match reply {
+        Reply::Run(_) => rows.len() as u64,
+        Reply::Bad => 0,
+        Reply::End => 0,
+        Reply::Refused(_) => 0,
     }
 }
 
@@ -216,7 +235,10 @@ impl Reply {
     {
         match answer {
             Answer::End => Reply::End,
-            Answer::Run(run) => Reply::Run(run.kind),
+            Answer::Run(run) => {
+                let kind = run.kind;
+                Reply::Run(kind)
+            }
             Answer::Refused(f) => Reply::Refused(f.number),
         }
     }
@@ -258,6 +280,120 @@ impl Totals {
             largest: Extreme::None,
             sum: Words { high: 0, low: 0 },
         }
+    }
+
+    // Of one line without rows, which is bad or an end or neither.
+    fn counting(bads: u64, ends: u64) -> Self
+        ensures { λ r. ⌜ r ≡ counting bads ends ⌝ }
+    {
+        Totals {
+            lines: 1,
+            bads,
+            ends,
+            refusals: [0; 15],
+            runs: [0; 6],
+            rows: 0,
+            smallest: Extreme::None,
+            largest: Extreme::None,
+            sum: Words { high: 0, low: 0 },
+        }
+    }
+
+    // Of one run.
+    fn of_run(kind: Kind, rows: &[i64]) -> Self
+        requires { ⌜ length (now rows) ≤ limit ⌝ }
+        ensures { λ r. ⌜ r ≡ held (totals (run kind (now (rows .entry)) ∷ [])) ⌝ }
+    {
+        let range = range_of(rows);
+        let smallest = range.smallest;
+        let largest = range.largest;
+        let mut runs = [0u64; 6];
+        runs[kind.number() as usize] = 1;
+        Totals {
+            lines: 1,
+            bads: 0,
+            ends: 0,
+            refusals: [0; 15],
+            runs,
+            rows: rows.len() as u64,
+            smallest,
+            largest,
+            sum: sum_of(rows),
+        }
+    }
+
+    // Of one line.
+    fn of_line(reply: Reply, rows: &[i64]) -> Self
+        requires { ⌜ length (rowsIn (lineWith reply (now rows))) ≤ limit ⌝ }
+        ensures { λ r. ⌜ r ≡ held (totals (lineWith reply (now (rows .entry)) ∷ [])) ⌝ }
+    {
+        match reply {
+            Reply::Bad => Totals::counting(1, 0),
+            Reply::End => Totals::counting(0, 1),
+            Reply::Refused(number) => {
+                let at = slot(number);
+                let mut one = Totals::counting(0, 0);
+                one.refusals[at] = 1;
+                one
+            }
+            Reply::Run(kind) => Totals::of_run(kind, rows),
+        }
+    }
+
+    // Both, the second's lines after the first's.
+    fn together(self, more: Totals) -> Self
+        ensures { λ r. ⌜ r ≡ together self more ⌝ }
+    {
+        let mut refusals = self.refusals;
+        let more_refusals = more.refusals;
+        add_each(&mut refusals, &more_refusals);
+        let mut runs = self.runs;
+        let more_runs = more.runs;
+        add_each(&mut runs, &more_runs);
+        let smallest = self.smallest;
+        let largest = self.largest;
+        let sum = self.sum;
+        let more_smallest = more.smallest;
+        let more_largest = more.largest;
+        let more_sum = more.sum;
+        Totals {
+            lines: std::num::wrapping_add_u64(self.lines, more.lines),
+            bads: std::num::wrapping_add_u64(self.bads, more.bads),
+            ends: std::num::wrapping_add_u64(self.ends, more.ends),
+            refusals,
+            runs,
+            rows: std::num::wrapping_add_u64(self.rows, more.rows),
+            smallest: smallest.lower(more_smallest),
+            largest: largest.higher(more_largest),
+            sum: sum.plus(more_sum),
+        }
+    }
+
+    // Two inputs, the second's lines after the first's. Refusal 20, with the first's totals, where they are more lines or rows than the limit.
+    pub fn combine(self, more: Totals) -> Taken
+        ensures { λ r. ⌜ r ≡ combined self more ⌝ }
+    {
+        if too_many(self.lines, more.lines) {
+            return Taken::stopped(self);
+        }
+        if too_many(self.rows, more.rows) {
+            return Taken::stopped(self);
+        }
+        Taken::going(self.together(more))
+    }
+
+    // One line more: its reply, and its rows, which count for a run alone. Refusal 20, with the totals as before, where it would pass a limit.
+    pub fn take(self, reply: Reply, rows: &[i64]) -> Taken
+        ensures { λ r. ⌜ r ≡ takeLine self (lineWith reply (now (rows .entry))) ⌝ }
+    {
+        let count = row_count(reply, rows);
+        if too_many(self.lines, 1) {
+            return Taken::stopped(self);
+        }
+        if too_many(self.rows, count) {
+            return Taken::stopped(self);
+        }
+        Taken::going(self.together(Totals::of_line(reply, rows)))
     }
 }
 
