@@ -9,7 +9,7 @@ use mathlib.Core.List.{List, [], _∷_, _++_}
 use lib.ListN.{length, take, getD, replicate}
 use lib.Seq.{take-append-le, take-append-add, take-at, take-nil}
 use lib.Dec.{leb, ltb, eqb}
-use lib.Count.{ones, ones-step}
+use lib.Count.{ones, ones-step, ones-le}
 use lib.Pow.{shr-lt}
 use borrow.Author.Tests.{le-leb, lt-leb, le-ltb, lt-ltb, ltb-true}
 use Rattle.format.specs.Digits.{AllBelow, digits}
@@ -130,3 +130,26 @@ ones-more (suc i) k (b ∷ bs) l f m h =
 
 pub ones-whole : (bs : List ℕ) → Bytes bs → onesIn (8 * 0) bs ≡ 0
 ones-whole bs h = no-ones bs h
+
+pub ones-at-most : (i : ℕ) (bs : List ℕ) → Bytes bs → onesIn (8 * i) bs ≤ 8 * i
+unfolding onesIn
+ones-at-most i [] h = omega arith
+ones-at-most zero (b ∷ bs) h = omega (arith, no-ones (b ∷ bs) h)
+ones-at-most (suc i) (b ∷ bs) h =
+    let d : 8 * suc i - 8 ≡ 8 * i = omega arith in
+    rw (le-leb 8 (8 * suc i) (omega arith), d) (omega (arith, ones-le 8 b (h 0), ones-at-most i bs (λ j. h (suc j))))
+
+pub ones-part : (k b : ℕ) → k ≤ 8 → b < 256 → ones (b / 2 ^ (8 - k)) ≤ k
+ones-part k b h l =
+    let e : k + (8 - k) ≡ 8 = omega arith in
+    let s : b < 2 ^ (k + (8 - k)) = rw e l in
+    ones-le k (b / 2 ^ (8 - k)) (shr-lt k (8 - k) s)
+
+-- the answers
+pub too-few : (n : ℕ) (bs : List ℕ) → 8 * length bs < n → countTrue n bs ≡ Refused (cutting 6 0 0)
+unfolding countTrue
+too-few n bs h = rw (lt-ltb (8 * length bs) n h)
+
+pub enough : (n : ℕ) (bs : List ℕ) → n ≤ 8 * length bs → countTrue n bs ≡ True (onesIn n bs)
+unfolding countTrue
+enough n bs h = rw (le-ltb (8 * length bs) n h)

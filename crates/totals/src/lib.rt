@@ -2,11 +2,10 @@
 // the booleans that are packed eight to a byte are true.
 ghost use mathlib.Core.Path.{_≡_};
 ghost use mathlib.Core.List.{_∷_, []};
-ghost use Prim.Native.Nat.{_+_, _-_, _*_, _/_, _^_, _≤_, _<_};
+ghost use Prim.Native.Nat.{_+_, _-_, _*_, _/_, _^_, _≤_, _<_, min};
 ghost use lib.ListN.{length};
 ghost use lib.Dec.{ltb};
 ghost use lib.Count.{ones};
-ghost use Rattle.format.specs.Rows.{plus};
 ghost use Rattle.totals.specs.Totals.{run, rowsIn, lower, higher, ofTwo, ofAll, sumOf, totals, empty, limit};
 ghost use Rattle.totals.specs.Words.{wordsOf, addWords};
 ghost use Rattle.totals.specs.Held.{slot, lineWith, replyTo, held, counting, eachPlus, together, going, stopped, combined, takeLine};
@@ -187,13 +186,19 @@ fn range_of(rows: &[i64]) -> Range
     }
 }
 
-// Each count and the one at its place, modulo 2^64: no lines lead to so many.
+fn shorter(a: usize, b: usize) -> usize
+    ensures { λ r. ⌜ r ≡ min a b ⌝ }
+{
+    if a <= b { a } else { b }
+}
+
+// Each count and the one at its place, where there is one, modulo 2^64: no lines lead to so many.
 fn add_each(counts: &mut [u64], more: &[u64])
-    requires { ⌜ length (now counts) ≡ length (now more) ⌝ }
     ensures { λ r. ⌜ now (counts .exit) ≡ eachPlus (now (counts .entry)) (now (more .entry)) ⌝ }
 {
+    let n = shorter(counts.len(), more.len());
     let mut i: usize = 0;
-    while i < more.len() {
+    while i < n {
         counts[i] = std::num::wrapping_add_u64(counts[i], more[i]);
         i += 1;
     }

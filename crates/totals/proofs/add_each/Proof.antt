@@ -1,20 +1,32 @@
 -- `add_each` meets its contract. Assumes nothing.
-use Prim.Native.Nat.{_-_, _≤_}
-use lib.ListN.{length, take, drop, set, length-set}
-use mathlib.Core.List.{_++_}
-use mathlib.Core.Path.{_≡_, refl, ap, _∙_}
+use Prim.Native.Nat.{ℕ, _-_, _≤_, min}
+use native.Mathlib.Decide.{decLe}
+use mathlib.Core.List.{List, _++_}
+use lib.ListN.{length, take, drop, length-set}
+use mathlib.Core.Path.{_≡_, refl, _∙_}
+use denote.Ref.{now}
 use Rattle.totals.specs.Held.{eachPlus}
-use Rattle.totals.proofs.Held.{each-more, each-all}
+use Rattle.totals.proofs.Held.{each-more, each-all, each-left}
 use borrow.Author.Needs.{needs}
 use native.Mathlib.Omega.{arith}
 use Rattle.totals.proofs.add_each.Statement.{statement}
 use Rattle.totals.proofs.add_each.Tie as tie
 
+by : (xs ys : List ℕ) (i : ℕ) → min (length xs) (length ys) ≤ i → xs ≡ take i xs ++ eachPlus (drop i xs) (drop i ys)
+by xs ys i h = go (decLe (length xs) i)
+  where
+    go : Dec (length xs ≤ i) → xs ≡ take i xs ++ eachPlus (drop i xs) (drop i ys)
+    go (yes l) = each-all xs ys i l
+    go (no l) = each-left xs ys i (omega arith)
+
 abbrev Inv-loop : tie.InvT-loop
-Inv-loop counts₀ more i₀ counts i = (i ≤ length more) × (length counts ≡ length counts₀) × (take i counts ++ eachPlus (drop i counts) (drop i more) ≡ eachPlus counts₀ more)
+Inv-loop counts₀ more n i₀ counts i = (i ≤ n) × (length counts ≡ length counts₀) × (take i counts ++ eachPlus (drop i counts) (drop i more) ≡ eachPlus counts₀ more)
 
 abbrev μ-loop : tie.MeasureT-loop
-μ-loop counts₀ more i₀ counts i = length more - i
+μ-loop counts₀ more n i₀ counts i = n - i
+
+shorter-requires : tie.Need-shorter-requires Inv-loop μ-loop
+shorter-requires c κs = search needs
 
 loop-holds : tie.Need-loop-holds Inv-loop μ-loop
 loop-holds c = (omega arith, refl, refl)
@@ -57,7 +69,8 @@ same-length c = c .before .loop .inv .1
 returns : tie.Need-returns Inv-loop μ-loop
 returns c =
     let l = c .before .loop in
-    each-all (l .counts) _ (l .i) (omega arith) ∙ l .inv .2
+    let a = c .before .before .before .before .before .args in
+    by (l .counts) (now (a .more)) (l .i) (omega arith) ∙ l .inv .2
 
 pub add-each-spec : {M : Type 1} → statement M
 add-each-spec =
@@ -65,6 +78,7 @@ add-each-spec =
     (tie.spec
     Inv-loop
     μ-loop
+    shorter-requires
     loop-holds
     mul-wrapping-add-u64
     slice-read-wrapping-add-u64
