@@ -72,7 +72,7 @@ refusing n = record {
 }
 
 -- the numbers from one on
-abbrev from : ℕ → ℕ → List ℕ
+abbrev pub from : ℕ → ℕ → List ℕ
 from j zero = []
 from j (suc m) = j ∷ from (suc j) m
 

@@ -5,4 +5,6 @@ pub mod Limits
 pub mod Sums
 pub mod Ones
 pub mod Held
+pub mod Taking
+pub mod Lines
 pub mod Examples

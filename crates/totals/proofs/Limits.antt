@@ -25,11 +25,11 @@ pub more-rows : (xs : List Line) (l : Line) → length (rowsOver (xs ++ (l ∷ [
 unfolding rowsOver
 more-rows xs l = count-append xs (l ∷ []) ∙ ap (λ (n : ℕ). length (rowsOver xs) + n) (ap length (append-nil (rowsIn l)))
 
-data Passing (xs : List Line) (l : Line) : Bool → Type 0 where
+pub data Passing (xs : List Line) (l : Line) : Bool → Type 0 where
   passing : (Within (xs ++ (l ∷ [])) → ⊥) → Passing xs l true
   staying : Within (xs ++ (l ∷ [])) → Passing xs l false
 
-passing-is : (xs : List Line) (l : Line) → Passing xs l (passes (totals xs) l)
+pub passing-is : (xs : List Line) (l : Line) → Passing xs l (passes (totals xs) l)
 unfolding totals
 passing-is xs l = go (ltb limit (length xs + 1)) (ltb limit (length (rowsOver xs) + length (rowsIn l))) refl refl
   where

@@ -56,7 +56,7 @@ row-size : (z : ℤ) → SFits w64 z → natAbs z ≤ 2 ^ 63
 row-size (pos n) f = omega (arith, f .sfits)
 row-size (negsuc n) f = omega (arith, f .sfits)
 
-rows-size : (zs : List ℤ) → AllI64 zs → natAbs (sumOf zs) ≤ length zs * 2 ^ 63
+pub rows-size : (zs : List ℤ) → AllI64 zs → natAbs (sumOf zs) ≤ length zs * 2 ^ 63
 unfolding sumOf
 rows-size [] h = omega arith
 rows-size (z ∷ zs) h = omega (arith, sum-size z (sumOf zs), row-size z (h .0), rows-size zs (h .1))
@@ -135,7 +135,7 @@ neg-value q r h l =
     let f : turned (turned r) ≡ r = omega arith in
     rw (le-ltb (turned q) (2 ^ 63) (omega arith), e, f)
 
-value : (z : ℤ) → natAbs z ≤ 2 ^ 95 → wordsValue (wordsOf z) ≡ z
+pub value : (z : ℤ) → natAbs z ≤ 2 ^ 95 → wordsValue (wordsOf z) ≡ z
 value (pos n) h =
     let s = split n in
     ap wordsValue (pos-words s) ∙ pos-value (n / two64) (n % two64) (small n h) ∙ ap pos (sym (s .number))
@@ -192,7 +192,7 @@ comm v w =
     let f : v .low + w .low ≡ w .low + v .low = omega arith in
     rw (e, f)
 
-added : (a b : ℤ) → natAbs a ≤ 2 ^ 95 → natAbs b ≤ 2 ^ 95 → addWords (wordsOf a) (wordsOf b) ≡ wordsOf (a +ℤ b)
+pub added : (a b : ℤ) → natAbs a ≤ 2 ^ 95 → natAbs b ≤ 2 ^ 95 → addWords (wordsOf a) (wordsOf b) ≡ wordsOf (a +ℤ b)
 unfolding wordsOf
 added (pos a) (pos b) h l = up (split a) (split b) (small a h) (small b l) (split (a % two64 + b % two64))
 added (pos a) (negsuc b) h l = differ (split a) (split b) (small a h) (small b (omega arith))

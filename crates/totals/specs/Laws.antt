@@ -15,7 +15,7 @@ use Rattle.format.specs.Parse.{parse, into}
 use Rattle.format.specs.Promises.{answerOf, placesOf}
 use Rattle.format.specs.Writing.{AllI64}
 use Rattle.format.specs.Booleans.{ByteRun, AllValidRuns, Needed, bits, joinedBytes, booleansOf}
-use Rattle.totals.specs.Totals.{Line, answered, rowsOver, lower, higher, ofAll, Season, totals, empty, combine, step, tooMany, passes, limit, Outcome, all, twenty, takeLines}
+use Rattle.totals.specs.Totals.{Line, refusal, answered, rowsOver, lower, higher, ofAll, Season, totals, empty, combine, step, tooMany, passes, limit, Outcome, all, twenty, takeLines}
 use Rattle.totals.specs.declared.Extreme.the-variants.{None, Row}
 use Rattle.totals.specs.declared.Count.the-variants.{True, Refused}
 use Rattle.totals.specs.Words.{wordsOf, wordsValue, addWords}
@@ -100,12 +100,19 @@ pub record Told (ls : List Line) : Type 0 where
 abbrev pub CodeTells : Type 0
 CodeTells = (ls : List Line) → I64 ls → Within ls → Told ls
 
--- a line's bytes, by the run reader's answer and the rows that it leaves in the first places
+-- the numbers of document 01's table, as document 02 leaves it, but for 8, which 512 places never meet
+pub data Listed : ℕ → Type 0 where
+  from-1 : (n : ℕ) → 1 ≤ n → n ≤ 7 → Listed n
+  from-12 : (n : ℕ) → 12 ≤ n → n ≤ 14 → Listed n
+
+-- a line's bytes are answered as the run reader answers them, which leaves the rows in the first places; and a line is refused with these numbers alone
+pub record LineRead (flag : ℕ) (bytes : List ℕ) (at : ℕ) (out : List ℤ) : Type 0 where
+  pub as-answered : let m = into 512 (parse bytes) in let r = answerOf at (length bytes) m in
+      lineWith (replyTo r) (take (answerRows r) (placesOf (eqb flag 1) out m)) ≡ answered (flag ∷ bytes)
+  pub listed : (n : ℕ) → answered (flag ∷ bytes) ≡ refusal n → Listed n
+
 abbrev pub LinesRead : Type 0
-LinesRead =
-    (flag : ℕ) (bytes : List ℕ) (at : ℕ) (out : List ℤ) → AllBelow 256 bytes → length out ≡ 512
-    → let r = answerOf at (length bytes) (into 512 (parse bytes)) in
-    lineWith (replyTo r) (take (answerRows r) (placesOf (eqb flag 1) out (into 512 (parse bytes)))) ≡ answered (flag ∷ bytes)
+LinesRead = (flag : ℕ) (bytes : List ℕ) (at : ℕ) (out : List ℤ) → AllBelow 256 bytes → LineRead flag bytes at out
 
 -- ---- ONES: the count is the number of true booleans among the first n
 

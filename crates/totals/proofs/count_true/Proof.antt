@@ -61,9 +61,9 @@ returns-4 c =
     let bytes = now (a .bytes) in
     let e : a .n ≡ 8 * (a .n / 8) + a .n % 8 = omega arith in
     let more : onesIn (a .n) bytes ≡ w .ones-in .result + c .ones-of .result =
-      ap (λ (m : ℕ). onesIn m bytes) e
-      ∙ ones-more (a .n / 8) (a .n % 8) bytes (omega arith) (omega arith) (omega arith) (λ j. k .shared-slice-known .given j .fits)
-      ∙ rw (w .ones-in .ensures, c .ones-of .ensures) in
+    ap (λ (m : ℕ). onesIn m bytes) e
+    ∙ ones-more (a .n / 8) (a .n % 8) bytes (omega arith) (omega arith) (omega arith) (λ j. k .shared-slice-known .given j .fits)
+    ∙ rw (w .ones-in .ensures, c .ones-of .ensures) in
     ap True (sym more) ∙ sym (enough (a .n) bytes (omega arith))
 
 pub count-true-spec : {M : Type 1} → statement M
