@@ -13,7 +13,7 @@ use Rattle.format.specs.Rows.{plus}
 use Rattle.format.specs.declared.Kind.{Kind}
 use Rattle.format.specs.declared.Kind.the-variants.{ShortRepeat, Direct, PatchedBase, Delta, Booleans, ByteValues}
 use Rattle.format.specs.Answers.{kindNumber}
-use Rattle.totals.specs.Totals.{bad, ended, refusal, run, isRefusal, isRun, counted, rowsOver, lower, higher, ofAll, sumOf, totals}
+use Rattle.totals.specs.Totals.{bad, ended, refusal, run, isRefusal, isRun, counted, rowsOver, lower, higher, ofAll, sumOf, totals, empty}
 use Rattle.totals.specs.declared.Totals.{Totals}
 use Rattle.totals.specs.declared.Extreme.the-variants.{None}
 use Rattle.totals.specs.Words.{wordsOf}
@@ -47,13 +47,17 @@ each-rest (x ∷ xs) = refl
 pub each-left : (xs ys : List ℕ) (i : ℕ) → length ys ≤ i → xs ≡ take i xs ++ eachPlus (drop i xs) (drop i ys)
 each-left xs ys i h = rw (drop-of-length-le ys h, each-rest (drop i xs)) (sym (take-append-drop i xs))
 
--- ---- one line, held
+-- ---- no line, and one, held
 
-pub one-bad : held (totals (bad ∷ [])) ≡ counting 1 0
+pub no-line : held empty ≡ counting 0 0 0
+unfolding held numbers kinds totals counted rowsOver ofAll sumOf wordsOf
+no-line = refl
+
+pub one-bad : held (totals (bad ∷ [])) ≡ counting 1 1 0
 unfolding held numbers kinds totals counted rowsOver ofAll sumOf wordsOf
 one-bad = refl
 
-pub one-end : held (totals (ended ∷ [])) ≡ counting 0 1
+pub one-end : held (totals (ended ∷ [])) ≡ counting 1 0 1
 unfolding held numbers kinds totals counted rowsOver ofAll sumOf wordsOf
 one-end = refl
 

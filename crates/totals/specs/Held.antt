@@ -62,10 +62,10 @@ held t = record {
   sum = wordsOf (t .sum);
 }
 
--- the struct of one line without rows
-abbrev pub counting : ℕ → ℕ → Totals
-counting bads ends = record {
-  lines = 1;
+-- the struct of lines without rows, so many of them bad, and so many ends
+abbrev pub counting : ℕ → ℕ → ℕ → Totals
+counting lines bads ends = record {
+  lines = lines;
   bads = bads;
   ends = ends;
   refusals = replicate 15 0;

@@ -167,9 +167,10 @@ fn range_of(rows: &[i64]) -> Range
     ensures { λ r. ⌜ (r .smallest ≡ ofAll lower (now (rows .entry))) × (r .largest ≡ ofAll higher (now (rows .entry))) ⌝ }
 {
     if rows.len() == 0 {
+        let none = Extreme::None;
         return Range {
-            smallest: Extreme::None,
-            largest: Extreme::None,
+            smallest: none,
+            largest: none,
         };
     }
     let mut smallest = rows[0];
@@ -274,25 +275,15 @@ impl Totals {
     pub fn empty() -> Self
         ensures { λ r. ⌜ r ≡ held empty ⌝ }
     {
-        Totals {
-            lines: 0,
-            bads: 0,
-            ends: 0,
-            refusals: [0; 15],
-            runs: [0; 6],
-            rows: 0,
-            smallest: Extreme::None,
-            largest: Extreme::None,
-            sum: Words { high: 0, low: 0 },
-        }
+        Totals::counting(0, 0, 0)
     }
 
-    // Of one line without rows, which is bad or an end or neither.
-    fn counting(bads: u64, ends: u64) -> Self
-        ensures { λ r. ⌜ r ≡ counting bads ends ⌝ }
+    // Of lines without rows, so many of them bad, and so many ends.
+    fn counting(lines: u64, bads: u64, ends: u64) -> Self
+        ensures { λ r. ⌜ r ≡ counting lines bads ends ⌝ }
     {
         Totals {
-            lines: 1,
+            lines,
             bads,
             ends,
             refusals: [0; 15],
@@ -333,11 +324,11 @@ impl Totals {
         ensures { λ r. ⌜ r ≡ held (totals (lineWith reply (now (rows .entry)) ∷ [])) ⌝ }
     {
         match reply {
-            Reply::Bad => Totals::counting(1, 0),
-            Reply::End => Totals::counting(0, 1),
+            Reply::Bad => Totals::counting(1, 1, 0),
+            Reply::End => Totals::counting(1, 0, 1),
             Reply::Refused(number) => {
                 let at = slot(number);
-                let mut one = Totals::counting(0, 0);
+                let mut one = Totals::counting(1, 0, 0);
                 one.refusals[at] = 1;
                 one
             }

@@ -1,14 +1,15 @@
 -- `Totals::empty` meets its contract. Assumes nothing.
-use mathlib.Core.Path.{refl}
-use Rattle.totals.specs.Totals.{totals, counted, rowsOver, ofAll, sumOf}
-use Rattle.totals.specs.Held.{held, numbers, kinds}
-use Rattle.totals.specs.Words.{wordsOf}
+use mathlib.Core.Path.{sym, _∙_}
+use borrow.Author.Needs.{needs}
+use Rattle.totals.proofs.Held.{no-line}
 use Rattle.totals.proofs.Totals.empty.Statement.{statement}
 use Rattle.totals.proofs.Totals.empty.Tie as tie
 
+counting-requires : tie.Need-counting-requires
+counting-requires c κs = search needs
+
 returns : tie.Need-returns
-unfolding held numbers kinds totals counted rowsOver ofAll sumOf wordsOf
-returns c = refl
+returns c = c .counting .ensures ∙ sym no-line
 
 pub empty-spec : {M : Type 1} → statement M
-empty-spec = tie.close (tie.spec returns)
+empty-spec = tie.close (tie.spec counting-requires returns)
