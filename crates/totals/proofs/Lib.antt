@@ -3,6 +3,7 @@ pub mod Order
 pub mod Combining
 pub mod Limits
 pub mod Sums
+pub mod Decimal
 pub mod Ones
 pub mod Held
 pub mod Taking

@@ -1,6 +1,8 @@
 -- THE SUM IN TWO WORDS of 64 bits: two's complement, so that sums are added word by word, modulo 2^64, with the low words' carry.
 -- Assumes nothing.
 use Prim.Native.Nat.{ℕ, _+_, _-_, _*_, _/_, _%_, _^_}
+use mathlib.Core.Path.{_≡_}
+use mathlib.Core.Bool.{Bool, true, false}
 use lib.IntN.{ℤ, pos, negsuc}
 use lib.Dec.{ltb}
 use Rattle.format.specs.Fields.{pick, two64}
@@ -24,3 +26,16 @@ addWords v w = record {
   high = (v .high + w .high + (v .low + w .low) / two64) % two64;
   low = (v .low + w .low) % two64;
 }
+
+-- ---- IN DECIMAL: two words as a number that is not below 0, and its last digit
+
+abbrev pub sizeOf : Words → ℕ
+sizeOf w = w .high * two64 + w .low
+
+abbrev pub isNegative : ℤ → Bool
+isNegative (pos n) = false
+isNegative (negsuc n) = true
+
+pub record IsTenth (n quotient digit : ℕ) : Type 0 where
+  pub quotient-is : quotient ≡ n / 10
+  pub digit-is : digit ≡ n % 10

@@ -5,9 +5,10 @@ ghost use mathlib.Core.List.{_∷_, []};
 ghost use Prim.Native.Nat.{_+_, _-_, _*_, _/_, _^_, _≤_, _<_, min};
 ghost use lib.ListN.{length};
 ghost use lib.Dec.{ltb};
+ghost use lib.IntN.{natAbs};
 ghost use lib.Count.{ones};
 ghost use Rattle.totals.specs.Totals.{run, rowsIn, lower, higher, ofTwo, ofAll, sumOf, totals, empty, limit};
-ghost use Rattle.totals.specs.Words.{wordsOf, addWords};
+ghost use Rattle.totals.specs.Words.{wordsOf, wordsValue, sizeOf, isNegative, IsTenth, addWords};
 ghost use Rattle.totals.specs.Held.{slot, lineWith, replyTo, held, counting, eachPlus, together, going, stopped, combined, takeLine};
 ghost use Rattle.totals.specs.Ones.{onesIn, countTrue};
 use format::Answer;
@@ -21,6 +22,12 @@ pub const LIMIT: u64 = 4294967296;
 pub struct Words {
     pub high: u64,
     pub low: u64,
+}
+
+// A number in two words, divided by ten.
+pub struct Tenth {
+    pub quotient: Words,
+    pub digit: u8,
 }
 
 // The smallest or the largest of some rows: none where there are none.
@@ -105,6 +112,42 @@ impl Words {
             }
         } else {
             Words { high, low }
+        }
+    }
+
+    // Below 0: the top bit is set.
+    pub fn is_negative(self) -> bool
+        ensures { λ r. ⌜ r ≡ isNegative (wordsValue self) ⌝ }
+    {
+        9223372036854775808 <= self.high
+    }
+
+    // The size of the whole number, in two words: one below 0 has its bits turned over, and one more.
+    pub fn size(self) -> Self
+        ensures { λ r. ⌜ sizeOf r ≡ natAbs (wordsValue self) ⌝ }
+    {
+        if self.high < 9223372036854775808 {
+            return self;
+        }
+        let turned = Words {
+            high: 18446744073709551615 - self.high,
+            low: 18446744073709551615 - self.low,
+        };
+        turned.plus(Words { high: 0, low: 1 })
+    }
+
+    // The last decimal digit, and the number without it: a half word at a time, so that what is left of the one before stands above the next.
+    pub fn tenth(self) -> Tenth
+        ensures { λ r. ⌜ IsTenth (sizeOf self) (sizeOf (r .quotient)) (r .digit) ⌝ }
+    {
+        let upper = self.high % 10 * 4294967296 + self.low / 4294967296;
+        let lower = upper % 10 * 4294967296 + self.low % 4294967296;
+        Tenth {
+            quotient: Words {
+                high: self.high / 10,
+                low: upper / 10 * 4294967296 + lower / 10,
+            },
+            digit: (lower % 10) as u8,
         }
     }
 }
