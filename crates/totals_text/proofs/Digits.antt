@@ -3,7 +3,7 @@ use mathlib.Core.Path.{_≡_, refl, sym, ap, _∙_}
 use Prim.Native.Nat.{ℕ, zero, suc, _+_, _-_, _*_, _/_, _%_, _^_, _<_, _≤_}
 use native.Mathlib.Omega.{arith}
 use native.Mathlib.Decide.{decLt}
-use native.Mathlib.Nat.{pow-suc, div-add-mod', mod-lt, zero-lt-suc, le-refl, lt-of-lt-of-le}
+use native.Mathlib.Nat.{pow-suc, div-add-mod', mod-lt, zero-lt-suc, le-refl, le-trans, lt-trans, lt-of-le-of-lt}
 use mathlib.Core.Bool.{Bool, true, false}
 use mathlib.Core.List.{List, [], _∷_, _++_, map}
 use lib.ListN.{length, length-append}
@@ -17,7 +17,7 @@ use Rattle.format.proofs.Digits.{number-snoc}
 use Rattle.totals.proofs.Taking.{code-tells}
 use Rattle.text.specs.Decimal.{decimalIn, decimal}
 use Rattle.totals.specs.declared.Words.{Words}
-use Rattle.totals.specs.Words.{isNegative, sizeOf, IsTenth}
+use Rattle.totals.specs.Words.{turned, wordsValue, isNegative, sizeOf, IsTenth}
 use Rattle.totals_text.specs.Text.{numberText, wholeText, written, SumText}
 
 module _ (k x : ℕ) where
@@ -71,12 +71,26 @@ digits-most (suc k) x = by (ltb x 10) (digits-most k (x / 10))
     by true l = omega arith
     by false l = omega (arith, length-append (decimalIn k (x / 10)) ((48 + x % 10) ∷ []))
 
-pub two-words : (h l : ℕ) → h < two64 → l < two64 → length (numberText (h * two64 + l)) ≤ 39
+within : (x : ℕ) → x < 10 ^ 39 → length (numberText x) ≤ 39
 unfolding numberText
-two-words h l p q =
-    let x = h * two64 + l in
-    let small : x < 10 ^ 39 = lt-of-lt-of-le (digits-lt p q) (leb→le (two64 * two64) (10 ^ 39) tt) in
-    rw (sym (enough 38 x x small (le-refl (suc x)))) (digits-most 39 x)
+within x h = rw (sym (enough 38 x x h (le-refl (suc x)))) (digits-most 39 x)
+
+below-all : (h l : ℕ) → h < two64 → l < two64 → h * two64 + l < two64 * two64
+below-all h l p q = digits-lt p q
+
+pub whole-length : (w : Words) → w .high < two64 → w .low < two64 → length (wholeText (wordsValue w)) ≤ 40
+unfolding wordsValue wholeText
+whole-length w h l = by (ltb (w .high) (2 ^ 63))
+  where
+    all : two64 * two64 < 10 ^ 39
+    all = leb→le (suc (two64 * two64)) (10 ^ 39) tt
+
+    by : (t : Bool) → length (wholeText (pick t (pos (w .high * two64 + w .low)) (negsuc (turned (w .high) * two64 + turned (w .low))))) ≤ 40
+    by true = le-trans (within _ (lt-trans (below-all (w .high) (w .low) h l) all)) (omega arith)
+    by false = le-of-suc (within _ (lt-of-le-of-lt (below-all (turned (w .high)) (turned (w .low)) (omega arith) (omega arith)) all))
+      where
+        le-of-suc : {n : ℕ} → n ≤ 39 → suc n ≤ 40
+        le-of-suc k = omega arith
 
 -- ---- the whole number, by its sign and size
 

@@ -1,14 +1,22 @@
-// The text of totals: the sum as a whole number in decimal.
+// The text of totals: a line for each count, for the smallest and the largest row, and for the sum as a whole number.
 ghost use mathlib.Core.Path.{_≡_};
 ghost use Prim.Native.Nat.{_+_, _≤_};
 ghost use lib.ListN.{length};
 ghost use Rattle.text.specs.Written.{Written};
 ghost use Rattle.totals.specs.Words.{wordsValue, sizeOf};
-ghost use Rattle.totals_text.specs.Text.{numberText, wholeText};
+ghost use Rattle.totals_text.specs.Text.{numberText, wholeText, countLine, extremeLine, refusalLine, refusalsText};
 use text::put;
 use text::put_decimal;
+use text::put_rows;
+use text::put_word;
+use totals::Extreme;
 use totals::Tenth;
 use totals::Words;
+
+// The fixed words.
+const REFUSED: [u8; 8] = *b"refused ";
+
+const NONE: [u8; 5] = *b" none";
 
 // A number in two words: the digits above its last, and then that. What fits one word is written as such.
 fn put_size(size: Words, out: &mut [u8], at: usize) -> usize
@@ -25,7 +33,7 @@ fn put_size(size: Words, out: &mut [u8], at: usize) -> usize
 }
 
 // The whole number that two words stand for: one below 0 is a minus sign and its size.
-pub fn put_whole(words: Words, out: &mut [u8], at: usize) -> usize
+fn put_whole(words: Words, out: &mut [u8], at: usize) -> usize
     requires { ⌜ at + length (wholeText (wordsValue words)) ≤ length (now out) ⌝ }
     ensures { λ r. ⌜ Written (wholeText (wordsValue words)) (now (out .entry)) at (now (out .exit)) r ⌝ }
 {
@@ -35,4 +43,62 @@ pub fn put_whole(words: Words, out: &mut [u8], at: usize) -> usize
         return put_size(size, out, next);
     }
     put_size(size, out, at)
+}
+
+// A word and a count, on a line.
+fn put_count(word: &[u8], count: u64, out: &mut [u8], at: usize) -> usize
+    requires { ⌜ at + (length (now word) + 21) ≤ length (now out) ⌝ }
+    ensures { λ r. ⌜ Written (countLine (now (word .entry)) count) (now (out .entry)) at (now (out .exit)) r ⌝ }
+{
+    let mut place = put_word(word, out, at);
+    place = put_decimal(count, out, place);
+    put(b'\n', out, place)
+}
+
+// A word, and a row or none, on a line.
+fn put_extreme(word: &[u8], extreme: Extreme, out: &mut [u8], at: usize) -> usize
+    requires { ⌜ at + (length (now word) + 23) ≤ length (now out) ⌝ }
+    ensures { λ r. ⌜ Written (extremeLine (now (word .entry)) extreme) (now (out .entry)) at (now (out .exit)) r ⌝ }
+{
+    let place = put_word(word, out, at);
+    match extreme {
+        Extreme::None => {
+            let next = put_word(&NONE, out, place);
+            put(b'\n', out, next)
+        }
+        Extreme::Row(row) => {
+            let rows = [row];
+            let next = put_rows(&rows, 1, out, place);
+            put(b'\n', out, next)
+        }
+    }
+}
+
+// A refusal's number and its count, on a line.
+fn put_refusal(number: u64, count: u64, out: &mut [u8], at: usize) -> usize
+    requires { ⌜ at + 50 ≤ length (now out) ⌝ }
+    ensures { λ r. ⌜ Written (refusalLine number count) (now (out .entry)) at (now (out .exit)) r ⌝ }
+{
+    let mut place = put_word(&REFUSED, out, at);
+    place = put_decimal(number, out, place);
+    place = put(b' ', out, place);
+    place = put_decimal(count, out, place);
+    put(b'\n', out, place)
+}
+
+// The refusals by number.
+fn put_refusals(counts: [u64; 15], out: &mut [u8], at: usize) -> usize
+    requires { ⌜ at + 500 ≤ length (now out) ⌝ }
+    ensures { λ r. ⌜ Written (refusalsText counts) (now (out .entry)) at (now (out .exit)) r ⌝ }
+{
+    let mut place = put_refusal(1, counts[1], out, at);
+    place = put_refusal(2, counts[2], out, place);
+    place = put_refusal(3, counts[3], out, place);
+    place = put_refusal(4, counts[4], out, place);
+    place = put_refusal(5, counts[5], out, place);
+    place = put_refusal(6, counts[6], out, place);
+    place = put_refusal(7, counts[7], out, place);
+    place = put_refusal(12, counts[12], out, place);
+    place = put_refusal(13, counts[13], out, place);
+    put_refusal(14, counts[14], out, place)
 }
