@@ -4,16 +4,42 @@ ghost use Prim.Native.Nat.{_+_, _≤_};
 ghost use lib.ListN.{length};
 ghost use Rattle.text.specs.Written.{Written};
 ghost use Rattle.totals.specs.Words.{wordsValue, sizeOf};
-ghost use Rattle.totals_text.specs.Text.{numberText, wholeText, countLine, extremeLine, refusalLine, refusalsText};
+ghost use Rattle.totals_text.specs.Text.{numberText, wholeText, countLine, extremeLine, refusalLine, refusalsText, runsText, sumLine, totalsText, Shown};
 use text::put;
 use text::put_decimal;
 use text::put_rows;
 use text::put_word;
 use totals::Extreme;
 use totals::Tenth;
+use totals::Totals;
 use totals::Words;
 
 // The fixed words.
+const LINES: [u8; 6] = *b"lines ";
+
+const BAD: [u8; 4] = *b"bad ";
+
+const END: [u8; 4] = *b"end ";
+
+const SHORT: [u8; 6] = *b"short ";
+
+const DIRECT: [u8; 7] = *b"direct ";
+
+const PATCHED: [u8; 8] = *b"patched ";
+
+const DELTA: [u8; 6] = *b"delta ";
+
+const ROWS: [u8; 5] = *b"rows ";
+
+const SMALLEST: [u8; 8] = *b"smallest";
+
+const LARGEST: [u8; 7] = *b"largest";
+
+const SUM: [u8; 4] = *b"sum ";
+
+// Room for the lines of any totals.
+pub const ROOM: usize = 1024;
+
 const REFUSED: [u8; 8] = *b"refused ";
 
 const NONE: [u8; 5] = *b" none";
@@ -101,4 +127,59 @@ fn put_refusals(counts: [u64; 15], out: &mut [u8], at: usize) -> usize
     place = put_refusal(12, counts[12], out, place);
     place = put_refusal(13, counts[13], out, place);
     put_refusal(14, counts[14], out, place)
+}
+
+// The sum, on a line.
+fn put_sum(sum: Words, out: &mut [u8], at: usize) -> usize
+    requires { ⌜ at + 45 ≤ length (now out) ⌝ }
+    ensures { λ r. ⌜ Written (sumLine (wordsValue sum)) (now (out .entry)) at (now (out .exit)) r ⌝ }
+{
+    let words = Words {
+        high: sum.high,
+        low: sum.low,
+    };
+    let mut place = put_word(&SUM, out, at);
+    place = put_whole(words, out, place);
+    put(b'\n', out, place)
+}
+
+// The runs by kind, and their rows.
+fn put_runs(runs: [u64; 6], rows: u64, out: &mut [u8], at: usize) -> usize
+    requires { ⌜ at + 140 ≤ length (now out) ⌝ }
+    ensures { λ r. ⌜ Written (runsText runs rows) (now (out .entry)) at (now (out .exit)) r ⌝ }
+{
+    let mut place = put_count(&SHORT, runs[0], out, at);
+    place = put_count(&DIRECT, runs[1], out, place);
+    place = put_count(&PATCHED, runs[2], out, place);
+    place = put_count(&DELTA, runs[3], out, place);
+    put_count(&ROWS, rows, out, place)
+}
+
+fn put_totals(totals: Totals, out: &mut [u8]) -> usize
+    requires { ⌜ 1024 ≤ length (now out) ⌝ }
+    ensures { λ r. ⌜ Written (totalsText totals) (now (out .entry)) 0 (now (out .exit)) r ⌝ }
+{
+    let refusals = totals.refusals;
+    let runs = totals.runs;
+    let smallest = totals.smallest;
+    let largest = totals.largest;
+    let sum = totals.sum;
+    let mut at = put_count(&LINES, totals.lines, out, 0);
+    at = put_count(&BAD, totals.bads, out, at);
+    at = put_count(&END, totals.ends, out, at);
+    at = put_refusals(refusals, out, at);
+    at = put_runs(runs, totals.rows, out, at);
+    at = put_extreme(&SMALLEST, smallest, out, at);
+    at = put_extreme(&LARGEST, largest, out, at);
+    put_sum(sum, out, at)
+}
+
+// The lines of totals, in the first bytes of `out`: how many bytes they are. Nothing is written where `out` has less room than any totals need.
+pub fn show(totals: Totals, out: &mut [u8]) -> usize
+    ensures { λ r. ⌜ Shown totals (now (out .entry)) (now (out .exit)) r ⌝ }
+{
+    if out.len() < ROOM {
+        return 0;
+    }
+    put_totals(totals, out)
 }
