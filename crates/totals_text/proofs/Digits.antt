@@ -14,10 +14,10 @@ use borrow.Author.Tests.{lt-ltb, le-ltb}
 use Rattle.format.specs.Fields.{pick, two64}
 use Rattle.format.specs.Digits.{number}
 use Rattle.format.proofs.Digits.{number-snoc}
-use Rattle.totals.proofs.Taking.{code-tells}
+use Rattle.season.proofs.Taking.{code-tells}
 use Rattle.text.specs.Decimal.{decimalIn, decimal}
-use Rattle.totals.specs.declared.Words.{Words}
-use Rattle.totals.specs.Words.{turned, wordsValue, isNegative, sizeOf, IsTenth}
+use Rattle.season.specs.declared.Words.{Words}
+use Rattle.season.specs.Words.{turned, wordsValue, isNegative, sizeOf, IsTenth}
 use Rattle.totals_text.specs.Text.{numberText, wholeText, written, SumText}
 
 module _ (k x : ℕ) where

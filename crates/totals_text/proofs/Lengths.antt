@@ -9,8 +9,8 @@ use Rattle.text.specs.Ascii.{ascii}
 use Rattle.text.specs.Decimal.{decimal, rowText, rowsText}
 use Rattle.text.specs.Written.{Written}
 use Rattle.text.proofs.Texts.{decimal-length, row-length}
-use Rattle.totals.specs.declared.Extreme.{Extreme}
-use Rattle.totals.specs.declared.Extreme.the-variants.{None, Row}
+use Rattle.season.specs.declared.Extreme.{Extreme}
+use Rattle.season.specs.declared.Extreme.the-variants.{None, Row}
 use Rattle.totals_text.specs.Text.{countLine, extremeText, extremeLine, refusalLine, numbered, refusalsText, runsText}
 
 pub count-length : (word : List ℕ) (n : ℕ) → length (countLine word n) ≤ length word + 21

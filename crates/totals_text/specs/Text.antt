@@ -9,13 +9,13 @@ use lib.Dec.{ltb}
 use lib.IntN.{ℤ, pos, negsuc}
 use Rattle.format.specs.Digits.{number}
 use Rattle.format.specs.Fields.{pick}
-use Rattle.totals.specs.declared.Totals.{Totals}
-use Rattle.totals.specs.declared.Extreme.{Extreme}
-use Rattle.totals.specs.declared.Extreme.the-variants.{None, Row}
-use Rattle.totals.specs.Totals.{Line, totals}
-use Rattle.totals.specs.Words.{wordsValue}
-use Rattle.totals.specs.Held.{held}
-use Rattle.totals.specs.Laws.{I64, Within}
+use Rattle.season.specs.declared.Totals.{Totals}
+use Rattle.season.specs.declared.Extreme.{Extreme}
+use Rattle.season.specs.declared.Extreme.the-variants.{None, Row}
+use Rattle.season.specs.Totals.{Line, totals}
+use Rattle.season.specs.Words.{wordsValue}
+use Rattle.season.specs.Held.{held}
+use Rattle.season.specs.Laws.{I64, Within}
 use Rattle.text.specs.Ascii.{ascii}
 use Rattle.text.specs.Decimal.{decimalIn, decimal, rowsText}
 

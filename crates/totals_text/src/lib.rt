@@ -3,16 +3,16 @@ ghost use mathlib.Core.Path.{_≡_};
 ghost use Prim.Native.Nat.{_+_, _≤_};
 ghost use lib.ListN.{length};
 ghost use Rattle.text.specs.Written.{Written};
-ghost use Rattle.totals.specs.Words.{wordsValue, sizeOf};
+ghost use Rattle.season.specs.Words.{wordsValue, sizeOf};
 ghost use Rattle.totals_text.specs.Text.{numberText, wholeText, countLine, extremeLine, refusalLine, refusalsText, runsText, sumLine, totalsText, Shown};
 use text::put;
 use text::put_decimal;
 use text::put_rows;
 use text::put_word;
-use totals::Extreme;
-use totals::Tenth;
-use totals::Totals;
-use totals::Words;
+use season::Extreme;
+use season::Tenth;
+use season::Totals;
+use season::Words;
 
 // The fixed words.
 const LINES: [u8; 6] = *b"lines ";

@@ -6,7 +6,7 @@ use native.Mathlib.Omega.{arith}
 use borrow.Author.Needs.{needs}
 use Rattle.text.proofs.Texts.{then-written}
 use Rattle.totals_text.proofs.Digits.{low-word, tenth-less, last-digit, one-longer, digit-below}
-use Rattle.totals.specs.Words.{sizeOf}
+use Rattle.season.specs.Words.{sizeOf}
 use borrow.Fn.Kinds.{In}
 use borrow.Fn.PlainCycle.{Measures, is, falls, and}
 use Rattle.totals_text.proofs.put_size.Reads as put-size
@@ -14,7 +14,7 @@ use Rattle.totals_text.proofs.put_size.Kinds as put-size-kinds
 use Rattle.totals_text.proofs.+put_size.Lts-put_size as put-size-lts
 use Rattle.text.proofs.put.Reads as put-reads
 use Rattle.text.proofs.put_decimal.Reads as put-decimal-reads
-use Rattle.totals.proofs.Words.tenth.Reads as tenth-reads
+use Rattle.season.proofs.Words.tenth.Reads as tenth-reads
 use Rattle.totals_text.proofs.+put_size.{statement}
 use Rattle.totals_text.proofs.+put_size.Tie.{close}
 

@@ -5,7 +5,7 @@ use mathlib.Core.Bool.{true, false}
 use mathlib.Core.List.{List, [], _∷_, _++_}
 use lib.ListN.{length}
 use Rattle.text.proofs.Texts.{then-written}
-use Rattle.totals.specs.Words.{wordsValue, sizeOf}
+use Rattle.season.specs.Words.{wordsValue, sizeOf}
 use Rattle.totals_text.specs.Text.{numberText, wholeText}
 use Rattle.totals_text.proofs.Digits.{with-minus, without-minus}
 use borrow.Author.Needs.{needs}
