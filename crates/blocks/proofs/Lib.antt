@@ -2,5 +2,5 @@
 pub mod Begun
 pub mod Lines
 pub mod Moves
-pub mod Reads
+pub mod Turns
 pub mod Joined

@@ -6,8 +6,8 @@ ghost use lib.ListN.{length, drop};
 ghost use Rattle.blocks.specs.Blocks.{lineLength, tooLong, part, Kept, Came};
 use libc::STDIN_FILENO;
 
-// As many characters of a line as show that it is too long.
-pub const MAX_HELD: usize = lines::MAX_LINE + 1;
+// As many characters of a line as show that it is over 8,800.
+pub const MAX_HELD: usize = 8801;
 
 // How much is read at once.
 const BLOCK: usize = 65536;

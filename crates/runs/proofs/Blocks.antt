@@ -1,12 +1,12 @@
 -- An input in blocks, cut anywhere, is answered as the whole input is, though no more is held than 8,801 characters of a line.
 -- Assumes nothing.
 use mathlib.Core.Path.{_≡_, refl, sym, ap, ap₂, _∙_}
-use Prim.Native.Nat.{ℕ, zero, suc, _+_, _<_, _%_}
+use Prim.Native.Nat.{ℕ, _+_, _<_, _%_}
 use Prim.Native.Char.{code}
 use native.Mathlib.Omega.{arith}
 use native.Mathlib.Decide.{decLt}
 use mathlib.Core.Bool.{Bool, true, false, _||_, not}
-use mathlib.Core.List.{List, [], _∷_, _++_, append-assoc, append-nil}
+use mathlib.Core.List.{List, [], _∷_, _++_, append-assoc}
 use lib.ListN.{length, take, getD, length-append, length-take}
 use lib.Seq.{take-all}
 use lib.Dec.{eqb, ltb}
@@ -15,7 +15,9 @@ use Rattle.format.specs.Fields.{pick}
 use Rattle.text.specs.Ascii.{ascii}
 use Rattle.text.specs.Hexadecimal.{allHex, hexBytes}
 use Rattle.lines.specs.Line.{badLine, frameOf, frameText, answerText}
-use Rattle.runs.specs.Program.{answered, answersFrom, begunFrom, lastAnswer, programText, NoNewline, kept, blockText, joinedBlocks}
+use Rattle.blocks.specs.Blocks.{begunFrom, NoNewline, kept, joinedBlocks}
+use Rattle.blocks.proofs.Begun.{begun-append, begun-open, no-take, no-begun}
+use Rattle.runs.specs.Program.{answered, answersFrom, lastAnswer, programText, blockText}
 
 -- ---- two blocks
 
@@ -31,43 +33,11 @@ answers-append line (c ∷ a) b = by (eqb c (code "\n")) (answers-append [] a b)
     by true e f = rw (e, append-assoc (answered line) (answersFrom [] a) (answersFrom (begunFrom [] a) b))
     by false e f = f
 
-pub begun-append : (line a b : List ℕ) → begunFrom line (a ++ b) ≡ begunFrom (begunFrom line a) b
-unfolding begunFrom
-begun-append line [] b = refl
-begun-append line (c ∷ a) b = by (eqb c (code "\n")) (begun-append [] a b) (begun-append (line ++ (c ∷ [])) a b)
-  where
-    by : (t : Bool) → begunFrom [] (a ++ b) ≡ begunFrom (begunFrom [] a) b → begunFrom (line ++ (c ∷ [])) (a ++ b) ≡ begunFrom (begunFrom (line ++ (c ∷ [])) a) b
-        → pick t (begunFrom [] (a ++ b)) (begunFrom (line ++ (c ∷ [])) (a ++ b)) ≡ begunFrom (pick t (begunFrom [] a) (begunFrom (line ++ (c ∷ [])) a)) b
-    by true e f = e
-    by false e f = f
-
--- ---- a line has no newline in it
-
-pub no-take : (n : ℕ) (s : List ℕ) → NoNewline s → NoNewline (take n s)
-no-take zero s h = tt
-no-take (suc n) [] h = tt
-no-take (suc n) (c ∷ s) h = (h .0, no-take n s (h .1))
-
-no-more : (s : List ℕ) (c : ℕ) → NoNewline s → eqb c (code "\n") ≡ false → NoNewline (s ++ (c ∷ []))
-no-more [] c h e = (e, tt)
-no-more (d ∷ s) c h e = (h .0, no-more s c (h .1) e)
-
-no-begun : (line s : List ℕ) → NoNewline line → NoNewline (begunFrom line s)
-unfolding begunFrom
-no-begun line [] h = h
-no-begun line (c ∷ s) h = by (eqb c (code "\n")) refl (no-begun [] s tt) (no-begun (line ++ (c ∷ [])) s)
-  where
-    by : (t : Bool) → eqb c (code "\n") ≡ t → NoNewline (begunFrom [] s) → (NoNewline (line ++ (c ∷ [])) → NoNewline (begunFrom (line ++ (c ∷ [])) s))
-        → NoNewline (pick t (begunFrom [] s) (begunFrom (line ++ (c ∷ [])) s))
-    by true e f g = f
-    by false e f g = g (no-more line c h e)
-
+-- where no newline stands no line ends
 pub no-open : (line s : List ℕ) → NoNewline s → (answersFrom line s ≡ []) × (begunFrom line s ≡ line ++ s)
-unfolding answersFrom begunFrom
-no-open line [] h = (refl, sym (append-nil line))
-no-open line (c ∷ s) h =
-    let (a, b) = no-open (line ++ (c ∷ [])) s (h .1) in
-    (rw (h .0) a, rw (h .0) (b ∙ append-assoc line (c ∷ []) s))
+unfolding answersFrom
+no-open line [] h = (refl, begun-open line [] h)
+no-open line (c ∷ s) h = (rw (h .0) (no-open (line ++ (c ∷ [])) s (h .1) .0), begun-open line (c ∷ s) h)
 
 -- ---- a line that is too long is bad, whatever follows in it
 

@@ -7,17 +7,16 @@ use lib.ListN.{length, take, drop}
 use lib.Seq.{take-add, take-at}
 use borrow.Author.Tests.{ne-eqb, le-ltb}
 use Rattle.lines.specs.Line.{answerLine, answerRoom, Answered}
-use Rattle.runs.specs.Program.{answered, answersFrom, begunFrom, lastAnswer, programText, NoNewline}
-use Rattle.runs.proofs.Blocks.{answers-append, begun-append, no-open}
+use Rattle.blocks.specs.Blocks.{begunFrom, NoNewline}
+use Rattle.runs.specs.Program.{answered, answersFrom, lastAnswer, programText}
+use Rattle.blocks.proofs.Begun.{whole-more}
+use Rattle.runs.proofs.Blocks.{answers-append, no-open}
 
 -- ---- whole lines
 
 pub whole-text : (s : List ℕ) → begunFrom [] s ≡ [] → programText s ≡ answersFrom [] s
 unfolding programText lastAnswer
 whole-text s h = rw (h, append-nil (answersFrom [] s))
-
-pub whole-more : (n m : ℕ) (s : List ℕ) → begunFrom [] (take n s) ≡ [] → begunFrom [] (take m (drop n s)) ≡ [] → begunFrom [] (take (n + m) s) ≡ []
-whole-more n m s h k = rw (take-add n m s, begun-append [] (take n s) (take m (drop n s)), h, k)
 
 -- the pieces that are handed over in a turn, joined, are the text of all its whole lines
 pub pieces-join : (n m : ℕ) (s : List ℕ) → begunFrom [] (take n s) ≡ [] → begunFrom [] (take m (drop n s)) ≡ []

@@ -26,7 +26,7 @@ put-answer-requires c κs =
     let s = r .before .before .before .before .before in
     let h =
     reads (now (s .args .frame)) _ _ _ _ (r .before .before .row-places .ensures) (r .read-frame .ensures) in
-    (h .few, omega (arith, h .few, r .before .before .row-places .ensures, r .read-frame .kept .1 .1 .1 .0), s .pre .1)
+    (h .few, omega (arith, h .few, r .before .before .row-places .ensures, r .read-frame .kept .1 .0), s .pre .1)
 
 put-requires : tie.Need-put-requires
 put-requires c κs =
@@ -35,7 +35,7 @@ put-requires c κs =
     let s = r .before .before .before .before .before in
     let h =
     reads (now (s .args .frame)) _ _ _ _ (r .before .before .row-places .ensures) (r .read-frame .ensures) in
-    omega (arith, s .pre, p .put-answer .ensures .next, p .put-answer .kept .1 .1 .0, words-length (r .read-frame .result) _ (r .read-frame .last .1 .1 .1 .0) (h .few))
+    omega (arith, s .pre, p .put-answer .ensures .next, p .put-answer .kept .1 .1 .0, words-length (r .read-frame .result) _ (r .read-frame .last .1 .0) (h .few))
 
 same-length : tie.Need-same-length
 same-length c = search needs

@@ -4,8 +4,8 @@ use native.Mathlib.Omega.{arith}
 use borrow.Author.Needs.{needs}
 use denote.Ref.{now}
 use mir.Facts.{toZ-ofZ}
-use Rattle.runs.specs.Program.{begunFrom}
-use Rattle.runs.proofs.Turns.{held-all}
+use Rattle.blocks.specs.Blocks.{begunFrom}
+use Rattle.blocks.proofs.Turns.{held-all}
 use Rattle.runs.proofs.answer_came.Statement.{statement}
 use Rattle.runs.proofs.answer_came.Tie as tie
 
