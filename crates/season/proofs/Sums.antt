@@ -84,7 +84,7 @@ answer-fits (flag ∷ bytes) h = go (into-outcome 512 bytes (h .1))
     go (into-run {d} t l) = rows-fit (rowsOf (eqb flag 1) d) (rows-below (eqb flag 1) d (t .ok))
     go (into-refusal e) = tt
 
-all-fit : (frames : List (List ℕ)) → AllBytes frames → AllI64 (rowsOver (map answered frames))
+pub all-fit : (frames : List (List ℕ)) → AllBytes frames → AllI64 (rowsOver (map answered frames))
 unfolding rowsOver
 all-fit [] h = tt
 all-fit (f ∷ fs) h = append-fit (rowsIn (answered f)) (rowsOver (map answered fs)) (answer-fits f (h .0)) (all-fit fs (h .1))

@@ -1,0 +1,47 @@
+-- `runs::turn` meets its contract, and hands on as many bytes as the system says that came. Assumes nothing.
+use mathlib.Core.Path.{sym}
+use lib.Seq.{length-take-le}
+use borrow.Author.Needs.{needs}
+use Rattle.blocks.proofs.Turns.{stop-long, held-open}
+use Rattle.runs.proofs.Turns.{turned}
+use Rattle.runs.proofs.turn.Statement.{statement}
+use Rattle.runs.proofs.turn.Tie as tie
+
+read-on-requires : tie.Need-read-on-requires
+read-on-requires c κs = search needs
+
+slice-reshare-prefix-answer-came : tie.Need-slice-reshare-prefix-answer-came
+slice-reshare-prefix-answer-came c = search needs
+
+slice-aggregate-answer-came : tie.Need-slice-aggregate-answer-came
+slice-aggregate-answer-came c = sym (length-take-le _ _ (c .before .before .before .read-on .ensures .within))
+
+answer-came-requires : tie.Need-answer-came-requires
+answer-came-requires c κs =
+    let r = c .before .before .before .before .before in
+    let s = r .before .before .before .before in
+    (stop-long _ _ _ _ _ (r .read-on .ensures), held-open _ _ _ _ _ (r .read-on .ensures) (s .pre .4), s .pre .3)
+
+same-length : tie.Need-same-length
+same-length c = search needs
+
+same-length-2 : tie.Need-same-length-2
+same-length-2 c = search needs
+
+returns : tie.Need-returns
+returns c =
+    let q = c .before .before in
+    let r = q .before .before .before .before .before .before in
+    turned _ _ _ _ _ (r .read-on .ensures) (q .answer-came .result) (q .answer-came .ensures)
+
+pub turn-spec : {M : Type 1} → statement M
+turn-spec =
+    tie.close
+    (tie.spec
+    read-on-requires
+    slice-reshare-prefix-answer-came
+    slice-aggregate-answer-came
+    answer-came-requires
+    same-length
+    same-length-2
+    returns)
