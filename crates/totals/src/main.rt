@@ -7,7 +7,6 @@ use season::Totals;
 use taking::Next;
 use taking::Turn;
 ghost use mathlib.Core.Path.{_≡_};
-ghost use mathlib.Core.Bool.{Bool};
 ghost use Prim.Native.Nat.{_+_, _≤_};
 ghost use lib.ListN.{length, take};
 ghost use Rattle.blocks.specs.Blocks.{tooLong, part, came, NoNewline};
@@ -25,15 +24,21 @@ fn say(totals: Totals, is_stopped: bool, text: &[u8])
     }
 }
 
-// The lines of the totals, and the refusal last where one stopped the reading.
+// The lines of the totals into the first bytes of `out`, and the refusal last where one stopped the reading: how many bytes they are.
+fn put_lines(totals: Totals, is_stopped: bool, out: &mut [u8]) -> usize
+    requires { ⌜ 4096 ≡ length (now out) ⌝ }
+    ensures { λ r. ⌜ (r ≤ length (now (out .exit))) × (take r (now (out .exit)) ≡ writtenFor totals is_stopped) ⌝ }
+{
+    let written = totals_text::show(totals, out);
+    if is_stopped {
+        return text::put_word(&REFUSED_20, out, written);
+    }
+    written
+}
+
 fn tell(totals: Totals, is_stopped: bool) {
     let mut out = io::buffer();
-    let written = totals_text::show(totals, &mut out);
-    if is_stopped {
-        let next = text::put_word(&REFUSED_20, &mut out, written);
-        say(totals, is_stopped, &out[..next]);
-        return;
-    }
+    let written = put_lines(totals, is_stopped, &mut out);
     say(totals, is_stopped, &out[..written]);
 }
 

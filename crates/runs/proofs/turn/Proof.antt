@@ -1,7 +1,12 @@
 -- `runs::turn` meets its contract, and hands on as many bytes as the system says that came. Assumes nothing.
-use mathlib.Core.Path.{sym}
+use mathlib.Core.Path.{sym, ap, _∙_}
+use Prim.Native.Nat.{_+_}
+use mir.Syntax.{w64}
+use mir.Facts.{toZ-ofZ}
+use lib.IntN.{ℤ}
 use lib.Seq.{length-take-le}
 use borrow.Author.Needs.{needs}
+use Rattle.blocks.specs.Blocks.{came}
 use Rattle.blocks.proofs.Turns.{stop-long, held-open}
 use Rattle.runs.proofs.Turns.{turned}
 use Rattle.runs.proofs.turn.Statement.{statement}
@@ -20,7 +25,8 @@ answer-came-requires : tie.Need-answer-came-requires
 answer-came-requires c κs =
     let r = c .before .before .before .before .before in
     let s = r .before .before .before .before in
-    (stop-long _ _ _ _ _ (r .read-on .ensures), held-open _ _ _ _ _ (r .read-on .ensures) (s .pre .4), s .pre .3)
+    let e = toZ-ofZ {w = w64} {z = r .read-on .result .got} (record { sfits = c .struct-told .given .1 .1 .0 .1 }) in
+    (stop-long _ _ _ _ _ (r .read-on .ensures) ∙ ap (λ (z : ℤ). r .read-on .result .held + came z) (sym e), held-open _ _ _ _ _ (r .read-on .ensures) (s .pre .4), s .pre .3)
 
 same-length : tie.Need-same-length
 same-length c = search needs
