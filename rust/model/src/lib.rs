@@ -17,6 +17,7 @@ mod booleans;
 mod labels;
 mod runs;
 mod streams;
+mod totals;
 mod values;
 mod writer;
 
@@ -25,6 +26,7 @@ pub use booleans::{first_run, read_booleans, Booleans};
 pub use labels::{label, Dictionary, Label};
 pub use runs::{list_faults, read_run, Faults};
 pub use streams::{read_stream, Stream};
+pub use totals::{count_true, Ones, Totals, MOST};
 pub use values::{read_value, Value};
 pub use writer::{narrowest_code, write_run, Form, Written};
 
