@@ -4,14 +4,17 @@ use Prim.Native.Nat.{ℕ, _+_, _*_, _<_, _≤_, _%_}
 use native.Mathlib.Omega.{arith}
 use mathlib.Core.Bool.{Bool, true, false, _||_, _&&_, not}
 use mathlib.Core.List.{List, [], _∷_, map, map-map}
-use lib.ListN.{length, take, getD}
+use lib.ListN.{length, take, drop, getD, length-append}
 use lib.Dec.{eqb, ltb}
 use lib.IntN.{ℤ}
 use borrow.Author.Tests.{lt-ltb, ne-eqb, ltb-true}
 use Rattle.format.specs.Digits.{AllBelow}
 use Rattle.format.specs.Fields.{pick}
 use Rattle.format.specs.Answers.{answerRows}
-use Rattle.format.specs.Parse.{parse, into}
+use Rattle.format.specs.Runs.{Description, rowCount}
+use Rattle.format.specs.Rows.{i64Rows}
+use Rattle.format.specs.Parse.{plain, cut, Parsed, end, got, refused, parse, into}
+use Rattle.format.proofs.Rows.{i64-count}
 use Rattle.format.specs.Promises.{answerOf, placesOf}
 use Rattle.format.specs.declared.Answer.{Answer}
 use Rattle.text.specs.Hexadecimal.{hexValue, allHex, hexBytes}
@@ -93,3 +96,20 @@ answer-is (flag ∷ run) out out′ a b l e p =
 pub read-answer : (line : List ℕ) (out out′ : List ℤ) (a : Answer) → length out ≡ 512 → LineRead line out out′ (Answered a)
     → lineWith (replyTo a) (take (answerRows a) out′) ≡ answerTo line
 read-answer line out out′ a l r = answer-is (frameOf line) out out′ a (frame-below line) l (r .answer) (r .places)
+
+-- the rows of an answer stand in the places
+answer-within : (signed : Bool) (at total : ℕ) (out : List ℤ) (m : Parsed Description) → answerRows (answerOf at total m) ≤ length (placesOf signed out m)
+answer-within signed at total out end = omega arith
+answer-within signed at total out (got d rest) = omega (arith, length-append (i64Rows signed d) (drop (rowCount d) out), i64-count signed d)
+answer-within signed at total out (refused (plain n)) = omega arith
+answer-within signed at total out (refused (cut n left)) = omega arith
+
+rows-within : (f : List ℕ) (out out′ : List ℤ) (a : Answer) → Answered a ≡ frameReading (length out) f → out′ ≡ framePlaces out f → answerRows a ≤ length out′
+unfolding frameReading framePlaces
+rows-within [] out out′ a e p = let z : _≡_ {A = ℕ} 0 1 = cc in absurd (omega arith)
+rows-within (flag ∷ run) out out′ a e p =
+    let g : a ≡ answerOf 1 (length run) (into (length out) (parse run)) = cc in
+    rw (g, p) (answer-within (eqb flag 1) 1 (length run) out (into (length out) (parse run)))
+
+pub read-within : (line : List ℕ) (out out′ : List ℤ) (a : Answer) → LineRead line out out′ (Answered a) → answerRows a ≤ length out′
+read-within line out out′ a r = rows-within (frameOf line) out out′ a (r .answer) (r .places)

@@ -19,7 +19,7 @@ use Rattle.totals.specs.Program.Takes.{ends, stops, turns}
 use Rattle.totals.specs.declared.taking.Next.{Next}
 use Rattle.totals.specs.declared.taking.Next.the-variants.{Begun, Ended, Stopped, Failed}
 use Rattle.totals.proofs.Answers.{long-alike, all-i64}
-use Rattle.totals.proofs.Taking.{all-going, all-stopped}
+use Rattle.totals.proofs.Onward.{all-going, all-stopped}
 
 -- ---- what is left of a read
 module _ (before : Totals) (line input : List ℕ) (n stop : ℕ) (got : ℤ) (c : Came line input n stop got) where

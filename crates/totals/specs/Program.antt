@@ -62,6 +62,10 @@ After before held input t Ended = takeAll before (answersTo (lastLine held)) ≡
 After before held input t Stopped = Stops before held input t
 After before held input t Failed = Unit {0}
 
+-- where something came, whatever was held of it
+abbrev pub AfterBlock : Totals → List ℕ → Totals → Next → Type 0
+AfterBlock before input t next = (held : List ℕ) → After before held input t next
+
 -- AFTER A TURN that a line's beginning was left for
 pub record Going (before : Totals) (line input : List ℕ) (t : Totals) (from end : ℕ) : Type 0 where
   pub carried : Carried line input from end

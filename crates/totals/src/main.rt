@@ -16,8 +16,8 @@ const REFUSED_20: [u8; 11] = *b"refused 20\n";
 
 // Every byte that the program writes to its output goes through here, and is what the definition writes for the totals. No contract can say what
 // the system writes, so that it is said here of what is handed over.
-fn say(totals: Totals, is_stopped: bool, text: &[u8])
-    requires { ⌜ now text ≡ writtenFor totals is_stopped ⌝ }
+fn say(totals: Totals, stopped: bool, text: &[u8])
+    requires { ⌜ now text ≡ writtenFor totals stopped ⌝ }
 {
     if !io::write_all(STDOUT_FILENO, text) {
         os::fail(b"totals: the output is cut, standard output cannot be written");
@@ -25,21 +25,21 @@ fn say(totals: Totals, is_stopped: bool, text: &[u8])
 }
 
 // The lines of the totals into the first bytes of `out`, and the refusal last where one stopped the reading: how many bytes they are.
-fn put_lines(totals: Totals, is_stopped: bool, out: &mut [u8]) -> usize
+fn put_lines(totals: Totals, stopped: bool, out: &mut [u8]) -> usize
     requires { ⌜ 4096 ≡ length (now out) ⌝ }
-    ensures { λ r. ⌜ (r ≤ length (now (out .exit))) × (take r (now (out .exit)) ≡ writtenFor totals is_stopped) ⌝ }
+    ensures { λ r. ⌜ (r ≤ length (now (out .exit))) × (take r (now (out .exit)) ≡ writtenFor totals stopped) ⌝ }
 {
     let written = totals_text::show(totals, out);
-    if is_stopped {
+    if stopped {
         return text::put_word(&REFUSED_20, out, written);
     }
     written
 }
 
-fn tell(totals: Totals, is_stopped: bool) {
+fn tell(totals: Totals, stopped: bool) {
     let mut out = io::buffer();
-    let written = put_lines(totals, is_stopped, &mut out);
-    say(totals, is_stopped, &out[..written]);
+    let written = put_lines(totals, stopped, &mut out);
+    say(totals, stopped, &out[..written]);
 }
 
 // What to do with what is held and what came behind it, by what the system answered.

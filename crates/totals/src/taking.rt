@@ -6,12 +6,10 @@ use season::Stop;
 use season::Taken;
 use season::Totals;
 ghost use mathlib.Core.Path.{_≡_};
-ghost use mathlib.Core.List.{List};
-ghost use Prim.Native.Nat.{ℕ};
 ghost use lib.ListN.{length};
 ghost use Rattle.season.specs.Held.{takeLine};
 ghost use Rattle.blocks.specs.Blocks.{NoNewline};
-ghost use Rattle.totals.specs.Program.{answerTo, isStopped, After};
+ghost use Rattle.totals.specs.Program.{answerTo, isStopped, After, AfterBlock};
 
 // From where to where in the input a line has begun; that the input has ended; that refusal 20 ended the reading; or that reading failed.
 pub(crate) enum Next {
@@ -60,7 +58,7 @@ fn take_line(before: Totals, line: &[u8], rows: &mut [i64]) -> Taken
 // Takes the whole lines of a block, to the first that would pass a limit.
 pub(crate) fn take_block(before: Totals, input: &[u8], rows: &mut [i64]) -> Turn
     requires { ⌜ length (now rows) ≡ 512 ⌝ }
-    ensures { λ r. ⌜ (held : List ℕ) → After before held (now (input .entry)) (r .totals) (r .next) ⌝ }
+    ensures { λ r. ⌜ AfterBlock before (now (input .entry)) (r .totals) (r .next) ⌝ }
 {
     let mut totals = before;
     let mut from = 0;
@@ -73,8 +71,9 @@ pub(crate) fn take_block(before: Totals, input: &[u8], rows: &mut [i64]) -> Turn
             };
         }
         let taken = take_line(totals, &input[from..end], rows);
+        let stop = taken.stop;
         totals = taken.totals;
-        if is_stopped(taken.stop) {
+        if is_stopped(stop) {
             return Turn {
                 totals,
                 next: Next::Stopped,
@@ -96,8 +95,9 @@ pub(crate) fn take_last(before: Totals, line: &[u8], rows: &mut [i64]) -> Turn
         };
     }
     let taken = take_line(before, line, rows);
+    let stop = taken.stop;
     let totals = taken.totals;
-    if is_stopped(taken.stop) {
+    if is_stopped(stop) {
         return Turn {
             totals,
             next: Next::Stopped,

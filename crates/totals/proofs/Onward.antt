@@ -124,10 +124,8 @@ module _ (before t : Totals) (input : List ℕ) (from end : ℕ) (o : Onward bef
         let p = take (end + 1) input in
         let q = drop (end + 1) input in
         let s = all-stopped before (r .totals) (answersTo (linesFrom [] p)) (next-taken ∙ line-stopped t (answerTo line) r e h) (answersTo (linesFrom (begunFrom [] p) q)) in
-        in-block (
-          ap (λ (i : List ℕ). takeAll before (answersTo (linesFrom [] i))) (sym (take-append-drop (end + 1) input))
-          ∙ rw (lines-append [] p q, map-append answerTo (linesFrom [] p) (linesFrom (begunFrom [] p) q)) s,
-        )
+        in-block (ap (λ (i : List ℕ). takeAll before (answersTo (linesFrom [] i))) (sym (take-append-drop (end + 1) input))
+        ∙ rw (lines-append [] p q, map-append answerTo (linesFrom [] p) (linesFrom (begunFrom [] p) q)) s)
 
 -- ---- the last line
 
