@@ -5,10 +5,12 @@ ghost use mathlib.Core.Path.{_≡_};
 ghost use Rattle.format.specs.Fields.{Narrowest};
 ghost use Rattle.format.specs.Loader.{Loaded, faceVersion, RunTold, StreamTold, BooleansTold, ValueTold, WriteTold};
 ghost use Rattle.loader.specs.Labels.{LabelTold};
+ghost use Rattle.loader.specs.Counts.{CountTold};
 use format::ByteOffset;
 use format::RowNumber;
 
 mod bytes;
+mod count_words;
 mod forms;
 mod label_words;
 mod words;
@@ -166,4 +168,16 @@ pub extern "C" fn orc_label(
         RowNumber { rows: row as usize },
     );
     label_words::put_label(label, words)
+}
+
+// How many of the first n booleans are true, of booleans packed eight to a byte, highest bit first.
+#[no_mangle]
+pub extern "C" fn orc_count_true(packed: &[u8], n: u64, words: &mut [u64]) -> u64
+    ensures { λ r. ⌜ CountTold (now (packed .entry)) n (now (words .entry)) (now (words .exit)) r ⌝ }
+{
+    if words.len() < count_words::COUNT {
+        return words::TOO_FEW;
+    }
+    let count = season::count_true(packed, n as usize);
+    count_words::put_count(count, words)
 }

@@ -21,8 +21,10 @@ use Rattle.text.specs.Hexadecimal.{hexValue, allHex, hexBytes}
 use Rattle.lines.specs.declared.Reading.{Reading}
 use Rattle.lines.specs.declared.Reading.the-variants.{Bad, Answered}
 use Rattle.lines.specs.Line.{badLine, frameOf, frameReading, framePlaces, LineRead}
-use Rattle.season.specs.Totals.{bad, answered, rowsOver}
-use Rattle.season.specs.Held.{lineWith, replyTo}
+use Rattle.season.specs.Totals.{Line, bad, answered}
+use Rattle.season.specs.Held.{lineWith, replyTo, takeLine}
+use Rattle.season.specs.declared.Totals.{Totals}
+use Rattle.season.specs.declared.Taken.{Taken}
 use Rattle.season.specs.Laws.{AllBytes, I64}
 use Rattle.season.proofs.Lines.{lines-read}
 use Rattle.season.proofs.Sums.{all-fit}
@@ -80,7 +82,7 @@ unfolding frameReading answered
 bad-is n [] e = refl
 bad-is n (flag ∷ run) e = let z : _≡_ {A = ℕ} 0 1 = cc in absurd (omega arith)
 
-pub read-bad : (line : List ℕ) (out out′ : List ℤ) → LineRead line out out′ Bad → bad ≡ answerTo line
+read-bad : (line : List ℕ) (out out′ : List ℤ) → LineRead line out out′ Bad → bad ≡ answerTo line
 read-bad line out out′ r = sym (bad-is (length out) (frameOf line) (r .answer))
 
 answer-is : (f : List ℕ) (out out′ : List ℤ) (a : Answer) → AllBelow 256 f → length out ≡ 512 → Answered a ≡ frameReading (length out) f → out′ ≡ framePlaces out f
@@ -93,7 +95,7 @@ answer-is (flag ∷ run) out out′ a b l e p =
     let q : out′ ≡ placesOf (eqb flag 1) out (into 512 (parse run)) = rw l at p in
     rw (h, q) (lines-read flag run 1 out (b .1) .as-answered)
 
-pub read-answer : (line : List ℕ) (out out′ : List ℤ) (a : Answer) → length out ≡ 512 → LineRead line out out′ (Answered a)
+read-answer : (line : List ℕ) (out out′ : List ℤ) (a : Answer) → length out ≡ 512 → LineRead line out out′ (Answered a)
     → lineWith (replyTo a) (take (answerRows a) out′) ≡ answerTo line
 read-answer line out out′ a l r = answer-is (frameOf line) out out′ a (frame-below line) l (r .answer) (r .places)
 
@@ -113,3 +115,12 @@ rows-within (flag ∷ run) out out′ a e p =
 
 pub read-within : (line : List ℕ) (out out′ : List ℤ) (a : Answer) → LineRead line out out′ (Answered a) → answerRows a ≤ length out′
 read-within line out out′ a r = rows-within (frameOf line) out out′ a (r .answer) (r .places)
+
+-- ---- and taken
+
+pub took-bad : (t : Totals) (line : List ℕ) (out out′ : List ℤ) (r : Taken) → LineRead line out out′ Bad → r ≡ takeLine t bad → r ≡ takeLine t (answerTo line)
+took-bad t line out out′ r l e = e ∙ ap (λ (x : Line). takeLine t x) (read-bad line out out′ l)
+
+pub took : (t : Totals) (line : List ℕ) (out out′ : List ℤ) (a : Answer) (r : Taken) → length out ≡ 512 → LineRead line out out′ (Answered a)
+    → r ≡ takeLine t (lineWith (replyTo a) (take (answerRows a) out′)) → r ≡ takeLine t (answerTo line)
+took t line out out′ a r n l e = e ∙ ap (λ (x : Line). takeLine t x) (read-answer line out out′ a n l)

@@ -1,9 +1,10 @@
 -- A turn, and all turns: that what is taken is what the whole input's lines give. Assumes nothing.
 use mathlib.Core.Path.{_≡_, refl, sym, ap, _∙_}
 use Prim.Native.Nat.{ℕ, _≤_}
+use native.Mathlib.Omega.{arith}
 use mathlib.Core.List.{List, [], _∷_, _++_, map-append, append-nil}
 use lib.ListN.{length, take, drop, take-append-drop}
-use lib.Seq.{length-take-le}
+use lib.Seq.{length-take-le, take-all}
 use lib.IntN.{ℤ}
 use Rattle.blocks.specs.Blocks.{linesFrom, begunFrom, lastLine, linesIn, NoNewline, kept, part, Came, Carried, blockLines, joinedBlocks}
 use Rattle.blocks.proofs.Lines.{lines-append, lines-open}
@@ -46,6 +47,14 @@ module _ (before : Totals) (line input : List ℕ) (n stop : ℕ) (got : ℤ) (c
   turned t Ended a = rw front at a
   turned t Stopped a = stopping t a
   turned t Failed a = tt
+
+-- nothing came: there is only what was held
+pub last-held : (before : Totals) (n : ℕ) (input : List ℕ) (t : Totals) (next : Next) → n ≡ length input → After before input input t next → After before (take n input) input t next
+last-held before n input t next h a = rw (take-all n input (omega (arith, h))) a
+
+pub rest-none : (before : Totals) (n : ℕ) (input : List ℕ) → n ≡ length input → NoNewline input → Rest before input before 0 n
+unfolding linesFrom begunFrom takeAll
+rest-none before n input h o = record { ends = h; order = omega arith; whole = refl; begun = o; taken = refl }
 
 -- what is left is what a turn may be given
 abbrev pub Ready : List ℕ → Next → Type 0
