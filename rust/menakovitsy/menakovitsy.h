@@ -38,11 +38,12 @@ uint64_t orc_version(void);
 
 /* The answer. A function that is lent words writes its whole answer into the first ORC_WORDS of
  * them, the stream reader into the first ORC_STREAM_WORDS, orc_label into the first ORC_LABEL_WORDS,
- * and leaves the others as they were. It returns the refusal's number (the word ORC_NUMBER), 0 where nothing is refused. Later versions
+ * orc_count_true into the first ORC_COUNT_WORDS, and leaves the others as they were. It returns the refusal's number (the word ORC_NUMBER), 0 where nothing is refused. Later versions
  * append words: none changes its meaning. */
 #define ORC_WORDS 9
 #define ORC_STREAM_WORDS 14
 #define ORC_LABEL_WORDS 5
+#define ORC_COUNT_WORDS 6
 
 /* What it returns where it was lent fewer: then it has touched nothing, no word, row or byte. */
 #define ORC_TOO_FEW_WORDS UINT64_MAX
@@ -87,10 +88,21 @@ enum orc_label_word {
     ORC_LABEL_SIZE = 4
 };
 
+/* The words of a count behind ORC_CASE, ORC_NUMBER and ORC_PLACE. */
+enum orc_count_word {
+    /* How many booleans are true; 0 where refused. */
+    ORC_COUNT_TRUE = 3,
+    /* 1 where the refusal has a cut field, otherwise 0. */
+    ORC_COUNT_CUT = 4,
+    /* The byte where the cut field begins; 0 where there is none. */
+    ORC_COUNT_CUT_AT = 5
+};
+
 enum orc_case {
     /* The input is empty: there is no run. orc_read_run_at only. */
     ORC_CASE_END = 0,
-    /* A run, booleans or a byte value; of the stream: it was read whole; of a label: a name. */
+    /* A run, booleans or a byte value; of the stream: it was read whole; of a label: a name;
+     * of a count: it was counted. */
     ORC_CASE_READ = 1,
     ORC_CASE_REFUSED = 2,
     /* Of a label alone: the row has no name, and is called by the fallback. */
@@ -208,6 +220,11 @@ uint64_t orc_label(const int64_t *lengths, size_t lengths_len, const int64_t *nu
                    size_t numbers_len, const uint8_t *flags, size_t flags_len, const uint8_t *block,
                    size_t block_len, const uint8_t *fallback, size_t fallback_len, uint64_t row,
                    uint64_t *words, size_t words_len);
+
+/* How many of the first n booleans are true, packed eight to a byte, the highest bit first: the word
+ * ORC_COUNT_TRUE. Refused where the bytes hold fewer: ORC_VALUE_CUT, at 0, cut at 0. */
+uint64_t orc_count_true(const uint8_t *packed, size_t packed_len, uint64_t n, uint64_t *words,
+                        size_t words_len);
 
 /* Reads the run at the start of input, and answers by one number: an orc_answer, or, from ORC_RUN on,
  * a run. Rows are laid into out as eight bytes each, lowest first; a trailing part of fewer than eight

@@ -1,9 +1,10 @@
 //! A call, and what the model of documents 01 and 02 answers it.
 use differential::frames;
 use differential::random::Random;
+use differential::stages::count;
 use differential::stages::labels::{self, Asked};
-use menakovitsy::exported::{case, kind, LABEL_WORDS, STREAM_WORDS, TOO_FEW_WORDS, WORDS};
-use model::{Answer, Booleans, Form, Info, Kind, Label, Refusal, Stream, Value, Written};
+use menakovitsy::exported::{case, kind, COUNT_WORDS, LABEL_WORDS, STREAM_WORDS, TOO_FEW_WORDS, WORDS};
+use model::{Answer, Booleans, Form, Info, Kind, Label, Ones, Refusal, Stream, Value, Written};
 
 /// The most places that are lent for rows, and for bytes.
 pub const MOST: usize = 5000;
@@ -19,6 +20,7 @@ pub enum Call {
     Write { rows: Vec<i64>, flag: u64, form: u64, width: u64, places: usize },
     Narrowest { number: u64 },
     Label(Asked),
+    Count { input: Vec<u8>, n: u64 },
 }
 
 /// What a call comes to: what it returns, its words (none where it is lent too few, or takes none),
@@ -84,7 +86,7 @@ impl Call {
     pub fn any(random: &mut Random) -> Self {
         let flag = if random.once_in(8) { random.any() } else { random.below(2) as u64 };
         let places = random.pick(&[0, 1, 5, 12, 64, 512, 1000]);
-        match random.below(18) {
+        match random.below(20) {
             0..=1 => {
                 let bytes = 8 * places + if random.once_in(2) { random.below(8) } else { 0 };
                 Call::Run { input: frames::any_frame(random), flag, bytes: bytes.min(MOST) }
@@ -112,6 +114,10 @@ impl Call {
             }
             12..=14 => Self::any_writing(flag, random),
             15..=16 => Call::Label(labels::any(random)),
+            17..=18 => {
+                let (input, n) = count::any(random);
+                Call::Count { input, n }
+            }
             _ => {
                 let shift = random.below(64);
                 Call::Narrowest { number: random.any() >> shift }
@@ -143,6 +149,7 @@ impl Call {
             Call::Write { .. } => "orc_write_run",
             Call::Narrowest { .. } => "orc_narrowest_code",
             Call::Label(_) => "orc_label",
+            Call::Count { .. } => "orc_count_true",
         }
     }
 
@@ -152,6 +159,7 @@ impl Call {
             Call::Run { .. } | Call::Narrowest { .. } => 0,
             Call::Stream { .. } => STREAM_WORDS,
             Call::Label(_) => LABEL_WORDS,
+            Call::Count { .. } => COUNT_WORDS,
             _ => WORDS,
         }
     }
@@ -201,6 +209,7 @@ impl Call {
                 written(rows, *flag != 0, *form, *width, *places)
             }
             Call::Label(asked) => label(asked),
+            Call::Count { input, n } => counted(input, *n),
             Call::Narrowest { number } => {
                 Outcome { returned: u64::from(model::narrowest_code(*number)), ..Outcome::default() }
             }
@@ -217,6 +226,17 @@ fn label(asked: &Asked) -> Outcome {
         }
         Label::Fallback(part) => [case::FALLBACK, 0, 0, 0, part.len() as u64],
         Label::Refused(refusal) => [case::REFUSED, refusal.number.into(), 0, 0, 0],
+    };
+    Outcome { returned: words[1], words: words.to_vec(), ..Outcome::default() }
+}
+
+/// The words of a count.
+fn counted(input: &[u8], n: u64) -> Outcome {
+    let words = match model::count_true(input, n) {
+        Ones::True(count) => [case::READ, 0, 0, count, 0, 0],
+        Ones::Refused(Refusal { number, place, cut }) => {
+            [case::REFUSED, number.into(), place as u64, 0, cut.is_some().into(), cut.unwrap_or(0) as u64]
+        }
     };
     Outcome { returned: words[1], words: words.to_vec(), ..Outcome::default() }
 }

@@ -16,7 +16,7 @@ fn a_million_calls(seed: u64) {
     // Each function gave each answer that it can give.
     let readers = [0, 1, 2, 3, 4, 5, 6, 7, 8, 12, 13, 14];
     let too_few = u64::MAX;
-    let answers: [(&str, &[u64]); 8] = [
+    let answers: [(&str, &[u64]); 9] = [
         ("orc_read_run", &readers),
         ("orc_read_run_at", &[&readers[..], &[too_few]].concat()),
         ("orc_read_stream", &[&readers[..], &[too_few]].concat()),
@@ -25,6 +25,7 @@ fn a_million_calls(seed: u64) {
         ("orc_write_run", &[0, 8, 9, 10, 11, too_few]),
         ("orc_narrowest_code", &[0]),
         ("orc_label", &[0, 16, 18, 19, too_few]),
+        ("orc_count_true", &[0, 6, too_few]),
     ];
     for (function, numbers) in answers {
         let given: Vec<u64> =

@@ -5,10 +5,11 @@
 //! allowed. Nothing that is written may overlap another argument. Calls share no state.
 //!
 //! A function that takes words writes its whole answer into the first [`WORDS`] of them, the stream
-//! reader into the first [`STREAM_WORDS`] and `orc_label` into the first [`LABEL_WORDS`], leaves the
-//! others as they were, and returns the refusal's number, 0 where nothing is refused; lent fewer, it
-//! returns [`TOO_FEW_WORDS`] and touches nothing. What each word means stands in [`word`], and of a
-//! label in [`label_word`].
+//! reader into the first [`STREAM_WORDS`], `orc_label` into the first [`LABEL_WORDS`] and
+//! `orc_count_true` into the first [`COUNT_WORDS`], leaves the others as they were, and returns the
+//! refusal's number, 0 where nothing is refused; lent fewer, it returns [`TOO_FEW_WORDS`] and touches
+//! nothing. What each word means stands in [`word`], of a label in [`label_word`] and of a count in
+//! [`count_word`].
 
 /// The version of these functions that this crate is written for.
 pub const VERSION: u64 = 4;
@@ -21,6 +22,9 @@ pub const STREAM_WORDS: usize = 14;
 
 /// How many words an answer of `orc_label` has.
 pub const LABEL_WORDS: usize = 5;
+
+/// How many words an answer of `orc_count_true` has.
+pub const COUNT_WORDS: usize = 6;
 
 /// What a function returns that was lent fewer words than its answer has.
 pub const TOO_FEW_WORDS: u64 = u64::MAX;
@@ -75,12 +79,23 @@ pub mod label_word {
     pub const SIZE: usize = 4;
 }
 
+/// The words of a count behind the case, the refusal's number and its place, which are those of
+/// [`word`].
+pub mod count_word {
+    /// How many booleans are true, 0 where refused.
+    pub const TRUE: usize = 3;
+    /// 1 where the refusal has a cut field, otherwise 0.
+    pub const CUT: usize = 4;
+    /// The byte where the cut field begins, 0 where there is none.
+    pub const CUT_AT: usize = 5;
+}
+
 /// What the word `CASE` may hold.
 pub mod case {
     /// The input is empty. Run readers only.
     pub const END: u64 = 0;
     /// A run, booleans or a byte value; of the stream reader: the whole stream was read; of a label: a
-    /// name.
+    /// name; of a count: it was counted.
     pub const READ: u64 = 1;
     /// A refusal.
     pub const REFUSED: u64 = 2;
@@ -178,6 +193,14 @@ extern "C" {
         fallback: *const u8,
         fallback_len: usize,
         row: u64,
+        words: *mut u64,
+        words_len: usize,
+    ) -> u64;
+
+    pub fn orc_count_true(
+        packed: *const u8,
+        packed_len: usize,
+        n: u64,
         words: *mut u64,
         words_len: usize,
     ) -> u64;

@@ -10,6 +10,7 @@
 //! | a column of integers | [`Column`]: [`read_into`](Column::read_into), [`rows`](Column::rows), [`runs`](Column::runs) |
 //! | one integer run, or all to the end | [`read_run`], [`read_stream`] |
 //! | a column of flags | [`read_booleans`] |
+//! | how many flags are true, packed eight to a byte | [`count_true`] |
 //! | a byte value, as a part of the input | [`byte_value`] |
 //! | the name of a row, by a dictionary | [`label`] |
 //! | a run written | [`write_run`], [`narrowest_code`] |
@@ -43,6 +44,7 @@ mod column;
 pub mod exported;
 mod labels;
 mod library;
+mod ones;
 mod refusal;
 mod units;
 mod version;
@@ -55,6 +57,7 @@ pub use library::{
     byte_value, library_version, narrowest_code, read_booleans, read_run, read_run_bytes, read_stream,
     unpack, write_run, Counts,
 };
+pub use ones::count_true;
 pub use refusal::Refusal;
 pub use units::{ByteOffset, RowNumber};
 pub use version::{check_version, OtherVersion};

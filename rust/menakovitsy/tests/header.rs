@@ -4,7 +4,7 @@ use std::path::{Path, PathBuf};
 use std::process::Command;
 use std::{env, fs};
 
-use menakovitsy::exported::{self, case, kind, label_word, word};
+use menakovitsy::exported::{self, case, count_word, kind, label_word, word};
 use menakovitsy::Refusal;
 
 const HEADER: &str = include_str!("../menakovitsy.h");
@@ -31,6 +31,7 @@ fn the_header_has_the_same_numbers() {
     has(&format!("#define ORC_WORDS {}\n", exported::WORDS));
     has(&format!("#define ORC_STREAM_WORDS {}\n", exported::STREAM_WORDS));
     has(&format!("#define ORC_LABEL_WORDS {}\n", exported::LABEL_WORDS));
+    has(&format!("#define ORC_COUNT_WORDS {}\n", exported::COUNT_WORDS));
     has("#define ORC_TOO_FEW_WORDS UINT64_MAX\n");
     has(&format!("#define ORC_MAX_ROWS {}\n", exported::MAX_ROWS));
     has(&format!("#define ORC_MAX_RUN_BYTES {}\n", exported::MAX_RUN_BYTES));
@@ -51,6 +52,9 @@ fn the_header_has_the_same_numbers() {
         ("LAST_BYTES", word::LAST_BYTES),
         ("LABEL_START", label_word::START),
         ("LABEL_SIZE", label_word::SIZE),
+        ("COUNT_TRUE", count_word::TRUE),
+        ("COUNT_CUT", count_word::CUT),
+        ("COUNT_CUT_AT", count_word::CUT_AT),
     ] {
         has(&format!("    ORC_{name} = {place}"));
     }

@@ -1,7 +1,9 @@
 //! The words of an answer, and what is said of them.
 use std::fmt::Write as _;
 
-use menakovitsy::exported::{case, kind, label_word, word, LABEL_WORDS, STREAM_WORDS, WORDS};
+use menakovitsy::exported::{
+    case, count_word, kind, label_word, word, COUNT_WORDS, LABEL_WORDS, STREAM_WORDS, WORDS,
+};
 
 use crate::lent::Lent;
 
@@ -16,7 +18,7 @@ pub struct Answer {
 }
 
 impl Answer {
-    /// Of any function but the stream reader and the label.
+    /// Of any function but the stream reader, the label and the count.
     pub fn of(call: impl FnOnce(&mut [u64]) -> u64) -> Self {
         Self::of_words(WORDS, call)
     }
@@ -27,6 +29,10 @@ impl Answer {
 
     pub fn of_label(call: impl FnOnce(&mut [u64]) -> u64) -> Self {
         Self::of_words(LABEL_WORDS, call)
+    }
+
+    pub fn of_count(call: impl FnOnce(&mut [u64]) -> u64) -> Self {
+        Self::of_words(COUNT_WORDS, call)
     }
 
     fn of_words(own: usize, call: impl FnOnce(&mut [u64]) -> u64) -> Self {
@@ -61,9 +67,14 @@ impl Answer {
         match self.case() {
             case::REFUSED => {
                 let refused = format!("refused {} {}", self.word(word::NUMBER), self.word(word::PLACE));
-                match self.own != LABEL_WORDS && self.word(word::CUT) != 0 {
-                    false => refused,
-                    true => format!("{refused} cut {}", self.word(word::CUT_AT)),
+                let cut = match self.own {
+                    LABEL_WORDS => None,
+                    COUNT_WORDS => Some((count_word::CUT, count_word::CUT_AT)),
+                    _ => Some((word::CUT, word::CUT_AT)),
+                };
+                match cut.filter(|(cut, _)| self.word(*cut) != 0) {
+                    None => refused,
+                    Some((_, at)) => format!("{refused} cut {}", self.word(at)),
                 }
             }
             case::END => "end".into(),
@@ -158,6 +169,23 @@ impl Answer {
         fits && self.returned == self.word(word::NUMBER)
     }
 
+    /// How many booleans are true.
+    pub fn trues(&self) -> u64 {
+        self.word(count_word::TRUE)
+    }
+
+    /// Whether a count's words fit together: a count has no refusal, and a refusal no count, but a cut
+    /// field.
+    pub fn count_fits(&self) -> bool {
+        use count_word::{CUT, CUT_AT, TRUE};
+        let fits = match self.case() {
+            case::READ => self.zero(&[word::NUMBER, word::PLACE, CUT, CUT_AT]),
+            case::REFUSED => !self.zero(&[word::NUMBER]) && self.zero(&[TRUE]) && self.word(CUT) == 1,
+            _ => false,
+        };
+        fits && self.returned == self.word(word::NUMBER)
+    }
+
     /// Whether a word behind the answer, or beside the lent ones, has changed.
     pub fn touched(&self) -> bool {
         self.words.touched(self.own)
@@ -240,6 +268,27 @@ mod tests {
             assert_eq!(name(start, size).part_of(b"drums"), None);
         }
         assert_eq!(label(19, [2, 19, 0, 0, 0]).say_other(), "refused 19 0");
+    }
+
+    #[test]
+    fn counts_that_contradict_themselves_are_odd() {
+        let count = |returned, words: [u64; COUNT_WORDS]| {
+            Answer::of_count(|lent| {
+                lent[..COUNT_WORDS].copy_from_slice(&words);
+                returned
+            })
+        };
+        for (returned, words) in [(0, [1, 0, 0, 7, 0, 0]), (6, [2, 6, 0, 0, 1, 0])] {
+            assert!(count(returned, words).count_fits(), "{words:?}");
+            assert!(!count(returned + 1, words).count_fits(), "{words:?}");
+        }
+        for words in [[0; 6], [1, 0, 0, 7, 1, 0], [1, 0, 2, 7, 0, 0], [3, 0, 0, 7, 0, 0], [2, 0, 0, 0, 1, 0]]
+        {
+            assert!(!count(0, words).count_fits(), "{words:?}");
+        }
+        assert!(!count(6, [2, 6, 0, 1, 1, 0]).count_fits());
+        assert!(!count(6, [2, 6, 0, 0, 0, 0]).count_fits());
+        assert_eq!(count(6, [2, 6, 0, 0, 1, 0]).say_other(), "refused 6 0 cut 0");
     }
 
     /// What a wrong library could answer shows.

@@ -1,5 +1,5 @@
 //! Every public function through the probe program.
-use super::{cuts, labels, patches, varints, Session};
+use super::{count, cuts, labels, patches, varints, Session};
 use crate::frames;
 use crate::listed::{Call, LIST};
 use crate::probe::Requests;
@@ -35,9 +35,11 @@ impl Session {
         patches::probe_lines(requests, &mut self.random);
         varints::probe_lines(requests, &mut self.random);
         labels::fixed_lines(requests);
+        count::fixed_lines(requests);
         for _ in 0..self.size.pick(1_000, 100_000, 1_000_000) {
             probe_line(&mut probe.requests, &mut self.random);
             labels::probe_line(&mut probe.requests, &mut self.random);
+            count::probe_line(&mut probe.requests, &mut self.random);
             probe.batch(&mut self.tally);
         }
         probe.flush(&mut self.tally);

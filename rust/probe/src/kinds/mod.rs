@@ -2,6 +2,7 @@
 //!
 //! A further kind is a function and a line of the table.
 mod booleans;
+mod count;
 mod labels;
 mod runs;
 mod value;
@@ -12,7 +13,7 @@ use crate::line::Fields;
 /// Takes the fields behind the first byte, and answers the line. Nothing for a bad line.
 type Kind = fn(Fields) -> Option<String>;
 
-const KINDS: [(u64, Kind); 7] = [
+const KINDS: [(u64, Kind); 8] = [
     (0x01, runs::run),
     (0x02, runs::stream),
     (0x03, booleans::booleans),
@@ -20,6 +21,7 @@ const KINDS: [(u64, Kind); 7] = [
     (0x05, write::write),
     (0x06, write::narrowest),
     (0x0F, labels::label),
+    (0x10, count::count),
 ];
 
 /// The answer to a frame. Nothing for a bad line.

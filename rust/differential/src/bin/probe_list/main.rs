@@ -17,7 +17,7 @@ use differential::frames;
 use differential::listed::{self, Call, LIST};
 use differential::probe::Requests;
 use differential::random::Random;
-use differential::stages::{labels, probe_line};
+use differential::stages::{count, labels, probe_line};
 use model::Form;
 
 use by_hand::{DOCUMENT, FRAMES, SPECIFICATION};
@@ -302,6 +302,10 @@ fn list() -> Requests {
     labels::fixed_lines(&mut requests);
     for _ in 0..100 {
         labels::probe_line(&mut requests, &mut random);
+    }
+    count::fixed_lines(&mut requests);
+    for _ in 0..100 {
+        count::probe_line(&mut requests, &mut random);
     }
     requests
 }
