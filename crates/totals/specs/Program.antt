@@ -34,6 +34,11 @@ unfoldable pub writtenFor : Totals → Bool → List ℕ
 writtenFor t false = totalsText t
 writtenFor t true = totalsText t ++ ascii "refused 20\n"
 
+-- in two pieces
+pub data Piece (t : Totals) (stopped : Bool) (text : List ℕ) : Type 0 where
+  of-totals : text ≡ totalsText t → Piece t stopped text
+  of-refusal : stopped ≡ true → text ≡ ascii "refused 20\n" → Piece t stopped text
+
 abbrev pub takenText : Taken → List ℕ
 takenText r = writtenFor (r .totals) (isStopped (r .stop))
 

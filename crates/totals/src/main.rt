@@ -10,36 +10,32 @@ ghost use mathlib.Core.Path.{_≡_};
 ghost use Prim.Native.Nat.{_+_, _≤_};
 ghost use lib.ListN.{length, take};
 ghost use Rattle.blocks.specs.Blocks.{tooLong, part, came, NoNewline};
-ghost use Rattle.totals.specs.Program.{writtenFor, After, Turned};
+ghost use Rattle.totals.specs.Program.{Piece, After, Turned};
 
 const REFUSED_20: [u8; 11] = *b"refused 20\n";
 
-// Every byte that the program writes to its output goes through here, and is what the definition writes for the totals. No contract can say what
-// the system writes, so that it is said here of what is handed over.
-fn say(totals: Totals, stopped: bool, text: &[u8])
-    requires { ⌜ now text ≡ writtenFor totals stopped ⌝ }
+// Every byte that the program writes to its output goes through here, and is a piece of what the definition writes for the totals. No contract can
+// say what the system writes, so that it is said here of what is handed over.
+fn say(totals: Totals, stopped: bool, text: &[u8]) -> bool
+    requires { ⌜ Piece totals stopped (now text) ⌝ }
 {
-    if !io::write_all(STDOUT_FILENO, text) {
+    let is_written = io::write_all(STDOUT_FILENO, text);
+    if !is_written {
         os::fail(b"totals: the output is cut, standard output cannot be written");
     }
+    is_written
 }
 
-// The lines of the totals into the first bytes of `out`, and the refusal last where one stopped the reading: how many bytes they are.
-fn put_lines(totals: Totals, stopped: bool, out: &mut [u8]) -> usize
-    requires { ⌜ 4096 ≡ length (now out) ⌝ }
-    ensures { λ r. ⌜ (r ≤ length (now (out .exit))) × (take r (now (out .exit)) ≡ writtenFor totals stopped) ⌝ }
-{
-    let written = totals_text::show(totals, out);
-    if stopped {
-        return text::put_word(&REFUSED_20, out, written);
-    }
-    written
-}
-
+// The lines of the totals, and the refusal last where one stopped the reading.
 fn tell(totals: Totals, stopped: bool) {
     let mut out = io::buffer();
-    let written = put_lines(totals, stopped, &mut out);
-    say(totals, stopped, &out[..written]);
+    let written = totals_text::show(totals, &mut out);
+    if !say(totals, stopped, &out[..written]) {
+        return;
+    }
+    if stopped {
+        say(totals, stopped, &REFUSED_20);
+    }
 }
 
 // What to do with what is held and what came behind it, by what the system answered.

@@ -8,9 +8,6 @@ use Rattle.loader.proofs.orc_count_true.Tie as tie
 returns : tie.Need-returns
 returns c = few count-long (omega arith)
 
-cast-count-true : tie.Need-cast-count-true
-cast-count-true c = search needs
-
 count-true-requires : tie.Need-count-true-requires
 count-true-requires c κs = search needs
 
@@ -27,4 +24,4 @@ returns-2 c =
     put count-long (a .count-true .ensures) (a .before .if1 .left) (p .put-count .ensures)
 
 pub orc-count-true-spec : {M : Type 1} → statement M
-orc-count-true-spec = tie.close (tie.spec returns cast-count-true count-true-requires put-count-requires same-length returns-2)
+orc-count-true-spec = tie.close (tie.spec returns count-true-requires put-count-requires same-length returns-2)

@@ -15,12 +15,12 @@ same-length : tie.Need-same-length
 same-length c = search needs
 
 returns : tie.Need-returns
-returns c = c .before .before .take-block .ensures _
+returns c = c .before .take-block .ensures _
 
 take-last-requires : tie.Need-take-last-requires
 take-last-requires c κs =
     let e = c .before .before in
-    let s = e .before .before .before in
+    let s = e .before .before in
     (held-all (now (s .args .input)) (s .args .held) (s .args .got) (s .pre .0) (rw (toZ-ofZ (s .fits .got)) at (e .if1 .left)) (s .pre .1) .1, s .pre .2)
 
 same-length-2 : tie.Need-same-length-2
@@ -28,11 +28,11 @@ same-length-2 c = search needs
 
 returns-2 : tie.Need-returns-2
 returns-2 c =
-    let q = c .before .before in
+    let q = c .before in
     let e = q .before .before .before in
-    let s = e .before .before .before in
+    let s = e .before .before in
     let (l, h) = held-all (now (s .args .input)) (s .args .held) (s .args .got) (s .pre .0) (rw (toZ-ofZ (s .fits .got)) at (e .if1 .left)) (s .pre .1) in
-    last-held _ _ _ _ _ l (q .take-last .ensures)
+    last-held (s .args .before) (s .args .held) (now (s .args .input)) (q .take-last .result .totals) (q .take-last .result .next) l (q .take-last .ensures)
 
 slice-aggregate-is-not-ready : tie.Need-slice-aggregate-is-not-ready
 slice-aggregate-is-not-ready c = search needs
@@ -46,7 +46,7 @@ returns-3 c = search needs
 returns-4 : tie.Need-returns-4
 returns-4 c =
     let e = c .before .before .before .before in
-    let s = e .before .before .before in
+    let s = e .before .before in
     let (l, h) = held-all (now (s .args .input)) (s .args .held) (s .args .got) (s .pre .0) (rw (toZ-ofZ (s .fits .got)) at (e .if1 .left)) (s .pre .1) in
     rest-none _ _ _ l h
 
