@@ -33,9 +33,7 @@ pub fn fixed_lines(requests: &mut Requests) {
     }
     // The longest line has 32,759 bytes behind its n.
     let longest: Vec<u8> = (0..32_759u32).map(|k| (k * k % 251) as u8).collect();
-    for n in [0, 1, 262_071, 262_072, 262_073] {
-        requests.count(&longest, n);
-    }
+    requests.count(&longest, 262_071);
     for bad in ["10", "10000000000000", "100000000000000000f"] {
         requests.bad(bad);
     }
