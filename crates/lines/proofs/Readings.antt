@@ -8,7 +8,6 @@ use lib.Dec.{eqb}
 use lib.IntN.{ℤ}
 use Rattle.format.specs.Promises.{RunRead}
 use Rattle.format.specs.declared.Answer.{Answer}
-use Rattle.lines.specs.declared.Reading.{Reading}
 use Rattle.lines.specs.declared.Reading.the-variants.{Bad, Answered}
 use Rattle.lines.specs.Line.{frameOf, Framed, frameReading, framePlaces, LineRead}
 use Rattle.lines.proofs.Frames.{frame-long}

@@ -3,36 +3,23 @@
 use mathlib.Core.Path.{_≡_, refl, sym, ap, _∙_}
 use Prim.Native.Nat.{ℕ, suc, _+_, _-_, _<_, _≤_}
 use native.Mathlib.Omega.{arith}
-use mathlib.Core.Bool.{Bool, true, false}
-use mathlib.Core.List.{List, [], _∷_, _++_, append-assoc, append-nil}
+use mathlib.Core.List.{List, [], _++_, append-nil}
 use lib.ListN.{length, take, drop, length-drop, length-append}
 use lib.Seq.{take-add}
 use borrow.Author.Tests.{le-ltb}
-use lib.Dec.{eqb}
-use Rattle.format.specs.Fields.{pick}
 use Rattle.lines.specs.Line.{answerLine, Answered}
 use Rattle.util.proofs.Grow.{back-is, front-is, kept-by, long-by}
-use Rattle.blocks.specs.Blocks.{begunFrom, lineLength}
+use Rattle.blocks.specs.Blocks.{linesFrom, begunFrom, lineLength}
 use Rattle.blocks.proofs.Begun.{begun-append}
-use Rattle.blocks.proofs.Lines.{line-le, line-open}
-use Rattle.runs.specs.Program.{answered, answersFrom, Cut}
+use Rattle.blocks.proofs.Lines.{line-le, line-whole, line-open}
+use Rattle.runs.specs.Program.{answered, answersTo, answersFrom, Cut}
 use Rattle.runs.proofs.Blocks.{answers-append}
 
 -- a line and its newline
-pub line-whole : (line s : List ℕ) → lineLength s < length s
+line-answer : (line s : List ℕ) → lineLength s < length s
     → (answersFrom line (take (suc (lineLength s)) s) ≡ answered (line ++ take (lineLength s) s)) × (begunFrom line (take (suc (lineLength s)) s) ≡ [])
-unfolding lineLength answersFrom begunFrom
-line-whole line [] h = absurd (omega arith)
-line-whole line (c ∷ s) h = by (eqb c 10) h (line-whole (line ++ (c ∷ [])) s)
-  where
-    by : (t : Bool) → pick t 0 (suc (lineLength s)) < suc (length s)
-        → (lineLength s < length s → (answersFrom (line ++ (c ∷ [])) (take (suc (lineLength s)) s) ≡ answered ((line ++ (c ∷ [])) ++ take (lineLength s) s))
-        × (begunFrom (line ++ (c ∷ [])) (take (suc (lineLength s)) s) ≡ []))
-        → (pick t (answered line ++ answersFrom [] (take (pick t 0 (suc (lineLength s))) s)) (answersFrom (line ++ (c ∷ [])) (take (pick t 0 (suc (lineLength s))) s))
-        ≡ answered (line ++ take (pick t 0 (suc (lineLength s))) (c ∷ s)))
-        × (pick t (begunFrom [] (take (pick t 0 (suc (lineLength s))) s)) (begunFrom (line ++ (c ∷ [])) (take (pick t 0 (suc (lineLength s))) s)) ≡ [])
-    by true h f = (rw (append-nil line, append-nil (answered line)), refl)
-    by false h f = let (a, b) = f (omega arith) in (a ∙ rw (append-assoc line (c ∷ []) (take (lineLength s) s)), b)
+unfolding answersTo
+line-answer line s h = let (a, b) = line-whole line s h in (ap answersTo a ∙ append-nil (answered (line ++ take (lineLength s) s)), b)
 
 -- an answer line stands within the bytes that were lent
 pub answered-le : (line out out′ : List ℕ) (r : ℕ) → Answered line out out′ r → r ≤ length out′
@@ -54,7 +41,7 @@ pub record Going (input out₀ out : List ℕ) (taken written : ℕ) : Type 0 wh
 
 module _ (input out₀ : List ℕ) where
   pub going-first : Going input out₀ out₀ 0 0
-  unfolding answersFrom begunFrom
+  unfolding answersTo linesFrom begunFrom
   going-first = record { within = omega arith; fits = omega arith; long = refl; whole = refl; text = refl; rest = refl; some = λ e. refl }
 
   module _ (out : List ℕ) (taken written : ℕ) (g : Going input out₀ out taken written) where
@@ -110,7 +97,7 @@ module _ (input out₀ : List ℕ) where
         taken-are : (answersFrom [] (take (end + 1) input) ≡ answersFrom [] (take taken input) ++ answered line) × (begunFrom [] (take (end + 1) input) ≡ [])
         taken-are =
             let n = lineLength (drop taken input) in
-            let (a, b) = line-whole [] (drop taken input) (rw length-drop (omega (arith, end-le))) in
+            let (a, b) = line-answer [] (drop taken input) (rw length-drop (omega (arith, end-le))) in
             let e : end - taken ≡ n = omega arith in
             let z : end + 1 ≡ taken + suc n = omega arith in
             let p = take taken input in

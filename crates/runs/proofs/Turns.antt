@@ -5,14 +5,14 @@ use Prim.Native.Nat.{ℕ, _≤_}
 use mathlib.Core.List.{List, [], _++_, append-nil}
 use lib.ListN.{length, take}
 use lib.IntN.{ℤ}
-use Rattle.blocks.specs.Blocks.{begunFrom, NoNewline, kept, part, Came, Carried, joinedBlocks}
+use Rattle.blocks.specs.Blocks.{blockLines, begunFrom, NoNewline, kept, part, Came, Carried, joinedBlocks}
 use Rattle.blocks.proofs.Begun.{no-take}
 use Rattle.blocks.proofs.Turns.{carried, cut-is, left-is}
 use Rattle.runs.specs.Program.{answersFrom, programText, LeftIn, Turned, HandsOver, blockText}
 use Rattle.runs.specs.Program.HandsOver.{ends, turns}
 use Rattle.runs.specs.declared.Left.{Left}
 use Rattle.runs.specs.declared.Left.the-variants.{Begun, Done}
-use Rattle.runs.proofs.Blocks.{answers-append, no-open, program-blocks}
+use Rattle.runs.proofs.Blocks.{answers-append, no-open, block-turn, program-blocks}
 use Rattle.runs.proofs.Pieces.{whole-text, open-text}
 
 -- what is left of a read
@@ -40,10 +40,10 @@ module _ (line input : List ℕ) (from end : ℕ) (c : Carried line input from e
   lines-are = ap (λ (s : List ℕ). answersFrom [] s) (cut-is line input from end c) ∙ cut-text (take from (take end input)) (part from end input) (c .whole) (c .begun)
 
 turns-text : (line text : List ℕ) (blocks : List (List ℕ)) → NoNewline line → HandsOver line blocks text → text ≡ blockText (kept line) blocks
-unfolding blockText
+unfolding blockLines
 turns-text line _ _ o ends = open-text (kept line) (no-take 8801 line o)
 turns-text line _ _ o (turns {input = input} {from = from} {end = end} {blocks = blocks} {later = later} c h) =
-    rw (lines-are line input from end c, left-is line input from end c, ← turns-text (part from end input) later blocks (c .begun) h)
+    rw (block-turn (kept line) (part (length (kept line)) end input) blocks, lines-are line input from end c, left-is line input from end c, ← turns-text (part from end input) later blocks (c .begun) h)
 
 -- ALL THAT IS HANDED OVER, by turns that each meet their contract, is what the program writes for the whole input
 pub turns-say : (text : List ℕ) (blocks : List (List ℕ)) → HandsOver [] blocks text → text ≡ programText (joinedBlocks blocks)

@@ -2,13 +2,10 @@
 -- Assumes nothing.
 use mathlib.Core.Path.{_≡_}
 use Prim.Native.Nat.{ℕ, _+_, _≤_}
-use Prim.Native.Char.{code}
 use mathlib.Core.List.{List, [], _∷_, _++_}
 use lib.ListN.{length, take, drop}
-use lib.Dec.{eqb}
-use Rattle.format.specs.Fields.{pick}
 use Rattle.lines.specs.Line.{answerText, ended, answerRoom}
-use Rattle.blocks.specs.Blocks.{begunFrom, NoNewline, kept, part, Carried}
+use Rattle.blocks.specs.Blocks.{linesFrom, begunFrom, lastLine, linesIn, NoNewline, kept, part, Carried, blockLines}
 use Rattle.runs.specs.declared.Left.{Left}
 use Rattle.runs.specs.declared.Left.the-variants.{Begun, Done}
 
@@ -16,18 +13,21 @@ use Rattle.runs.specs.declared.Left.the-variants.{Begun, Done}
 abbrev pub answered : List ℕ → List ℕ
 answered line = ended (answerText line)
 
--- the answers to the lines of s that a newline ends; the first of them has begun as `line`
-unfoldable pub answersFrom : List ℕ → List ℕ → List ℕ
-answersFrom line [] = []
-answersFrom line (c ∷ s) = pick (eqb c (code "\n")) (answered line ++ answersFrom [] s) (answersFrom (line ++ (c ∷ [])) s)
-
--- a final newline opens no further line
-unfoldable pub lastAnswer : List ℕ → List ℕ
-lastAnswer line = pick (eqb (length line) 0) [] (answered line)
+-- the answers to lines, one behind the other
+unfoldable pub answersTo : List (List ℕ) → List ℕ
+answersTo [] = []
+answersTo (line ∷ lines) = answered line ++ answersTo lines
 
 -- WHAT THE PROGRAM WRITES for its input
 unfoldable pub programText : List ℕ → List ℕ
-programText s = answersFrom [] s ++ lastAnswer (begunFrom [] s)
+programText s = answersTo (linesIn s)
+
+-- of an input that goes on behind the beginning of a line: the answers to the lines that a newline ends, and to the last
+abbrev pub answersFrom : List ℕ → List ℕ → List ℕ
+answersFrom line s = answersTo (linesFrom line s)
+
+abbrev pub lastAnswer : List ℕ → List ℕ
+lastAnswer line = answersTo (lastLine line)
 
 -- ---- for the functions of the program
 
@@ -54,10 +54,9 @@ Turned line input Done = Unit {0}
 
 -- ---- an input that comes in blocks
 
--- what is written for the blocks that come, with a line's beginning held: the whole lines' answers after each block, and at the end the last line's
-unfoldable pub blockText : List ℕ → List (List ℕ) → List ℕ
-blockText held [] = lastAnswer held
-blockText held (b ∷ bs) = answersFrom [] (held ++ b) ++ blockText (kept (begunFrom [] (held ++ b))) bs
+-- what is written for the blocks that come, with a line's beginning held
+abbrev pub blockText : List ℕ → List (List ℕ) → List ℕ
+blockText held bs = answersTo (blockLines held bs)
 
 -- WHAT THE PROGRAM HANDS OVER to be written from a line's beginning on, turn by turn. A turn keeps that beginning as far as it is kept, its block is
 -- what came behind it, and it hands over the text of the whole lines; what it leaves is the next turn's. Where the input ends, it is the text of the last line.

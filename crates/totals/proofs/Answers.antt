@@ -1,6 +1,6 @@
 -- A line's answer, as `lines` reads it. Assumes nothing.
 use mathlib.Core.Path.{_≡_, refl, sym, ap, _∙_}
-use Prim.Native.Nat.{ℕ, _+_, _*_, _<_, _≤_, _%_}
+use Prim.Native.Nat.{ℕ, _<_, _≤_, _%_}
 use native.Mathlib.Omega.{arith}
 use mathlib.Core.Bool.{Bool, true, false, _||_, _&&_, not}
 use mathlib.Core.List.{List, [], _∷_, map, map-map}
@@ -18,7 +18,6 @@ use Rattle.format.proofs.Rows.{i64-count}
 use Rattle.format.specs.Promises.{answerOf, placesOf}
 use Rattle.format.specs.declared.Answer.{Answer}
 use Rattle.text.specs.Hexadecimal.{hexValue, allHex, hexBytes}
-use Rattle.lines.specs.declared.Reading.{Reading}
 use Rattle.lines.specs.declared.Reading.the-variants.{Bad, Answered}
 use Rattle.lines.specs.Line.{badLine, frameOf, frameReading, framePlaces, LineRead}
 use Rattle.season.specs.Totals.{Line, bad, answered}

@@ -3,11 +3,11 @@ use mathlib.Core.Path.{_≡_, refl, sym, ap, _∙_}
 use Prim.Native.Nat.{ℕ, _+_, _-_, _≤_}
 use native.Mathlib.Omega.{arith}
 use mathlib.Core.Bool.{Bool, true, false}
-use mathlib.Core.List.{List, [], _∷_, _++_, map-append, append-nil}
+use mathlib.Core.List.{List, [], _∷_, _++_, map-append}
 use lib.ListN.{length, take, drop, take-append-drop, length-drop}
 use borrow.Author.Tests.{eq-eqb, ne-eqb}
 use Rattle.format.specs.Fields.{pick}
-use Rattle.blocks.specs.Blocks.{linesFrom, begunFrom, lastLine, lineLength, NoNewline}
+use Rattle.blocks.specs.Blocks.{linesFrom, begunFrom, lastLine, lineLength}
 use Rattle.blocks.proofs.Lines.{line-open, lines-append, end-le, next-lines, next-whole}
 use Rattle.season.specs.declared.Totals.{Totals}
 use Rattle.season.specs.declared.Taken.{Taken}
@@ -15,7 +15,7 @@ use Rattle.season.specs.declared.Stop.{Stop}
 use Rattle.season.specs.declared.Stop.the-variants.{None, Refused}
 use Rattle.season.specs.Totals.{Line, totals, rowsIn, tooMany}
 use Rattle.season.specs.Held.{held, together, going, stopped, takeLine, unlessStopped, takeAll}
-use Rattle.totals.specs.Program.{answerTo, answersTo, isStopped, Rest, Stops, in-block, at-end}
+use Rattle.totals.specs.Program.{answerTo, answersTo, isStopped, Rest, Stops, in-block}
 
 -- ---- one after another
 

@@ -2,18 +2,18 @@
 use mathlib.Core.Path.{_≡_, refl, sym, ap, _∙_}
 use Prim.Native.Nat.{ℕ, _≤_}
 use native.Mathlib.Omega.{arith}
-use mathlib.Core.List.{List, [], _∷_, _++_, map-append, append-nil}
+use mathlib.Core.List.{List, [], _++_, map-append, append-nil}
 use lib.ListN.{length, take, drop, take-append-drop}
 use lib.Seq.{length-take-le, take-all}
 use lib.IntN.{ℤ}
-use Rattle.blocks.specs.Blocks.{linesFrom, begunFrom, lastLine, linesIn, NoNewline, kept, part, Came, Carried, blockLines, joinedBlocks}
+use Rattle.blocks.specs.Blocks.{linesFrom, begunFrom, linesIn, NoNewline, kept, part, Came, Carried, blockLines, joinedBlocks}
 use Rattle.blocks.proofs.Lines.{lines-append, lines-open}
 use Rattle.blocks.proofs.Turns.{front-held, carried, cut-is, left-is}
 use Rattle.blocks.proofs.Joined.{blocks-joined}
 use Rattle.season.specs.declared.Totals.{Totals}
 use Rattle.season.specs.declared.Taken.{Taken}
 use Rattle.season.specs.Totals.{Line, empty, takeLines}
-use Rattle.season.specs.Held.{held, going, stopped, takeAll, heldOutcome}
+use Rattle.season.specs.Held.{held, takeAll, heldOutcome}
 use Rattle.season.proofs.Taking.{code-holds}
 use Rattle.totals.specs.Program.{answerTo, answersTo, takenText, programText, Rest, Stops, in-block, at-end, After, Going, Stopping, with-block, with-last, Turned, Takes}
 use Rattle.totals.specs.Program.Takes.{ends, stops, turns}

@@ -5,14 +5,14 @@ ghost use lib.ListN.{length};
 ghost use Rattle.text.specs.Written.{Written};
 ghost use Rattle.season.specs.Words.{wordsValue, sizeOf};
 ghost use Rattle.totals_text.specs.Text.{numberText, wholeText, countLine, extremeLine, refusalLine, refusalsText, runsText, sumLine, totalsText, Shown};
-use text::put;
-use text::put_decimal;
-use text::put_rows;
-use text::put_word;
 use season::Extreme;
 use season::Tenth;
 use season::Totals;
 use season::Words;
+use text::put;
+use text::put_decimal;
+use text::put_rows;
+use text::put_word;
 
 // The fixed words.
 const LINES: [u8; 6] = *b"lines ";

@@ -1,5 +1,5 @@
 -- `blocks::read_on` meets its contract, and hands on as many bytes as the system says that came. Assumes nothing.
-use mathlib.Core.Path.{_≡_, sym, ap, _∙_}
+use mathlib.Core.Path.{_≡_, ap, _∙_}
 use Prim.Native.Nat.{ℕ, _+_, _-_}
 use native.Mathlib.Omega.{arith}
 use mir.Syntax.{w64}

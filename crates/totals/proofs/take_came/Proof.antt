@@ -1,5 +1,4 @@
 -- `take_came` meets its contract: where nothing came, there is only what was held. Assumes nothing.
-use native.Mathlib.Omega.{arith}
 use borrow.Author.Needs.{needs}
 use denote.Ref.{now}
 use mir.Facts.{toZ-ofZ}
