@@ -2,6 +2,7 @@
 pub mod Order
 pub mod Combining
 pub mod Limits
+pub mod Sizes
 pub mod Sums
 pub mod Decimal
 pub mod Ones

@@ -23,7 +23,8 @@ use Rattle.season.specs.Held.{numbers, kinds, held, eachPlus, together, 
 use Rattle.season.specs.Laws.{Within, I64, CodeHolds, CodeTells}
 use Rattle.season.proofs.Combining.{rows-append, joined, counted-append}
 use Rattle.season.proofs.Limits.{count-append, Passing, passing, staying, passing-is}
-use Rattle.season.proofs.Sums.{rows-size, value, added}
+use Rattle.season.proofs.Sizes.{rows-size}
+use Rattle.season.proofs.Sums.{value, added}
 use Rattle.season.proofs.Held.{from}
 
 -- two structs are the same where each part is

@@ -26,7 +26,7 @@ use Rattle.season.specs.declared.Totals.{Totals}
 use Rattle.season.specs.declared.Taken.{Taken}
 use Rattle.season.specs.Laws.{AllBytes, I64}
 use Rattle.season.proofs.Lines.{lines-read}
-use Rattle.season.proofs.Sums.{all-fit}
+use Rattle.season.proofs.Sizes.{all-fit}
 use Rattle.totals.specs.Program.{answerTo, answersTo}
 
 -- ---- a line's bytes are bytes
