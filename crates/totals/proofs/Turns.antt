@@ -1,21 +1,22 @@
 -- A turn, and all turns: that what is taken is what the whole input's lines give. Assumes nothing.
 use mathlib.Core.Path.{_≡_, refl, sym, ap, _∙_}
-use Prim.Native.Nat.{ℕ, _≤_}
+use Prim.Native.Nat.{ℕ}
 use native.Mathlib.Omega.{arith}
-use mathlib.Core.List.{List, [], _++_, map-append, append-nil}
+use mathlib.Core.Bool.{true}
+use mathlib.Core.List.{List, [], _∷_, _++_, map-append, append-nil, append-assoc}
 use lib.ListN.{length, take, drop, take-append-drop}
 use lib.Seq.{length-take-le, take-all}
 use lib.IntN.{ℤ}
-use Rattle.blocks.specs.Blocks.{linesFrom, begunFrom, linesIn, NoNewline, kept, part, Came, Carried, blockLines, joinedBlocks}
+use Rattle.blocks.specs.Blocks.{linesFrom, begunFrom, lastLine, linesIn, NoNewline, kept, part, Came, Carried, blockLines, joinedBlocks}
 use Rattle.blocks.proofs.Lines.{lines-append, lines-open}
 use Rattle.blocks.proofs.Turns.{front-held, carried, cut-is, left-is}
 use Rattle.blocks.proofs.Joined.{blocks-joined}
 use Rattle.season.specs.declared.Totals.{Totals}
 use Rattle.season.specs.declared.Taken.{Taken}
 use Rattle.season.specs.Totals.{Line, empty, takeLines}
-use Rattle.season.specs.Held.{held, takeAll, heldOutcome}
+use Rattle.season.specs.Held.{held, going, stopped, takeAll, heldOutcome}
 use Rattle.season.proofs.Taking.{code-holds}
-use Rattle.totals.specs.Program.{answerTo, answersTo, takenText, programText, Rest, Stops, in-block, at-end, After, Going, Stopping, with-block, with-last, Turned, Takes}
+use Rattle.totals.specs.Program.{answerTo, answersTo, takenText, programText, Rest, Stops, in-block, at-end, After, Going, Stopping, with-block, with-last, Turned, Takes, Reached, Final, Ready, Finished}
 use Rattle.totals.specs.Program.Takes.{ends, stops, turns}
 use Rattle.totals.specs.declared.taking.Next.{Next}
 use Rattle.totals.specs.declared.taking.Next.the-variants.{Begun, Ended, Stopped, Failed}
@@ -56,18 +57,36 @@ pub rest-none : (before : Totals) (n : ℕ) (input : List ℕ) → n ≡ length 
 unfolding linesFrom begunFrom takeAll
 rest-none before n input h o = record { ends = h; order = omega arith; whole = refl; begun = o; taken = refl }
 
--- what is left is what a turn may be given
-abbrev pub Ready : List ℕ → Next → Type 0
-Ready input (Begun from end) = (from ≤ end) × (end ≤ length input) × NoNewline (part from end input)
-Ready input Ended = Unit {0}
-Ready input Stopped = Unit {0}
-Ready input Failed = Unit {0}
+-- ---- from turn to turn
 
-pub turned-ready : (before : Totals) (line input : List ℕ) (t : Totals) (next : Next) → Turned before line input t next → Ready input next
-turned-ready before line input t (Begun from end) g = (g .carried .order, g .carried .within, g .carried .begun)
-turned-ready before line input t Ended g = tt
-turned-ready before line input t Stopped g = tt
-turned-ready before line input t Failed g = tt
+reached-ends : (t : Totals) (line : List ℕ) (r : Taken) → Reached t line → takeAll t (answersTo (lastLine (kept line))) ≡ r
+    → (blocks : List (List ℕ)) × Takes [] blocks (held empty) r
+reached-ends t line r (blocks, go) e = (blocks ++ [], go [] r (rw e at (ends {line = line} {t = t})))
+
+reached-stops : (t t′ : Totals) (line : List ℕ) → Reached t line → Stopping t line t′ → Final t′ true
+reached-stops t t′ line (blocks, go) (with-block block e) = (blocks ++ (block ∷ []), go (block ∷ []) (stopped t′) (stops e))
+reached-stops t t′ line g (with-last e) = reached-ends t line (stopped t′) g e
+
+reached-on : (t t′ : Totals) (line input : List ℕ) (from end : ℕ) → Reached t line → Going t line input t′ from end → Reached t′ (part from end input)
+reached-on t t′ line input from end (blocks, go) g =
+    let block = part (length (kept line)) end input in
+    (blocks ++ (block ∷ []), λ later r h. rw (append-assoc blocks (block ∷ []) later) (go (block ∷ later) r (turns g h)))
+
+-- what is left is what a turn may be given, and what is told is what was taken
+pub turned-ready : (t : Totals) (line input : List ℕ) (t′ : Totals) (next : Next) → Reached t line → Turned t line input t′ next → Ready t′ input next
+turned-ready t line input t′ (Begun from end) r g = (g .carried .order, g .carried .within, g .carried .begun, reached-on t t′ line input from end r g)
+turned-ready t line input t′ Ended r g = reached-ends t line (going t′) r g
+turned-ready t line input t′ Stopped r g = reached-stops t t′ line r g
+turned-ready t line input t′ Failed r g = tt
+
+pub ready-first : (t : Totals) (input : List ℕ) → t ≡ held empty → Ready t input (Begun 0 0)
+ready-first t input e = (omega arith, omega arith, tt, ([], λ later r h. rw e at h))
+
+pub ready-finished : (t : Totals) (input : List ℕ) (next : Next) → Ready t input next → Finished t next
+ready-finished t input (Begun from end) h = tt
+ready-finished t input Ended h = h
+ready-finished t input Stopped h = h
+ready-finished t input Failed h = tt
 
 -- ---- all turns
 

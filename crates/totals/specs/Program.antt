@@ -97,3 +97,29 @@ pub data Takes : List ℕ → List (List ℕ) → Totals → Taken → Type 0 wh
   turns : {line input : List ℕ} {from end : ℕ} {blocks : List (List ℕ)} {t t′ : Totals} {r : Taken} → Going t line input t′ from end
       → Takes (part from end input) blocks t′ r
       → Takes line (part (length (kept line)) end input ∷ blocks) t r
+
+-- WHERE A TURN STANDS: some blocks came before it, and whatever is taken from its line on is what is taken of them and of what comes
+abbrev pub Reached : Totals → List ℕ → Type 0
+Reached t line = (blocks : List (List ℕ)) × ((later : List (List ℕ)) (r : Taken) → Takes line later t r → Takes [] (blocks ++ later) (held empty) r)
+
+-- the totals that are told are those of blocks that came, all of them or stopped
+abbrev pub over : Totals → Bool → Taken
+over t false = going t
+over t true = stopped t
+
+abbrev pub Final : Totals → Bool → Type 0
+Final t halted = (blocks : List (List ℕ)) × Takes [] blocks (held empty) (over t halted)
+
+-- what a turn may be given, and what is left where there is none more
+abbrev pub Ready : Totals → List ℕ → Next → Type 0
+Ready t input (Begun from end) = (from ≤ end) × (end ≤ length input) × NoNewline (part from end input) × Reached t (part from end input)
+Ready t input Ended = Final t false
+Ready t input Stopped = Final t true
+Ready t input Failed = Unit {0}
+
+-- what is to be told where nothing more is to be read
+abbrev pub Finished : Totals → Next → Type 0
+Finished t (Begun from end) = Unit {0}
+Finished t Ended = Final t false
+Finished t Stopped = Final t true
+Finished t Failed = Unit {0}

@@ -10,7 +10,7 @@ ghost use mathlib.Core.Path.{_≡_};
 ghost use Prim.Native.Nat.{_+_, _≤_};
 ghost use lib.ListN.{length, take};
 ghost use Rattle.blocks.specs.Blocks.{tooLong, part, came, NoNewline};
-ghost use Rattle.totals.specs.Program.{Piece, After, Turned};
+ghost use Rattle.totals.specs.Program.{Piece, After, Turned, Final, Finished};
 
 const REFUSED_20: [u8; 11] = *b"refused 20\n";
 
@@ -27,7 +27,9 @@ fn say(totals: Totals, stopped: bool, text: &[u8]) -> bool
 }
 
 // The lines of the totals, and the refusal last where one stopped the reading.
-fn tell(totals: Totals, stopped: bool) {
+fn tell(totals: Totals, stopped: bool)
+    requires { ⌜ Final totals stopped ⌝ }
+{
     let mut out = io::buffer();
     let written = totals_text::show(totals, &mut out);
     if !say(totals, stopped, &out[..written]) {
@@ -71,7 +73,9 @@ fn turn(before: Totals, input: &mut [u8], from: usize, end: usize, rows: &mut [i
 }
 
 // Where nothing more is to be read: the totals, unless reading failed.
-fn finish(totals: Totals, next: Next) {
+fn finish(totals: Totals, next: Next)
+    requires { ⌜ Finished totals next ⌝ }
+{
     match next {
         Next::Ended => tell(totals, false),
         Next::Stopped => tell(totals, true),

@@ -4,12 +4,13 @@ use native.Mathlib.Omega.{arith}
 use borrow.Author.Needs.{needs}
 use lib.ListN.{length}
 use Rattle.blocks.specs.Blocks.{part}
-use Rattle.totals.proofs.Turns.{Ready, turned-ready}
+use Rattle.totals.specs.Program.{Ready}
+use Rattle.totals.proofs.Turns.{ready-first, ready-finished, turned-ready}
 use Rattle.totals.proofs.main.Statement.{statement}
 use Rattle.totals.proofs.main.Tie as tie
 
 abbrev Inv-loop : tie.InvT-loop
-Inv-loop input₀ rows₀ totals₀ next₀ turns₀ input rows totals next turns = (74337 ≡ length input) × (512 ≡ length rows) × Ready input next
+Inv-loop input₀ rows₀ totals₀ next₀ turns₀ input rows totals next turns = (74337 ≡ length input) × (512 ≡ length rows) × Ready totals input next
 
 abbrev μ-loop : tie.MeasureT-loop
 μ-loop input₀ rows₀ totals₀ next₀ turns₀ input rows totals next turns = turns
@@ -24,13 +25,13 @@ empty-requires : tie.Need-empty-requires Inv-loop μ-loop
 empty-requires c κs = tt
 
 loop-holds : tie.Need-loop-holds Inv-loop μ-loop
-loop-holds c = (sym (c .before .before .input-places .ensures), sym (c .before .row-places .ensures), (omega arith, omega arith, tt))
+loop-holds c = (sym (c .before .before .input-places .ensures), sym (c .before .row-places .ensures), ready-first (c .empty .result) (c .before .before .input-places .result) (c .empty .ensures))
 
 enum-known-next : tie.Need-enum-known-next Inv-loop μ-loop
 enum-known-next c = search needs
 
 finish-requires : tie.Need-finish-requires Inv-loop μ-loop
-finish-requires c κs = tt
+finish-requires c κs = let l = c .before .before .loop in ready-finished (l .totals) (l .input) (l .next) (l .inv .2)
 
 returns : tie.Need-returns Inv-loop μ-loop
 returns c = tt
@@ -57,10 +58,12 @@ loop-again : tie.Need-loop-again Inv-loop μ-loop
 loop-again c =
     let t = c .before .before .before in
     let l = t .before .before .before .before .before .before .before .loop in
-    let g = t .before .before .before .before .next .given .0 in (
+    let n = t .before .before .before .before .next in
+    let g = n .given .0 in
+    let r = rw (n .given .1) at (l .inv .2) in (
       l .inv .0 ∙ sym (t .turn .kept .1 .0),
       l .inv .1 ∙ sym (t .turn .kept .1 .1 .1 .1 .0),
-      turned-ready _ (part (g .0) (g .1 .0) (l .input)) (t .turn .last .1 .0) (t .turn .result .totals) (t .turn .result .next) (t .turn .ensures),
+      turned-ready (l .totals) (part (g .0) (g .1 .0) (l .input)) (t .turn .last .1 .0) (t .turn .result .totals) (t .turn .result .next) (r .3) (t .turn .ensures),
     )
 
 returns-2 : tie.Need-returns-2 Inv-loop μ-loop
