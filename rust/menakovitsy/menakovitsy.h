@@ -33,19 +33,20 @@ extern "C" {
 
 /* The version of these functions: each change of them makes it one more. A program compares what
  * orc_version answers with the header that it was compiled with. */
-#define ORC_VERSION UINT64_C(6)
+#define ORC_VERSION UINT64_C(7)
 
 uint64_t orc_version(void);
 
 /* The answer. A function that is lent words writes its whole answer into the first ORC_WORDS of
- * them, the stream reader into the first ORC_STREAM_WORDS, orc_label into the first ORC_LABEL_WORDS,
- * orc_part_take and orc_part_close into the first ORC_PART_WORDS, and leaves the others as they were.
- * It returns the refusal's number (the word ORC_NUMBER), 0 where nothing is refused. Later versions
+ * them, the stream reader into the first ORC_STREAM_WORDS, and a function with words of its own into
+ * as many as are named after it below, and leaves the others as they were. It returns the refusal's
+ * number (the word ORC_NUMBER), 0 where nothing is refused. Later versions
  * append words: none changes its meaning. */
 #define ORC_WORDS 9
 #define ORC_STREAM_WORDS 14
 #define ORC_LABEL_WORDS 5
 #define ORC_PART_WORDS 11
+#define ORC_COUNT_WORDS 6
 
 /* How many words the state of the reader in parts has. */
 #define ORC_STATE_WORDS 7
@@ -102,11 +103,22 @@ enum orc_part_word {
     ORC_PART_TAKEN = 10
 };
 
+/* The words of a count behind ORC_CASE, ORC_NUMBER and ORC_PLACE. */
+enum orc_count_word {
+    /* How many booleans are true; 0 where refused. */
+    ORC_COUNT_TRUE = 3,
+    /* 1 where the refusal has a cut field, otherwise 0. */
+    ORC_COUNT_CUT = 4,
+    /* The byte where the cut field begins; 0 where there is none. */
+    ORC_COUNT_CUT_AT = 5
+};
+
 enum orc_case {
     /* The input is empty: there is no run. orc_read_run_at only; and of the reader in parts, once it is
      * closed: the column has ended. */
     ORC_CASE_END = 0,
-    /* A run, booleans or a byte value; of the stream: it was read whole; of a label: a name. */
+    /* A run, booleans or a byte value; of the stream: it was read whole; of a label: a name;
+     * of a count: it was counted. */
     ORC_CASE_READ = 1,
     ORC_CASE_REFUSED = 2,
     /* Of a label alone: the row has no name, and is called by the fallback. */
@@ -256,6 +268,11 @@ uint64_t orc_part_take(uint64_t *state, size_t state_len, uint8_t *held, size_t 
 /* The closing call: the column's end (ORC_CASE_END), or the refusal of the run that is unfinished. */
 uint64_t orc_part_close(uint64_t *state, size_t state_len, uint8_t *held, size_t held_len,
                         uint64_t flag, int64_t *rows, size_t rows_len, uint64_t *words,
+                        size_t words_len);
+
+/* How many of the first n booleans are true, packed eight to a byte, the highest bit first: the word
+ * ORC_COUNT_TRUE. Refused where the bytes hold fewer: ORC_VALUE_CUT, at 0, cut at 0. */
+uint64_t orc_count_true(const uint8_t *packed, size_t packed_len, uint64_t n, uint64_t *words,
                         size_t words_len);
 
 /* Reads the run at the start of input, and answers by one number: an orc_answer, or, from ORC_RUN on,

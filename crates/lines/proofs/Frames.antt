@@ -143,9 +143,8 @@ pub record Reads (frame : List ℕ) (signed : Bool) (out′ : List ℤ) (r : Ans
   pub few : answerRows r ≤ 512
   pub words : answerWords r (take (answerRows r) out′) ≡ wordsOf (length frame - 1) signed (into 512 (parse (drop 1 frame)))
 
-pub reads : (frame : List ℕ) (at : ℕ) (signed : Bool) (out out′ : List ℤ) (r : Answer) → at ≡ 1 → length out ≡ 512 → RunRead frame at signed out out′ r
-    → Reads frame signed out′ r
-reads frame at signed out out′ r z l g = by (into 512 (parse (drop 1 frame))) refl (rw (z, l) at (g .answer)) (rw (z, l) at (g .places))
+pub reads : (frame : List ℕ) (signed : Bool) (out out′ : List ℤ) (r : Answer) → length out ≡ 512 → RunRead frame 1 signed out out′ r → Reads frame signed out′ r
+reads frame signed out out′ r l g = by (into 512 (parse (drop 1 frame))) refl (rw l at (g .answer)) (rw l at (g .places))
   where
     by : (x : Parsed Description) → into 512 (parse (drop 1 frame)) ≡ x → r ≡ answerOf 1 (length frame - 1) x → out′ ≡ placesOf signed out x → Reads frame signed out′ r
     by end e a p = record { few = rw a (omega arith); words = rw (a, e) }

@@ -1,3 +1,4 @@
 -- The laws that the proofs cite.
 pub mod Frames
+pub mod Readings
 pub mod Examples

@@ -11,9 +11,11 @@ use Rattle.format.specs.Fields.{pick}
 use Rattle.format.specs.Runs.{Description}
 use Rattle.format.specs.Rows.{i64Rows}
 use Rattle.format.specs.Parse.{Parsed, end, got, refused, parse, into}
-use Rattle.format.specs.Promises.{answerOf}
+use Rattle.format.specs.Promises.{answerOf, placesOf}
 use Rattle.format.specs.declared.Answer.{Answer}
 use Rattle.format.specs.declared.Answer.the-variants.{End, Run, Refused}
+use Rattle.lines.specs.declared.Reading.{Reading}
+use Rattle.lines.specs.declared.Reading.the-variants as reading
 use Rattle.text.specs.Ascii.{ascii}
 use Rattle.text.specs.Hexadecimal.{allHex, hexBytes}
 use Rattle.text.specs.Decimal.{decimal, rowsText}
@@ -81,3 +83,17 @@ pub record Framed (line frame : List ℕ) (n : ℕ) : Type 0 where
 pub record Answered (line out out′ : List ℕ) (r : ℕ) : Type 0 where
   pub count : r ≡ length (answerLine (length out) line)
   pub places : out′ ≡ answerLine (length out) line ++ drop (length (answerLine (length out) line)) out
+
+-- what is read of a frame, in so many places; and the places, which hold a run's rows by the frame's flag
+unfoldable pub frameReading : ℕ → List ℕ → Reading
+frameReading room [] = reading.Bad
+frameReading room (flag ∷ run) = reading.Answered (answerOf 1 (length run) (into room (parse run)))
+
+unfoldable pub framePlaces : List ℤ → List ℕ → List ℤ
+framePlaces out [] = out
+framePlaces out (flag ∷ run) = placesOf (eqb flag 1) out (into (length out) (parse run))
+
+-- WHAT `read_line` PROMISES: what is read is that of the line's bytes, and so are the places
+pub record LineRead (line : List ℕ) (out out′ : List ℤ) (r : Reading) : Type 0 where
+  pub answer : r ≡ frameReading (length out) (frameOf line)
+  pub places : out′ ≡ framePlaces out (frameOf line)

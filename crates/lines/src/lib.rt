@@ -1,9 +1,11 @@
 // One line of hexadecimal in, one answer line out: document 01's program, without its input and output.
 ghost use mathlib.Core.Path.{_≡_};
 ghost use Prim.Native.Nat.{_≤_, _<_};
-ghost use lib.ListN.{length, take};
+ghost use lib.ListN.{length, take, getD};
+ghost use lib.Dec.{eqb};
 ghost use Rattle.format.specs.Answers.{answerRows};
-ghost use Rattle.lines.specs.Line.{runWords, answerWords, frameText, ended, answerRoom, Framed, Answered};
+ghost use Rattle.format.specs.Promises.{RunRead};
+ghost use Rattle.lines.specs.Line.{runWords, answerWords, frameText, ended, answerRoom, Framed, Answered, LineRead};
 ghost use Rattle.text.specs.Written.{Written};
 use format::Answer;
 use format::ByteOffset;
@@ -29,6 +31,12 @@ const MAX_FRAME: usize = MAX_LINE / 2;
 
 // Room for any answer line: `run `, two numbers of at most 20 digits, 512 rows of at most 21 characters, the spaces and the newline.
 pub const ANSWER_ROOM: usize = 11310;
+
+// What is read of a line: that it is bad, or what the run reader answers to its bytes.
+pub enum Reading {
+    Bad,
+    Answered(Answer),
+}
 
 // A run's rows, its bytes consumed, and then the rows.
 fn put_run(rows: usize, consumed: usize, values: &[i64], out: &mut [u8]) -> usize
@@ -94,14 +102,22 @@ fn frame_of(line: &[u8], frame: &mut [u8]) -> usize
     len / 2
 }
 
+// What the run reader answers to a frame that has a flag.
+fn read_frame(frame: &[u8], rows: &mut [i64]) -> Answer
+    requires { ⌜ 0 < length (now frame) ⌝ }
+    ensures { λ r. ⌜ RunRead (now (frame .entry)) 1 (eqb (getD (now (frame .entry)) 0 0) 1) (now (rows .entry)) (now (rows .exit)) r ⌝ }
+{
+    let signed = frame[0] == 1;
+    rle_v2::read_run(frame, ByteOffset::new(1), signed, rows)
+}
+
 // The answer line to a frame that has a flag.
 fn put_frame(frame: &[u8], out: &mut [u8]) -> usize
     requires { ⌜ (0 < length (now frame)) × (answerRoom ≤ length (now out)) ⌝ }
     ensures { λ r. ⌜ Written (ended (frameText (now (frame .entry)))) (now (out .entry)) 0 (now (out .exit)) r ⌝ }
 {
     let mut rows = row_places();
-    let signed = frame[0] == 1;
-    let answer = rle_v2::read_run(frame, ByteOffset::new(1), signed, &mut rows);
+    let answer = read_frame(frame, &mut rows);
     let at = put_answer(answer, &rows, out);
     put(b'\n', out, at)
 }
@@ -120,4 +136,16 @@ pub fn answer_line(line: &[u8], out: &mut [u8]) -> usize
         return put_word(&BAD_LINE, out, 0);
     }
     put_frame(&frame[..n], out)
+}
+
+// What is read of a line (its bytes without the newline); the rows of a run go into the first places.
+pub fn read_line(line: &[u8], rows: &mut [i64]) -> Reading
+    ensures { λ r. ⌜ LineRead (now (line .entry)) (now (rows .entry)) (now (rows .exit)) r ⌝ }
+{
+    let mut frame = frame_places();
+    let n = frame_of(line, &mut frame);
+    if n == 0 {
+        return Reading::Bad;
+    }
+    Reading::Answered(read_frame(&frame[..n], rows))
 }

@@ -9,9 +9,11 @@ use Rattle.format.specs.declared.Stream.{Stream}
 use Rattle.labels.specs.declared.Label.{Label}
 use Rattle.loader.specs.Labels.{labelWords, labelWordCount, LabelToldDetermined}
 use Rattle.loader.specs.Patched.{PatchedToldDetermined}
+use Rattle.season.specs.declared.Count.{Count}
+use Rattle.loader.specs.Counts.{countWords, countWordCount, CountToldDetermined}
 use Rattle.format.specs.Loader.{answerWords, streamWords, wordCount, streamWordCount, tooFewWords, Put, Told, ToldOf}
 
--- every answer has as many words, every stream's and every label's
+-- every answer has as many words, every stream's, every label's and every count's
 pub answer-long : (a : Answer) → length (answerWords a) ≡ wordCount
 unfolding answerWords
 answer-long a = refl
@@ -23,6 +25,10 @@ stream-long s = refl
 pub label-long : (l : Label) → length (labelWords l) ≡ labelWordCount
 unfolding labelWords
 label-long l = refl
+
+pub count-long : (c : Count) → length (countWords c) ≡ countWordCount
+unfolding countWords
+count-long c = refl
 
 -- over any answers whose words are counted
 module _ {B : Type 0} {wordsOf : B → List ℕ} {numberOf : B → ℕ} {n : ℕ} (long : (b : B) → length (wordsOf b) ≡ n) where
@@ -52,3 +58,6 @@ label-told-determined lengths numbers flags block fall row words words′ words�
 pub patched-told-determined : PatchedToldDetermined
 patched-told-determined rows base w out out′ out″ words words′ words″ r r′ p q =
     (p .places-are ∙ sym (q .places-are), p .told .words-are ∙ sym (q .told .words-are), p .told .number-is ∙ sym (q .told .number-is))
+-- and so does that of the count
+pub count-told-determined : CountToldDetermined
+count-told-determined packed n words words′ words″ r r′ p q = (p .words-are ∙ sym (q .words-are), p .number-is ∙ sym (q .number-is))

@@ -3,3 +3,4 @@ pub mod Room
 pub mod Labels
 pub mod Patched
 pub mod Parts
+pub mod Counts

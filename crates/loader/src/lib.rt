@@ -7,10 +7,12 @@ ghost use Rattle.format.specs.Loader.{Loaded, faceVersion, RunTold, StreamTold,
 ghost use Rattle.loader.specs.Labels.{LabelTold};
 ghost use Rattle.loader.specs.Patched.{PatchedTold};
 ghost use Rattle.loader.specs.Parts.{StartTold, PartTold, CloseTold};
+ghost use Rattle.loader.specs.Counts.{CountTold};
 use format::ByteOffset;
 use format::RowNumber;
 
 mod bytes;
+mod count_words;
 mod forms;
 mod label_words;
 mod part_words;
@@ -21,7 +23,7 @@ mod words;
 pub extern "C" fn orc_version() -> u64
     ensures { λ r. ⌜ r ≡ faceVersion ⌝ }
 {
-    6
+    7
 }
 
 // One run at the start of the input, its rows as eight bytes each, lowest first. The flag is 0 for unsigned, and any other number for signed.
@@ -244,4 +246,16 @@ pub extern "C" fn orc_part_close(
     let reader = part_words::reader_of(state);
     let step = parts::close(reader, flag != 0, held, rows);
     part_words::put_step(step, state, words)
+}
+
+// How many of the first n booleans are true, of booleans packed eight to a byte, highest bit first.
+#[no_mangle]
+pub extern "C" fn orc_count_true(packed: &[u8], n: u64, words: &mut [u64]) -> u64
+    ensures { λ r. ⌜ CountTold (now (packed .entry)) n (now (words .entry)) (now (words .exit)) r ⌝ }
+{
+    if words.len() < count_words::COUNT {
+        return words::TOO_FEW;
+    }
+    let count = season::count_true(packed, n as usize);
+    count_words::put_count(count, words)
 }

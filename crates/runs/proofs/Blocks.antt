@@ -1,73 +1,42 @@
 -- An input in blocks, cut anywhere, is answered as the whole input is, though no more is held than 8,801 characters of a line.
 -- Assumes nothing.
-use mathlib.Core.Path.{_≡_, refl, sym, ap, ap₂, _∙_}
-use Prim.Native.Nat.{ℕ, zero, suc, _+_, _<_, _%_}
-use Prim.Native.Char.{code}
+use mathlib.Core.Path.{_≡_, refl, sym, ap, _∙_}
+use Prim.Native.Nat.{ℕ, _<_, _%_}
 use native.Mathlib.Omega.{arith}
-use native.Mathlib.Decide.{decLt}
 use mathlib.Core.Bool.{Bool, true, false, _||_, not}
-use mathlib.Core.List.{List, [], _∷_, _++_, append-assoc, append-nil}
-use lib.ListN.{length, take, getD, length-append, length-take}
-use lib.Seq.{take-all}
+use mathlib.Core.List.{List, [], _∷_, _++_, map, append-assoc}
+use lib.ListN.{length, getD}
 use lib.Dec.{eqb, ltb}
 use borrow.Author.Tests.{lt-ltb, ne-eqb}
 use Rattle.format.specs.Fields.{pick}
 use Rattle.text.specs.Ascii.{ascii}
 use Rattle.text.specs.Hexadecimal.{allHex, hexBytes}
 use Rattle.lines.specs.Line.{badLine, frameOf, frameText, answerText}
-use Rattle.runs.specs.Program.{answered, answersFrom, begunFrom, lastAnswer, programText, NoNewline, kept, blockText, joinedBlocks}
+use Rattle.blocks.specs.Blocks.{linesFrom, begunFrom, linesIn, NoNewline, kept, blockLines, joinedBlocks}
+use Rattle.blocks.proofs.Begun.{begun-open}
+use Rattle.blocks.proofs.Lines.{lines-append, lines-open}
+use Rattle.blocks.proofs.Joined.{blocks-joined}
+use Rattle.runs.specs.Program.{answered, answersTo, answersFrom, programText, blockText}
 
--- ---- two blocks
+-- ---- lines, and lines after them
+
+pub answers-join : (xs ys : List (List ℕ)) → answersTo (xs ++ ys) ≡ answersTo xs ++ answersTo ys
+unfolding answersTo
+answers-join [] ys = refl
+answers-join (x ∷ xs) ys = rw (answers-join xs ys) (sym (append-assoc (answered x) (answersTo xs) (answersTo ys)))
 
 pub answers-append : (line a b : List ℕ) → answersFrom line (a ++ b) ≡ answersFrom line a ++ answersFrom (begunFrom line a) b
-unfolding answersFrom begunFrom
-answers-append line [] b = refl
-answers-append line (c ∷ a) b = by (eqb c (code "\n")) (answers-append [] a b) (answers-append (line ++ (c ∷ [])) a b)
-  where
-    by : (t : Bool) → answersFrom [] (a ++ b) ≡ answersFrom [] a ++ answersFrom (begunFrom [] a) b
-        → answersFrom (line ++ (c ∷ [])) (a ++ b) ≡ answersFrom (line ++ (c ∷ [])) a ++ answersFrom (begunFrom (line ++ (c ∷ [])) a) b
-        → pick t (answered line ++ answersFrom [] (a ++ b)) (answersFrom (line ++ (c ∷ [])) (a ++ b))
-        ≡ pick t (answered line ++ answersFrom [] a) (answersFrom (line ++ (c ∷ [])) a) ++ answersFrom (pick t (begunFrom [] a) (begunFrom (line ++ (c ∷ [])) a)) b
-    by true e f = rw (e, append-assoc (answered line) (answersFrom [] a) (answersFrom (begunFrom [] a) b))
-    by false e f = f
+answers-append line a b = ap answersTo (lines-append line a b) ∙ answers-join (linesFrom line a) (linesFrom (begunFrom line a) b)
 
-pub begun-append : (line a b : List ℕ) → begunFrom line (a ++ b) ≡ begunFrom (begunFrom line a) b
-unfolding begunFrom
-begun-append line [] b = refl
-begun-append line (c ∷ a) b = by (eqb c (code "\n")) (begun-append [] a b) (begun-append (line ++ (c ∷ [])) a b)
-  where
-    by : (t : Bool) → begunFrom [] (a ++ b) ≡ begunFrom (begunFrom [] a) b → begunFrom (line ++ (c ∷ [])) (a ++ b) ≡ begunFrom (begunFrom (line ++ (c ∷ [])) a) b
-        → pick t (begunFrom [] (a ++ b)) (begunFrom (line ++ (c ∷ [])) (a ++ b)) ≡ begunFrom (pick t (begunFrom [] a) (begunFrom (line ++ (c ∷ [])) a)) b
-    by true e f = e
-    by false e f = f
-
--- ---- a line has no newline in it
-
-pub no-take : (n : ℕ) (s : List ℕ) → NoNewline s → NoNewline (take n s)
-no-take zero s h = tt
-no-take (suc n) [] h = tt
-no-take (suc n) (c ∷ s) h = (h .0, no-take n s (h .1))
-
-no-more : (s : List ℕ) (c : ℕ) → NoNewline s → eqb c (code "\n") ≡ false → NoNewline (s ++ (c ∷ []))
-no-more [] c h e = (e, tt)
-no-more (d ∷ s) c h e = (h .0, no-more s c (h .1) e)
-
-no-begun : (line s : List ℕ) → NoNewline line → NoNewline (begunFrom line s)
-unfolding begunFrom
-no-begun line [] h = h
-no-begun line (c ∷ s) h = by (eqb c (code "\n")) refl (no-begun [] s tt) (no-begun (line ++ (c ∷ [])) s)
-  where
-    by : (t : Bool) → eqb c (code "\n") ≡ t → NoNewline (begunFrom [] s) → (NoNewline (line ++ (c ∷ [])) → NoNewline (begunFrom (line ++ (c ∷ [])) s))
-        → NoNewline (pick t (begunFrom [] s) (begunFrom (line ++ (c ∷ [])) s))
-    by true e f g = f
-    by false e f g = g (no-more line c h e)
-
+-- where no newline stands no line ends
 pub no-open : (line s : List ℕ) → NoNewline s → (answersFrom line s ≡ []) × (begunFrom line s ≡ line ++ s)
-unfolding answersFrom begunFrom
-no-open line [] h = (refl, sym (append-nil line))
-no-open line (c ∷ s) h =
-    let (a, b) = no-open (line ++ (c ∷ [])) s (h .1) in
-    (rw (h .0) a, rw (h .0) (b ∙ append-assoc line (c ∷ []) s))
+unfolding answersTo
+no-open line s h = (ap answersTo (lines-open line s h), begun-open line s h)
+
+-- a block, and those after it
+pub block-turn : (held b : List ℕ) (bs : List (List ℕ)) → blockText held (b ∷ bs) ≡ answersFrom [] (held ++ b) ++ blockText (kept (begunFrom [] (held ++ b))) bs
+unfolding blockLines
+block-turn held b bs = answers-join (linesFrom [] (held ++ b)) (blockLines (kept (begunFrom [] (held ++ b))) bs)
 
 -- ---- a line that is too long is bad, whatever follows in it
 
@@ -79,61 +48,17 @@ long-bad line h = rw (ne-eqb (length line) 0 (omega arith), lt-ltb 8800 (length 
     by true u v = refl
     by false u v = refl
 
--- what follows is answered alike
-record Like (x y : List ℕ) : Type 0 where
-  pub answers : (s : List ℕ) → answersFrom x s ≡ answersFrom y s
-  pub last : (s : List ℕ) → lastAnswer (begunFrom x s) ≡ lastAnswer (begunFrom y s)
-
-long-answers : (x y s : List ℕ) → 8800 < length x → 8800 < length y → answersFrom x s ≡ answersFrom y s
-unfolding answersFrom
-long-answers x y [] h k = refl
-long-answers x y (c ∷ s) h k =
-    ap₂ (pick (eqb c (code "\n"))) (ap (λ (t : List ℕ). t ++ ascii "\n" ++ answersFrom [] s) (long-bad x h ∙ sym (long-bad y k)))
-    (long-answers (x ++ (c ∷ [])) (y ++ (c ∷ [])) s (omega (arith, length-append x (c ∷ []))) (omega (arith, length-append y (c ∷ []))))
-
-long-last : (x y s : List ℕ) → 8800 < length x → 8800 < length y → lastAnswer (begunFrom x s) ≡ lastAnswer (begunFrom y s)
-unfolding lastAnswer begunFrom
-long-last x y [] h k = rw (ne-eqb (length x) 0 (omega arith), ne-eqb (length y) 0 (omega arith), long-bad x h, long-bad y k)
-long-last x y (c ∷ s) h k =
-    by (eqb c (code "\n")) (long-last (x ++ (c ∷ [])) (y ++ (c ∷ [])) s (omega (arith, length-append x (c ∷ []))) (omega (arith, length-append y (c ∷ []))))
-  where
-    by : (t : Bool) → lastAnswer (begunFrom (x ++ (c ∷ [])) s) ≡ lastAnswer (begunFrom (y ++ (c ∷ [])) s)
-        → lastAnswer (pick t (begunFrom [] s) (begunFrom (x ++ (c ∷ [])) s)) ≡ lastAnswer (pick t (begunFrom [] s) (begunFrom (y ++ (c ∷ [])) s))
-    by true e = refl
-    by false e = e
-
-kept-like : (line : List ℕ) → Like (kept line) line
-kept-like line = by (decLt (length line) 8802)
-  where
-    by : Dec (length line < 8802) → Like (kept line) line
-    by (yes h) =
-        let e : kept line ≡ line = take-all 8801 line (omega arith) in
-        record { answers = λ s. rw e; last = λ s. rw e }
-    by (no h) =
-        let k : 8800 < length (kept line) = rw length-take (omega arith) in
-        record { answers = λ s. long-answers (kept line) line s k (omega arith); last = λ s. long-last (kept line) line s k (omega arith) }
+long-alike : (x y : List ℕ) → 8800 < length x → 8800 < length y → answered x ≡ answered y
+long-alike x y h k = ap (λ (t : List ℕ). t ++ ascii "\n") (long-bad x h ∙ sym (long-bad y k))
 
 -- ---- the blocks, one after the other
 
-at-end : (held line : List ℕ) → Like held line → lastAnswer held ≡ answersFrom line [] ++ lastAnswer (begunFrom line [])
-unfolding answersFrom begunFrom
-at-end held line l = l .last []
-
-blocks : (held line : List ℕ) (bs : List (List ℕ)) → NoNewline held → Like held line
-    → blockText held bs ≡ answersFrom line (joinedBlocks bs) ++ lastAnswer (begunFrom line (joinedBlocks bs))
-unfolding blockText joinedBlocks
-blocks held line [] n l = at-end held line l
-blocks held line (b ∷ bs) n l =
-    let x = begunFrom held b in
-    let j = joinedBlocks bs in
-    let (o, e) = no-open [] held n in
-    let a : answersFrom [] (held ++ b) ≡ answersFrom held b = answers-append [] held b ∙ rw (o, e) in
-    let g : begunFrom [] (held ++ b) ≡ x = begun-append [] held b ∙ rw e in
-    let r = blocks (kept x) x bs (no-take 8801 x (no-begun held b n)) (kept-like x) in
-    rw (a, g, r)
-    (sym (append-assoc (answersFrom held b) (answersFrom x j) (lastAnswer (begunFrom x j)))
-    ∙ rw (← (answers-append held b j), ← (begun-append held b j), l .answers (b ++ j), l .last (b ++ j)))
+answers-map : (xs : List (List ℕ)) → answersTo xs ≡ joinedBlocks (map answered xs)
+unfolding answersTo joinedBlocks
+answers-map [] = refl
+answers-map (x ∷ xs) = ap (λ (t : List ℕ). answered x ++ t) (answers-map xs)
 
 pub program-blocks : (bs : List (List ℕ)) → blockText [] bs ≡ programText (joinedBlocks bs)
 unfolding programText
-program-blocks bs = blocks [] [] bs tt (record { answers = λ s. refl; last = λ s. refl })
+program-blocks bs =
+    answers-map (blockLines [] bs) ∙ ap joinedBlocks (blocks-joined (List ℕ) answered long-alike bs) ∙ sym (answers-map (linesIn (joinedBlocks bs)))

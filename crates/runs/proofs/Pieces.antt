@@ -7,17 +7,17 @@ use lib.ListN.{length, take, drop}
 use lib.Seq.{take-add, take-at}
 use borrow.Author.Tests.{ne-eqb, le-ltb}
 use Rattle.lines.specs.Line.{answerLine, answerRoom, Answered}
-use Rattle.runs.specs.Program.{answered, answersFrom, begunFrom, lastAnswer, programText, NoNewline}
-use Rattle.runs.proofs.Blocks.{answers-append, begun-append, no-open}
+use Rattle.blocks.specs.Blocks.{linesFrom, begunFrom, lastLine, linesIn, NoNewline}
+use Rattle.runs.specs.Program.{answered, answersTo, answersFrom, lastAnswer, programText}
+use Rattle.blocks.proofs.Begun.{begun-open, whole-more}
+use Rattle.blocks.proofs.Lines.{lines-open}
+use Rattle.runs.proofs.Blocks.{answers-append}
 
 -- ---- whole lines
 
 pub whole-text : (s : List ℕ) → begunFrom [] s ≡ [] → programText s ≡ answersFrom [] s
-unfolding programText lastAnswer
-whole-text s h = rw (h, append-nil (answersFrom [] s))
-
-pub whole-more : (n m : ℕ) (s : List ℕ) → begunFrom [] (take n s) ≡ [] → begunFrom [] (take m (drop n s)) ≡ [] → begunFrom [] (take (n + m) s) ≡ []
-whole-more n m s h k = rw (take-add n m s, begun-append [] (take n s) (take m (drop n s)), h, k)
+unfolding programText linesIn lastLine
+whole-text s h = rw (h, append-nil (linesFrom [] s))
 
 -- the pieces that are handed over in a turn, joined, are the text of all its whole lines
 pub pieces-join : (n m : ℕ) (s : List ℕ) → begunFrom [] (take n s) ≡ [] → begunFrom [] (take m (drop n s)) ≡ []
@@ -30,8 +30,8 @@ pieces-join n m s h k =
 -- ---- a line that no newline ends
 
 pub open-text : (line : List ℕ) → NoNewline line → programText line ≡ lastAnswer line
-unfolding programText
-open-text line h = let (a, b) = no-open [] line h in rw (a, b)
+unfolding programText linesIn
+open-text line h = rw (lines-open [] line h, begun-open [] line h)
 
 module _ (line out out′ : List ℕ) (r : ℕ) (a : Answered line out out′ r) (room : answerRoom ≤ length out) where
   answer-is : answerLine (length out) line ≡ answered line
@@ -39,8 +39,8 @@ module _ (line out out′ : List ℕ) (r : ℕ) (a : Answered line out out′ r)
   answer-is = rw (le-ltb (length out) 11310 room)
 
   pub last-text : NoNewline line → (length line ≡ 0 → ⊥) → take r out′ ≡ programText line
-  unfolding lastAnswer
+  unfolding lastLine answersTo
   last-text h n =
       let e : out′ ≡ answered line ++ drop (length (answered line)) out = rw answer-is at (a .places) in
       let k : r ≡ length (answered line) = rw answer-is at (a .count) in
-      ap (λ (l : List ℕ). take r l) e ∙ take-at (answered line) (drop (length (answered line)) out) r (sym k) ∙ sym (open-text line h ∙ rw (ne-eqb (length line) 0 n))
+      ap (λ (l : List ℕ). take r l) e ∙ take-at (answered line) (drop (length (answered line)) out) r (sym k) ∙ sym (open-text line h ∙ rw (ne-eqb (length line) 0 n) (append-nil (answered line)))

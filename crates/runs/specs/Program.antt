@@ -1,15 +1,11 @@
 -- THE PROGRAM (document 01): what it writes for its input, line by line, and the same for an input that comes in blocks.
 -- Assumes nothing.
 use mathlib.Core.Path.{_≡_}
-use Prim.Native.Nat.{ℕ, suc, _+_, _≤_}
-use Prim.Native.Char.{code}
-use mathlib.Core.Bool.{false}
+use Prim.Native.Nat.{ℕ, _+_, _≤_}
 use mathlib.Core.List.{List, [], _∷_, _++_}
 use lib.ListN.{length, take, drop}
-use lib.Dec.{eqb}
-use lib.IntN.{ℤ, pos, negsuc}
-use Rattle.format.specs.Fields.{pick}
 use Rattle.lines.specs.Line.{answerText, ended, answerRoom}
+use Rattle.blocks.specs.Blocks.{linesFrom, begunFrom, lastLine, linesIn, NoNewline, kept, part, Carried, blockLines}
 use Rattle.runs.specs.declared.Left.{Left}
 use Rattle.runs.specs.declared.Left.the-variants.{Begun, Done}
 
@@ -17,35 +13,23 @@ use Rattle.runs.specs.declared.Left.the-variants.{Begun, Done}
 abbrev pub answered : List ℕ → List ℕ
 answered line = ended (answerText line)
 
--- the answers to the lines of s that a newline ends; the first of them has begun as `line`
-unfoldable pub answersFrom : List ℕ → List ℕ → List ℕ
-answersFrom line [] = []
-answersFrom line (c ∷ s) = pick (eqb c (code "\n")) (answered line ++ answersFrom [] s) (answersFrom (line ++ (c ∷ [])) s)
-
--- what the line after the last newline has begun as
-unfoldable pub begunFrom : List ℕ → List ℕ → List ℕ
-begunFrom line [] = line
-begunFrom line (c ∷ s) = pick (eqb c (code "\n")) (begunFrom [] s) (begunFrom (line ++ (c ∷ [])) s)
-
--- a final newline opens no further line
-unfoldable pub lastAnswer : List ℕ → List ℕ
-lastAnswer line = pick (eqb (length line) 0) [] (answered line)
+-- the answers to lines, one behind the other
+unfoldable pub answersTo : List (List ℕ) → List ℕ
+answersTo [] = []
+answersTo (line ∷ lines) = answered line ++ answersTo lines
 
 -- WHAT THE PROGRAM WRITES for its input
 unfoldable pub programText : List ℕ → List ℕ
-programText s = answersFrom [] s ++ lastAnswer (begunFrom [] s)
+programText s = answersTo (linesIn s)
+
+-- of an input that goes on behind the beginning of a line: the answers to the lines that a newline ends, and to the last
+abbrev pub answersFrom : List ℕ → List ℕ → List ℕ
+answersFrom line s = answersTo (linesFrom line s)
+
+abbrev pub lastAnswer : List ℕ → List ℕ
+lastAnswer line = answersTo (lastLine line)
 
 -- ---- for the functions of the program
-
--- how many bytes stand before the first newline
-unfoldable pub lineLength : List ℕ → ℕ
-lineLength [] = 0
-lineLength (c ∷ s) = pick (eqb c (code "\n")) 0 (suc (lineLength s))
-
--- no newline stands in it: it begins a line and ends none
-abbrev pub NoNewline : List ℕ → Type 0
-NoNewline [] = Unit {0}
-NoNewline (c ∷ s) = (eqb c (code "\n") ≡ false) × NoNewline s
 
 -- the first bytes taken are whole lines, and their answers stand in the first bytes written; it stops where no whole line is left or no room for
 -- its answer
@@ -58,59 +42,21 @@ pub record Cut (input out out′ : List ℕ) (taken written : ℕ) : Type 0 wher
   pub some : taken ≡ 0 → written ≡ 0
   pub all : written + answerRoom ≤ length out → NoNewline (drop taken input)
 
--- as many characters of a line as show that it is over 8,800
-abbrev pub tooLong : ℕ
-tooLong = 8801
-
--- the beginning of a line, as far as it is kept
-abbrev pub kept : List ℕ → List ℕ
-kept line = take tooLong line
-
--- the bytes from a place to a place
-abbrev pub part : ℕ → ℕ → List ℕ → List ℕ
-part from end s = drop from (take end s)
-
--- a line's beginning stands at the front of the input, all of it or as much as shows that it is over 8,800 characters; other places keep their content
-pub record Kept (line input input′ : List ℕ) (n : ℕ) : Type 0 where
-  pub count : n ≡ length (kept line)
-  pub front : take n input′ ≡ kept line
-  pub rest : drop n input′ ≡ drop n input
-
--- how many bytes came, by what the system answered: none where reading failed
-abbrev pub came : ℤ → ℕ
-came (pos k) = k
-came (negsuc k) = 0
-
 -- WHAT IS LEFT OF A BLOCK: after its whole lines, from a place to its end, the beginning of a line
 abbrev pub LeftIn : List ℕ → Left → Type 0
 LeftIn input (Begun from end) = (end ≡ length input) × (from ≤ end) × (begunFrom [] (take from input) ≡ []) × NoNewline (drop from input)
 LeftIn input Done = Unit {0}
 
--- WHAT IS LEFT OF A TURN that a line's beginning was left for: what is kept of it stands at the front of the input; what came stands behind it, up to
--- `end`; the whole lines of both are answered, and the beginning of a line is left
-pub record Carried (line input : List ℕ) (from end : ℕ) : Type 0 where
-  pub front : take (length (kept line)) input ≡ kept line
-  pub behind : length (kept line) ≤ end
-  pub within : end ≤ length input
-  pub order : from ≤ end
-  pub whole : begunFrom [] (take from (take end input)) ≡ []
-  pub begun : NoNewline (part from end input)
-
+-- WHAT IS LEFT OF A TURN that a line's beginning was left for
 abbrev pub Turned : List ℕ → List ℕ → Left → Type 0
 Turned line input (Begun from end) = Carried line input from end
 Turned line input Done = Unit {0}
 
 -- ---- an input that comes in blocks
 
--- what is written for the blocks that come, with a line's beginning held: the whole lines' answers after each block, and at the end the last line's
-unfoldable pub blockText : List ℕ → List (List ℕ) → List ℕ
-blockText held [] = lastAnswer held
-blockText held (b ∷ bs) = answersFrom [] (held ++ b) ++ blockText (kept (begunFrom [] (held ++ b))) bs
-
--- the blocks as one input
-unfoldable pub joinedBlocks : List (List ℕ) → List ℕ
-joinedBlocks [] = []
-joinedBlocks (b ∷ bs) = b ++ joinedBlocks bs
+-- what is written for the blocks that come, with a line's beginning held
+abbrev pub blockText : List ℕ → List (List ℕ) → List ℕ
+blockText held bs = answersTo (blockLines held bs)
 
 -- WHAT THE PROGRAM HANDS OVER to be written from a line's beginning on, turn by turn. A turn keeps that beginning as far as it is kept, its block is
 -- what came behind it, and it hands over the text of the whole lines; what it leaves is the next turn's. Where the input ends, it is the text of the last line.

@@ -2,29 +2,18 @@
 // blocks. What was read and is not answered yet is the beginning of one line, so that a line of any length takes no more room.
 mod cutting;
 
-use cutting::MAX_HELD;
-use libc::STDIN_FILENO;
 use libc::STDOUT_FILENO;
 ghost use mathlib.Core.Path.{_≡_};
 ghost use Prim.Native.Nat.{_+_, _≤_};
 ghost use lib.ListN.{length, take};
 ghost use Rattle.lines.specs.Line.{answerRoom};
-ghost use Rattle.runs.specs.Program.{programText, tooLong, part, came, NoNewline, LeftIn, Turned};
+ghost use Rattle.blocks.specs.Blocks.{tooLong, part, came, NoNewline};
+ghost use Rattle.runs.specs.Program.{programText, LeftIn, Turned};
 
 // From where to where in the input a line has begun; or that nothing more is to be read or can be written.
 enum Left {
     Begun(usize, usize),
     Done,
-}
-
-// How much is read at once.
-const BLOCK: usize = 65536;
-
-// A block, after as much as a line's beginning can take.
-fn input_places() -> [u8; MAX_HELD + BLOCK]
-    ensures { λ r. ⌜ length r ≡ 74337 ⌝ }
-{
-    [0; MAX_HELD + BLOCK]
 }
 
 // Every byte that the program writes to its output goes through here, beside the bytes that it answers, and is what the definition writes for
@@ -71,20 +60,6 @@ fn answer_last(line: &[u8], output: &mut [u8])
     say(line, &output[..written]);
 }
 
-// A read that a signal broke off, or that found nothing ready, is no end: it is tried again. Any other failure is told.
-fn is_not_ready() -> bool {
-    let error = os::errno();
-    if error == libc::EINTR {
-        return true;
-    }
-    if error == libc::EAGAIN {
-        libc::sched_yield();
-        return true;
-    }
-    os::fail(b"runs: the output is cut, standard input cannot be read");
-    false
-}
-
 // What to do with what is held and what came behind it, by what the system answered.
 fn answer_came(input: &[u8], held: usize, got: isize, output: &mut [u8]) -> Left
     requires { ⌜ (length (now input) ≡ held + came got) × NoNewline (take held (now input)) × (answerRoom ≤ length (now output)) ⌝ }
@@ -97,27 +72,24 @@ fn answer_came(input: &[u8], held: usize, got: isize, output: &mut [u8]) -> Left
         answer_last(input, output);
         return Left::Done;
     }
-    if !is_not_ready() {
+    if !blocks::is_not_ready(b"runs: the output is cut, standard input cannot be read") {
         return Left::Done;
     }
     Left::Begun(0, held)
 }
 
-// One block: what is left of the one before is moved to the front, and what is read stands behind it. What the system answers goes on as it is: no
-// contract can name it before.
+// One block, behind what is left of the one before.
 fn turn(input: &mut [u8], from: usize, end: usize, output: &mut [u8]) -> Left
     requires { ⌜ (from ≤ end) × (end ≤ length (now input)) × (tooLong ≤ length (now input)) × (answerRoom ≤ length (now output)) × NoNewline (part from end (now input)) ⌝ }
     ensures { λ r. ⌜ Turned (part from end (now (input .entry))) (now (input .exit)) r ⌝ }
 {
-    let held = cutting::keep(input, from, end);
-    let got = libc::read(STDIN_FILENO, &mut input[held..]);
-    let stop = held + io::count(got, &input[held..]);
-    answer_came(&input[..stop], held, got, output)
+    let block = blocks::read_on(input, from, end);
+    answer_came(&input[..block.stop], block.held, block.got, output)
 }
 
 // A proved loop has to end, and nothing says that the input does: the loop counts its turns down, from a number that no input uses up.
 fn main() {
-    let mut input = input_places();
+    let mut input = blocks::input_places();
     let mut output = io::large_buffer();
     let mut left = Left::Begun(0, 0);
     let mut turns = u64::MAX;

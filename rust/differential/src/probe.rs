@@ -7,7 +7,7 @@ use std::path::PathBuf;
 use std::process::{Command, Stdio};
 use std::{env, thread};
 
-use model::{Answer, Booleans, Dictionary, Form, Info, Kind, Label, Refusal, Stream, Value, Written};
+use model::{Answer, Booleans, Dictionary, Form, Info, Kind, Label, Ones, Refusal, Stream, Value, Written};
 
 use crate::tally::{Hex, Tally};
 
@@ -121,6 +121,14 @@ impl Requests {
             write!(line, "{:04x}", part.len()).expect("a string takes it");
         }
         self.ask(format!("{line}{}", Hex(&parts.concat())), expected);
+    }
+
+    pub fn count(&mut self, packed: &[u8], n: u64) {
+        let expected = match model::count_true(packed, n) {
+            Ones::Refused(refusal) => refused(refusal),
+            Ones::True(count) => format!("true {count}"),
+        };
+        self.ask(format!("10{n:016x}{}", Hex(packed)), expected);
     }
 
     /// A line that the probe says is bad.

@@ -1,4 +1,5 @@
-//! The program: what document 01 has it write, by the model, and where it is found.
+//! The programs: what document 01 has `runs` write, by the model, and where they are found. What `totals`
+//! writes is the model's report.
 use std::env;
 use std::path::PathBuf;
 
@@ -40,16 +41,25 @@ fn frame(line: &[u8]) -> Option<Vec<u8>> {
     (frame[0] <= 1).then_some(frame)
 }
 
-/// The program that `RUNS` names, or the repository's own.
+/// The program `runs` that `RUNS` names, or the repository's own.
 pub fn find() -> Result<PathBuf, String> {
-    let own = concat!(env!("CARGO_MANIFEST_DIR"), "/../../target/bin/runs");
-    let program = env::var_os("RUNS").map_or_else(|| PathBuf::from(own), PathBuf::from);
+    found("runs", "RUNS")
+}
+
+/// The program `totals` that `TOTALS` names, or the repository's own.
+pub fn find_totals() -> Result<PathBuf, String> {
+    found("totals", "TOTALS")
+}
+
+fn found(name: &str, variable: &str) -> Result<PathBuf, String> {
+    let own = PathBuf::from(concat!(env!("CARGO_MANIFEST_DIR"), "/../../target/bin")).join(name);
+    let program = env::var_os(variable).map_or(own, PathBuf::from);
     if program.is_file() {
         return Ok(program);
     }
     Err(format!(
-        "the program {} is missing: build it with `rt check runs` in the repository's root, \
-         or set RUNS to its path",
+        "the program {} is missing: build it with `rt check {name}` in the repository's root, \
+         or set {variable} to its path",
         program.display()
     ))
 }

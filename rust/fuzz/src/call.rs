@@ -1,12 +1,13 @@
 //! A call, and what the model of documents 01 and 02 answers it.
 use differential::frames;
 use differential::random::Random;
+use differential::stages::count;
 use differential::stages::labels::{self, Asked};
 use differential::stages::patched_runs::any_patched_rows;
 use menakovitsy::exported::{
-    case, kind, LABEL_WORDS, PART_WORDS, STATE_WORDS, STREAM_WORDS, TOO_FEW_WORDS, WORDS,
+    case, kind, COUNT_WORDS, LABEL_WORDS, PART_WORDS, STATE_WORDS, STREAM_WORDS, TOO_FEW_WORDS, WORDS,
 };
-use model::{Answer, Booleans, Form, Info, Kind, Label, Refusal, Stream, Value, Written};
+use model::{Answer, Booleans, Form, Info, Kind, Label, Ones, Refusal, Stream, Value, Written};
 
 use crate::parts;
 
@@ -27,6 +28,7 @@ pub enum Call {
     Label(Asked),
     Part(parts::Asked),
     PartStart { state: usize },
+    Count { input: Vec<u8>, n: u64 },
 }
 
 /// What a call comes to: what it returns, its words (none where it is lent too few, or takes none),
@@ -92,7 +94,7 @@ impl Call {
     pub fn any(random: &mut Random) -> Self {
         let flag = if random.once_in(8) { random.any() } else { random.below(2) as u64 };
         let places = random.pick(&[0, 1, 5, 12, 64, 512, 1000]);
-        match random.below(23) {
+        match random.below(25) {
             0..=1 => {
                 let bytes = 8 * places + if random.once_in(2) { random.below(8) } else { 0 };
                 Call::Run { input: frames::any_frame(random), flag, bytes: bytes.min(MOST) }
@@ -123,6 +125,10 @@ impl Call {
             17..=18 => Self::any_patched(random),
             19..=20 => Call::Part(parts::any(flag, random)),
             21 => Call::PartStart { state: random.pick(&[0, 6, 7, 8]) },
+            22..=23 => {
+                let (input, n) = count::any(random);
+                Call::Count { input, n }
+            }
             _ => {
                 let shift = random.below(64);
                 Call::Narrowest { number: random.any() >> shift }
@@ -166,6 +172,7 @@ impl Call {
             Call::Label(_) => "orc_label",
             Call::Part(asked) => asked.function(),
             Call::PartStart { .. } => "orc_part_start",
+            Call::Count { .. } => "orc_count_true",
         }
     }
 
@@ -176,6 +183,7 @@ impl Call {
             Call::Stream { .. } => STREAM_WORDS,
             Call::Label(_) => LABEL_WORDS,
             Call::Part(_) => PART_WORDS,
+            Call::Count { .. } => COUNT_WORDS,
             _ => WORDS,
         }
     }
@@ -247,6 +255,7 @@ impl Call {
                 let returned = if *state < STATE_WORDS { TOO_FEW_WORDS } else { 0 };
                 Outcome { returned, ..Outcome::default() }
             }
+            Call::Count { input, n } => counted(input, *n),
             Call::Narrowest { number } => {
                 Outcome { returned: u64::from(model::narrowest_code(*number)), ..Outcome::default() }
             }
@@ -263,6 +272,17 @@ fn label(asked: &Asked) -> Outcome {
         }
         Label::Fallback(part) => [case::FALLBACK, 0, 0, 0, part.len() as u64],
         Label::Refused(refusal) => [case::REFUSED, refusal.number.into(), 0, 0, 0],
+    };
+    Outcome { returned: words[1], words: words.to_vec(), ..Outcome::default() }
+}
+
+/// The words of a count.
+fn counted(input: &[u8], n: u64) -> Outcome {
+    let words = match model::count_true(input, n) {
+        Ones::True(count) => [case::READ, 0, 0, count, 0, 0],
+        Ones::Refused(Refusal { number, place, cut }) => {
+            [case::REFUSED, number.into(), place as u64, 0, cut.is_some().into(), cut.unwrap_or(0) as u64]
+        }
     };
     Outcome { returned: words[1], words: words.to_vec(), ..Outcome::default() }
 }

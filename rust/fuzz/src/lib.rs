@@ -102,7 +102,7 @@ impl Session {
                 (input, &[], *places, 0)
             }
             Call::Booleans { input, places, .. } => (input, &[], 0, *places),
-            Call::Value { input, .. } => (input, &[], 0, 0),
+            Call::Value { input, .. } | Call::Count { input, .. } => (input, &[], 0, 0),
             Call::Write { rows, places, .. } | Call::Patched { rows, places, .. } => (&[], rows, 0, *places),
             Call::Narrowest { .. } | Call::PartStart { .. } => (&[], &[], 0, 0),
             Call::Part(asked) => {
@@ -149,6 +149,7 @@ impl Session {
                 Call::Stream { at, flag, .. } => exported::orc_read_stream(i, il, at, flag, r, rl, w, wl),
                 Call::Booleans { at, n, .. } => exported::orc_read_booleans(i, il, at, n, b, bl, w, wl),
                 Call::Value { at, n, .. } => exported::orc_byte_value(i, il, at, n, w, wl),
+                Call::Count { n, .. } => exported::orc_count_true(i, il, n, w, wl),
                 Call::Write { flag, form, width, .. } => {
                     exported::orc_write_run(g, gl, flag, form, width, b, bl, w, wl)
                 }
@@ -167,7 +168,8 @@ impl Session {
             | Call::RunAt { input, .. }
             | Call::Stream { input, .. }
             | Call::Booleans { input, .. }
-            | Call::Value { input, .. } => self.input.is(input) && self.given.is(&[]),
+            | Call::Value { input, .. }
+            | Call::Count { input, .. } => self.input.is(input) && self.given.is(&[]),
             Call::Write { rows, .. } | Call::Patched { rows, .. } => {
                 self.given.is(rows) && self.input.is(&[])
             }

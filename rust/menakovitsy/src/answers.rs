@@ -3,7 +3,7 @@
 use std::error::Error;
 use std::fmt;
 
-use crate::exported::{case, kind, label_word, word, TOO_FEW_WORDS};
+use crate::exported::{case, count_word, kind, label_word, word, TOO_FEW_WORDS};
 use crate::{ByteOffset, Refusal, RowNumber};
 
 /// The kind of what was read or written.
@@ -190,6 +190,23 @@ impl Words {
             case::REFUSED if self.number != TOO_FEW_WORDS => {
                 let at = ByteOffset(self.lent[word::PLACE] as usize);
                 Err(Refused::whole(Refusal::of_number(self.lent[word::NUMBER]), at))
+            }
+            _ => Err(self.unknown()),
+        }
+    }
+
+    /// How many booleans are true, of so many; or the refusal.
+    pub fn count(&self, most: usize) -> Result<usize, Refused> {
+        let count = self.lent[count_word::TRUE] as usize;
+        match self.lent[word::CASE] {
+            case::READ if self.number == 0 && count <= most => Ok(count),
+            case::REFUSED if self.number != TOO_FEW_WORDS => {
+                let byte = ByteOffset(self.lent[count_word::CUT_AT] as usize);
+                Err(Refused {
+                    refusal: Refusal::of_number(self.lent[word::NUMBER]),
+                    at: ByteOffset(self.lent[word::PLACE] as usize),
+                    cut: (self.lent[count_word::CUT] == 1).then_some(byte),
+                })
             }
             _ => Err(self.unknown()),
         }

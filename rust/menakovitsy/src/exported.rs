@@ -5,17 +5,17 @@
 //! allowed. Nothing that is written may overlap another argument. Calls share no state.
 //!
 //! A function that takes words writes its whole answer into the first [`WORDS`] of them, the stream
-//! reader into the first [`STREAM_WORDS`], `orc_label` into the first [`LABEL_WORDS`] and the reader in
-//! parts into the first [`PART_WORDS`], leaves the others as they were, and returns the refusal's
-//! number, 0 where nothing is refused; lent fewer, it returns [`TOO_FEW_WORDS`] and touches nothing.
-//! What each word means stands in [`word`], of a label in [`label_word`], and behind them, of the reader
-//! in parts, in [`part_word`].
+//! reader into the first [`STREAM_WORDS`], and a function with words of its own into as many as these
+//! are ([`LABEL_WORDS`], [`PART_WORDS`], [`COUNT_WORDS`]), leaves the others as they were, and returns
+//! the refusal's number, 0 where nothing is refused; lent fewer, it returns [`TOO_FEW_WORDS`] and touches
+//! nothing. What each word means stands in [`word`], and of a function's own words in the module of
+//! their name ([`label_word`], [`part_word`], [`count_word`]).
 //!
 //! The reader in parts keeps nothing either: its state stands in the first [`STATE_WORDS`] of the words
 //! that the caller keeps for it, and the bytes of the unfinished run in the [`MAX_RUN_BYTES`] lent.
 
 /// The version of these functions that this crate is written for.
-pub const VERSION: u64 = 6;
+pub const VERSION: u64 = 7;
 
 /// How many words an answer has; the stream reader's has [`STREAM_WORDS`].
 pub const WORDS: usize = 9;
@@ -31,6 +31,8 @@ pub const PART_WORDS: usize = 11;
 
 /// How many words the state of the reader in parts has: `orc_part_start` makes them.
 pub const STATE_WORDS: usize = 7;
+/// How many words an answer of `orc_count_true` has.
+pub const COUNT_WORDS: usize = 6;
 
 /// What a function returns that was lent fewer words than its answer has.
 pub const TOO_FEW_WORDS: u64 = u64::MAX;
@@ -93,12 +95,23 @@ pub mod part_word {
     pub const TAKEN: usize = 10;
 }
 
+/// The words of a count behind the case, the refusal's number and its place, which are those of
+/// [`word`].
+pub mod count_word {
+    /// How many booleans are true, 0 where refused.
+    pub const TRUE: usize = 3;
+    /// 1 where the refusal has a cut field, otherwise 0.
+    pub const CUT: usize = 4;
+    /// The byte where the cut field begins, 0 where there is none.
+    pub const CUT_AT: usize = 5;
+}
+
 /// What the word `CASE` may hold.
 pub mod case {
     /// The input is empty; of the reader in parts: it is closed, and the column has ended.
     pub const END: u64 = 0;
     /// A run, booleans or a byte value; of the stream reader: the whole stream was read; of a label: a
-    /// name.
+    /// name; of a count: it was counted.
     pub const READ: u64 = 1;
     /// A refusal.
     pub const REFUSED: u64 = 2;
@@ -237,6 +250,13 @@ extern "C" {
         flag: u64,
         rows: *mut i64,
         rows_len: usize,
+        words: *mut u64,
+        words_len: usize,
+    ) -> u64;
+    pub fn orc_count_true(
+        packed: *const u8,
+        packed_len: usize,
+        n: u64,
         words: *mut u64,
         words_len: usize,
     ) -> u64;

@@ -11,6 +11,7 @@
 //! | a column that arrives in parts | [`PartReader`]: [`next_run`](PartReader::next_run), [`close`](PartReader::close) |
 //! | one integer run, or all to the end | [`read_run`], [`read_stream`] |
 //! | a column of flags | [`read_booleans`] |
+//! | how many flags are true, packed eight to a byte | [`count_true`] |
 //! | a byte value, as a part of the input | [`byte_value`] |
 //! | the name of a row, by a dictionary | [`label`] |
 //! | a run written | [`write_run`], [`write_patched`], [`narrowest_code`] |
@@ -44,6 +45,7 @@ mod column;
 pub mod exported;
 mod labels;
 mod library;
+mod ones;
 mod parts;
 mod patched;
 mod refusal;
@@ -58,6 +60,7 @@ pub use library::{
     byte_value, library_version, narrowest_code, read_booleans, read_run, read_run_bytes, read_stream,
     unpack, write_run, Counts,
 };
+pub use ones::count_true;
 pub use parts::{PartReader, PartRun};
 pub use patched::write_patched;
 pub use refusal::Refusal;

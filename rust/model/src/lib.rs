@@ -14,23 +14,25 @@
 
 mod bits;
 mod booleans;
-mod labels;
 mod index;
+mod labels;
 mod parts;
 mod patched_writer;
 mod runs;
 mod streams;
+mod totals;
 mod values;
 mod writer;
 
 pub use bits::{zigzag, WIDTHS};
 pub use booleans::{first_run, read_booleans, Booleans};
-pub use labels::{label, Dictionary, Label};
 pub use index::{build_index, look_up, read_from, Columns, Entry, Index, Lookup, Rows};
+pub use labels::{label, Dictionary, Label};
 pub use parts::{read_parts, Parts};
 pub use patched_writer::write_patched;
 pub use runs::{list_faults, read_run, Faults};
 pub use streams::{read_stream, Stream};
+pub use totals::{count_true, Ones, Totals, MOST};
 pub use values::{read_value, Value};
 pub use writer::{narrowest_code, write_run, Form, Written};
 

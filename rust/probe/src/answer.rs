@@ -2,7 +2,8 @@
 use std::fmt::Write as _;
 
 use menakovitsy::exported::{
-    case, kind, label_word, part_word, word, LABEL_WORDS, PART_WORDS, STREAM_WORDS, WORDS,
+    case, count_word, kind, label_word, part_word, word, COUNT_WORDS, LABEL_WORDS, PART_WORDS, STREAM_WORDS,
+    WORDS,
 };
 
 use crate::lent::Lent;
@@ -19,6 +20,7 @@ pub struct Answer {
 
 impl Answer {
     /// Of any function that has no words of its own.
+    /// Of any function but the stream reader, the label and the count.
     pub fn of(call: impl FnOnce(&mut [u64]) -> u64) -> Self {
         Self::of_words(WORDS, call)
     }
@@ -33,6 +35,10 @@ impl Answer {
 
     pub fn of_part(call: impl FnOnce(&mut [u64]) -> u64) -> Self {
         Self::of_words(PART_WORDS, call)
+    }
+
+    pub fn of_count(call: impl FnOnce(&mut [u64]) -> u64) -> Self {
+        Self::of_words(COUNT_WORDS, call)
     }
 
     fn of_words(own: usize, call: impl FnOnce(&mut [u64]) -> u64) -> Self {
@@ -67,9 +73,14 @@ impl Answer {
         match self.case() {
             case::REFUSED => {
                 let refused = format!("refused {} {}", self.word(word::NUMBER), self.word(word::PLACE));
-                match self.own != LABEL_WORDS && self.word(word::CUT) != 0 {
-                    false => refused,
-                    true => format!("{refused} cut {}", self.word(word::CUT_AT)),
+                let cut = match self.own {
+                    LABEL_WORDS => None,
+                    COUNT_WORDS => Some((count_word::CUT, count_word::CUT_AT)),
+                    _ => Some((word::CUT, word::CUT_AT)),
+                };
+                match cut.filter(|(cut, _)| self.word(*cut) != 0) {
+                    None => refused,
+                    Some((_, at)) => format!("{refused} cut {}", self.word(at)),
                 }
             }
             case::END => "end".into(),
@@ -175,6 +186,23 @@ impl Answer {
             case::READ => self.zero(&[word::NUMBER, word::PLACE]),
             case::FALLBACK => self.zero(&[word::NUMBER, word::PLACE, START]),
             case::REFUSED => !self.zero(&[word::NUMBER]) && self.zero(&[word::PLACE, START, SIZE]),
+            _ => false,
+        };
+        fits && self.returned == self.word(word::NUMBER)
+    }
+
+    /// How many booleans are true.
+    pub fn trues(&self) -> u64 {
+        self.word(count_word::TRUE)
+    }
+
+    /// Whether a count's words fit together: a count has no refusal, and a refusal no count, but a cut
+    /// field.
+    pub fn count_fits(&self) -> bool {
+        use count_word::{CUT, CUT_AT, TRUE};
+        let fits = match self.case() {
+            case::READ => self.zero(&[word::NUMBER, word::PLACE, CUT, CUT_AT]),
+            case::REFUSED => !self.zero(&[word::NUMBER]) && self.zero(&[TRUE]) && self.word(CUT) == 1,
             _ => false,
         };
         fits && self.returned == self.word(word::NUMBER)
@@ -294,6 +322,26 @@ mod tests {
         }
         assert!(!part(5, [2, 5, 9, 0, 0, 0, 0, 0, 0, 0, 1]).part_fits());
         assert!(!part(5, [2, 5, 9, 0, 0, 0, 0, 0, 0, 1, 0]).part_fits());
+    }
+
+    fn counts_that_contradict_themselves_are_odd() {
+        let count = |returned, words: [u64; COUNT_WORDS]| {
+            Answer::of_count(|lent| {
+                lent[..COUNT_WORDS].copy_from_slice(&words);
+                returned
+            })
+        };
+        for (returned, words) in [(0, [1, 0, 0, 7, 0, 0]), (6, [2, 6, 0, 0, 1, 0])] {
+            assert!(count(returned, words).count_fits(), "{words:?}");
+            assert!(!count(returned + 1, words).count_fits(), "{words:?}");
+        }
+        for words in [[0; 6], [1, 0, 0, 7, 1, 0], [1, 0, 2, 7, 0, 0], [3, 0, 0, 7, 0, 0], [2, 0, 0, 0, 1, 0]]
+        {
+            assert!(!count(0, words).count_fits(), "{words:?}");
+        }
+        assert!(!count(6, [2, 6, 0, 1, 1, 0]).count_fits());
+        assert!(!count(6, [2, 6, 0, 0, 0, 0]).count_fits());
+        assert_eq!(count(6, [2, 6, 0, 0, 1, 0]).say_other(), "refused 6 0 cut 0");
     }
 
     /// What a wrong library could answer shows.

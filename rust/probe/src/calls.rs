@@ -134,6 +134,10 @@ pub fn part_close(kept: Kept, flag: u64, rows: &mut [i64], words: &mut [u64]) ->
     }
 }
 
+pub fn count_true(packed: &[u8], n: u64, words: &mut [u64]) -> u64 {
+    unsafe { exported::orc_count_true(packed.as_ptr(), packed.len(), n, words.as_mut_ptr(), words.len()) }
+}
+
 pub fn narrowest_code(number: u64) -> u64 {
     unsafe { exported::orc_narrowest_code(number) }
 }

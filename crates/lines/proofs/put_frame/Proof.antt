@@ -11,17 +11,11 @@ use Rattle.lines.proofs.put_frame.Tie as tie
 row-places-requires : tie.Need-row-places-requires
 row-places-requires c κs = search needs
 
-shared-slice-read-signed : tie.Need-shared-slice-read-signed
-shared-slice-read-signed c = search needs
+slice-aggregate-read-frame : tie.Need-slice-aggregate-read-frame
+slice-aggregate-read-frame c = search needs
 
-new-requires : tie.Need-new-requires
-new-requires c κs = search needs
-
-slice-aggregate-read-run : tie.Need-slice-aggregate-read-run
-slice-aggregate-read-run c = search needs
-
-read-run-requires : tie.Need-read-run-requires
-read-run-requires c κs = search needs
+read-frame-requires : tie.Need-read-frame-requires
+read-frame-requires c κs = search needs
 
 slice-aggregate-put-answer : tie.Need-slice-aggregate-put-answer
 slice-aggregate-put-answer c = search needs
@@ -29,19 +23,19 @@ slice-aggregate-put-answer c = search needs
 put-answer-requires : tie.Need-put-answer-requires
 put-answer-requires c κs =
     let r = c .before .before .before in
-    let s = r .before .before .before .before .before .before .before in
+    let s = r .before .before .before .before .before in
     let h =
-    reads (now (s .args .frame)) _ _ _ _ _ (r .before .before .new .ensures) (r .before .before .before .before .row-places .ensures) (r .read-run .ensures) in
-    (h .few, omega (arith, h .few, r .before .before .before .before .row-places .ensures, r .read-run .kept .1 .1 .1 .0), s .pre .1)
+    reads (now (s .args .frame)) _ _ _ _ (r .before .before .row-places .ensures) (r .read-frame .ensures) in
+    (h .few, omega (arith, h .few, r .before .before .row-places .ensures, r .read-frame .kept .1 .0), s .pre .1)
 
 put-requires : tie.Need-put-requires
 put-requires c κs =
     let p = c .before .before .before in
     let r = p .before .before .before .before in
-    let s = r .before .before .before .before .before .before .before in
+    let s = r .before .before .before .before .before in
     let h =
-    reads (now (s .args .frame)) _ _ _ _ _ (r .before .before .new .ensures) (r .before .before .before .before .row-places .ensures) (r .read-run .ensures) in
-    omega (arith, s .pre, p .put-answer .ensures .next, p .put-answer .kept .1 .1 .0, words-length (r .read-run .result) _ (r .read-run .last .1 .1 .1 .0) (h .few))
+    reads (now (s .args .frame)) _ _ _ _ (r .before .before .row-places .ensures) (r .read-frame .ensures) in
+    omega (arith, s .pre, p .put-answer .ensures .next, p .put-answer .kept .1 .1 .0, words-length (r .read-frame .result) _ (r .read-frame .last .1 .0) (h .few))
 
 same-length : tie.Need-same-length
 same-length c = search needs
@@ -51,9 +45,9 @@ returns c =
     let q = c .before .before in
     let p = q .before .before .before .before in
     let r = p .before .before .before .before in
-    let s = r .before .before .before .before .before .before .before in
+    let s = r .before .before .before .before .before in
     let h =
-    reads (now (s .args .frame)) _ _ _ _ _ (r .before .before .new .ensures) (r .before .before .before .before .row-places .ensures) (r .read-run .ensures) in
+    reads (now (s .args .frame)) _ _ _ _ (r .before .before .row-places .ensures) (r .read-frame .ensures) in
     rw (frame-text (now (s .args .frame)) (s .pre .0) ∙ sym (h .words)) (then-written (omega arith) (p .put-answer .ensures) (q .put .ensures))
 
 pub put-frame-spec : {M : Type 1} → statement M
@@ -61,10 +55,8 @@ put-frame-spec =
     tie.close
     (tie.spec
     row-places-requires
-    shared-slice-read-signed
-    new-requires
-    slice-aggregate-read-run
-    read-run-requires
+    slice-aggregate-read-frame
+    read-frame-requires
     slice-aggregate-put-answer
     put-answer-requires
     put-requires

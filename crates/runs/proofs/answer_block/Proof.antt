@@ -8,8 +8,9 @@ use lib.ListN.{length, take, drop, length-drop}
 use lib.Seq.{length-take-le}
 use Rattle.util.proofs.Grow.{rest-is}
 use mathlib.Core.List.{[]}
-use Rattle.runs.specs.Program.{begunFrom}
-use Rattle.runs.proofs.Pieces.{whole-text, whole-more}
+use Rattle.blocks.specs.Blocks.{begunFrom}
+use Rattle.blocks.proofs.Begun.{whole-more}
+use Rattle.runs.proofs.Pieces.{whole-text}
 use Rattle.runs.proofs.answer_block.Statement.{statement}
 use Rattle.runs.proofs.answer_block.Tie as tie
 

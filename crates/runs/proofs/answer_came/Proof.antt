@@ -4,8 +4,8 @@ use native.Mathlib.Omega.{arith}
 use borrow.Author.Needs.{needs}
 use denote.Ref.{now}
 use mir.Facts.{toZ-ofZ}
-use Rattle.runs.specs.Program.{begunFrom}
-use Rattle.runs.proofs.Turns.{held-all}
+use Rattle.blocks.specs.Blocks.{begunFrom}
+use Rattle.blocks.proofs.Turns.{held-all}
 use Rattle.runs.proofs.answer_came.Statement.{statement}
 use Rattle.runs.proofs.answer_came.Tie as tie
 
@@ -30,6 +30,9 @@ same-length-2 c = search needs
 returns-2 : tie.Need-returns-2
 returns-2 c = search needs
 
+slice-aggregate-is-not-ready : tie.Need-slice-aggregate-is-not-ready
+slice-aggregate-is-not-ready c = search needs
+
 is-not-ready-requires : tie.Need-is-not-ready-requires
 is-not-ready-requires c κs = search needs
 
@@ -39,7 +42,7 @@ returns-3 c = search needs
 returns-4 : tie.Need-returns-4
 unfolding begunFrom
 returns-4 c =
-    let e = c .before .before .before in
+    let e = c .before .before .before .before in
     let s = e .before .before .before in
     let (l, h) = held-all (now (s .args .input)) (s .args .held) (s .args .got) (s .pre .0) (rw (toZ-ofZ (s .fits .got)) at (e .if1 .left)) (s .pre .1) in
     (l, omega arith, refl, h)
@@ -54,6 +57,7 @@ answer-came-spec =
     answer-last-requires
     same-length-2
     returns-2
+    slice-aggregate-is-not-ready
     is-not-ready-requires
     returns-3
     returns-4)

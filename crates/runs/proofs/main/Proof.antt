@@ -3,7 +3,7 @@ use mathlib.Core.Path.{_≡_, sym, _∙_}
 use native.Mathlib.Omega.{arith}
 use borrow.Author.Needs.{needs}
 use lib.ListN.{length}
-use Rattle.runs.specs.Program.{part}
+use Rattle.blocks.specs.Blocks.{part}
 use Rattle.runs.proofs.Turns.{Ready, turned-ready}
 use Rattle.runs.proofs.main.Statement.{statement}
 use Rattle.runs.proofs.main.Tie as tie

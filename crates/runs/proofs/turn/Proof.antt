@@ -1,92 +1,32 @@
 -- `runs::turn` meets its contract, and hands on as many bytes as the system says that came. Assumes nothing.
-use mathlib.Core.Path.{_≡_, sym, ap, _∙_}
-use Prim.Native.Nat.{ℕ, _+_, _-_}
-use native.Mathlib.Omega.{arith}
+use mathlib.Core.Path.{sym, ap, _∙_}
+use Prim.Native.Nat.{_+_}
 use mir.Syntax.{w64}
-use mir.Val.{toZ, ofZ}
 use mir.Facts.{toZ-ofZ}
-use lib.ListN.{length, take, drop}
+use lib.IntN.{ℤ}
 use lib.Seq.{length-take-le}
-use borrow.Author.Needs.{needs, sfits-of}
-use Rattle.libc.specs.Io.{Moved}
-use Rattle.runs.specs.Program.{came}
-use Rattle.runs.proofs.Turns.{kept-le, came-is, held-le, room-is, stop-le, held-is, turned}
+use borrow.Author.Needs.{needs}
+use Rattle.blocks.specs.Blocks.{came}
+use Rattle.blocks.proofs.Turns.{stop-long, held-open}
+use Rattle.runs.proofs.Turns.{turned}
 use Rattle.runs.proofs.turn.Statement.{statement}
 use Rattle.runs.proofs.turn.Tie as tie
 
-keep-requires : tie.Need-keep-requires
-keep-requires c κs = omega arith
-
-sub-read : tie.Need-sub-read
-sub-read c =
-    let k = c .before .before in
-    let s = k .before .before .before .before in
-    kept-le _ _ _ _ (k .keep .ensures) (s .pre .2) (k .keep .kept .0)
-
-part-read-start : tie.Need-part-read-start
-part-read-start c =
-    let k = c .before .before in
-    let s = k .before .before .before .before in
-    omega (arith, kept-le _ _ _ _ (k .keep .ensures) (s .pre .2) (k .keep .kept .0))
-
-part-read-end : tie.Need-part-read-end
-part-read-end c = search needs
-
-read-requires : tie.Need-read-requires
-read-requires c κs = search needs
-
-sub-count : tie.Need-sub-count
-sub-count c =
-    let r = c .before .before in
-    let k = r .before .before .before .before in
-    let s = k .before .before .before .before in
-    held-le _ _ _ (r .read .last .1 .0) _ (k .keep .ensures) (s .pre .2) (k .keep .kept .0) (r .read .kept .1 .0)
-
-part-count-start : tie.Need-part-count-start
-part-count-start c =
-    let r = c .before .before .before in
-    let k = r .before .before .before .before in
-    let s = k .before .before .before .before in
-    omega (arith, held-le _ _ _ (r .read .last .1 .0) _ (k .keep .ensures) (s .pre .2) (k .keep .kept .0) (r .read .kept .1 .0))
-
-part-count-end : tie.Need-part-count-end
-part-count-end c = search needs
-
-count-requires : tie.Need-count-requires
-count-requires c κs = search needs
-
-add-stop : tie.Need-add-stop
-add-stop c = search needs
+read-on-requires : tie.Need-read-on-requires
+read-on-requires c κs = search needs
 
 slice-reshare-prefix-answer-came : tie.Need-slice-reshare-prefix-answer-came
-slice-reshare-prefix-answer-came c =
-    let d = c in
-    let r = d .before .before .before .before .before in
-    let k = r .before .before .before .before in
-    let s = k .before .before .before .before in
-    omega (arith, stop-le _ _ _ (r .read .last .1 .0) _ (k .keep .ensures) (s .pre .2) (k .keep .kept .0) (r .read .kept .1 .0) (d .count .result) (d .count .ensures .0 .0))
+slice-reshare-prefix-answer-came c = search needs
 
 slice-aggregate-answer-came : tie.Need-slice-aggregate-answer-came
-slice-aggregate-answer-came c =
-    let d = c .before in
-    let r = d .before .before .before .before .before in
-    let k = r .before .before .before .before in
-    let s = k .before .before .before .before in
-    sym (length-take-le _ _ (omega (arith, stop-le _ _ _ (r .read .last .1 .0) _ (k .keep .ensures) (s .pre .2) (k .keep .kept .0) (r .read .kept .1 .0) (d .count .result) (d .count .ensures .0 .0))))
+slice-aggregate-answer-came c = sym (length-take-le _ _ (c .before .before .before .read-on .ensures .within))
 
 answer-came-requires : tie.Need-answer-came-requires
 answer-came-requires c κs =
-    let d = c .before .before in
-    let r = d .before .before .before .before .before in
-    let k = r .before .before .before .before in
-    let s = k .before .before .before .before in
-    let n = k .keep .result in
-    let m = d .count .result in
-    let q = stop-le _ _ _ (r .read .last .1 .0) _ (k .keep .ensures) (s .pre .2) (k .keep .kept .0) (r .read .kept .1 .0) m (d .count .ensures .0 .0) in
-    let z = toZ w64 (ofZ w64 (r .read .result)) in
-    let v : Moved (length (take (length (k .keep .last .0) - n) (drop n (k .keep .last .0)))) z = rw (toZ-ofZ (sfits-of (r .read .ok))) (r .read .ensures) in
-    let e : m ≡ came z = (rw (room-is _ _ _ (r .read .last .1 .0) _ (k .keep .ensures) (s .pre .2) (k .keep .kept .0) (r .read .kept .1 .0)) at (d .count .ensures .1)) ∙ came-is z _ v in
-    (length-take-le (n + m) _ q ∙ ap (λ (i : ℕ). n + i) e, held-is _ _ _ (r .read .last .1 .0) _ (k .keep .ensures) (s .pre .2) (k .keep .kept .0) (r .read .kept .1 .0) m q (s .pre .4), s .pre .3)
+    let r = c .before .before .before .before .before in
+    let s = r .before .before .before .before in
+    let e = toZ-ofZ {w = w64} {z = r .read-on .result .got} (record { sfits = c .struct-told .given .1 .1 .0 .1 }) in
+    (stop-long _ _ _ _ _ (r .read-on .ensures) ∙ ap (λ (z : ℤ). r .read-on .result .held + came z) (sym e), held-open _ _ _ _ _ (r .read-on .ensures) (s .pre .4), s .pre .3)
 
 same-length : tie.Need-same-length
 same-length c = search needs
@@ -96,27 +36,15 @@ same-length-2 c = search needs
 
 returns : tie.Need-returns
 returns c =
-    let d = c .before .before .before .before .before in
-    let r = d .before .before .before .before .before in
-    let k = r .before .before .before .before in
-    let s = k .before .before .before .before in
-    let m = d .count .result in
-    turned _ _ _ (r .read .last .1 .0) _ (k .keep .ensures) (s .pre .2) (k .keep .kept .0) (r .read .kept .1 .0) m (stop-le _ _ _ (r .read .last .1 .0) _ (k .keep .ensures) (s .pre .2) (k .keep .kept .0) (r .read .kept .1 .0) m (d .count .ensures .0 .0)) (c .before .before .answer-came .result) (c .before .before .answer-came .ensures)
+    let q = c .before .before in
+    let r = q .before .before .before .before .before .before in
+    turned _ _ _ _ _ (r .read-on .ensures) (q .answer-came .result) (q .answer-came .ensures)
 
 pub turn-spec : {M : Type 1} → statement M
 turn-spec =
     tie.close
     (tie.spec
-    keep-requires
-    sub-read
-    part-read-start
-    part-read-end
-    read-requires
-    sub-count
-    part-count-start
-    part-count-end
-    count-requires
-    add-stop
+    read-on-requires
     slice-reshare-prefix-answer-came
     slice-aggregate-answer-came
     answer-came-requires

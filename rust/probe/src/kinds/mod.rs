@@ -2,6 +2,7 @@
 //!
 //! A further kind is a function and a line of the table.
 mod booleans;
+mod count;
 mod labels;
 mod parts;
 mod runs;
@@ -13,7 +14,7 @@ use crate::line::Fields;
 /// Takes the fields behind the first byte, and answers the line. Nothing for a bad line.
 type Kind = fn(Fields) -> Option<String>;
 
-const KINDS: [(u64, Kind); 8] = [
+const KINDS: [(u64, Kind); 9] = [
     (0x01, runs::run),
     (0x02, runs::stream),
     (0x03, booleans::booleans),
@@ -22,6 +23,7 @@ const KINDS: [(u64, Kind); 8] = [
     (0x06, write::narrowest),
     (0x07, parts::parts),
     (0x0F, labels::label),
+    (0x10, count::count),
 ];
 
 /// The answer to a frame. Nothing for a bad line.

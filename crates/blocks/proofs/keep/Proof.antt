@@ -1,0 +1,86 @@
+-- `blocks::keep` meets its contract. The loop's invariant: the first i bytes are moved, and the others are as they were. Assumes nothing.
+use mathlib.Core.Path.{_≡_, refl, _∙_}
+use Prim.Native.Nat.{_+_, _-_, _<_, _≤_}
+use native.Mathlib.Omega.{arith}
+use borrow.Author.Needs.{needs}
+use denote.Ref.{now}
+use lib.ListN.{length, take, drop, length-set}
+use Rattle.util.proofs.Grow.{kept as unmoved}
+use Rattle.blocks.proofs.Moves.{moved-front, kept-count, kept-front}
+use Rattle.blocks.proofs.keep.Statement.{statement}
+use Rattle.blocks.proofs.keep.Tie as tie
+
+abbrev Inv-loop : tie.InvT-loop
+Inv-loop input₀ from end n i₀ input i =
+    (i ≤ n) × (length input ≡ length input₀) × (take i input ≡ take i (drop from input₀)) × (drop i input ≡ drop i input₀)
+
+abbrev μ-loop : tie.MeasureT-loop
+μ-loop input₀ from end n i₀ input i = n - i
+
+sub-least : tie.Need-sub-least Inv-loop μ-loop
+sub-least c = omega arith
+
+least-requires : tie.Need-least-requires Inv-loop μ-loop
+least-requires c κs = search needs
+
+loop-holds : tie.Need-loop-holds Inv-loop μ-loop
+loop-holds c = (omega arith, refl, refl, refl)
+
+add-input : tie.Need-add-input Inv-loop μ-loop
+add-input c = omega arith
+
+slice-read-input : tie.Need-slice-read-input Inv-loop μ-loop
+slice-read-input c = omega arith
+
+slice-write-input : tie.Need-slice-write-input Inv-loop μ-loop
+slice-write-input c = omega arith
+
+add-i : tie.Need-add-i Inv-loop μ-loop
+add-i c = omega arith
+
+loop-less : tie.Need-loop-less Inv-loop μ-loop
+loop-less c = omega arith
+
+loop-again : tie.Need-loop-again Inv-loop μ-loop
+loop-again c =
+    let l = c .before .before .loop in
+    let a = c .before .before .before .before .before .args in
+    let h : a .from + l .i < length (l .input) = omega arith in (
+      omega arith,
+      simp length-set (l .inv .1),
+      moved-front (l .input) (now (a .input)) (a .from) (l .i) h (l .inv .1) (l .inv .2) (l .inv .3),
+      unmoved (l .input) (now (a .input)) (l .i) _ (l .inv .3),
+    )
+
+same-length : tie.Need-same-length Inv-loop μ-loop
+same-length c = c .before .loop .inv .1
+
+returns : tie.Need-returns Inv-loop μ-loop
+returns c =
+    let n = c .before .before .least .result in
+    let e : c .before .loop .i ≡ n = omega arith in
+    let a = c .before .before .before .before .args in
+    let h = c .before .before .before .before .pre in
+    record {
+      count = kept-count (a .from) (a .end) n (now (a .input)) (h .0) (h .1) (c .before .before .least .ensures);
+      front = (rw e at (c .before .loop .inv .2)) ∙ kept-front (a .from) (a .end) n (now (a .input)) (h .0) (h .1) (c .before .before .least .ensures);
+      rest = rw e at (c .before .loop .inv .3);
+    }
+
+pub keep-spec : {M : Type 1} → statement M
+keep-spec =
+    tie.close
+    (tie.spec
+    Inv-loop
+    μ-loop
+    sub-least
+    least-requires
+    loop-holds
+    add-input
+    slice-read-input
+    slice-write-input
+    add-i
+    loop-less
+    loop-again
+    same-length
+    returns)

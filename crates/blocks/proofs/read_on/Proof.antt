@@ -1,0 +1,95 @@
+-- `blocks::read_on` meets its contract, and hands on as many bytes as the system says that came. Assumes nothing.
+use mathlib.Core.Path.{_≡_, ap, _∙_}
+use Prim.Native.Nat.{ℕ, _+_, _-_}
+use native.Mathlib.Omega.{arith}
+use mir.Syntax.{w64}
+use mir.Val.{toZ, ofZ}
+use mir.Facts.{toZ-ofZ}
+use lib.ListN.{length, take, drop}
+use borrow.Author.Needs.{needs, sfits-of}
+use Rattle.libc.specs.Io.{Moved}
+use Rattle.blocks.specs.Blocks.{came}
+use Rattle.blocks.proofs.Turns.{kept-le, came-is, held-le, room-is, stop-le, front-is}
+use Rattle.blocks.proofs.read_on.Statement.{statement}
+use Rattle.blocks.proofs.read_on.Tie as tie
+
+keep-requires : tie.Need-keep-requires
+keep-requires c κs = omega arith
+
+sub-read : tie.Need-sub-read
+sub-read c =
+    let k = c .before .before in
+    let s = k .before .before .before in
+    kept-le _ _ _ _ (k .keep .ensures) (s .pre .2) (k .keep .kept .0)
+
+part-read-start : tie.Need-part-read-start
+part-read-start c =
+    let k = c .before .before in
+    let s = k .before .before .before in
+    omega (arith, kept-le _ _ _ _ (k .keep .ensures) (s .pre .2) (k .keep .kept .0))
+
+part-read-end : tie.Need-part-read-end
+part-read-end c = search needs
+
+read-requires : tie.Need-read-requires
+read-requires c κs = search needs
+
+sub-count : tie.Need-sub-count
+sub-count c =
+    let r = c .before .before in
+    let k = r .before .before .before .before in
+    let s = k .before .before .before in
+    held-le _ _ _ (r .read .last .1 .0) _ (k .keep .ensures) (s .pre .2) (k .keep .kept .0) (r .read .kept .1 .0)
+
+part-count-start : tie.Need-part-count-start
+part-count-start c =
+    let r = c .before .before .before in
+    let k = r .before .before .before .before in
+    let s = k .before .before .before in
+    omega (arith, held-le _ _ _ (r .read .last .1 .0) _ (k .keep .ensures) (s .pre .2) (k .keep .kept .0) (r .read .kept .1 .0))
+
+part-count-end : tie.Need-part-count-end
+part-count-end c = search needs
+
+count-requires : tie.Need-count-requires
+count-requires c κs = search needs
+
+add-stop : tie.Need-add-stop
+add-stop c = search needs
+
+same-length : tie.Need-same-length
+same-length c = search needs
+
+returns : tie.Need-returns
+returns c =
+    let r = c .before .before .before .before .before in
+    let k = r .before .before .before .before in
+    let s = k .before .before .before in
+    let n = k .keep .result in
+    let m = c .count .result in
+    let z = toZ w64 (ofZ w64 (r .read .result)) in
+    let v : Moved (length (take (length (k .keep .last .0) - n) (drop n (k .keep .last .0)))) z = rw (toZ-ofZ (sfits-of (r .read .ok))) (r .read .ensures) in
+    let e : m ≡ came z = (rw (room-is _ _ _ (r .read .last .1 .0) _ (k .keep .ensures) (s .pre .2) (k .keep .kept .0) (r .read .kept .1 .0)) at (c .count .ensures .1)) ∙ came-is z _ v in
+    record {
+      count = k .keep .ensures .count;
+      front = front-is _ _ _ (r .read .last .1 .0) _ (k .keep .ensures) (s .pre .2) (k .keep .kept .0) (r .read .kept .1 .0);
+      stop-is = ap (λ (i : ℕ). n + i) e;
+      within = stop-le _ _ _ (r .read .last .1 .0) _ (k .keep .ensures) (s .pre .2) (k .keep .kept .0) (r .read .kept .1 .0) m (c .count .ensures .0 .0);
+    }
+
+pub read-on-spec : {M : Type 1} → statement M
+read-on-spec =
+    tie.close
+    (tie.spec
+    keep-requires
+    sub-read
+    part-read-start
+    part-read-end
+    read-requires
+    sub-count
+    part-count-start
+    part-count-end
+    count-requires
+    add-stop
+    same-length
+    returns)

@@ -1,0 +1,42 @@
+-- `Words::plus` meets its contract. Assumes nothing.
+use Prim.Native.Nat.{_+_, _%_, _^_, _<_, _≤_}
+use native.Mathlib.Omega.{arith}
+use Rattle.season.proofs.Sums.{carries, no-carry}
+use borrow.Author.Needs.{needs}
+use Rattle.season.proofs.Words.plus.Statement.{statement}
+use Rattle.season.proofs.Words.plus.Tie as tie
+
+wrapping-add-u64-requires : tie.Need-wrapping-add-u64-requires
+wrapping-add-u64-requires c κs = search needs
+
+wrapping-add-u64-requires-2 : tie.Need-wrapping-add-u64-requires-2
+wrapping-add-u64-requires-2 c κs = search needs
+
+wrapping-add-u64-requires-3 : tie.Need-wrapping-add-u64-requires-3
+wrapping-add-u64-requires-3 c κs = search needs
+
+returns : tie.Need-returns
+returns c =
+    let w = c .before .before .before .before in
+    let a = w .before .args in
+    let e = w .wrapping-add-u64 .ensures in
+    let l : (a .self .low + a .more .low) % 2 ^ 64 < a .self .low = omega (arith, e, c .before .if1 .taken) in
+    rw (c .wrapping-add-u643 .ensures, c .before .before .before .wrapping-add-u642 .ensures, e) (carries (a .self) (a .more) (omega arith) (omega arith) l)
+
+returns-2 : tie.Need-returns-2
+returns-2 c =
+    let w = c .before .before .before in
+    let a = w .before .args in
+    let e = w .wrapping-add-u64 .ensures in
+    let l : a .self .low ≤ (a .self .low + a .more .low) % 2 ^ 64 = omega (arith, e, c .if1 .left) in
+    rw (c .before .before .wrapping-add-u642 .ensures, e) (no-carry (a .self) (a .more) (omega arith) (omega arith) l)
+
+pub plus-spec : {M : Type 1} → statement M
+plus-spec =
+    tie.close
+    (tie.spec
+    wrapping-add-u64-requires
+    wrapping-add-u64-requires-2
+    wrapping-add-u64-requires-3
+    returns
+    returns-2)

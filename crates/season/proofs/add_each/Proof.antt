@@ -1,0 +1,94 @@
+-- `add_each` meets its contract. Assumes nothing.
+use Prim.Native.Nat.{ℕ, _-_, _≤_, min}
+use native.Mathlib.Decide.{decLe}
+use mathlib.Core.List.{List, _++_}
+use lib.ListN.{length, take, drop, length-set}
+use mathlib.Core.Path.{_≡_, refl, _∙_}
+use denote.Ref.{now}
+use Rattle.season.specs.Held.{eachPlus}
+use Rattle.season.proofs.Held.{each-more, each-all, each-left}
+use borrow.Author.Needs.{needs}
+use native.Mathlib.Omega.{arith}
+use Rattle.season.proofs.add_each.Statement.{statement}
+use Rattle.season.proofs.add_each.Tie as tie
+
+by : (xs ys : List ℕ) (i : ℕ) → min (length xs) (length ys) ≤ i → xs ≡ take i xs ++ eachPlus (drop i xs) (drop i ys)
+by xs ys i h = go (decLe (length xs) i)
+  where
+    go : Dec (length xs ≤ i) → xs ≡ take i xs ++ eachPlus (drop i xs) (drop i ys)
+    go (yes l) = each-all xs ys i l
+    go (no l) = each-left xs ys i (omega arith)
+
+abbrev Inv-loop : tie.InvT-loop
+Inv-loop counts₀ more n i₀ counts i = (i ≤ n) × (length counts ≡ length counts₀) × (take i counts ++ eachPlus (drop i counts) (drop i more) ≡ eachPlus counts₀ more)
+
+abbrev μ-loop : tie.MeasureT-loop
+μ-loop counts₀ more n i₀ counts i = n - i
+
+shorter-requires : tie.Need-shorter-requires Inv-loop μ-loop
+shorter-requires c κs = search needs
+
+loop-holds : tie.Need-loop-holds Inv-loop μ-loop
+loop-holds c = (omega arith, refl, refl)
+
+mul-wrapping-add-u64 : tie.Need-mul-wrapping-add-u64 Inv-loop μ-loop
+mul-wrapping-add-u64 c = search needs
+
+slice-read-wrapping-add-u64 : tie.Need-slice-read-wrapping-add-u64 Inv-loop μ-loop
+slice-read-wrapping-add-u64 c = omega arith
+
+mul-wrapping-add-u64-2 : tie.Need-mul-wrapping-add-u64-2 Inv-loop μ-loop
+mul-wrapping-add-u64-2 c = search needs
+
+shared-slice-read-wrapping-add-u64 : tie.Need-shared-slice-read-wrapping-add-u64 Inv-loop μ-loop
+shared-slice-read-wrapping-add-u64 c = omega arith
+
+wrapping-add-u64-requires : tie.Need-wrapping-add-u64-requires Inv-loop μ-loop
+wrapping-add-u64-requires c κs = search needs
+
+mul-counts : tie.Need-mul-counts Inv-loop μ-loop
+mul-counts c = search needs
+
+slice-write-counts : tie.Need-slice-write-counts Inv-loop μ-loop
+slice-write-counts c = omega arith
+
+add-i : tie.Need-add-i Inv-loop μ-loop
+add-i c = omega arith
+
+loop-less : tie.Need-loop-less Inv-loop μ-loop
+loop-less c = omega arith
+
+loop-again : tie.Need-loop-again Inv-loop μ-loop
+loop-again c =
+    let l = c .before .before .before .before .loop in
+    (omega arith, simp length-set (l .inv .1), rw (c .wrapping-add-u64 .ensures) (each-more (l .counts) _ (l .i) (omega arith) (omega arith) ∙ l .inv .2))
+
+same-length : tie.Need-same-length Inv-loop μ-loop
+same-length c = c .before .loop .inv .1
+
+returns : tie.Need-returns Inv-loop μ-loop
+returns c =
+    let l = c .before .loop in
+    let a = c .before .before .before .before .before .args in
+    by (l .counts) (now (a .more)) (l .i) (omega arith) ∙ l .inv .2
+
+pub add-each-spec : {M : Type 1} → statement M
+add-each-spec =
+    tie.close
+    (tie.spec
+    Inv-loop
+    μ-loop
+    shorter-requires
+    loop-holds
+    mul-wrapping-add-u64
+    slice-read-wrapping-add-u64
+    mul-wrapping-add-u64-2
+    shared-slice-read-wrapping-add-u64
+    wrapping-add-u64-requires
+    mul-counts
+    slice-write-counts
+    add-i
+    loop-less
+    loop-again
+    same-length
+    returns)

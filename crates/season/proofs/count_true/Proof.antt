@@ -1,0 +1,82 @@
+-- `count_true` meets its contract. Assumes nothing.
+use Prim.Native.Nat.{ℕ, _+_, _*_, _/_, _%_, _<_, _≤_}
+use mathlib.Core.Path.{_≡_, sym, ap, _∙_}
+use lib.ListN.{length, getD}
+use denote.Ref.{now}
+use Rattle.season.specs.declared.Count.the-variants.{True, Refused}
+use Rattle.season.specs.Ones.{onesIn}
+use Rattle.season.proofs.Ones.{ones-more, ones-at-most, ones-part, too-few, enough}
+use borrow.Author.Needs.{needs}
+use native.Mathlib.Omega.{arith}
+use Rattle.season.proofs.count_true.Statement.{statement}
+use Rattle.season.proofs.count_true.Tie as tie
+
+cut-requires : tie.Need-cut-requires
+cut-requires c κs = search needs
+
+returns : tie.Need-returns
+returns c =
+    let a = c .before .before .before .args in
+    ap Refused (c .cut .ensures) ∙ sym (too-few (a .n) (now (a .bytes)) (omega arith))
+
+ones-in-requires : tie.Need-ones-in-requires
+ones-in-requires c κs = search needs
+
+returns-2 : tie.Need-returns-2
+returns-2 c =
+    let s = c .before .before .before in
+    let a = s .before .args in
+    let e : 8 * (a .n / 8) ≡ a .n = omega arith in
+    ap True (c .before .ones-in .ensures ∙ ap (λ (m : ℕ). onesIn m (now (a .bytes))) e) ∙ sym (enough (a .n) (now (a .bytes)) (omega arith))
+
+cut-requires-2 : tie.Need-cut-requires-2
+cut-requires-2 c κs = search needs
+
+returns-3 : tie.Need-returns-3
+returns-3 c =
+    let a = c .before .before .before .before .before .before .args in
+    ap Refused (c .cut2 .ensures) ∙ sym (too-few (a .n) (now (a .bytes)) (omega arith))
+
+shared-slice-read-ones-of : tie.Need-shared-slice-read-ones-of
+shared-slice-read-ones-of c = search needs
+
+ones-of-requires : tie.Need-ones-of-requires
+ones-of-requires c κs = search needs
+
+add-t12 : tie.Need-add-t12
+add-t12 c =
+    let w = c .before .before .before .before in
+    let k = w .before .before in
+    let a = k .before .args in
+    let bytes = now (a .bytes) in
+    let few : w .ones-in .result ≤ 8 * (a .n / 8) = rw (w .ones-in .ensures) (ones-at-most (a .n / 8) bytes (λ j. k .shared-slice-known .given j .fits)) in
+    let more : c .ones-of .result ≤ a .n % 8 = rw (c .ones-of .ensures) (ones-part (a .n % 8) (getD bytes (a .n / 8) 0) (omega arith) (k .shared-slice-known .given (a .n / 8) .fits)) in
+    omega arith
+
+returns-4 : tie.Need-returns-4
+returns-4 c =
+    let w = c .before .before .before .before in
+    let k = w .before .before in
+    let a = k .before .args in
+    let bytes = now (a .bytes) in
+    let e : a .n ≡ 8 * (a .n / 8) + a .n % 8 = omega arith in
+    let more : onesIn (a .n) bytes ≡ w .ones-in .result + c .ones-of .result =
+    ap (λ (m : ℕ). onesIn m bytes) e
+    ∙ ones-more (a .n / 8) (a .n % 8) bytes (omega arith) (omega arith) (omega arith) (λ j. k .shared-slice-known .given j .fits)
+    ∙ rw (w .ones-in .ensures, c .ones-of .ensures) in
+    ap True (sym more) ∙ sym (enough (a .n) bytes (omega arith))
+
+pub count-true-spec : {M : Type 1} → statement M
+count-true-spec =
+    tie.close
+    (tie.spec
+    cut-requires
+    returns
+    ones-in-requires
+    returns-2
+    cut-requires-2
+    returns-3
+    shared-slice-read-ones-of
+    ones-of-requires
+    add-t12
+    returns-4)

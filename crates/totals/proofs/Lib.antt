@@ -1,0 +1,5 @@
+-- The laws that the proofs cite.
+pub mod Answers
+pub mod Onward
+pub mod Turns
+pub mod Room

@@ -1,0 +1,69 @@
+-- `put_whole` meets its contract. Assumes nothing.
+use Prim.Native.Nat.{ℕ, _+_}
+use mathlib.Core.Path.{_≡_, sym, ap, _∙_}
+use mathlib.Core.Bool.{true, false}
+use mathlib.Core.List.{List, [], _∷_, _++_}
+use lib.ListN.{length}
+use Rattle.text.proofs.Texts.{then-written}
+use Rattle.season.specs.Words.{wordsValue, sizeOf}
+use Rattle.totals_text.specs.Text.{numberText, wholeText}
+use Rattle.totals_text.proofs.Digits.{with-minus, without-minus}
+use borrow.Author.Needs.{needs}
+use native.Mathlib.Omega.{arith}
+use Rattle.totals_text.proofs.put_whole.Statement.{statement}
+use Rattle.totals_text.proofs.put_whole.Tie as tie
+
+minus : (c : tie.Then1) → wholeText (wordsValue (c .before .before .before .before .args .words)) ≡ (45 ∷ []) ++ numberText (sizeOf (c .before .before .size .result))
+minus c = with-minus _ _ (c .before .before .size .ensures) (sym (c .before .is-negative .ensures) ∙ c .if1 .taken)
+
+no-minus : (c : tie.Else1) → wholeText (wordsValue (c .before .before .before .before .args .words)) ≡ numberText (sizeOf (c .before .before .size .result))
+no-minus c = without-minus _ _ (c .before .before .size .ensures) (sym (c .before .is-negative .ensures) ∙ c .if1 .left)
+
+size-requires : tie.Need-size-requires
+size-requires c κs = search needs
+
+is-negative-requires : tie.Need-is-negative-requires
+is-negative-requires c κs = search needs
+
+put-requires : tie.Need-put-requires
+put-requires c κs = omega (arith, c .before .before .before .before .before .pre, ap length (minus (c .before)))
+
+put-size-requires : tie.Need-put-size-requires
+put-size-requires c κs =
+    let p = c .before .before .before in
+    let t = p .before .before in
+    omega (arith, t .before .before .before .before .pre, ap length (minus t), p .put .ensures .next, p .put .kept .1 .0)
+
+same-length : tie.Need-same-length
+same-length c = search needs
+
+returns : tie.Need-returns
+returns c =
+    let q = c .before .before in
+    let p = q .before .before .before .before in
+    rw (minus (p .before .before)) (then-written (omega arith) (p .put .ensures) (q .put-size .ensures))
+
+put-size-requires-2 : tie.Need-put-size-requires-2
+put-size-requires-2 c κs = omega (arith, c .before .before .before .before .before .pre, ap length (no-minus (c .before)))
+
+same-length-2 : tie.Need-same-length-2
+same-length-2 c = search needs
+
+returns-2 : tie.Need-returns-2
+returns-2 c =
+    let q = c .before .before in
+    rw (no-minus (q .before .before)) (q .put-size2 .ensures)
+
+pub put-whole-spec : {M : Type 1} → statement M
+put-whole-spec =
+    tie.close
+    (tie.spec
+    size-requires
+    is-negative-requires
+    put-requires
+    put-size-requires
+    same-length
+    returns
+    put-size-requires-2
+    same-length-2
+    returns-2)

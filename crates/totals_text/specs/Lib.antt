@@ -1,0 +1,2 @@
+-- The text of a season's totals.
+pub mod Text

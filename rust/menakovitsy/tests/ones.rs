@@ -1,0 +1,32 @@
+//! The count of true booleans, against bits counted one by one.
+use menakovitsy::{count_true, ByteOffset, Refusal};
+
+/// Bytes that are like no pattern.
+fn bytes(count: usize) -> Vec<u8> {
+    (0..count as u32).map(|k| (k.wrapping_mul(2_654_435_761) >> 13) as u8).collect()
+}
+
+#[test]
+fn every_n_of_bytes() {
+    let packed = bytes(300);
+    let bit = |k: usize| usize::from(packed[k / 8] >> (7 - k % 8) & 1);
+    let mut count = 0;
+    for n in 0..=8 * packed.len() {
+        assert_eq!(count_true(&packed, n), Ok(count), "{n}");
+        if n < 8 * packed.len() {
+            count += bit(n);
+        }
+    }
+    // Padding is not counted.
+    assert_eq!(count_true(&[0xFF], 3), Ok(3));
+    assert_eq!(count_true(&[], 0), Ok(0));
+}
+
+#[test]
+fn more_than_the_bytes_hold() {
+    for (count, n) in [(0, 1), (3, 25), (3, usize::MAX), (1, 1 << 61), (8, (1 << 61) + 8)] {
+        let refused = count_true(&bytes(count), n).unwrap_err();
+        assert_eq!((refused.refusal, refused.at), (Refusal::ValueCut, ByteOffset(0)), "{count} {n}");
+        assert_eq!(refused.cut, Some(ByteOffset(0)));
+    }
+}

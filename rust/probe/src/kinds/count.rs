@@ -1,0 +1,21 @@
+//! 10 count: n, bytes.
+use menakovitsy::exported::case;
+
+use super::ended;
+use crate::answer::Answer;
+use crate::calls;
+use crate::lent::Lent;
+use crate::line::Fields;
+
+/// `true N`, or REFUSED.
+pub fn count(mut fields: Fields) -> Option<String> {
+    let n = fields.word()?;
+    let bytes = fields.rest();
+    let packed = Lent::holding(bytes);
+    let answer = Answer::of_count(|words| calls::count_true(packed.content(), n, words));
+    let line = match answer.case() {
+        case::READ => format!("true {}", answer.trues()),
+        _ => answer.say_other(),
+    };
+    ended(line, answer.count_fits(), packed.altered(bytes) || answer.touched())
+}
