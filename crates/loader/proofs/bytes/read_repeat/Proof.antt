@@ -78,7 +78,7 @@ returns-2 c =
     let t = m .before .before .before .before .before in
     let v = rw (w .before .read .ensures) at (w .row .ensures) in
     rw (c .packed .ensures)
-        (repeats (now (t .args .input)) (t .args .signed) (now (t .args .out)) (t .pre .0) (t .pre .1) _ (run-told m) _ (w .before .before .before .if1 .left) (rw v at (c .before .before .before .put-repeat .ensures)))
+    (repeats (now (t .args .input)) (t .args .signed) (now (t .args .out)) (t .pre .0) (t .pre .1) _ (run-told m) _ (w .before .before .before .if1 .left) (rw v at (c .before .before .before .put-repeat .ensures)))
 
 returns-3 : tie.Need-returns-3
 returns-3 c = rw (c .packed2 .ensures) (refused-told (c .before) .loaded)
