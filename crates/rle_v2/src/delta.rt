@@ -9,6 +9,7 @@ ghost use Rattle.format.specs.Rows.{asI64};
 ghost use Rattle.format.specs.Parse.{deltaBody, deltaRun};
 ghost use Rattle.format.specs.Promises.{answerOf, Gives};
 ghost use Rattle.util.specs.Packed.{fields, Width};
+ghost use Rattle.util.specs.Varint.{varintAt};
 ghost use Rattle.rle_v2.specs.Pass.{summed, laid};
 ghost use Rattle.rle_v2.specs.DeltaStart.{Started, StartsAt, IsMeasured, Ready, deltaRows};
 use crate::header;
@@ -46,15 +47,43 @@ enum Found {
     Refused(Refusal),
 }
 
+// The varint at a place, as `varint::read` has it. Most have one byte or two: these need no loop, and no call.
+fn varint_at(input: &[u8], at: usize) -> Varint
+    ensures { λ r. ⌜ r ≡ varintAt (now (input .entry)) at ⌝ }
+{
+    if input.len() <= at {
+        return Varint::Cut;
+    }
+    let low = input[at];
+    let after = at + 1;
+    if low < 128 {
+        return Varint::Value {
+            bits: low as u64,
+            next: after,
+        };
+    }
+    if input.len() <= after {
+        return Varint::Cut;
+    }
+    let high = input[after];
+    if high < 128 {
+        return Varint::Value {
+            bits: (low as u64) % 128 + 128 * (high as u64),
+            next: at + 2,
+        };
+    }
+    varint::read(input, at)
+}
+
 fn starts_at(input: &[u8], at: usize) -> Starts
     requires { ⌜ at + 2 ≤ length (now input) ⌝ }
     ensures { λ r. ⌜ StartsAt (now (input .entry)) at r ⌝ }
 {
     let body = at + 2;
-    match varint::read(input, body) {
+    match varint_at(input, body) {
         Varint::Cut => Starts::Refused(Refusal::cut(12, at, body)),
         Varint::TooLong => Starts::Refused(Refusal::new(5, at)),
-        Varint::Value { bits, next } => match varint::read(input, next) {
+        Varint::Value { bits, next } => match varint_at(input, next) {
             Varint::Cut => Starts::Refused(Refusal::cut(12, at, next)),
             Varint::TooLong => Starts::Refused(Refusal::new(5, at)),
             Varint::Value {
