@@ -63,7 +63,7 @@ fn varint_at(input: &[u8], at: usize) -> Varint
         };
     }
     if input.len() <= after {
-        return Varint::Cut;
+        return varint::read(input, at);
     }
     let high = input[after];
     if high < 128 {

@@ -1,7 +1,7 @@
 -- A short varint is that of its bytes, and any other is the reader's. Assumes nothing.
 use native.Mathlib.Omega.{arith}
 use denote.Ref.{now}
-use Rattle.rle_v2.proofs.ShortVarint.{none-there, one-byte, cut-after, two-bytes}
+use Rattle.rle_v2.proofs.ShortVarint.{none-there, one-byte, two-bytes}
 use borrow.Author.Needs.{needs}
 use Rattle.rle_v2.proofs.delta.varint_at.Statement.{statement}
 use Rattle.rle_v2.proofs.delta.varint_at.Tie as tie
@@ -31,11 +31,11 @@ returns-2 c =
     let a = entry e .args in
     one-byte (now (a .input)) (a .at) (e .if1 .left) (c .if2 .taken)
 
+read-requires : tie.Need-read-requires
+read-requires c κs = search needs
+
 returns-3 : tie.Need-returns-3
-returns-3 c =
-    let e = there (c .before) in
-    let a = entry e .args in
-    cut-after (now (a .input)) (a .at) (e .if1 .left) (c .before .if2 .left) (c .if3 .taken)
+returns-3 c = search needs
 
 shared-slice-read-high : tie.Need-shared-slice-read-high
 shared-slice-read-high c = search needs
@@ -62,8 +62,8 @@ returns-4 c =
     let a = entry e .args in
     two-bytes (now (a .input)) (a .at) (e .if1 .left) (o .before .if2 .left) (o .if3 .left) (c .if4 .taken)
 
-read-requires : tie.Need-read-requires
-read-requires c κs = search needs
+read-requires-2 : tie.Need-read-requires-2
+read-requires-2 c κs = search needs
 
 returns-5 : tie.Need-returns-5
 returns-5 c = search needs
@@ -77,6 +77,7 @@ varint-at-spec =
     add-after
     cast-t10
     returns-2
+    read-requires
     returns-3
     shared-slice-read-high
     cast-t12
@@ -85,5 +86,5 @@ varint-at-spec =
     add-t16
     add-t17
     returns-4
-    read-requires
+    read-requires-2
     returns-5)
