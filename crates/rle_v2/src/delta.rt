@@ -127,7 +127,7 @@ fn too_few(code: u8, rows: usize) -> bool
     rows == 1
 }
 
-// The varints stand at one place in the code, whatever is behind them: so the tests are small enough to be part of each caller.
+// The varints are read at one place, whatever stands behind them: half the code.
 fn measured(input: &[u8], at: usize) -> Found
     requires { ⌜ at < length (now input) ⌝ }
     ensures { λ r. ⌜ IsMeasured (now (input .entry)) at (deltaRun (getD (now (input .entry)) at 0) (drop (at + 1) (now (input .entry)))) r ⌝ }
