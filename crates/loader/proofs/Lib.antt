@@ -1,5 +1,6 @@
 -- The laws that the proofs cite.
 pub mod RowBytes
+pub mod Repeat
 pub mod Room
 pub mod Reading
 pub mod Telling

@@ -25,15 +25,6 @@ ten-rows bs (fixed rows first base) rest t e h = omega (arith, t .ok .head, ap (
 ten-rows bs (delta code first base k) rest t e h = omega (arith, t .ok .head, ap (λ (l : List ℕ). getD l 0 0) (t .split), ap (λ (l : List ℕ). getD l 1 0) (t .split))
 ten-rows bs (patched code base pc gw k l) rest t e h = omega (arith, t .ok .head, ap (λ (l : List ℕ). getD l 0 0) (t .split), ap (λ (l : List ℕ). getD l 1 0) (t .split))
 
--- a short repeat by its kind
-short-rows : (bs : List ℕ) (d : Description) (rest : List ℕ) → Took bs layout Valid d rest → getD bs 0 0 / 64 ≡ 0 → rowCount d ≤ 10
-unfolding layout
-short-rows bs (short count value) rest t e = t .ok .many
-short-rows bs (direct code k) rest t e = omega (arith, ap (λ (l : List ℕ). getD l 0 0) (t .split))
-short-rows bs (fixed rows first base) rest t e = omega (arith, ap (λ (l : List ℕ). getD l 0 0) (t .split))
-short-rows bs (delta code first base k) rest t e = omega (arith, ap (λ (l : List ℕ). getD l 0 0) (t .split))
-short-rows bs (patched code base pc gw k l) rest t e = omega (arith, ap (λ (l : List ℕ). getD l 0 0) (t .split))
-
 -- the reader's own reason
 enough-by : (n : ℕ) (bs : List ℕ) → AllBelow 256 bs → ((d : Description) (rest : List ℕ) → Took bs layout Valid d rest → rowCount d ≤ n) → Enough n bs
 enough-by n bs h f = by (outcome bs h)
@@ -45,9 +36,6 @@ enough-by n bs h f = by (outcome bs h)
 
 pub enough-all : (bs : List ℕ) → AllBelow 256 bs → Enough 512 bs
 enough-all bs h = enough-by 512 bs h λ d rest t. row-bounds d (t .ok) .1
-
-pub enough-short : (bs : List ℕ) → AllBelow 256 bs → getD bs 0 0 / 64 ≡ 0 → Enough 10 bs
-enough-short bs h c = enough-by 10 bs h λ d rest t. short-rows bs d rest t c
 
 pub enough-ten : (bs : List ℕ) → AllBelow 256 bs → getD bs 0 0 % 2 ≡ 0 → getD bs 1 0 < 10 → Enough 10 bs
 enough-ten bs h e l = enough-by 10 bs h λ d rest t. ten-rows bs d rest t e l

@@ -1,13 +1,16 @@
 // Rows as bytes: a run is read into rows of our own, and laid out as eight bytes each, lowest first.
 ghost use mathlib.Core.Path.{_≡_};
-ghost use mathlib.Core.List.{_++_};
-ghost use Prim.Native.Nat.{_+_, _*_, _≤_};
-ghost use lib.ListN.{length, take, drop};
+ghost use mathlib.Core.List.{_++_, map};
+ghost use Prim.Native.Nat.{_+_, _*_, _/_, _<_, _≤_};
+ghost use lib.ListN.{length, take, drop, getD, replicate};
 ghost use mathlib.Core.Bool.{true};
 ghost use Rattle.loader.specs.Room.{Enough};
+ghost use Rattle.format.specs.Rows.{asI64};
 ghost use Rattle.format.specs.Loader.{lowestFirst, rowBytes, LoadedAs};
+use format::Answer;
 use format::ByteOffset;
 use format::Kind;
+use util::big_endian;
 use util::pattern;
 
 // The eight bytes of x at a place, lowest first: the eight stores become one.
@@ -37,6 +40,39 @@ fn put_rows(rows: &[i64], n: usize, out: &mut [u8])
     }
 }
 
+// n equal rows, eight bytes each.
+fn put_repeat(x: u64, n: usize, out: &mut [u8])
+    requires { ⌜ 8 * n ≤ length (now out) ⌝ }
+    ensures { λ _. ⌜ now (out .exit) ≡ rowBytes (map asI64 (replicate n x)) ++ drop (8 * n) (now (out .entry)) ⌝ }
+{
+    let mut i = 0;
+    while i < n {
+        put_row(x, out, 8 * i);
+        i += 1;
+    }
+}
+
+// A short repeat, whose one row goes straight into the bytes: what is tested before is the measure's.
+pub(crate) fn read_repeat(input: &[u8], signed: bool, out: &mut [u8]) -> u64
+    requires { ⌜ (0 < length (now input)) × (getD (now input) 0 0 / 64 ≡ 0) ⌝ }
+    ensures { λ r. ⌜ LoadedAs (now (input .entry)) signed (now (out .entry)) (now (out .exit)) r ⌝ }
+{
+    let measured = rle_v2::measure(input, ByteOffset { bytes: 0 });
+    match measured {
+        Answer::Run(r) => {
+            let count = r.rows;
+            if out.len() / 8 < count.rows {
+                return 8;
+            }
+            let x = pattern::row(signed, big_endian::read(input, 1, r.width / 8));
+            put_repeat(x, count.rows, out);
+            measured.packed()
+        }
+        Answer::Refused(_) => measured.packed(),
+        Answer::End => measured.packed(),
+    }
+}
+
 fn least(a: usize, b: usize) -> usize
     ensures { λ r. ⌜ r ≡ Prim.Native.Nat.min a b ⌝ }
 {
@@ -63,15 +99,12 @@ pub(crate) fn all_rows() -> [i64; Kind::MAX_ROWS] {
     [0; Kind::MAX_ROWS]
 }
 
-// Whether ten rows are enough for the run that the input begins with: a short repeat, or a header that says ten rows at most.
+// Whether ten rows are enough for the run that the input begins with, which is no short repeat: its header says ten rows at most.
 pub(crate) fn is_short(input: &[u8]) -> bool
     ensures { λ r. ⌜ (r ≡ true → Enough 10 (now (input .entry))) ⌝ }
 {
     if input.len() < 2 {
         return false;
-    }
-    if input[0] / 64 == 0 {
-        return true;
     }
     input[0] % 2 == 0 && input[1] < 10
 }

@@ -36,6 +36,10 @@ pub extern "C" fn orc_read_run(input: &[u8], out: &mut [u8], flag: u64) -> u64
         return 0;
     }
     let signed = flag != 0;
+    // the top two bits are the kind
+    if input[0] / 64 == 0 {
+        return bytes::read_repeat(input, signed, out);
+    }
     // a short run pays for ten places, and not for 512
     if bytes::is_short(input) {
         let mut rows = bytes::few_rows();

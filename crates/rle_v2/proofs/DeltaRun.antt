@@ -2,6 +2,7 @@
 use mathlib.Core.Path.{_≡_, refl, sym, ap, _∙_}
 use Prim.Native.Nat.{ℕ, _+_, _-_, _*_, _^_, _<_, _≤_}
 use native.Mathlib.Omega.{arith}
+use native.Mathlib.Decide.{ℕ-discrete}
 use mathlib.Core.Bool.{Bool}
 use mathlib.Core.List.{List, [], _∷_, _++_, map}
 use lib.ListN.{length, take, drop, getD}
@@ -104,14 +105,10 @@ module _ (s : List ℕ) (at : ℕ) where
     packed-refused f b = refused-too s at _ f b
 
     module _ (t : Start) (b : Started s (at + 2) t) where
-      pub packed-cut : length s - t .next < bytesFor (n * width code) → cutAt 13 at (t .next) ≡ answerOf at (length s - at) (deltaBody code n (drop (at + 2) s))
-      unfolding deltaBody
-      packed-cut l = answer-cut s at (t .next) 13 _ (omega (arith, b .next-is)) (b .within) (b .parsed _ ∙ rw (block-cut s (t .next) 13 (width code) n l))
-
-      pub packed-passed : n ≤ 510 → bytesFor (n * width code) ≤ length s - t .next
+      packed-whole : n ≤ 510 → bytesFor (n * width code) ≤ length s - t .next
           → Passed s (deltaBody code n (drop (at + 2) s)) (running Delta (width code) (n + 2) (t .next + bytesFor (n * width code) - at)) t
       unfolding deltaBody i64Rows rowsOf
-      packed-passed few l =
+      packed-whole few l =
           let k = blockAt s (t .next) (width code) n in
           let c = block-count s (t .next) (width code) n in
           let two : n + 2 - 2 ≡ n = omega arith in
@@ -132,6 +129,31 @@ module _ (s : List ℕ) (at : ℕ) where
                   b .base-is,
                 );
           }
+
+      -- as the reader counts its bits and bytes
+      module _ (w size : ℕ) (e : w ≡ width code) (e′ : size ≡ bytesFor (n * w)) where
+        size-is : size ≡ bytesFor (n * width code)
+        size-is = e′ ∙ rw e
+
+        pub packed-cut : length s - t .next < size → cutAt 13 at (t .next) ≡ answerOf at (length s - at) (deltaBody code n (drop (at + 2) s))
+        unfolding deltaBody
+        packed-cut l =
+            answer-cut s at (t .next) 13 _ (omega (arith, b .next-is)) (b .within)
+            (b .parsed _ ∙ rw (block-cut s (t .next) 13 (width code) n (rw size-is at l)))
+
+        pub packed-passed : n ≤ 510 → size ≤ length s - t .next → Passed s (deltaBody code n (drop (at + 2) s)) (running Delta w (n + 2) (t .next + size - at)) t
+        packed-passed few l = rw (size-is, e) (packed-whole few (rw size-is at l))
+
+  -- ---- either of them
+
+  -- the varints are refused, whatever stands behind them
+  pub no-varints : 2 ≤ length s - at → (rowsLess (getD s at 0) (getD s (at + 1) 0) ≡ 0 → codeOf (getD s at 0) ≡ 0) → (f : Refusal) → NotStarted s at f
+      → answer.Refused f ≡ answerOf at (length s - at) run
+  no-varints h few f b = by (ℕ-discrete (codeOf (getD s at 0)) 0)
+    where
+      by : Dec (codeOf (getD s at 0) ≡ 0) → answer.Refused f ≡ answerOf at (length s - at) run
+      by (yes e) = rw (is-fixed h e) (fixed-refused _ f b)
+      by (no e) = rw (is-packed h e (λ z. e (few z))) (packed-refused _ _ f b)
 
 -- ---- the rows, as they are laid down
 

@@ -4,6 +4,7 @@ pub mod Blocks
 pub mod DeltaStart
 pub mod DirectRun
 pub mod ShortRun
+pub mod ShortVarint
 pub mod PatchWalk
 pub mod DeltaRun
 pub mod PatchedRun

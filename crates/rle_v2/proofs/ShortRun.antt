@@ -48,7 +48,7 @@ module _ (s : List ℕ) (at : ℕ) where
   no-body h l = answer-cut s at (at + 1) 6 run (omega arith) (omega arith) (rw (bytes-cut s (at + 1) 6 size l))
 
   module _ (l : size ≤ length s - (at + 1)) where
-    is-run : run ≡ got (short count (take size (drop (at + 1) s))) (drop (at + 1 + size) s)
+    pub is-run : run ≡ got (short count (take size (drop (at + 1) s))) (drop (at + 1 + size) s)
     unfolding shortRun
     is-run = rw (bytes-here s (at + 1) 6 size l)
 
@@ -65,6 +65,7 @@ module _ (s : List ℕ) (at : ℕ) where
     pub there : size ≤ length s - (at + 1)
     pub size-is : r .width / 8 ≡ size
     pub rows-are : r .rows .rows ≡ count
+    pub bytes-are : r .consumed .bytes ≡ 1 + size
 
   pub measured : (r : Run) → at < length s → answer.Run r ≡ answerOf at (length s - at) run → Measured r
   measured r h e = by (decLt (length s - (at + 1)) size)
@@ -74,7 +75,7 @@ module _ (s : List ℕ) (at : ℕ) where
       by (no l) =
           let t : size ≤ length s - (at + 1) = omega arith in
           let q : r ≡ running ShortRepeat (8 * size) count (1 + size) = run-inj r _ (e ∙ sym (run-is t)) in
-          record { there = t; size-is = rw q (omega arith); rows-are = rw q }
+          record { there = t; size-is = rw q (omega arith); rows-are = rw q; bytes-are = rw q }
 
   module _ (signed : Bool) (out : List ℤ) (r : Run) (e : answer.Run r ≡ answerOf at (length s - at) run) (m : Measured r) where
     -- the one value

@@ -10,10 +10,11 @@ use Rattle.format.specs.Fields.{pick, zigzag, row, bytesFor, varintValue}
 use Rattle.format.specs.Runs.{Description}
 use Rattle.format.specs.Rows.{steps, asI64, i64Rows}
 use Rattle.format.specs.Parse.{Reason, Parsed, got, refused, cutIn, then, varint}
-use Rattle.format.specs.Answers.{refusal}
+use Rattle.format.specs.Answers.{refusal, running}
 use Rattle.format.specs.Promises.{runOf, answerOf}
 use Rattle.format.specs.declared.Refusal.{Refusal}
 use Rattle.format.specs.declared.Run as run
+use Rattle.format.specs.declared.Kind.the-variants.{Delta}
 use Rattle.format.specs.declared.Answer.the-variants as answer
 use Rattle.util.specs.Packed.{fields, Width}
 use Rattle.rle_v2.specs.Pass.{laid}
@@ -78,5 +79,5 @@ pub record Passed (s : List ℕ) (m : Parsed Description) (r : run.Run) (t : Sta
   pub rows-are : (signed : Bool) → i64Rows signed d ≡ deltaRows s signed t (r .width) (r .rows .rows)
 
 abbrev pub IsMeasured : List ℕ → ℕ → Parsed Description → Found → Type 0
-IsMeasured s at m (found.Run r t) = Passed s m r t
+IsMeasured s at m (found.Run bits rows size t) = Passed s m (running Delta bits rows size) t
 IsMeasured s at m (found.Refused f) = answer.Refused f ≡ answerOf at (length s - at) m

@@ -1,21 +1,22 @@
 // Delta: the two-byte header, the first row and the base delta as varints; then, unless the width code is 0, packed magnitudes.
 ghost use mathlib.Core.Path.{_≡_};
+ghost use mathlib.Core.Bool.{true, false};
 ghost use mathlib.Core.List.{_++_, map};
 ghost use Prim.Native.Nat.{_+_, _-_, _*_, _≤_, _<_};
 ghost use lib.ListN.{length, getD, drop};
 ghost use Rattle.format.specs.Fields.{bytesFor};
 ghost use Rattle.format.specs.Rows.{asI64};
-ghost use Rattle.format.specs.Parse.{fixedBody, deltaBody, deltaRun};
+ghost use Rattle.format.specs.Parse.{deltaBody, deltaRun};
 ghost use Rattle.format.specs.Promises.{answerOf, Gives};
 ghost use Rattle.util.specs.Packed.{fields, Width};
+ghost use Rattle.util.specs.Varint.{varintAt};
 ghost use Rattle.rle_v2.specs.Pass.{summed, laid};
-ghost use Rattle.rle_v2.specs.DeltaStart.{StartsAt, IsMeasured, Ready, deltaRows};
+ghost use Rattle.rle_v2.specs.DeltaStart.{Started, StartsAt, IsMeasured, Ready, deltaRows};
 use crate::header;
 use crate::rows;
 use format::Answer;
 use format::Kind;
 use format::Refusal;
-use format::Run;
 use util::packed;
 use util::pattern;
 use util::varint;
@@ -35,10 +36,43 @@ enum Starts {
     Refused(Refusal),
 }
 
-// What the tests of a delta run found: the run and its varints, or its refusal.
+// What the tests of a delta run found: its width, rows and bytes, and its varints; or its refusal.
 enum Found {
-    Run(Run, Start),
+    Run {
+        bits: usize,
+        rows: usize,
+        size: usize,
+        start: Start,
+    },
     Refused(Refusal),
+}
+
+// The varint at a place, as `varint::read` has it. Most have one byte or two: these need no loop, and no call.
+fn varint_at(input: &[u8], at: usize) -> Varint
+    ensures { λ r. ⌜ r ≡ varintAt (now (input .entry)) at ⌝ }
+{
+    if input.len() <= at {
+        return Varint::Cut;
+    }
+    let low = input[at];
+    let after = at + 1;
+    if low < 128 {
+        return Varint::Value {
+            bits: low as u64,
+            next: after,
+        };
+    }
+    if input.len() <= after {
+        return varint::read(input, at);
+    }
+    let high = input[after];
+    if high < 128 {
+        return Varint::Value {
+            bits: (low as u64) % 128 + 128 * (high as u64),
+            next: at + 2,
+        };
+    }
+    varint::read(input, at)
 }
 
 fn starts_at(input: &[u8], at: usize) -> Starts
@@ -46,10 +80,10 @@ fn starts_at(input: &[u8], at: usize) -> Starts
     ensures { λ r. ⌜ StartsAt (now (input .entry)) at r ⌝ }
 {
     let body = at + 2;
-    match varint::read(input, body) {
+    match varint_at(input, body) {
         Varint::Cut => Starts::Refused(Refusal::cut(12, at, body)),
         Varint::TooLong => Starts::Refused(Refusal::new(5, at)),
-        Varint::Value { bits, next } => match varint::read(input, next) {
+        Varint::Value { bits, next } => match varint_at(input, next) {
             Varint::Cut => Starts::Refused(Refusal::cut(12, at, next)),
             Varint::TooLong => Starts::Refused(Refusal::new(5, at)),
             Varint::Value {
@@ -64,35 +98,36 @@ fn starts_at(input: &[u8], at: usize) -> Starts
     }
 }
 
-// A fixed delta: nothing stands behind the varints.
-fn fixed(input: &[u8], at: usize, rows: usize) -> Found
-    requires { ⌜ at + 2 ≤ length (now input) ⌝ }
-    ensures { λ r. ⌜ IsMeasured (now (input .entry)) at (fixedBody rows (drop (at + 2) (now (input .entry)))) r ⌝ }
-{
-    match starts_at(input, at) {
-        Starts::Refused(f) => Found::Refused(f),
-        Starts::At(t) => Found::Run(Run::new(Kind::Delta, 0, rows, t.next - at), t),
-    }
-}
-
-// Packed magnitudes, n of them, which are all rows but two.
-fn packed_rows(input: &[u8], at: usize, code: u8, n: usize) -> Found
-    requires { ⌜ (at + 2 ≤ length (now input)) × (code < 32) × (n ≤ 510) ⌝ }
+// Packed magnitudes behind the varints, n of them, which are all rows but two.
+fn packed_rows(input: &[u8], at: usize, code: u8, n: usize, start: Start) -> Found
+    requires { ⌜ Started (now input) (at + 2) start × (code < 32) × (n ≤ 510) ⌝ }
     ensures { λ r. ⌜ IsMeasured (now (input .entry)) at (deltaBody code n (drop (at + 2) (now (input .entry)))) r ⌝ }
 {
-    match starts_at(input, at) {
-        Starts::Refused(f) => Found::Refused(f),
-        Starts::At(t) => {
-            let bits = width::bits_of(code);
-            let size = packed::block_size(bits, n);
-            if input.len() - t.next < size {
-                return Found::Refused(Refusal::cut(13, at, t.next));
-            }
-            Found::Run(Run::new(Kind::Delta, bits, n + 2, t.next + size - at), t)
-        }
+    let bits = width::bits_of(code);
+    let block = packed::block_size(bits, n);
+    let next = start.next;
+    if input.len() - next < block {
+        return Found::Refused(Refusal::cut(13, at, next));
+    }
+    Found::Run {
+        bits,
+        rows: n + 2,
+        size: next + block - at,
+        start,
     }
 }
 
+// Whether a run of so many rows has no room for magnitudes, which its code says it has: they begin with the third row.
+fn too_few(code: u8, rows: usize) -> bool
+    ensures { λ r. ⌜ (r ≡ true → (code ≡ 0 → ⊥) × (rows ≡ 1)) × (r ≡ false → rows ≡ 1 → code ≡ 0) ⌝ }
+{
+    if code == 0 {
+        return false;
+    }
+    rows == 1
+}
+
+// The varints are read at one place, whatever stands behind them: half the code.
 fn measured(input: &[u8], at: usize) -> Found
     requires { ⌜ at < length (now input) ⌝ }
     ensures { λ r. ⌜ IsMeasured (now (input .entry)) at (deltaRun (getD (now (input .entry)) at 0) (drop (at + 1) (now (input .entry)))) r ⌝ }
@@ -102,14 +137,25 @@ fn measured(input: &[u8], at: usize) -> Found
     }
     let h = header::two_bytes(input[at], input[at + 1]);
     let code = h.code;
-    let count = h.rows;
-    if code == 0 {
-        return fixed(input, at, count);
-    }
-    if count == 1 {
+    let rows = h.rows;
+    if too_few(code, rows) {
         return Found::Refused(Refusal::new(4, at));
     }
-    packed_rows(input, at, code, count - 2)
+    match starts_at(input, at) {
+        Starts::Refused(f) => Found::Refused(f),
+        Starts::At(start) => {
+            if code == 0 {
+                // a fixed delta: nothing stands behind the varints
+                return Found::Run {
+                    bits: 0,
+                    rows,
+                    size: start.next - at,
+                    start,
+                };
+            }
+            packed_rows(input, at, code, rows - 2, start)
+        }
+    }
 }
 
 pub(crate) fn measure(input: &[u8], at: usize) -> Answer
@@ -117,7 +163,12 @@ pub(crate) fn measure(input: &[u8], at: usize) -> Answer
     ensures { λ r. ⌜ r ≡ answerOf at (length (now (input .entry)) - at) (deltaRun (getD (now (input .entry)) at 0) (drop (at + 1) (now (input .entry)))) ⌝ }
 {
     match measured(input, at) {
-        Found::Run(r, _) => Answer::Run(r),
+        Found::Run {
+            bits,
+            rows,
+            size,
+            ..
+        } => Answer::run(Kind::Delta, bits, rows, size),
         Found::Refused(f) => Answer::Refused(f),
     }
 }
@@ -165,13 +216,17 @@ pub(crate) fn read(input: &[u8], at: usize, signed: bool, out: &mut [i64]) -> An
     ensures { λ r. ⌜ Gives at (length (now (input .entry)) - at) signed (deltaRun (getD (now (input .entry)) at 0) (drop (at + 1) (now (input .entry)))) (now (out .entry)) (now (out .exit)) r ⌝ }
 {
     match measured(input, at) {
-        Found::Run(r, t) => {
-            let count = r.rows;
-            if out.len() < count.rows {
+        Found::Run {
+            bits,
+            rows,
+            size,
+            start,
+        } => {
+            if out.len() < rows {
                 return Answer::refused(8, at);
             }
-            lay(input, t, r.width, count.rows, signed, out);
-            Answer::Run(r)
+            lay(input, start, bits, rows, signed, out);
+            Answer::run(Kind::Delta, bits, rows, size)
         }
         Found::Refused(f) => Answer::Refused(f),
     }

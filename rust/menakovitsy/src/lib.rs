@@ -81,6 +81,7 @@ pub enum Sign {
 }
 
 impl Sign {
+    #[inline]
     fn flag(self) -> u64 {
         match self {
             Sign::Unsigned => 0,

@@ -183,6 +183,7 @@ pub struct Counts {
 /// there are no bytes. A trailing part of fewer than eight bytes is no place, and keeps its content.
 ///
 /// This is `orc_read_run`, which answers by one number: it gives no kind, no place and no cut field.
+#[inline]
 pub fn read_run_bytes(input: &[u8], sign: Sign, out: &mut [u8]) -> Result<Option<Counts>, Refusal> {
     // SAFETY: as in `read_run`.
     let packed = unsafe {
@@ -193,6 +194,7 @@ pub fn read_run_bytes(input: &[u8], sign: Sign, out: &mut [u8]) -> Result<Option
 
 /// What the one number of `orc_read_run` stands for: 0 no bytes, 1 to 14 a refusal, and otherwise
 /// 65,536 times the bytes consumed, plus the rows.
+#[inline]
 pub fn unpack(packed: u64) -> Result<Option<Counts>, Refusal> {
     if packed == 0 {
         return Ok(None);

@@ -8,17 +8,23 @@ use Rattle.rle_v2.proofs.delta.measure.Tie as tie
 measured-requires : tie.Need-measured-requires
 measured-requires c κs = search needs
 
-enum-known-r : tie.Need-enum-known-r
-enum-known-r c = search needs
+enum-known-bits : tie.Need-enum-known-bits
+enum-known-bits c = search needs
+
+run-requires : tie.Need-run-requires
+run-requires c κs = search needs
 
 enum-known-f : tie.Need-enum-known-f
 enum-known-f c = search needs
 
 returns : tie.Need-returns
-returns c = let a = c .before .before .before .before .before .args in passed-answer (now (a .input)) (a .at) _ _ _ (rw (c .before .r .given .1) at (c .before .before .before .measured .ensures))
+returns c =
+    let m = c .before .before in
+    let a = m .before .before .before .before .args in
+    rw (c .run .ensures) (passed-answer (now (a .input)) (a .at) _ _ _ (rw (m .bits .given .1) at (m .before .before .measured .ensures)))
 
 returns-2 : tie.Need-returns-2
 returns-2 c = rw (c .before .f .given .1) at (c .before .before .before .measured .ensures)
 
 pub measure-spec : {M : Type 1} → statement M
-measure-spec = tie.close (tie.spec measured-requires enum-known-r enum-known-f returns returns-2)
+measure-spec = tie.close (tie.spec measured-requires enum-known-bits run-requires enum-known-f returns returns-2)

@@ -1,14 +1,33 @@
--- The width code says which body follows, and each answer is the body's. Assumes nothing.
+-- The tests of the header, then the varints, and the width code says which body they are of. Assumes nothing.
 use native.Mathlib.Omega.{arith}
 use Prim.Native.Nat.{_+_, _-_}
 use mathlib.Core.Path.{_≡_, sym, _∙_}
 use lib.ListN.{getD}
 use denote.Ref.{now}
 use Rattle.format.specs.Parse.{rowsLess}
-use Rattle.rle_v2.proofs.DeltaRun.{no-header, is-fixed, one-row, is-packed}
+use Rattle.rle_v2.specs.DeltaStart.{Started}
+use Rattle.rle_v2.proofs.DeltaRun.{no-header, is-fixed, one-row, is-packed, no-varints, fixed-passed}
 use borrow.Author.Needs.{needs}
 use Rattle.rle_v2.proofs.delta.measured.Statement.{statement}
 use Rattle.rle_v2.proofs.delta.measured.Tie as tie
+
+-- the points of the walk: the two bytes are there, and where it starts
+abbrev there : tie.After-two-bytes → tie.Else1
+there b = b .before .before .before
+
+abbrev entry : tie.After-two-bytes → tie.Start
+entry b = there b .before .before
+
+-- the header passed its tests, before the varints were read
+abbrev tested : tie.After-start → tie.Else2
+tested m = m .before .before .before
+
+abbrev header : tie.After-start → tie.After-two-bytes
+header m = tested m .before .before
+
+-- what the two varints say
+started : (m : tie.After-start) → let a = entry (header m) .args in Started (now (a .input)) (a .at + 2) (m .start .given .0 .0)
+started m = rw (m .start .given .1) at (m .before .before .starts-at .ensures)
 
 sub-if1 : tie.Need-sub-if1
 sub-if1 c = search needs
@@ -31,39 +50,71 @@ shared-slice-read-two-bytes-2 c = search needs
 two-bytes-requires : tie.Need-two-bytes-requires
 two-bytes-requires c κs = search needs
 
-fixed-requires : tie.Need-fixed-requires
-fixed-requires c κs = search needs
-
-returns-2 : tie.Need-returns-2
-returns-2 c =
-    let h = c .before .before .two-bytes .ensures in
-    let a = c .before .before .before .before .before .before .before .args in
-    rw (is-fixed (now (a .input)) (a .at) (c .before .before .before .before .before .if1 .left) (sym (h .0) ∙ c .before .if2 .taken)) (rw (h .1) at (c .fixed .ensures))
+too-few-requires : tie.Need-too-few-requires
+too-few-requires c κs = search needs
 
 new-requires-2 : tie.Need-new-requires-2
 new-requires-2 c κs = search needs
 
+returns-2 : tie.Need-returns-2
+returns-2 c =
+    let f = c .before .before in
+    let b = f .before in
+    let h = b .two-bytes .ensures in
+    let a = entry b .args in
+    let few = f .too-few .ensures .0 (c .before .if2 .taken) in
+    rw (c .new2 .ensures)
+    (one-row (now (a .input)) (a .at) (there b .if1 .left) (λ q. few .0 (h .0 ∙ q)) (omega (arith, h .1, few .1)))
+
+starts-at-requires : tie.Need-starts-at-requires
+starts-at-requires c κs = search needs
+
+enum-known-f : tie.Need-enum-known-f
+enum-known-f c = search needs
+
+enum-known-start : tie.Need-enum-known-start
+enum-known-start c = search needs
+
+sub-t21 : tie.Need-sub-t21
+sub-t21 c = omega (arith, started (c .before .before .before) .next-is)
+
 returns-3 : tie.Need-returns-3
 returns-3 c =
-    let h = c .before .before .before .two-bytes .ensures in
-    let a = c .before .before .before .before .before .before .before .before .args in
-    rw (c .new2 .ensures)
-    (one-row (now (a .input)) (a .at) (c .before .before .before .before .before .before .if1 .left) (λ q. c .before .before .if2 .left (h .0 ∙ q)) (omega (arith, h .1, c .before .if3 .taken)))
+    let m = c .before .before .before in
+    let b = header m in
+    let h = b .two-bytes .ensures in
+    let a = entry b .args in
+    rw (is-fixed (now (a .input)) (a .at) (there b .if1 .left) (sym (h .0) ∙ c .before .if3 .taken), ← (h .1))
+    (fixed-passed (now (a .input)) (a .at) _ _ (started m))
 
 sub-packed-rows : tie.Need-sub-packed-rows
-sub-packed-rows c = search needs
+sub-packed-rows c =
+    let e = tested (c .before .before) in
+    let b = e .before .before in
+    let two : b .two-bytes .result .rows ≡ 1 → ⊥ = λ q. c .if3 .left (e .before .too-few .ensures .1 (e .if2 .left) q) in
+    omega (arith, b .two-bytes .ensures .1, two)
 
 packed-rows-requires : tie.Need-packed-rows-requires
-packed-rows-requires c κs = search needs
+packed-rows-requires c κs = (started (c .before .before), search needs, search needs)
 
 returns-4 : tie.Need-returns-4
 returns-4 c =
-    let b = c .before .before .before .two-bytes in
-    let h = b .ensures in
-    let a = c .before .before .before .before .before .before .before .before .args in
-    let k = rowsLess (getD (now (a .input)) (a .at) 0) (getD (now (a .input)) (a .at + 1) 0) in
-    let n : b .result .rows - 2 ≡ k - 1 = omega (arith, h .1) in
-    rw (is-packed (now (a .input)) (a .at) (c .before .before .before .before .before .before .if1 .left) (λ q. c .before .before .if2 .left (h .0 ∙ q)) (λ q. c .before .if3 .left (omega (arith, h .1, q))))
+    let e = c .before .before .before .before in
+    let b = e .before .before in
+    let h = b .two-bytes .ensures in
+    let a = entry b .args in
+    no-varints (now (a .input)) (a .at) (there b .if1 .left) (λ q. sym (h .0) ∙ e .before .too-few .ensures .1 (e .if2 .left) (omega (arith, h .1, q))) _
+    (rw (c .before .f .given .1) at (c .before .before .before .starts-at .ensures))
+
+returns-5 : tie.Need-returns-5
+returns-5 c =
+    let m = c .before .before .before in
+    let e = tested m in
+    let b = header m in
+    let h = b .two-bytes .ensures in
+    let a = entry b .args in
+    let n : b .two-bytes .result .rows - 2 ≡ rowsLess (getD (now (a .input)) (a .at) 0) (getD (now (a .input)) (a .at + 1) 0) - 1 = omega (arith, h .1) in
+    rw (is-packed (now (a .input)) (a .at) (there b .if1 .left) (λ q. c .before .if3 .left (h .0 ∙ q)) (λ q. c .before .if3 .left (e .before .too-few .ensures .1 (e .if2 .left) (omega (arith, h .1, q)))))
     (rw (h .0, n) at (c .packed-rows .ensures))
 
 pub measured-spec : {M : Type 1} → statement M
@@ -77,10 +128,15 @@ measured-spec =
     add-two-bytes
     shared-slice-read-two-bytes-2
     two-bytes-requires
-    fixed-requires
-    returns-2
+    too-few-requires
     new-requires-2
+    returns-2
+    starts-at-requires
+    enum-known-f
+    enum-known-start
+    sub-t21
     returns-3
     sub-packed-rows
     packed-rows-requires
-    returns-4)
+    returns-4
+    returns-5)

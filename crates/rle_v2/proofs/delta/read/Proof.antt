@@ -1,6 +1,8 @@
 -- The delta reader meets its contract: what the tests found is laid down where there is room. Assumes nothing.
 use denote.Ref.{now}
+use Rattle.format.specs.Answers.{running}
 use Rattle.format.specs.declared.Answer.the-variants as answer
+use Rattle.format.specs.declared.Kind.the-variants.{Delta}
 use Rattle.format.proofs.Reading.{gives-none}
 use Rattle.rle_v2.specs.DeltaStart.{Passed}
 use Rattle.rle_v2.proofs.DeltaRun.{run, passed-8, passed-read}
@@ -8,26 +10,34 @@ use borrow.Author.Needs.{needs}
 use Rattle.rle_v2.proofs.delta.read.Statement.{statement}
 use Rattle.rle_v2.proofs.delta.read.Tie as tie
 
+abbrev entry : tie.After-bits → tie.Start
+entry m = m .before .before .before .before
+
 -- what the tests found
-passed : (m : tie.After-r) → let a = m .before .before .before .before .args in Passed (now (a .input)) (run (now (a .input)) (a .at)) (m .r .given .0 .0) (m .r .given .0 .1 .0)
-passed m = rw (m .r .given .1) at (m .before .before .measured .ensures)
+passed : (m : tie.After-bits) → let a = entry m .args in let g = m .bits .given .0 in
+    Passed (now (a .input)) (run (now (a .input)) (a .at)) (running Delta (g .0) (g .1 .0) (g .1 .1 .0)) (g .1 .1 .1 .0)
+passed m = rw (m .bits .given .1) at (m .before .before .measured .ensures)
 
 measured-requires : tie.Need-measured-requires
 measured-requires c κs = search needs
 
-enum-known-r : tie.Need-enum-known-r
-enum-known-r c = search needs
+enum-known-bits : tie.Need-enum-known-bits
+enum-known-bits c = search needs
 
 refused-requires : tie.Need-refused-requires
 refused-requires c κs = search needs
 
 returns : tie.Need-returns
 returns c =
-    let a = c .before .before .before .before .before .before .before .before .before .args in
-    rw (c .refused .ensures) (passed-8 (now (a .input)) (a .at) _ _ _ (passed (c .before .before .before .before .before)) (a .signed) (now (a .out)) (c .before .if1 .taken))
+    let m = c .before .before .before in
+    let a = entry m .args in
+    rw (c .refused .ensures) (passed-8 (now (a .input)) (a .at) _ _ _ (passed m) (a .signed) (now (a .out)) (c .before .if1 .taken))
 
 lay-requires : tie.Need-lay-requires
-lay-requires c κs = (passed (c .before .before .before .before .before) .ready, c .before .if1 .left)
+lay-requires c κs = (passed (c .before .before .before) .ready, c .before .if1 .left)
+
+run-requires : tie.Need-run-requires
+run-requires c κs = search needs
 
 enum-known-f : tie.Need-enum-known-f
 enum-known-f c = search needs
@@ -37,8 +47,12 @@ same-length c = search needs
 
 returns-2 : tie.Need-returns-2
 returns-2 c =
-    let a = c .before .before .before .before .before .before .before .before .before .before .before .args in
-    passed-read (now (a .input)) (a .at) _ _ _ (passed (c .before .before .before .before .before .before .before)) (a .signed) (now (a .out)) (c .before .lay .last .1 .1 .1 .1 .1 .0) (c .before .before .before .if1 .left) (c .before .lay .ensures)
+    let l = c .before .before in
+    let e = l .before .before in
+    let m = e .before .before in
+    let a = entry m .args in
+    rw (c .run .ensures)
+    (passed-read (now (a .input)) (a .at) _ _ _ (passed m) (a .signed) (now (a .out)) (l .lay .last .1 .1 .1 .1 .1 .0) (e .if1 .left) (l .lay .ensures))
 
 returns-3 : tie.Need-returns-3
 returns-3 c =
@@ -50,10 +64,11 @@ read-spec =
     tie.close
     (tie.spec
     measured-requires
-    enum-known-r
+    enum-known-bits
     refused-requires
     returns
     lay-requires
+    run-requires
     enum-known-f
     same-length
     returns-2

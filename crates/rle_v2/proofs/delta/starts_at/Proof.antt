@@ -9,20 +9,20 @@ use Rattle.rle_v2.proofs.delta.starts_at.Statement.{statement}
 use Rattle.rle_v2.proofs.delta.starts_at.Tie as tie
 
 -- the points of the walk: the function's start, and the first varint, which the second stands behind
-abbrev start : tie.After-read → tie.Start
+abbrev start : tie.After-varint-at → tie.Start
 start r = r .before .before
 
-abbrev first : tie.After-read2 → tie.After-bits
+abbrev first : tie.After-varint-at2 → tie.After-bits
 first r = r .before .before
 
-bytes : (r : tie.After-read) (i : ℕ) → getD (now (start r .args .input)) i 0 < 256
+bytes : (r : tie.After-varint-at) (i : ℕ) → getD (now (start r .args .input)) i 0 < 256
 bytes r i = r .before .shared-slice-known .given i .fits
 
 add-body : tie.Need-add-body
 add-body c = search needs
 
-read-requires : tie.Need-read-requires
-read-requires c κs = search needs
+varint-at-requires : tie.Need-varint-at-requires
+varint-at-requires c κs = search needs
 
 enum-told : tie.Need-enum-told
 enum-told c = search needs
@@ -39,8 +39,8 @@ new-requires c κs = search needs
 enum-known-bits : tie.Need-enum-known-bits
 enum-known-bits c = search needs
 
-read-requires-2 : tie.Need-read-requires-2
-read-requires-2 c κs = search needs
+varint-at-requires-2 : tie.Need-varint-at-requires-2
+varint-at-requires-2 c κs = search needs
 
 enum-told-3 : tie.Need-enum-told-3
 enum-told-3 c = search needs
@@ -61,13 +61,13 @@ returns : tie.Need-returns
 returns c =
     let r = c .before .before .before in
     let a = start r .args in
-    rw (c .cut .ensures) (first-cut (now (a .input)) (a .at) (bytes r) (start r .pre) (sym (r .read .ensures) ∙ c .before .enum-told .given .1))
+    rw (c .cut .ensures) (first-cut (now (a .input)) (a .at) (bytes r) (start r .pre) (sym (r .varint-at .ensures) ∙ c .before .enum-told .given .1))
 
 returns-2 : tie.Need-returns-2
 returns-2 c =
     let r = c .before .before .before in
     let a = start r .args in
-    rw (c .new .ensures) (first-long (now (a .input)) (a .at) (bytes r) (sym (r .read .ensures) ∙ c .before .enum-told2 .given .1))
+    rw (c .new .ensures) (first-long (now (a .input)) (a .at) (bytes r) (sym (r .varint-at .ensures) ∙ c .before .enum-told2 .given .1))
 
 returns-3 : tie.Need-returns-3
 returns-3 c =
@@ -76,7 +76,7 @@ returns-3 c =
     let r = b .before .before in
     let a = start r .args in
     rw (c .cut2 .ensures)
-    (second-cut (now (a .input)) (a .at) (bytes r) _ _ (sym (r .read .ensures) ∙ b .bits .given .1) (sym (r2 .read2 .ensures) ∙ c .before .enum-told3 .given .1))
+    (second-cut (now (a .input)) (a .at) (bytes r) _ _ (sym (r .varint-at .ensures) ∙ b .bits .given .1) (sym (r2 .varint-at2 .ensures) ∙ c .before .enum-told3 .given .1))
 
 returns-4 : tie.Need-returns-4
 returns-4 c =
@@ -85,7 +85,7 @@ returns-4 c =
     let r = b .before .before in
     let a = start r .args in
     rw (c .new2 .ensures)
-    (second-long (now (a .input)) (a .at) (bytes r) _ _ (sym (r .read .ensures) ∙ b .bits .given .1) (sym (r2 .read2 .ensures) ∙ c .before .enum-told4 .given .1))
+    (second-long (now (a .input)) (a .at) (bytes r) _ _ (sym (r .varint-at .ensures) ∙ b .bits .given .1) (sym (r2 .varint-at2 .ensures) ∙ c .before .enum-told4 .given .1))
 
 returns-5 : tie.Need-returns-5
 returns-5 c =
@@ -93,20 +93,20 @@ returns-5 c =
     let b = first r2 in
     let r = b .before .before in
     let a = start r .args in
-    both-stood (now (a .input)) (a .at) (bytes r) _ _ (sym (r .read .ensures) ∙ b .bits .given .1) _ _ (sym (r2 .read2 .ensures) ∙ c .before .base .given .1)
+    both-stood (now (a .input)) (a .at) (bytes r) _ _ (sym (r .varint-at .ensures) ∙ b .bits .given .1) _ _ (sym (r2 .varint-at2 .ensures) ∙ c .before .base .given .1)
 
 pub starts-at-spec : {M : Type 1} → statement M
 starts-at-spec =
     tie.close
     (tie.spec
     add-body
-    read-requires
+    varint-at-requires
     enum-told
     cut-requires
     enum-told-2
     new-requires
     enum-known-bits
-    read-requires-2
+    varint-at-requires-2
     enum-told-3
     cut-requires-2
     enum-told-4
