@@ -1,4 +1,4 @@
--- The theorems, one file for each file of statements in specs/.
+-- The theorems, one file for each file of statements in specs/ (and FlippedFields beside FlippedByte).
 -- document 01's lines and tables
 pub mod Table
 pub mod Refusals
@@ -15,5 +15,7 @@ pub mod CutFile
 -- the change requests of document 02
 pub mod BrokeOff
 pub mod Longest
+pub mod FlippedFields
+pub mod FlippedByte
 -- any two outcomes are equal
 pub mod Outcomes

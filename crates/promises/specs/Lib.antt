@@ -16,5 +16,6 @@ pub mod CutFile
 -- the change requests of document 02
 pub mod BrokeOff
 pub mod Longest
+pub mod FlippedByte
 -- any two outcomes are equal
 pub mod Outcomes
