@@ -23,6 +23,7 @@ use Rattle.index.proofs.Entries.{total-cons}
 use Rattle.index.proofs.Held.{holder-sound, Held, held, unheld, what-held, holder-of}
 use Rattle.index.proofs.Checked.{runs-are, checked-right, checked-wrong, right-or-wrong, exactly-whole}
 use Rattle.index.proofs.Building.{built, own, full, building-right}
+use Rattle.index.proofs.Own.{exactly-8}
 
 module _ (bs : List ℕ) (h : AllBelow 256 bs) where
   module _ (es : List Entry) (i : IsIndex bs es) where
@@ -159,6 +160,7 @@ module _ (bs : List ℕ) (h : AllBelow 256 bs) where
       exactly = built bs h;
       own = own bs h;
       is-8 = full bs h;
+      exactly-8 = exactly-8 bs h;
       untouched = λ table r at e. rw e;
       right = building-right bs h;
       never-15 = λ table ds r e g. lookup-holds (take (length ds) (tableOf table (building (length table) bs))) r .is-15 .0 g (building-right bs h table ds e);

@@ -4,6 +4,7 @@ pub mod Entries
 pub mod Held
 pub mod Checked
 pub mod Building
+pub mod Own
 pub mod Turns
 pub mod Index
 pub mod Columns
@@ -15,3 +16,4 @@ pub mod Laying
 pub mod Builds
 pub mod LookUps
 pub mod Previews
+pub mod Outcomes

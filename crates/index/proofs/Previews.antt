@@ -34,7 +34,7 @@ use Rattle.index.proofs.Columns.{columns-hold, checked-same, columns-ar
 
 -- ---- the last place of a stream's columns: its first row and its rows add up to all of them
 
-sums-length : (x : ℕ) (l : List ℕ) → length (sumsBefore x l) ≡ length l
+pub sums-length : (x : ℕ) (l : List ℕ) → length (sumsBefore x l) ≡ length l
 unfolding sumsBefore
 sums-length x [] = refl
 sums-length x (n ∷ l) = ap suc (sums-length (x + n) l)

@@ -6,6 +6,7 @@ use Prim.Native.Nat.{ℕ, _+_, _-_, _*_, _<_, _≤_}
 use mathlib.Core.Bool.{Bool}
 use mathlib.Core.List.{List, [], _∷_, _++_, map, List·Memᴰ}
 use lib.ListN.{length, take, drop}
+use lib.IntN.{ℤ}
 use Rattle.format.specs.Digits.{AllBelow}
 use Rattle.format.specs.Fields.{two64}
 use Rattle.format.specs.Runs.{Description, rowCount, AllValid, joined}
@@ -13,6 +14,12 @@ use Rattle.format.specs.Parse.{Reason, plain}
 use Rattle.format.specs.Streams.{whole, broken, readAll, stream, totalRows, joinedRows}
 use Rattle.index.specs.Entries.{Result, gives, refuses, numberOf, Entry, entriesFrom, entries, building, tableOf, lookup, reading}
 use Rattle.index.specs.Columns.{Columns, columnsAt, buildingIn, lookupIn, readingIn}
+use Rattle.index.specs.Promises.{BuiltIn, LookedUp, ReadFrom, notFound}
+use Rattle.index.specs.declared.Sizes.{Sizes}
+use Rattle.index.specs.declared.Built.{Built}
+use Rattle.index.specs.declared.Built.the-variants as built
+use Rattle.index.specs.declared.Found.{Found}
+use Rattle.index.specs.declared.Preview.{Preview}
 
 -- a right index: the bytes are the layouts of valid runs, joined, and the entries are those of these runs
 pub record IsIndex (bs : List ℕ) (es : List Entry) : Type 0 where
@@ -49,6 +56,9 @@ module _ (bs : List ℕ) where
     pub own : (places : ℕ) (ds : List Description) (r : Reason) (rest : List ℕ) → stream bs ≡ broken ds r rest → building places bs ≡ refuses r (length (joined ds))
     pub is-8 : (places : ℕ) (ds : List Description) → AllValid ds → bs ≡ joined ds → (places < length ds) ⊎ (two64 ≤ totalRows ds)
         → building places bs ≡ refuses (plain 8) 0
+    -- 8 exactly there: the stream's own refusal is never 8
+    pub exactly-8 : (places : ℕ) → (numberOf (building places bs) ≡ 8)
+        ↔ ((ds : List Description) × AllValid ds × (bs ≡ joined ds) × ((places < length ds) ⊎ (two64 ≤ totalRows ds)))
     pub untouched : (table : List Entry) (r : Reason) (at : ℕ) → building (length table) bs ≡ refuses r at → tableOf table (building (length table) bs) ≡ table
     -- what is built is right, so that no lookup in it gives 15, and there is no other
     pub right : (table : List Entry) (ds : List Description) → building (length table) bs ≡ gives ds
@@ -113,3 +123,13 @@ pub record ColumnsHold : Type 0 where
   pub unequal-reading : (signed : Bool) (places : ℕ) (c : Columns) (bs : List ℕ) (r : ℕ) → (Alike c → ⊥)
       → readingIn signed places c bs r ≡ refuses (plain 15) 0
   pub unequal-building : (f o n : ℕ) (bs : List ℕ) → ((f ≡ o) × (f ≡ n) → ⊥) → buildingIn f o n bs ≡ refuses (plain 15) 0
+
+-- ---- THE PROMISES of the calls: any two outcomes are equal, and what was built is a right index, so that looking up in it never gives 15
+pub record PromisesHold : Type 0 where
+  pub build-same : (input first at counts f o n f′ o′ n′ : List ℕ) (r r′ : Built)
+      → BuiltIn input first at counts f o n r → BuiltIn input first at counts f′ o′ n′ r′ → (r ≡ r′) × (f ≡ f′) × (o ≡ o′) × (n ≡ n′)
+  pub lookup-same : (input : List ℕ) (c : Columns) (row : ℕ) (r r′ : Found) → LookedUp input c row r → LookedUp input c row r′ → r ≡ r′
+  pub reading-same : (input : List ℕ) (c : Columns) (row : ℕ) (signed : Bool) (out out′ out″ : List ℤ) (r r′ : Preview)
+      → ReadFrom input c row signed out out′ r → ReadFrom input c row signed out out″ r′ → (r ≡ r′) × (out′ ≡ out″)
+  pub never-15 : (input first at counts f o n : List ℕ) (s : Sizes) (row : ℕ) (r : Found) → AllBelow 256 input → BuiltIn input first at counts f o n (built.Index s)
+      → LookedUp input (record { firsts = take (s .entries) f; offsets = take (s .entries) o; counts = take (s .entries) n }) row r → r ≢ notFound 15

@@ -29,7 +29,7 @@ same-length-4 c = search needs
 returns-2 : tie.Need-returns-2
 returns-2 c =
     let p = c .before .before in
-    let a = p .before .before .before .before .before in
+    let a = p .before .before .before .before .before .before .before .before in
     index-put (a .build .ensures) (a .before .before .before .before .if1 .left) (p .put-built .ensures)
 
 pub orc-build-index-spec : {M : Type 1} → statement M
