@@ -56,6 +56,7 @@ entry-refl e = and-i (eqb (e .first) (e .first)) _ (eqb-refl (e .first)) (and-i 
 pub total-cons : (d : Description) (ds : List Description) → totalRows (d ∷ ds) ≡ rowCount d + totalRows ds
 unfolding totalRows
 total-cons d ds = refl
+
 pub entries-length : (f a : ℕ) (ds : List Description) → length (entriesFrom f a ds) ≡ length ds
 unfolding entriesFrom
 entries-length f a [] = refl

@@ -78,11 +78,11 @@ built-never-15 input first at counts f o n s row r h b l e =
     let (ds, m, k) = built-runs (length input) s (buildingIn (length first) (length at) (length counts) input) (b .answer) in
     let (v, w, p, q) = Building.built input h (length first) ds .0 (as-built (length first) (length at) (length counts) input ds m) in
     let c : first-of (s .entries) (record { firsts = f; offsets = o; counts = n }) ≡ asColumns (entries ds) =
-        ap (first-of (s .entries)) (b .columns ∙ ap (columnsAt (record { firsts = first; offsets = at; counts = counts })) m)
-        ∙ ap (λ (x : ℕ). first-of x (columnsAt (record { firsts = first; offsets = at; counts = counts }) (gives ds))) k
-        ∙ its-columns ds (record { firsts = first; offsets = at; counts = counts }) in
+    ap (first-of (s .entries)) (b .columns ∙ ap (columnsAt (record { firsts = first; offsets = at; counts = counts })) m)
+    ∙ ap (λ (x : ℕ). first-of x (columnsAt (record { firsts = first; offsets = at; counts = counts }) (gives ds))) k
+    ∙ its-columns ds (record { firsts = first; offsets = at; counts = counts }) in
     let g : foundOf (lookup (entries ds) input row) ≡ notFound 15 =
-        sym (ap foundOf (ap (λ (x : Columns). lookupIn x input row) c ∙ columns-hold .same-lookup (entries ds) input row)) ∙ sym l ∙ e in
+    sym (ap foundOf (ap (λ (x : Columns). lookupIn x input row) c ∙ columns-hold .same-lookup (entries ds) input row)) ∙ sym l ∙ e in
     lookup-holds input h (entries ds) row .is-15 .0 (fifteen (lookup (entries ds) input row) g) (record { runs = ds; valid = v; bytes = w; are = refl })
 
 pub promises-hold : PromisesHold

@@ -232,7 +232,9 @@ fn lay(input: &[u8], at: usize, skip: usize, signed: bool, out: &mut [i64])
             let consumed = run.consumed;
             let n = rows.rows - skip;
             copy(&held, skip, n, out);
-            let next = ByteOffset { bytes: at + consumed.bytes };
+            let next = ByteOffset {
+                bytes: at + consumed.bytes,
+            };
             rle_v2::read_stream(input, next, signed, &mut out[n..]);
         }
         // neither is: the stream is whole

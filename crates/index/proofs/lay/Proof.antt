@@ -57,9 +57,10 @@ copy-requires c κs =
     let m = c .before .before .before .before .before .before in
     let x = m .before .before .before in
     let b = x .before .before .before .before in
-    let a = b .args in
-    (held-long (a .input .now) (a .at) (a .skip) (a .signed) (a .out .now) (b .pre) _ _ (held x) _ (ap (λ (k : ℕ). k - a .skip) (rows m)),
-    omega (arith, rows m, rows-within (a .input .now) (a .at) (a .skip) (a .signed) (a .out .now) (b .pre)))
+    let a = b .args in (
+      held-long (a .input .now) (a .at) (a .skip) (a .signed) (a .out .now) (b .pre) _ _ (held x) _ (ap (λ (k : ℕ). k - a .skip) (rows m)),
+      omega (arith, rows m, rows-within (a .input .now) (a .at) (a .skip) (a .signed) (a .out .now) (b .pre)),
+    )
 
 add-read-stream : tie.Need-add-read-stream
 add-read-stream c =
