@@ -15,5 +15,6 @@ pub mod Lists
 pub mod Laying
 pub mod Builds
 pub mod LookUps
+pub mod Looked
 pub mod Previews
 pub mod Outcomes

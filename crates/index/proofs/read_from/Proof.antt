@@ -6,7 +6,8 @@ use lib.ListN.{length, getD}
 use borrow.Author.Needs.{needs}
 use Rattle.format.proofs.Fields.{below-all}
 use Rattle.index.specs.declared.Found.the-variants as found
-use Rattle.index.proofs.Previews.{Through, After, what-looked, left-many, left-rows, some, n-long, last-is, row-below, ready, eight-so, rows-so}
+use Rattle.index.proofs.Looked.{Through, After, what-looked}
+use Rattle.index.proofs.Previews.{left-many, left-rows, some, n-long, last-is, row-below, ready, eight-so, rows-so}
 use Rattle.index.proofs.read_from.Statement.{statement}
 use Rattle.index.proofs.read_from.Tie as tie
 
