@@ -13,7 +13,8 @@
  * arguments that are only read may.
  *
  * State. Calls share none: nothing is kept from one to the next, nothing is allocated, and threads
- * may call at the same time, each with slices of its own to write to.
+ * may call at the same time, each with slices of its own to write to. What the reader in parts knows
+ * from call to call stands in the words and bytes that the caller keeps for it.
  *
  * Positions, counts and n are uint64_t. A position past the end is empty input. A flag is 0 where
  * rows are unsigned and any other number where they are signed (zigzag).
@@ -32,17 +33,22 @@ extern "C" {
 
 /* The version of these functions: each change of them makes it one more. A program compares what
  * orc_version answers with the header that it was compiled with. */
-#define ORC_VERSION UINT64_C(4)
+#define ORC_VERSION UINT64_C(6)
 
 uint64_t orc_version(void);
 
 /* The answer. A function that is lent words writes its whole answer into the first ORC_WORDS of
  * them, the stream reader into the first ORC_STREAM_WORDS, orc_label into the first ORC_LABEL_WORDS,
- * and leaves the others as they were. It returns the refusal's number (the word ORC_NUMBER), 0 where nothing is refused. Later versions
+ * orc_part_take and orc_part_close into the first ORC_PART_WORDS, and leaves the others as they were.
+ * It returns the refusal's number (the word ORC_NUMBER), 0 where nothing is refused. Later versions
  * append words: none changes its meaning. */
 #define ORC_WORDS 9
 #define ORC_STREAM_WORDS 14
 #define ORC_LABEL_WORDS 5
+#define ORC_PART_WORDS 11
+
+/* How many words the state of the reader in parts has. */
+#define ORC_STATE_WORDS 7
 
 /* What it returns where it was lent fewer: then it has touched nothing, no word, row or byte. */
 #define ORC_TOO_FEW_WORDS UINT64_MAX
@@ -87,14 +93,26 @@ enum orc_label_word {
     ORC_LABEL_SIZE = 4
 };
 
+/* The words of a call of the reader in parts behind those up to ORC_WIDTH. */
+enum orc_part_word {
+    /* The byte where the run starts, counted from the first part modulo 2^64; 0 unless the case is
+     * ORC_CASE_READ. */
+    ORC_PART_START = 9,
+    /* How many of the part's bytes the call took. */
+    ORC_PART_TAKEN = 10
+};
+
 enum orc_case {
-    /* The input is empty: there is no run. orc_read_run_at only. */
+    /* The input is empty: there is no run. orc_read_run_at only; and of the reader in parts, once it is
+     * closed: the column has ended. */
     ORC_CASE_END = 0,
     /* A run, booleans or a byte value; of the stream: it was read whole; of a label: a name. */
     ORC_CASE_READ = 1,
     ORC_CASE_REFUSED = 2,
     /* Of a label alone: the row has no name, and is called by the fallback. */
-    ORC_CASE_FALLBACK = 3
+    ORC_CASE_FALLBACK = 3,
+    /* Of the reader in parts alone: all of the part is taken, and no run has ended. */
+    ORC_CASE_MORE = 3
 };
 
 enum orc_kind {
@@ -129,12 +147,13 @@ enum orc_answer {
     ORC_VALUE_CUT = 6,
     /* Patched base: a patch is outside the run or at another's place, or the list ends with a skip. */
     ORC_PATCH_OUT_OF_PLACE = 7,
-    /* The output has too few places. Lend more: 512 rows hold any run, 4102 bytes any that is
+    /* The output has too few places. Lend more: 512 rows hold any run, 4108 bytes any that is
      * written. */
     ORC_TOO_FEW_PLACES = 8,
     /* Writer: the form does not allow this many rows. */
     ORC_ROW_COUNT = 9,
-    /* Writer: the rows do not have the form, the width is none of its widths, or the form is none. */
+    /* Writer: the rows do not have the form, the width is none of its widths, or the form is none; of
+     * orc_write_patched: no patched run has those rows with that base and width. */
     ORC_NOT_THE_FORM = 10,
     /* Writer: a row or a magnitude needs more bits than the width. */
     ORC_TOO_NARROW = 11,
@@ -195,6 +214,14 @@ uint64_t orc_write_run(const int64_t *rows, size_t rows_len, uint64_t flag, uint
                        uint64_t width, uint8_t *out, size_t out_len, uint64_t *words,
                        size_t words_len);
 
+/* Writes rows, 1 to 512, as one patched run into the first bytes of out: every row as its difference
+ * from base, of which the low width bits are packed, and what is above becomes a patch. The width is in
+ * bits and must be one of the table's. The run reads back as the rows whatever the flag. Refused in
+ * this order: ORC_ROW_COUNT, ORC_NOT_THE_FORM (over 31 list entries, a patch of over 56 bits, a base of
+ * -2^63, or such a width), ORC_TOO_FEW_PLACES; the place is 0. */
+uint64_t orc_write_patched(const int64_t *rows, size_t rows_len, int64_t base, uint64_t width,
+                           uint8_t *out, size_t out_len, uint64_t *words, size_t words_len);
+
 /* The narrowest width code that holds x: 0 to 31. */
 uint64_t orc_narrowest_code(uint64_t x);
 
@@ -208,6 +235,28 @@ uint64_t orc_label(const int64_t *lengths, size_t lengths_len, const int64_t *nu
                    size_t numbers_len, const uint8_t *flags, size_t flags_len, const uint8_t *block,
                    size_t block_len, const uint8_t *fallback, size_t fallback_len, uint64_t row,
                    uint64_t *words, size_t words_len);
+
+/* A reader of a column that arrives in parts, of any size, empty ones too. What it knows stands in the
+ * first ORC_STATE_WORDS of state, which orc_part_start makes and the calls after it keep, and in the
+ * first bytes of held: those of the one run that is unfinished. Every state is answered, also one that
+ * no start led to. Its starts, places and cut bytes count from the first part, modulo 2^64. */
+uint64_t orc_part_start(uint64_t *state, size_t state_len);
+
+/* A call with a part. Where a run ends in it, its rows stand in the first of rows, ORC_PART_START says
+ * where it starts, and the part is taken up to its end: call again with what is behind it. Otherwise
+ * (ORC_CASE_MORE) all of it is taken. An unfinished run is refused by orc_part_close alone; any other
+ * refusal comes as soon as the bytes show it, and takes nothing. With fewer than ORC_MAX_ROWS rows, or
+ * ORC_MAX_RUN_BYTES bytes in held, the answer is ORC_TOO_FEW_PLACES, nothing is changed, and the call may
+ * be made again. Every other refusal, and the end, is repeated by each later call, which takes nothing.
+ * With fewer than ORC_STATE_WORDS in state, or ORC_PART_WORDS in words: ORC_TOO_FEW_WORDS. */
+uint64_t orc_part_take(uint64_t *state, size_t state_len, uint8_t *held, size_t held_len,
+                       const uint8_t *part, size_t part_len, uint64_t flag, int64_t *rows,
+                       size_t rows_len, uint64_t *words, size_t words_len);
+
+/* The closing call: the column's end (ORC_CASE_END), or the refusal of the run that is unfinished. */
+uint64_t orc_part_close(uint64_t *state, size_t state_len, uint8_t *held, size_t held_len,
+                        uint64_t flag, int64_t *rows, size_t rows_len, uint64_t *words,
+                        size_t words_len);
 
 /* Reads the run at the start of input, and answers by one number: an orc_answer, or, from ORC_RUN on,
  * a run. Rows are laid into out as eight bytes each, lowest first; a trailing part of fewer than eight

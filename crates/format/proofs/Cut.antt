@@ -4,7 +4,7 @@ use mathlib.Core.Path.{_≡_, refl, sym, ap, _∙_}
 use mathlib.Core.Logic.{_≢_}
 use Prim.Native.Nat.{ℕ, zero, suc, _+_, _-_, _*_, _/_, _%_, _≤_}
 use native.Mathlib.Omega.{arith}
-use mathlib.Core.Bool.{Bool, true, false}
+use mathlib.Core.Bool.{Bool, true, false, not}
 use mathlib.Core.List.{List, [], _∷_, _++_, append-nil}
 use lib.ListN.{length, take, drop, length-append}
 use lib.Seq.{take-append-le, drop-append-le}
@@ -13,21 +13,16 @@ use borrow.Author.Tests.{le-leb}
 use Rattle.format.specs.Fields.{pick, width, bytesFor, lastBelow}
 use Rattle.format.specs.Runs.{Description, Valid, layout, patches, tooLarge, outOfPlace, entryWidth}
 use Rattle.format.specs.Parse
-use Rattle.format.specs.Parse.{Reason, plain, cut, cutIn, Parsed, got, refused, then, unless, bytes, block, varint, codeOf, rowsLess, parse}
-use Rattle.format.proofs.Runs.{parse-complete, cut-refused}
-
--- the refusals that more input may turn into another answer
-abbrev pub isCut : Reason → Bool
-isCut (plain n) = eqb n 1
-isCut (cut n left) = true
+use Rattle.format.specs.Parse.{Reason, cutIn, unfinished, Parsed, got, refused, then, unless, bytes, block, varint, codeOf, rowsLess, parse}
+use Rattle.format.proofs.Runs.{parse-empty, parse-complete, cut-refused}
 
 -- what reading gives with the bytes q behind the input, by what it gave without them
 pub data Extends {A : Type 0} (q : List ℕ) : Parsed A → Parsed A → Type 0 where
   ext-got : {a : A} {s : List ℕ} → Extends q (got a s) (got a (s ++ q))
   ext-refused : {n : Reason} → Extends q (refused n) (refused n)
-  ext-cut : {n : Reason} {m : Parsed A} → T (isCut n) → Extends q (refused n) m
+  ext-cut : {n : Reason} {m : Parsed A} → T (unfinished n) → Extends q (refused n) m
 
-of-cut : {A : Type 0} {q : List ℕ} {n : Reason} {a : A} {s : List ℕ} → Extends q (refused n) (got a s) → T (isCut n)
+of-cut : {A : Type 0} {q : List ℕ} {n : Reason} {a : A} {s : List ℕ} → Extends q (refused n) (got a s) → T (unfinished n)
 of-cut (ext-cut c) = c
 
 then-ext : {A B : Type 0} {q : List ℕ} {m m′ : Parsed A} {f : A → List ℕ → Parsed B}
@@ -60,7 +55,7 @@ module _ (q : List ℕ) (c : ℕ) where
   unfolding block
   block-ext w n bs = then-ext (bytes-ext (bytesFor (n * w)) bs) λ v s. ext-got
 
-module _ (q : List ℕ) (r r′ : Reason) (c : T (isCut r)) where
+module _ (q : List ℕ) (r r′ : Reason) (c : T (unfinished r)) where
   varint-ext : (k : ℕ) (bs : List ℕ) → Extends q (varint r k bs) (varint r′ k (bs ++ q))
   unfolding varint
   varint-ext zero bs = ext-refused
@@ -106,8 +101,23 @@ module _ (q : List ℕ) where
       go (suc (suc zero)) = patched-ext a bs
       go (suc (suc (suc k))) = delta-ext a bs
 
+-- so a refusal for another reason stays, whatever follows
+pub both : (b : Bool) → T b → T (not b) → ⊥
+both true t f = f
+both false t f = t
+
+pub refused-stays : (bs q : List ℕ) (r : Reason) → parse bs ≡ refused r → T (not (unfinished r)) → parse (bs ++ q) ≡ refused r
+refused-stays [] q r e h =
+    let z : _≡_ {A = ℕ} 0 1 = cc parse-empty in
+    absurd (omega arith)
+refused-stays (a ∷ bs) q r e h = go (rw e at (parse-ext q a bs))
+  where
+    go : {m : Parsed Description} → Extends q (refused r) m → m ≡ refused r
+    go ext-refused = refl
+    go (ext-cut c) = absurd (both (unfinished r) c h)
+
 -- (d) in full: a proper part of a layout, from its start and not empty, is refused as one that is cut
-pub cut-number : (d : Description) (p q : List ℕ) → Valid d → layout d ≡ p ++ q → p ≢ [] → q ≢ [] → (n : Reason) × (parse p ≡ refused n) × T (isCut n)
+pub cut-number : (d : Description) (p q : List ℕ) → Valid d → layout d ≡ p ++ q → p ≢ [] → q ≢ [] → (n : Reason) × (parse p ≡ refused n) × T (unfinished n)
 cut-number d [] q v e pe qe = absurd (pe refl)
 cut-number d (a ∷ p) q v e pe qe =
     let (n, r) = cut-refused d (a ∷ p) q v e pe qe in

@@ -9,7 +9,12 @@ pub mod Varints
 pub mod Examples
 pub mod Rows
 pub mod Cut
+pub mod Length
+pub mod Parts
 pub mod Booleans
 pub mod ByteValues
 pub mod Reading
 pub mod Writing
+pub mod Least
+pub mod PatchedWriting
+pub mod PatchedExamples

@@ -12,16 +12,16 @@ use lib.Dec.{T, ltb, nltb→le}
 use borrow.Author.Tests.{le-ltb}
 use Rattle.format.specs.Digits.{AllBelow}
 use Rattle.format.specs.Runs.{Description, rowCount, Valid, layout, AllValid, joined}
-use Rattle.format.specs.Parse.{Reason, Parsed, end, got, refused, parse, into}
-use Rattle.format.specs.Fields.{two64}
-use Rattle.format.specs.Streams.{Reading, whole, broken, after, next, runsFrom, readAll, stream, totalRows, joinedRows}
-use Rattle.format.specs.Rows.{i64Rows}
+use Rattle.format.specs.Parse.{Reason, unfinished, Parsed, end, got, refused, parse, into}
+use Rattle.format.specs.Streams.{Reading, whole, broken, after, next, runsFrom, readAll, totalRows, stream, joinedRows}
 use Rattle.format.specs.Promises.{runOf, lastOr}
 use Rattle.format.specs.declared.LastRun.{LastRun}
 use Rattle.format.specs.declared.LastRun.the-variants.{Run}
 use Rattle.format.proofs.Fields.{Took, behind-below}
+use Rattle.format.proofs.Cut.{cut-number}
+use Rattle.format.specs.Fields.{two64}
+use Rattle.format.specs.Rows.{i64Rows}
 use Rattle.format.proofs.Rows.{row-bounds}
-use Rattle.format.proofs.Cut.{isCut, cut-number}
 use Rattle.format.proofs.Runs.{Outcome, nothing, run, refusal, outcome, parse-complete, parse-empty, layout-pos, got-inj}
 
 -- ---- one run, into n places
@@ -171,7 +171,7 @@ joined-unique (d ∷ ds) (d′ ∷ ds′) v v′ e =
 
 -- a stream that is cut inside a run is not whole: its runs before that one, and then the refusal of a run that is cut
 pub stream-cut : (n : ℕ) (ds : List Description) (d : Description) (p q : List ℕ) → AllValid ds → Valid d → totalRows ds ≤ n → layout d ≡ p ++ q → p ≢ [] → q ≢ []
-    → (r : Reason) × (readAll n (joined ds ++ p) ≡ broken ds r p) × T (isCut r)
+    → (r : Reason) × (readAll n (joined ds ++ p) ≡ broken ds r p) × T (unfinished r)
 stream-cut n ds d p q vs v h e pe qe =
     let (r, f, c) = cut-number d p q v e pe qe in
     (r, stream-broken n ds p r vs h (rw f (into-refused (n - totalRows ds) r)), c)

@@ -34,7 +34,7 @@ use Rattle.format.proofs.Runs.{parse-complete, got-inj}
 
 -- ---- tests
 
-and-i : (a b : Bool) → T a → T b → T (a && b)
+pub and-i : (a b : Bool) → T a → T b → T (a && b)
 and-i true b x y = y
 and-i false b x y = x
 
@@ -252,7 +252,7 @@ record Again (signed : Bool) (f : Form) (w : ℕ) (d : Description) : Type 0 whe
   accepted : Accepted signed f w (rowsOf signed d)
   same : described signed f w (rowsOf signed d) ≡ d
 
-below-mono : (b c : ℕ) → b ≤ c → (l : List ℕ) → AllBelow b l → AllBelow c l
+pub below-mono : (b c : ℕ) → b ≤ c → (l : List ℕ) → AllBelow b l → AllBelow c l
 below-mono b c h [] p = tt
 below-mono b c h (x ∷ l) p = (lt-of-lt-of-le (p .0) h, below-mono b c h l (p .1))
 
@@ -359,11 +359,11 @@ again signed f w d (packed-delta {first = first} {base = base} {vs = vs} p q) v 
 
 -- ---- i64 rows
 
-patterns-lt : (rows : List ℤ) → AllI64 rows → AllBelow two64 (map asU64 rows)
+pub patterns-lt : (rows : List ℤ) → AllI64 rows → AllBelow two64 (map asU64 rows)
 patterns-lt [] h = tt
 patterns-lt (z ∷ rows) h = (as-lt z (h .0), patterns-lt rows (h .1))
 
-patterns-back : (rows : List ℤ) → AllI64 rows → map asI64 (map asU64 rows) ≡ rows
+pub patterns-back : (rows : List ℤ) → AllI64 rows → map asI64 (map asU64 rows) ≡ rows
 patterns-back [] h = refl
 patterns-back (z ∷ rows) h = rw (as-forth z (h .0), patterns-back rows (h .1))
 

@@ -7,7 +7,9 @@ pub mod Parse
 pub mod Streams
 pub mod Answers
 pub mod Promises
+pub mod Parts
 pub mod Loader
 pub mod Booleans
 pub mod ByteValues
 pub mod Writing
+pub mod PatchedWriting

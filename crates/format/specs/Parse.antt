@@ -19,6 +19,11 @@ pub data Reason : Type 0 where
 abbrev pub cutIn : ℕ → List ℕ → Reason
 cutIn n bs = cut n (length bs)
 
+-- more input may turn the refusal into another answer: the input ends in the run's header (1), or in a field
+abbrev pub unfinished : Reason → Bool
+unfinished (plain n) = eqb n 1
+unfinished (cut n left) = true
+
 -- what reading gives: nothing was there, a thing and the bytes after it, or a refusal
 pub data Parsed (A : Type 0) : Type 0 where
   end : Parsed A

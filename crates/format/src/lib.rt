@@ -78,6 +78,36 @@ pub enum Stream {
     Refused(Refusal, Counts),
 }
 
+// A reader of parts is open, or was refused, or closed.
+pub enum Standing {
+    Opened,
+    Broken(Refusal),
+    Closed,
+}
+
+// A reader of parts: how many of the lent bytes are those of the unfinished run, where that run starts, counted from the first part modulo
+// 2^64, and how the reader stands.
+pub struct PartReader {
+    pub held: usize,
+    pub at: ByteOffset,
+    pub standing: Standing,
+}
+
+// What it answers: a run with its start; "all taken, no run yet"; a refusal; or, after closing, the stream's end.
+pub enum PartAnswer {
+    Run(ByteOffset, Run),
+    More,
+    Refused(Refusal),
+    End,
+}
+
+// What a call does: its answer, how many of the part's bytes it took, and the reader after it.
+pub struct PartStep {
+    pub answer: PartAnswer,
+    pub taken: ByteOffset,
+    pub reader: PartReader,
+}
+
 impl ByteOffset {
     pub fn new(bytes: usize) -> Self
         ensures { λ r. ⌜ r .bytes ≡ bytes ⌝ }
@@ -97,6 +127,9 @@ impl RowNumber {
 impl Kind {
     // The most rows that a run holds: nine bits of a header, and one.
     pub const MAX_ROWS: usize = 512;
+
+    // The most bytes that a run has: a patched header, eight bytes of base, 512 values and 31 entries of 64 bits.
+    pub const MAX_BYTES: usize = 4356;
 
     // The fewest and the most rows of a short repeat: three bits of its header, and three.
     pub const MIN_REPEAT: usize = 3;

@@ -1,4 +1,4 @@
--- The writer's form and width as numbers. Assumes nothing.
+-- The writers' form and width as numbers. Assumes nothing.
 use mathlib.Core.Path.{_≡_, refl}
 use Prim.Native.Nat.{ℕ, zero, suc, _<_, _≤_, min}
 use native.Mathlib.Omega.{arith}
@@ -11,6 +11,10 @@ use Rattle.format.specs.declared.Form.{Form}
 use Rattle.format.specs.declared.Form.the-variants.{ShortRepeat, Direct, FixedDelta, PackedDelta}
 use Rattle.format.specs.Writing.{haveForm, widthAllowed, writing}
 use Rattle.format.specs.Loader.{formOf}
+use Rattle.format.specs.PatchedWriting.{codeFor, parts, headerHolds, writingPatched}
+use Rattle.format.proofs.Rows.{width-le}
+use Rattle.writer.proofs.PatchedLaws.{code-wide}
+use Rattle.writer.proofs.PatchedHeader.{no-code}
 
 -- from 3 on the form is the last
 pub form-last : (n : ℕ) → 2 < n → formOf n ≡ PackedDelta
@@ -37,6 +41,24 @@ width-least signed f w rs places = by (decLt 255 w)
   where
     by : Dec (255 < w) → writing signed f (min w 255) rs places ≡ writing signed f w rs places
     by (yes h) = wide-alike signed f (min w 255) w rs places (omega arith) (omega arith)
+    by (no h) =
+        let e : min w 255 ≡ w = omega arith in
+        rw e
+
+-- ---- PATCHED: a width above 64 is none of the table, and all of them are answered alike
+
+no-header : (base w : ℕ) (rs : List ℕ) → 64 < w → headerHolds (parts base w rs) ≡ false
+no-header base w rs h = let e : 32 ≡ codeFor w = code-wide w h width-le in no-code base w rs (omega arith)
+
+no-table-alike : (base v w : ℕ) (rs : List ℕ) (places : ℕ) → 64 < v → 64 < w → writingPatched base v rs places ≡ writingPatched base w rs places
+unfolding writingPatched
+no-table-alike base v w rs places g h = rw (no-header base v rs g, no-header base w rs h)
+
+pub patched-least : (base w : ℕ) (rs : List ℕ) (places : ℕ) → writingPatched base (min w 255) rs places ≡ writingPatched base w rs places
+patched-least base w rs places = by (decLt 255 w)
+  where
+    by : Dec (255 < w) → writingPatched base (min w 255) rs places ≡ writingPatched base w rs places
+    by (yes h) = no-table-alike base (min w 255) w rs places (omega arith) (omega arith)
     by (no h) =
         let e : min w 255 ≡ w = omega arith in
         rw e

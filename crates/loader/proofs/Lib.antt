@@ -4,3 +4,4 @@ pub mod Room
 pub mod Reading
 pub mod Telling
 pub mod FormNumbers
+pub mod PartWords

@@ -13,6 +13,7 @@ use Rattle.index.specs.declared.Found.{Found}
 use Rattle.index.specs.declared.Preview.{Preview}
 use Rattle.loader.specs.Index.{builtNumber, builtWords, builtWordCount, IndexTold, foundWords, foundWordCount, previewWords, previewWordCount}
 use Rattle.loader.specs.Labels.{labelWords, labelWordCount, LabelToldDetermined}
+use Rattle.loader.specs.Patched.{PatchedToldDetermined}
 use Rattle.format.specs.Loader.{answerWords, streamWords, wordCount, streamWordCount, tooFewWords, Put, Told, ToldOf}
 
 -- every answer has as many words, every stream's, every label's and every one of the index's
@@ -63,6 +64,11 @@ module _ {B : Type 0} {wordsOf : B → List ℕ} {numberOf : B → ℕ} {n : ℕ
 pub label-told-determined : LabelToldDetermined
 label-told-determined lengths numbers flags block fall row words words′ words″ r r′ p q =
     (p .words-are ∙ sym (q .words-are), p .number-is ∙ sym (q .number-is))
+
+-- .. and the patched writer's the bytes too
+pub patched-told-determined : PatchedToldDetermined
+patched-told-determined rows base w out out′ out″ words words′ words″ r r′ p q =
+    (p .places-are ∙ sym (q .places-are), p .told .words-are ∙ sym (q .told .words-are), p .told .number-is ∙ sym (q .told .number-is))
 
 -- what building told: too few words, or what was built put into them
 module _ {input first at counts words : List ℕ} where

@@ -1,4 +1,6 @@
--- What the loader's inner functions are stated with, and the promises of the label and of the index. The other promises stand in `format`.
+-- What the loader's inner functions are stated with, and the promises of the requests' own functions. The other promises stand in `format`.
 pub mod Room
 pub mod Labels
+pub mod Patched
+pub mod Parts
 pub mod Index

@@ -1,7 +1,8 @@
-// The writer, with its form and width as numbers of any size.
+// The writers, with form and width as numbers of any size.
 ghost use mathlib.Core.Path.{_≡_};
 ghost use Prim.Native.Nat.{min};
 ghost use Rattle.format.specs.Loader.{formOf, WrittenBy};
+ghost use Rattle.format.specs.PatchedWriting.{PatchedWritten};
 use format::Answer;
 use format::Form;
 
@@ -31,4 +32,11 @@ pub(crate) fn write(rows: &[i64], signed: bool, form: u64, width: u64, out: &mut
         return Answer::refused(10, 0);
     }
     writer::write_run(rows, signed, form_of(form), byte_width(width), out)
+}
+
+// Writes one patched run; a width above 255 is as little in the table as 255 is.
+pub(crate) fn write_patched(rows: &[i64], base: i64, width: u64, out: &mut [u8]) -> Answer
+    ensures { λ r. ⌜ PatchedWritten (now (rows .entry)) base width (now (out .entry)) (now (out .exit)) r ⌝ }
+{
+    writer::write_patched(rows, base, byte_width(width), out)
 }

@@ -6,6 +6,8 @@ ghost use Rattle.format.specs.Fields.{Narrowest};
 ghost use Rattle.format.specs.Loader.{Loaded, faceVersion, RunTold, StreamTold, BooleansTold, ValueTold, WriteTold};
 ghost use Rattle.loader.specs.Index.{IndexTold, LookUpTold, ReadFromTold};
 ghost use Rattle.loader.specs.Labels.{LabelTold};
+ghost use Rattle.loader.specs.Patched.{PatchedTold};
+ghost use Rattle.loader.specs.Parts.{StartTold, PartTold, CloseTold};
 use format::ByteOffset;
 use format::RowNumber;
 
@@ -13,6 +15,7 @@ mod bytes;
 mod forms;
 mod index_words;
 mod label_words;
+mod part_words;
 mod words;
 
 // The version of these functions: one more with each change of what they take or answer.
@@ -20,7 +23,7 @@ mod words;
 pub extern "C" fn orc_version() -> u64
     ensures { λ r. ⌜ r ≡ faceVersion ⌝ }
 {
-    4
+    6
 }
 
 // One run at the start of the input, its rows as eight bytes each, lowest first. The flag is 0 for unsigned, and any other number for signed.
@@ -134,6 +137,24 @@ pub extern "C" fn orc_write_run(
     words::put_answer(answer, words)
 }
 
+// Writes one patched run: the base is subtracted from every row, and the width counts the bits that a row's value keeps of the difference.
+#[no_mangle]
+pub extern "C" fn orc_write_patched(
+    rows: &[i64],
+    base: i64,
+    width: u64,
+    out: &mut [u8],
+    words: &mut [u64],
+) -> u64
+    ensures { λ r. ⌜ PatchedTold (now (rows .entry)) base width (now (out .entry)) (now (out .exit)) (now (words .entry)) (now (words .exit)) r ⌝ }
+{
+    if words.len() < words::COUNT {
+        return words::TOO_FEW;
+    }
+    let answer = forms::write_patched(rows, base, width, out);
+    words::put_answer(answer, words)
+}
+
 // The narrowest width code that holds x. 0 needs one bit.
 #[no_mangle]
 pub extern "C" fn orc_narrowest_code(x: u64) -> u64
@@ -168,6 +189,63 @@ pub extern "C" fn orc_label(
         RowNumber { rows: row as usize },
     );
     label_words::put_label(label, words)
+}
+
+// The words of a reader in parts that has taken nothing.
+#[no_mangle]
+pub extern "C" fn orc_part_start(state: &mut [u64]) -> u64
+    ensures { λ r. ⌜ StartTold (now (state .entry)) (now (state .exit)) r ⌝ }
+{
+    if state.len() < part_words::STATE_COUNT {
+        return words::TOO_FEW;
+    }
+    part_words::put_reader(parts::start(), state)
+}
+
+// A call with a part: it is taken up to the end of a run, whose rows go into the first of the rows lent, or all of it, or, where the call
+// refuses, nothing of it. The bytes of the unfinished run stand in the bytes lent, from call to call.
+#[no_mangle]
+pub extern "C" fn orc_part_take(
+    state: &mut [u64],
+    held: &mut [u8],
+    part: &[u8],
+    flag: u64,
+    rows: &mut [i64],
+    words: &mut [u64],
+) -> u64
+    ensures { λ r. ⌜ PartTold (now (state .entry)) (now (state .exit)) (now (held .entry)) (now (held .exit)) (now (part .entry)) flag (now (rows .entry)) (now (rows .exit)) (now (words .entry)) (now (words .exit)) r ⌝ }
+{
+    if state.len() < part_words::STATE_COUNT {
+        return words::TOO_FEW;
+    }
+    if words.len() < part_words::COUNT {
+        return words::TOO_FEW;
+    }
+    let reader = part_words::reader_of(state);
+    let step = parts::take(reader, part, flag != 0, held, rows);
+    part_words::put_step(step, state, words)
+}
+
+// The closing call: the stream's end, or the refusal of the run that is unfinished.
+#[no_mangle]
+pub extern "C" fn orc_part_close(
+    state: &mut [u64],
+    held: &mut [u8],
+    flag: u64,
+    rows: &mut [i64],
+    words: &mut [u64],
+) -> u64
+    ensures { λ r. ⌜ CloseTold (now (state .entry)) (now (state .exit)) (now (held .entry)) (now (held .exit)) flag (now (rows .entry)) (now (rows .exit)) (now (words .entry)) (now (words .exit)) r ⌝ }
+{
+    if state.len() < part_words::STATE_COUNT {
+        return words::TOO_FEW;
+    }
+    if words.len() < part_words::COUNT {
+        return words::TOO_FEW;
+    }
+    let reader = part_words::reader_of(state);
+    let step = parts::close(reader, flag != 0, held, rows);
+    part_words::put_step(step, state, words)
 }
 
 // The row index of a stream, in the first places of three columns: first row, byte offset and rows of each run.

@@ -27,7 +27,7 @@ fn case(answer: Answer) -> u64
     }
 }
 
-fn kind(answer: Answer) -> u8
+pub(crate) fn kind(answer: Answer) -> u8
     ensures { λ r. ⌜ r ≡ answerKind answer ⌝ }
 {
     match answer {

@@ -37,7 +37,7 @@ somewhere bs (in-patched r l) = go (decLt (length bs) (4 + baseBytes bs)) (decLt
     go (no x) (no y) = (_, _, Refusals.in-list r (omega arith) l)
 
 -- no number of the table's other lines is one of a cut field
-others : (places : ℕ) (bs : List ℕ) {n : ℕ} → Table places bs n → (n ≤ 8) × (n ≢ 6)
+pub others : (places : ℕ) (bs : List ℕ) {n : ℕ} → Table places bs n → (n ≤ 8) × (n ≢ 6)
 others places bs (refusal-1 l) = (omega arith, λ e. omega arith)
 others places bs (refusal-2 l) = (omega arith, λ e. omega arith)
 others places bs (refusal-3 l) = (omega arith, λ e. omega arith)
@@ -46,7 +46,7 @@ others places bs (refusal-5 l) = (omega arith, λ e. omega arith)
 others places bs (refusal-7 l) = (omega arith, λ e. omega arith)
 others places bs (refusal-8 l) = (omega arith, λ e. omega arith)
 
-cut-numbers : {n : ℕ} → CutNumber n → n ≤ 8 → n ≡ 6
+pub cut-numbers : {n : ℕ} → CutNumber n → n ≤ 8 → n ≡ 6
 cut-numbers six l = refl
 cut-numbers twelve l = absurd (omega arith)
 cut-numbers thirteen l = absurd (omega arith)

@@ -14,12 +14,12 @@ use Rattle.format.specs.declared.Stream.{Stream}
 use Rattle.format.specs.Answers.{refusal}
 use Rattle.format.specs.Digits.{AllBelow}
 use Rattle.format.specs.Runs.{Description, Valid, AllValid, layout, joined}
-use Rattle.format.specs.Parse.{Reason, into}
+use Rattle.format.specs.Parse.{Reason, unfinished, into}
 use Rattle.format.specs.Streams.{whole, broken, readAll, totalRows}
 use Rattle.format.specs.Promises.{StreamRead}
 use Rattle.format.proofs.Fields.{append-below}
 use Rattle.format.proofs.Runs.{layout-below}
-use Rattle.format.proofs.Cut.{isCut, cut-number}
+use Rattle.format.proofs.Cut.{cut-number}
 use Rattle.format.proofs.Streams.{into-refused, stream-whole, stream-broken}
 use Rattle.promises.specs.Demand3.{LaidOut, IsWhole}
 use Rattle.promises.specs.CutFile.{EndInside, CutBetween, in-header, in-field, CutFile, CutFileHolds}
@@ -106,7 +106,7 @@ place n (d ∷ ds) v (h, i) = go (decLt n (length (layout d))) (λ j. place (n -
 
 module _ (n : ℕ) (ds : List Description) (p : Place n ds) where
   -- why the run that is cut is refused, and what reading the rest of the file gives
-  broken-there : (r : Reason) × T (isCut r) × Given 0 (p .left) r
+  broken-there : (r : Reason) × T (unfinished r) × Given 0 (p .left) r
       × ((room : ℕ) → totalRows ds ≤ room → readAll room (take n (joined ds)) ≡ broken (p .before) r (p .left))
   broken-there =
       let (r, f, c) = cut-number (p .cut) (p .left) (p .right) (p .valid-cut) (p .bytes) (p .some-left) (p .some-right) in
@@ -118,7 +118,7 @@ module _ (n : ℕ) (ds : List Description) (p : Place n ds) where
       )
 
   -- and where the run that is cut begins, and the file ends
-  cut-between : (at : ℕ) (r : Reason) → Given 0 (p .left) r → T (isCut r)
+  cut-between : (at : ℕ) (r : Reason) → Given 0 (p .left) r → T (unfinished r)
       → CutBetween (at + length (joined (p .before))) (at + n) (refusal (at + length (joined (p .before))) (length (p .left)) r)
   cut-between at r (by-number {n = k} t) c = rw (eqb→eq k 1 c) in-header
   cut-between at r (by-field {n = k} {field} l) c =

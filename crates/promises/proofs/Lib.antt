@@ -1,4 +1,4 @@
--- The theorems, one file for each file of statements in specs/ (and FlippedFields beside FlippedByte).
+-- The theorems, one file for each file of statements in specs/.
 -- document 01's lines and tables
 pub mod Table
 pub mod Refusals
@@ -15,6 +15,21 @@ pub mod CutFile
 -- the change requests of document 02
 pub mod BrokeOff
 pub mod Longest
+-- writing patched runs
+pub mod PatchedPlaces
+pub mod PatchedEntries
+pub mod PatchedBase
+pub mod PatchedValid
+pub mod PatchedLeast
+pub mod Patched
+pub mod PatchedTable
+pub mod PatchedExamples
+pub mod Feeding
+pub mod Parts
+pub mod PartsFollow
+pub mod PartsDelivered
+pub mod PartsSample
+-- one flipped byte
 pub mod FlippedFields
 pub mod FlippedByte
 -- any two outcomes are equal

@@ -8,7 +8,7 @@ use mathlib.Core.List.{List}
 use lib.IntN.{ℤ}
 use Rattle.format.specs.Fields.{width, widths, two64, Narrowest}
 use Rattle.format.proofs.Widths.{narrowest-unique}
-use Rattle.promises.specs.Outcomes.{Determines, RunDetermined, StreamDetermined, BooleansDetermined, ValueDetermined, WriterDetermined, LoaderDetermined, RunToldDetermined, StreamToldDetermined, BooleansToldDetermined, ValueToldDetermined, WriteToldDetermined, VersionDetermined, NarrowestDetermined}
+use Rattle.promises.specs.Outcomes.{Determines, RunDetermined, StreamDetermined, BooleansDetermined, ValueDetermined, WriterDetermined, LoaderDetermined, RunToldDetermined, StreamToldDetermined, BooleansToldDetermined, ValueToldDetermined, WriteToldDetermined, VersionDetermined, NarrowestDetermined, PatchedDetermined, PartDetermined, ClosingDetermined}
 
 -- a promise that says what the places and the answer are
 determined : {P A : Type 0} (Allows : P → A → Type 0) (p₀ : P) (r₀ : A) → Allows p₀ r₀ → ((p : P) (r : A) → Allows p r → (p ≡ p₀) × (r ≡ r₀)) → Determines P A Allows
@@ -17,6 +17,9 @@ determined Allows p₀ r₀ h f = record {
   same-places = λ p p′ r r′ a b. f p r a .0 ∙ sym (f p′ r′ b .0);
   same-answer = λ p p′ r r′ a b. f p r a .1 ∙ sym (f p′ r′ b .1);
 }
+
+pair : {A B : Type 0} {a a′ : A} {b b′ : B} → a ≡ a′ → b ≡ b′ → _≡_ {A = A × B} (a, b) (a′, b′)
+pair p q = cc
 
 pub run-determined : RunDetermined
 run-determined input at signed out = determined _ _ _ (record { answer = refl; places = refl }) (λ p r a. (a .places, a .answer))
@@ -32,6 +35,9 @@ value-determined input at n = determined _ _ _ (record { part-is = refl }, recor
 
 pub writer-determined : WriterDetermined
 writer-determined rows signed form width out = determined _ _ _ (record { answer = refl; places = refl }) (λ p r a. (a .places, a .answer))
+
+pub patched-determined : PatchedDetermined
+patched-determined rows base width out = determined _ _ _ (record { answer = refl; places = refl }) (λ p r a. (a .places, a .answer))
 
 pub loader-determined : LoaderDetermined
 loader-determined input flag out = determined _ _ _ (record { number = refl; bytes = refl }) (λ p r a. (a .bytes, a .number))
@@ -104,3 +110,9 @@ pub narrowest-determined : NarrowestDetermined
 narrowest-determined x h =
     let n = narrowest-from x 31 0 h refl (λ d l g. omega arith) in
     determined _ tt (n .0) (n .1) (λ p r a. (refl, narrowest-unique x r (n .0) a (n .1)))
+
+pub part-determined : PartDetermined
+part-determined s part buffer signed out = determined _ _ _ (record { step = refl; lent = refl; places = refl }) (λ p r a. (pair (a .lent) (a .places), a .step))
+
+pub closing-determined : ClosingDetermined
+closing-determined s buffer signed out = determined _ _ _ (record { step = refl; places = refl }) (λ p r a. (a .places, a .step))

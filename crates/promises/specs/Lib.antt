@@ -16,6 +16,8 @@ pub mod CutFile
 -- the change requests of document 02
 pub mod BrokeOff
 pub mod Longest
+pub mod Patched
+pub mod Parts
 pub mod FlippedByte
 -- any two outcomes are equal
 pub mod Outcomes

@@ -13,7 +13,11 @@ use Rattle.format.specs.Booleans.{BooleansRead}
 use Rattle.format.specs.ByteValues.{ValueRead, ValueGiven}
 use Rattle.format.specs.Loader.{Loaded, faceVersion, RunTold, StreamTold, BooleansTold, ValueTold, WriteTold}
 use Rattle.format.specs.Writing.{Written}
+use Rattle.format.specs.PatchedWriting.{PatchedWritten}
+use Rattle.format.specs.Parts.{Takes, Closes}
 use Rattle.format.specs.declared.Form.{Form}
+use Rattle.format.specs.declared.PartReader.{PartReader}
+use Rattle.format.specs.declared.PartStep.{PartStep}
 
 -- A promise, as a relation of the places at exit and the answer: some outcome is allowed, and any two that are allowed are equal.
 pub record Determines (P A : Type 0) (Allows : P → A → Type 0) : Type 0 where
@@ -39,6 +43,10 @@ ValueDetermined = (input : List ℕ) (at n : ℕ) → Determines (List ℕ) Answ
 -- for all rows, flags, forms and widths, and all lent places
 abbrev pub WriterDetermined : Type 0
 WriterDetermined = (rows : List ℤ) (signed : Bool) (form : Form) (width : ℕ) (out : List ℕ) → Determines (List ℕ) Answer (λ p r. Written rows signed form width out p r)
+
+-- for all rows, bases and widths, and all lent places
+abbrev pub PatchedDetermined : Type 0
+PatchedDetermined = (rows : List ℤ) (base : ℤ) (width : ℕ) (out : List ℕ) → Determines (List ℕ) Answer (λ p r. PatchedWritten rows base width out p r)
 
 -- the loader's number and bytes: for every input, flag and lent bytes
 abbrev pub LoaderDetermined : Type 0
@@ -76,3 +84,12 @@ VersionDetermined = Determines (Unit {0}) ℕ (λ p r. r ≡ faceVersion)
 
 abbrev pub NarrowestDetermined : Type 0
 NarrowestDetermined = (x : ℕ) → x < two64 → Determines (Unit {0}) ℕ (λ p r. Narrowest x r)
+
+-- the lent bytes and places, and what a call with a part does: for every reader, part, flag and all that is lent; the closing call leaves the lent bytes
+abbrev pub PartDetermined : Type 0
+PartDetermined =
+    (s : PartReader) (part buffer : List ℕ) (signed : Bool) (out : List ℤ)
+    → Determines (List ℕ × List ℤ) PartStep (λ p r. Takes s part buffer (p .0) signed out (p .1) r)
+
+abbrev pub ClosingDetermined : Type 0
+ClosingDetermined = (s : PartReader) (buffer : List ℕ) (signed : Bool) (out : List ℤ) → Determines (List ℤ) PartStep (λ p r. Closes s buffer signed out p r)

@@ -35,7 +35,7 @@ least-code n h =
     }
 
 -- a number that w bits hold has no more than w bits
-bits-le : (x m w : ℕ) → x < 2 ^ w → 2 ^ m ≤ 2 * x + 1 → m ≤ w
+pub bits-le : (x m w : ℕ) → x < 2 ^ w → 2 ^ m ≤ 2 * x + 1 → m ≤ w
 bits-le x m w h g = by (decLt w m)
   where
     by : Dec (w < m) → m ≤ w

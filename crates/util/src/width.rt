@@ -20,7 +20,7 @@ pub fn bits_of(code: u8) -> usize
 }
 
 // The code of the least width that holds so many bits.
-fn code_of(bits: usize) -> u8
+pub fn code_of(bits: usize) -> u8
     requires { ⌜ bits ≤ 64 ⌝ }
     ensures { λ r. ⌜ LeastCode bits r ⌝ }
 {

@@ -26,15 +26,7 @@ use Rattle.format.proofs.Digits.{length-digits}
 use Rattle.format.proofs.Fields.{length-block}
 use Rattle.format.proofs.Writing.{every-below, every-same, map-replicate, length-steps, later-steps}
 use Rattle.writer.specs.Start.{start, Started}
-use Rattle.writer.proofs.Laws.{behind}
-
-and-false : (b : Bool) → b && false ≡ false
-and-false true = refl
-and-false false = refl
-
-and-true : (b : Bool) → b && true ≡ b
-and-true true = refl
-and-true false = refl
+use Rattle.writer.proofs.Laws.{and-false, and-true, behind}
 
 and-same : (b : Bool) → b && b ≡ b
 and-same true = refl

@@ -1,5 +1,5 @@
 -- The laws that the writer's loops and tests cite. Assumes nothing.
-use mathlib.Core.Path.{_≡_, refl, sym, _∙_}
+use mathlib.Core.Path.{_≡_, refl, sym, ap, _∙_}
 use Prim.Native.Nat.{ℕ, zero, suc, _+_, _*_, _/_, _^_, _<_, _≤_}
 use native.Mathlib.Nat.{div-lt-iff-lt-mul, mul-le-mul}
 use native.Mathlib.Numerals.{add-one}
@@ -11,7 +11,7 @@ use mathlib.Core.Logic.{_↔_}
 use lib.Dec.{ltb, eqb}
 use lib.IntN.{ℤ, pos}
 use lib.ListN.{length, getD, drop, take, List·getD-map, drop-of-length-le, set, length-append}
-use lib.Seq.{slice, slice-cons, slice-empty, drop-cons, take-at, drop-append-add, drop-drop}
+use lib.Seq.{slice, slice-cons, slice-empty, drop-cons, getD-drop, take-at, drop-append-add, drop-drop}
 use lib.Pow.{pow-pos}
 use borrow.Author.Tests.{lt-ltb, le-ltb, eq-eqb, ne-eqb}
 use Rattle.format.specs.Fields.{width, bytesFor}
@@ -19,6 +19,15 @@ use Rattle.format.specs.Rows.{asU64}
 use Rattle.format.specs.Writing.{minus, stepTo, stepsOf, baseDelta, every, between}
 use Rattle.format.proofs.Writing.{between-le}
 use Rattle.format.proofs.Widths.{IsWidth, width-is}
+use Rattle.writer.specs.PatchedBase.{Largest}
+
+pub and-false : (b : Bool) → b && false ≡ false
+and-false true = refl
+and-false false = refl
+
+pub and-true : (b : Bool) → b && true ≡ b
+and-true true = refl
+and-true false = refl
 
 -- ---- a loop that tests n numbers: the whole passes exactly if what is left of it passes
 
@@ -41,6 +50,46 @@ module _ (test : ℕ → Bool) (l : List ℕ) (n i : ℕ) (left : Left test l n 
   done h k =
       let e : i ≡ n = omega arith in
       sym (left ∙ rw (e, slice-empty n l))
+
+-- ---- a loop that looks for the largest of n numbers: a bound holds for all exactly if it holds for the largest so far and for those that are left
+
+pub record Most (l : List ℕ) (n most i : ℕ) : Type 0 where
+  pub bounds : (b : ℕ) → 1 ≤ b → every (λ x. ltb x b) (take n l) ≡ ltb most b && every (λ x. ltb x b) (slice i n l)
+
+pub most-first : (l : List ℕ) (n : ℕ) → Most l n 0 0
+most-first l n = record { bounds = λ b h. rw (lt-ltb 0 b h) }
+
+module _ (l : List ℕ) (n most i : ℕ) (m : Most l n most i) where
+  -- one more number: the larger of two is below a bound exactly if both are
+  larger : (x b : ℕ) (t : Bool) → most ≤ x → ltb most b && (ltb x b && t) ≡ ltb x b && t
+  larger x b t h = by (decLt x b)
+    where
+      by : Dec (x < b) → ltb most b && (ltb x b && t) ≡ ltb x b && t
+      by (yes k) = rw (lt-ltb most b (omega arith))
+      by (no k) = rw (le-ltb x b (omega arith)) (and-false (ltb most b))
+
+  smaller : (x b : ℕ) (t : Bool) → x ≤ most → ltb most b && (ltb x b && t) ≡ ltb most b && t
+  smaller x b t h = by (decLt most b)
+    where
+      by : Dec (most < b) → ltb most b && (ltb x b && t) ≡ ltb most b && t
+      by (yes k) = rw (lt-ltb x b (omega arith))
+      by (no k) = rw (le-ltb most b (omega arith))
+
+  split : i < n → n ≤ length l → (b : ℕ) → 1 ≤ b → every (λ x. ltb x b) (take n l) ≡ ltb most b && (ltb (getD l i 0) b && every (λ x. ltb x b) (slice (i + 1) n l))
+  unfolding every
+  split h k b p = m .bounds b p ∙ rw (add-one, slice-cons i n l 0 h k)
+
+  pub most-next : i < n → n ≤ length l → most ≤ getD l i 0 → Most l n (getD l i 0) (i + 1)
+  most-next h k g = record { bounds = λ b p. split h k b p ∙ larger (getD l i 0) b _ g }
+
+  pub most-same : i < n → n ≤ length l → getD l i 0 ≤ most → Most l n most (i + 1)
+  most-same h k g = record { bounds = λ b p. split h k b p ∙ smaller (getD l i 0) b _ g }
+
+  pub most-all : i ≤ n → n ≤ i → Largest (take n l) most
+  unfolding every
+  most-all h k =
+      let e : i ≡ n = omega arith in
+      record { bounds = λ b p. m .bounds b p ∙ rw (e, slice-empty n l) (and-true (ltb most b)) }
 
 -- ---- bits that a shift leaves
 
@@ -95,6 +144,12 @@ base-some [] h = absurd (omega arith)
 base-some (x ∷ []) h = absurd (omega arith)
 base-some (x ∷ y ∷ l) h = refl
 
+-- a list that still stands from i on has what it had there
+pub same-at : (l l₀ : List ℕ) (i : ℕ) → drop i l ≡ drop i l₀ → getD l i 0 ≡ getD l₀ i 0
+same-at l l₀ i e =
+    let z : i + 0 ≡ i = omega arith in
+    rw z at (sym (getD-drop i l 0 0) ∙ ap (λ (t : List ℕ). getD t 0 0) e ∙ getD-drop i l₀ 0 0)
+
 -- ---- bytes written one piece after another
 
 pub one-set : (l : List ℕ) (a : ℕ) → 1 ≤ length l → set l 0 a ≡ a ∷ drop 1 l
@@ -105,6 +160,17 @@ pub two-set : (l : List ℕ) (a b : ℕ) → 2 ≤ length l → set (set l 0 a) 
 two-set [] a b h = absurd (omega arith)
 two-set (x ∷ []) a b h = absurd (omega arith)
 two-set (x ∷ y ∷ l) a b h = refl
+
+-- two more bytes, behind two that stand in front
+pub four-set : (p before out : List ℕ) (c d : ℕ) → length p ≡ 2 → 4 ≤ length before → out ≡ p ++ drop 2 before → set (set out 2 c) 3 d ≡ p ++ (c ∷ d ∷ drop 4 before)
+four-set (a ∷ b ∷ []) (x ∷ y ∷ z ∷ w ∷ l) out c d n h e = rw e
+four-set (a ∷ b ∷ []) [] out c d n h e = absurd (omega arith)
+four-set (a ∷ b ∷ []) (x ∷ []) out c d n h e = absurd (omega arith)
+four-set (a ∷ b ∷ []) (x ∷ y ∷ []) out c d n h e = absurd (omega arith)
+four-set (a ∷ b ∷ []) (x ∷ y ∷ z ∷ []) out c d n h e = absurd (omega arith)
+four-set [] l out c d n h e = absurd (omega arith)
+four-set (a ∷ []) l out c d n h e = absurd (omega arith)
+four-set (a ∷ b ∷ c′ ∷ p) l out c d n h e = absurd (omega arith)
 
 -- a piece of k bytes, written behind what stands in front
 pub behind : (p q before out out′ : List ℕ) (at k : ℕ) → at ≡ length p → length q ≡ k → out ≡ p ++ drop (length p) before

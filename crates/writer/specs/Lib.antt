@@ -1,2 +1,3 @@
 -- The definitions that the writer's inner functions cite.
 pub mod Start
+pub mod PatchedBase

@@ -4,7 +4,7 @@ ghost use Rattle.format.specs.Writing as Writing;
 use format::Form;
 use format::Kind;
 
-fn between(low: usize, high: usize, n: usize) -> bool
+pub(crate) fn between(low: usize, high: usize, n: usize) -> bool
     ensures { λ r. ⌜ r ≡ Writing.between low high n ⌝ }
 {
     if n < low {

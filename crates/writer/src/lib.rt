@@ -1,13 +1,17 @@
 // The run writer: rows, flag, form and width in, a run's bytes out. Every test comes before the first byte that is written.
 ghost use Rattle.format.specs.Fields.{Narrowest};
 ghost use Rattle.format.specs.Writing.{Written};
+ghost use Rattle.format.specs.PatchedWriting.{PatchedWritten};
 use format::Answer;
 use format::Form;
+use format::Kind;
 
 mod allowed;
 mod delta;
 mod direct;
 mod head;
+mod patch_list;
+mod patched_base;
 mod short_repeat;
 mod values;
 
@@ -26,6 +30,18 @@ pub fn write_run(rows: &[i64], signed: bool, form: Form, width: u8, out: &mut [u
         Form::Direct => direct::write(rows, signed, width, out),
         Form::FixedDelta => delta::write_fixed(rows, signed, width, out),
         Form::PackedDelta => delta::write_packed(rows, signed, width, out),
+    }
+}
+
+// Writes one patched run: every row as its difference from the base, whose low bits, as many as the width says, are the row's value and
+// whose other bits its patch.
+pub fn write_patched(rows: &[i64], base: i64, width: u8, out: &mut [u8]) -> Answer
+    ensures { λ r. ⌜ PatchedWritten (now (rows .entry)) base width (now (out .entry)) (now (out .exit)) r ⌝ }
+{
+    if allowed::between(1, Kind::MAX_ROWS, rows.len()) {
+        patched_base::write(rows, base, width, out)
+    } else {
+        Answer::refused(9, 0)
     }
 }
 

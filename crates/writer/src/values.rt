@@ -1,13 +1,16 @@
 // The numbers that a run stores: rows, zigzagged if signed, and the steps between rows.
 ghost use mathlib.Core.Path.{_≡_};
 ghost use mathlib.Core.List.{_++_, map};
-ghost use Prim.Native.Nat.{_+_, _-_, _^_, _≤_, _<_};
+ghost use Prim.Native.Nat.{_+_, _-_, _/_, _^_, _≤_, _<_};
 ghost use lib.ListN.{length, getD, take, drop};
 ghost use lib.Dec.{ltb, eqb};
 ghost use Rattle.format.specs.Rows.{asU64};
 ghost use Rattle.format.specs.Writing as Writing;
 ghost use Rattle.format.specs.Writing.{stepTo, stepsOf, every};
+ghost use Rattle.format.specs.PatchedWriting as PatchedWriting;
+ghost use Rattle.writer.specs.PatchedBase.{Largest, BitLength};
 use format::Kind;
+use util::packed;
 use util::pattern;
 
 // Room for a run's values.
@@ -41,12 +44,27 @@ fn step(falling: bool, x: u64, y: u64) -> u64
     }
 }
 
-// A shift by all 64 bits is none, so 64 bits are a case of their own.
+// What is above so many bits. A shift by all 64 bits is none, so 64 bits are a case of their own.
+pub(crate) fn above(x: u64, bits: usize) -> u64
+    requires { ⌜ bits ≤ 64 ⌝ }
+    ensures { λ r. ⌜ r ≡ x / 2 ^ bits ⌝ }
+{
+    if bits < 64 { x >> bits } else { 0 }
+}
+
+// How many bits x has: none where it is 0.
+pub(crate) fn bit_length(x: u64) -> usize
+    ensures { λ r. ⌜ BitLength x r ⌝ }
+{
+    (64 - u64::leading_zeros(x)) as usize
+}
+
+// Nothing is above so many bits.
 pub(crate) fn fits(x: u64, bits: usize) -> bool
     requires { ⌜ bits ≤ 64 ⌝ }
     ensures { λ r. ⌜ r ≡ ltb x (2 ^ bits) ⌝ }
 {
-    if bits < 64 { x >> bits == 0 } else { true }
+    above(x, bits) == 0
 }
 
 // Every row, as it is stored.
@@ -59,6 +77,46 @@ pub(crate) fn store(rows: &[i64], signed: bool, vals: &mut [u64])
         vals[i] = stored(signed, pattern_of(rows, i));
         i += 1;
     }
+}
+
+// The difference row - base of every row.
+pub(crate) fn differences(rows: &[i64], base: u64, vals: &mut [u64])
+    requires { ⌜ length (now rows) ≤ length (now vals) ⌝ }
+    ensures { λ _. ⌜ now (vals .exit) ≡ PatchedWriting.differences base (map asU64 (now (rows .entry))) ++ drop (length (now (rows .entry))) (now (vals .entry)) ⌝ }
+{
+    let mut i: usize = 0;
+    while i < rows.len() {
+        vals[i] = pattern::sub(pattern_of(rows, i), base);
+        i += 1;
+    }
+}
+
+// The low bits of the first n values, in their places.
+pub(crate) fn keep_low(vals: &mut [u64], n: usize, bits: usize)
+    requires { ⌜ (n ≤ length (now vals)) × (0 < bits) × (bits ≤ 64) ⌝ }
+    ensures { λ _. ⌜ now (vals .exit) ≡ PatchedWriting.lows bits (take n (now (vals .entry))) ++ drop n (now (vals .entry)) ⌝ }
+{
+    let mut i: usize = 0;
+    while i < n {
+        vals[i] = packed::cut(vals[i], 0, bits);
+        i += 1;
+    }
+}
+
+// The largest of the first n values: 0 where there is none.
+pub(crate) fn largest(vals: &[u64], n: usize) -> u64
+    requires { ⌜ n ≤ length (now vals) ⌝ }
+    ensures { λ r. ⌜ Largest (take n (now (vals .entry))) r ⌝ }
+{
+    let mut most: u64 = 0;
+    let mut i: usize = 0;
+    while i < n {
+        if most < vals[i] {
+            most = vals[i];
+        }
+        i += 1;
+    }
+    most
 }
 
 // The steps from each row to the next.

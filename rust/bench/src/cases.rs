@@ -83,6 +83,11 @@ pub fn all() -> Vec<Case> {
     cases
 }
 
+/// A column of unsigned rows, for other tables than those of all cases.
+pub fn column(name: &str, runs: Vec<Vec<u8>>) -> Case {
+    Case::new(name, Group::Long, false, runs)
+}
+
 fn written(rows: &[i64], signed: bool, form: Form, width: u8) -> Vec<u8> {
     match model::write_run(rows, signed, form, width, usize::MAX) {
         Written::Run { bytes, .. } => bytes,
@@ -97,7 +102,7 @@ fn fixed(rows: usize, signed: bool, random: &mut Random) -> Vec<u8> {
     written(&rows, signed, Form::FixedDelta, 0)
 }
 
-fn packed(rows: usize, code: u8, falling: bool, signed: bool, random: &mut Random) -> Vec<u8> {
+pub fn packed(rows: usize, code: u8, falling: bool, signed: bool, random: &mut Random) -> Vec<u8> {
     let mut row = 1_000_000_000;
     let mut next = || {
         let magnitude = random.from(1, (1 << WIDTHS[code as usize]) - 1) as i64;
@@ -108,7 +113,7 @@ fn packed(rows: usize, code: u8, falling: bool, signed: bool, random: &mut Rando
     written(&rows, signed, Form::PackedDelta, code)
 }
 
-fn patched(rows: usize, patches: usize, random: &mut Random) -> Vec<u8> {
+pub fn patched(rows: usize, patches: usize, random: &mut Random) -> Vec<u8> {
     let fields = Patched { code: 7, rows, base: 2, patch_code: 7, gap_width: 8 };
     let gap = (rows / (patches + 1)) as u64;
     let list: Vec<(u64, u64)> = (0..patches).map(|_| (gap, random.from(1, 255) as u64)).collect();

@@ -8,6 +8,7 @@ mod cases;
 mod measure;
 #[cfg(feature = "ours")]
 mod ours;
+mod parts;
 mod plot;
 mod table;
 
@@ -25,7 +26,8 @@ const ABOUT: &str = "# How fast the readers are
 Nanoseconds a row, the least of 31 samples, the candidates taking turns; less is better.
 
 - **Ours**: one call of `orc_read_run` a run, through the safe wrapper `menakovitsy`, into bytes; of
-  whole streams one call of `orc_read_stream`, and of booleans one of `orc_read_booleans`.
+  whole streams one call of `orc_read_stream`, and of booleans one of `orc_read_booleans`; of a column in
+  parts the calls of `orc_part_take` that its parts need, the runs used where they are handed out.
 - **Rust**: the decoders of WenyXu/orc-rs at 3a197fa636, unchanged, through their iterators, as a
   loader calls them. They have not written the widths 26, 28 and 30, and of booleans they agree with
   document 01 within the first run only: so that is what is timed of them.
@@ -77,7 +79,13 @@ fn main() -> ExitCode {
         let times = booleans::measure(&case, samples);
         flags.push((case, times));
     }
-    let tables = table::markdown(&rows, &flags);
+    let mut columns = Vec::new();
+    for case in parts::all() {
+        eprintln!("in parts  {}", case.name);
+        let times = parts::measure(&case, samples);
+        columns.push((case, times));
+    }
+    let tables = table::markdown(&rows, &flags, &columns);
     println!("{tables}");
     if mode != Mode::Write {
         return ExitCode::SUCCESS;

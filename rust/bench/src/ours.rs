@@ -1,5 +1,5 @@
 //! Ours, through the safe wrapper.
-use menakovitsy::{read_booleans, read_run_bytes, ByteOffset, Column, RowNumber, Sign};
+use menakovitsy::{read_booleans, read_run_bytes, ByteOffset, Column, PartReader, RowNumber, Sign};
 
 use crate::cases::Case;
 
@@ -30,4 +30,19 @@ pub fn stream_into(case: &Case, rows: &mut [i64]) {
 pub fn booleans_into(bytes: &[u8], n: usize, out: &mut [u8]) {
     let read = read_booleans(bytes, ByteOffset(0), RowNumber(n), out);
     debug_assert!(read.is_ok());
+}
+
+/// Gives a case's bytes in parts of a size to a reader, and each run that it hands out to `run`.
+pub fn parts_of(case: &Case, size: usize, run: &mut dyn FnMut(&[i64])) {
+    let mut reader = PartReader::new(sign(case));
+    for mut part in case.bytes.chunks(size) {
+        while let Ok(Some(handed)) = reader.next_run(&mut part) {
+            run(handed.rows);
+            if part.is_empty() {
+                break;
+            }
+        }
+    }
+    let end = reader.close();
+    debug_assert!(end.is_ok());
 }

@@ -4,6 +4,7 @@ use std::fmt::Write as _;
 use crate::booleans::{FlagTimes, Flags};
 use crate::cases::{Case, Group};
 use crate::measure::Times;
+use crate::parts::PartTimes;
 
 /// A case with its times.
 pub struct Row {
@@ -101,8 +102,28 @@ fn booleans(text: &mut String, flags: &[(Flags, FlagTimes)]) {
     writeln!(text, "| geometric mean | | | | {faster} | {over} |").expect("a string takes it");
 }
 
+/// Columns in parts.
+fn parts(text: &mut String, columns: &[(Case, PartTimes)]) {
+    write!(
+        text,
+        "\n## Columns in parts: nanoseconds a row\n\n\
+         | Runs | Stream | Parts of 64 KB | Parts of 100 bytes | 64 KB / stream | 100 bytes / stream |\n\
+         |---|---:|---:|---:|---:|---:|\n"
+    )
+    .expect("a string takes it");
+    let over = |times: &PartTimes, size: usize| ratio(times.parts[size], times.stream);
+    for (case, times) in columns {
+        let [stream, large, small] = [times.stream, times.parts[0], times.parts[1]].map(cell);
+        let [over_large, over_small] = [over(times, 0), over(times, 1)].map(cell);
+        writeln!(text, "| {} | {stream} | {large} | {small} | {over_large} | {over_small} |", case.name)
+            .expect("a string takes it");
+    }
+    let [large, small] = [0, 1].map(|size| cell(mean(columns.iter().map(|(_, times)| over(times, size)))));
+    writeln!(text, "| geometric mean | | | | {large} | {small} |").expect("a string takes it");
+}
+
 /// All tables.
-pub fn markdown(rows: &[Row], flags: &[(Flags, FlagTimes)]) -> String {
+pub fn markdown(rows: &[Row], flags: &[(Flags, FlagTimes)], columns: &[(Case, PartTimes)]) -> String {
     let mut text = String::new();
     let of = |keep: fn(Group) -> bool| rows.iter().filter(|row| keep(row.case.group)).collect::<Vec<_>>();
     section(&mut text, "Direct runs of 512 rows", &of(|group| matches!(group, Group::Direct(_))));
@@ -113,5 +134,6 @@ pub fn markdown(rows: &[Row], flags: &[(Flags, FlagTimes)]) -> String {
         .expect("a string takes it");
     streams(&mut text, &of(|group| group != Group::Single));
     booleans(&mut text, flags);
+    parts(&mut text, columns);
     text
 }

@@ -1,6 +1,8 @@
 //! The proved functions, linked: held to the model's answers, every place included.
-use menakovitsy::{read_run, read_run_bytes, ByteOffset, Column, Refusal, Sign, MAX_ROWS};
-use model::{Answer, Info, Kind, Stream};
+use menakovitsy::{
+    read_run, read_run_bytes, write_patched, ByteOffset, Column, Refusal, Sign, MAX_ROWS, MAX_WRITTEN,
+};
+use model::{Answer, Info, Kind, Stream, Written};
 
 /// What lent bytes and rows hold before a call.
 const BEFORE: u8 = 0xEE;
@@ -100,6 +102,33 @@ impl Ours {
         self.out.fill(BEFORE);
         let touched = if kept_right { "" } else { ", and a place that must keep its content changed" };
         Err(format!("{answer:?}{touched}; {lent} bytes lent"))
+    }
+
+    /// Holds the patched writer to the model, with just enough places, and one too few.
+    pub fn check_patched(rows: &[i64], base: i64, width: u8, paper: &Written) -> Result<u64, String> {
+        let Written::Run { bytes, .. } = paper else {
+            return Self::patched(rows, base, width, paper, MAX_WRITTEN).map(|()| 1);
+        };
+        Self::patched(rows, base, width, paper, bytes.len())?;
+        let refused = Written::Refused(model::Refusal::whole(8, 0));
+        Self::patched(rows, base, width, &refused, bytes.len() - 1).map(|()| 2)
+    }
+
+    fn patched(rows: &[i64], base: i64, width: u8, paper: &Written, lent: usize) -> Result<(), String> {
+        let mut out = vec![BEFORE; lent];
+        let answer = write_patched(rows, base, width, &mut out);
+        let right = match (&answer, paper) {
+            (Ok(run), Written::Run { bytes, .. }) => info(*run) == paper.info() && out == *bytes,
+            (Err(told), Written::Refused(paper)) => {
+                (told.refusal.number(), told.at.0, told.cut) == (paper.number.into(), paper.place, None)
+                    && out.iter().all(|byte| *byte == BEFORE)
+            }
+            _ => false,
+        };
+        if right {
+            return Ok(());
+        }
+        Err(format!("{answer:?}, {out:02x?}; {lent} bytes lent"))
     }
 
     /// Holds the wrapper's column to the model's stream: read at once, by runs, by rows, and into a

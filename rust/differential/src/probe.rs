@@ -69,25 +69,22 @@ impl Requests {
     }
 
     pub fn write(&mut self, rows: &[i64], signed: bool, form: Form, width: u8, places: u16) {
-        let written = model::write_run(rows, signed, form, width, places.into());
-        let expected = match (&written, written.info()) {
-            (Written::Run { bytes, .. }, Some(info)) => {
-                format!("written {} {}", words(info, " "), Hex(bytes)).to_lowercase()
-            }
-            (Written::Refused(refusal), _) => refused(*refusal),
-            (Written::Run { .. }, None) => unreachable!("a written run is named"),
-        };
+        let expected = written(&model::write_run(rows, signed, form, width, places.into()));
         let form = match form {
             Form::ShortRepeat => 0,
             Form::Direct => 1,
             Form::FixedDelta => 2,
             Form::PackedDelta => 3,
         };
-        let mut line = format!("05{:02x}{form:02x}{width:02x}{places:04x}", u8::from(signed));
-        for row in rows {
-            write!(line, "{row:016x}").expect("a string takes it");
-        }
-        self.ask(line, expected);
+        let line = format!("05{:02x}{form:02x}{width:02x}{places:04x}", u8::from(signed));
+        self.ask(with_numbers(line, rows), expected);
+    }
+
+    /// A patched run, under either flag: it has no zigzag.
+    pub fn write_patched(&mut self, rows: &[i64], base: i64, width: u8, places: u16, signed: bool) {
+        let expected = written(&model::write_patched(rows, base, width.into(), places.into()));
+        let line = format!("05{:02x}04{width:02x}{places:04x}{base:016x}", u8::from(signed));
+        self.ask(with_numbers(line, rows), expected);
     }
 
     pub fn narrowest(&mut self, number: u64) {
@@ -109,6 +106,21 @@ impl Requests {
             write!(line, "{number:016x}").expect("a string takes it");
         }
         self.ask(format!("{line}{}{}{}", Hex(flags), Hex(block), Hex(fallback)), expected);
+    }
+
+    pub fn parts(&mut self, parts: &[&[u8]], signed: bool, places: u16) {
+        let read = model::read_parts(parts, signed, places.into());
+        let mut expected = String::from("parts");
+        for (start, run) in &read.runs {
+            expected = with_rows(format!("{expected} run {start} {}", words(run.info(), "/")), &run.rows);
+        }
+        let last = read.refusal.map_or_else(|| "whole".into(), refused);
+        expected += &format!(" {last} taken {}", read.taken);
+        let mut line = format!("07{:02x}{places:04x}{:04x}", u8::from(signed), parts.len());
+        for part in parts {
+            write!(line, "{:04x}", part.len()).expect("a string takes it");
+        }
+        self.ask(format!("{line}{}", Hex(&parts.concat())), expected);
     }
 
     /// A line that the probe says is bad.
@@ -217,6 +229,25 @@ fn words(Info { kind: of, width, rows, bytes }: Info, between: &str) -> String {
 /// The last run of a stream, or none.
 fn last(run: Option<Info>) -> String {
     run.map_or_else(|| "none".into(), |run| words(run, "/"))
+}
+
+/// What the writers answer.
+fn written(written: &Written) -> String {
+    match (written, written.info()) {
+        (Written::Run { bytes, .. }, Some(info)) => {
+            format!("written {} {}", words(info, " "), Hex(bytes)).to_lowercase()
+        }
+        (Written::Refused(refusal), _) => refused(*refusal),
+        (Written::Run { .. }, None) => unreachable!("a written run is named"),
+    }
+}
+
+/// A line with rows behind it, eight bytes each.
+fn with_numbers(mut line: String, rows: &[i64]) -> String {
+    for row in rows {
+        write!(line, "{row:016x}").expect("a string takes it");
+    }
+    line
 }
 
 fn with_rows(mut line: String, rows: &[i64]) -> String {

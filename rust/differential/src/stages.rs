@@ -2,6 +2,8 @@
 mod cuts;
 pub mod labels;
 mod lines;
+pub mod parts;
+pub mod patched_runs;
 mod patches;
 mod varints;
 
@@ -69,6 +71,7 @@ impl Session {
         self.booleans();
         self.values();
         self.written();
+        self.patched_runs();
         self.probe_lines();
     }
 

@@ -2,8 +2,13 @@
 use differential::frames;
 use differential::random::Random;
 use differential::stages::labels::{self, Asked};
-use menakovitsy::exported::{case, kind, LABEL_WORDS, STREAM_WORDS, TOO_FEW_WORDS, WORDS};
+use differential::stages::patched_runs::any_patched_rows;
+use menakovitsy::exported::{
+    case, kind, LABEL_WORDS, PART_WORDS, STATE_WORDS, STREAM_WORDS, TOO_FEW_WORDS, WORDS,
+};
 use model::{Answer, Booleans, Form, Info, Kind, Label, Refusal, Stream, Value, Written};
+
+use crate::parts;
 
 /// The most places that are lent for rows, and for bytes.
 pub const MOST: usize = 5000;
@@ -17,8 +22,11 @@ pub enum Call {
     Booleans { input: Vec<u8>, at: u64, n: u64, places: usize },
     Value { input: Vec<u8>, at: u64, n: u64 },
     Write { rows: Vec<i64>, flag: u64, form: u64, width: u64, places: usize },
+    Patched { rows: Vec<i64>, base: i64, width: u64, places: usize },
     Narrowest { number: u64 },
     Label(Asked),
+    Part(parts::Asked),
+    PartStart { state: usize },
 }
 
 /// What a call comes to: what it returns, its words (none where it is lent too few, or takes none),
@@ -64,7 +72,7 @@ impl Outcome {
 }
 
 /// A run's kind, width, rows and bytes; 0 each where there is none.
-fn named(run: Option<Info>) -> [u64; 4] {
+pub(crate) fn named(run: Option<Info>) -> [u64; 4] {
     run.map_or([0; 4], |run| [number(run.kind), run.width as u64, run.rows as u64, run.bytes as u64])
 }
 
@@ -84,7 +92,7 @@ impl Call {
     pub fn any(random: &mut Random) -> Self {
         let flag = if random.once_in(8) { random.any() } else { random.below(2) as u64 };
         let places = random.pick(&[0, 1, 5, 12, 64, 512, 1000]);
-        match random.below(18) {
+        match random.below(23) {
             0..=1 => {
                 let bytes = 8 * places + if random.once_in(2) { random.below(8) } else { 0 };
                 Call::Run { input: frames::any_frame(random), flag, bytes: bytes.min(MOST) }
@@ -112,6 +120,9 @@ impl Call {
             }
             12..=14 => Self::any_writing(flag, random),
             15..=16 => Call::Label(labels::any(random)),
+            17..=18 => Self::any_patched(random),
+            19..=20 => Call::Part(parts::any(flag, random)),
+            21 => Call::PartStart { state: random.pick(&[0, 6, 7, 8]) },
             _ => {
                 let shift = random.below(64);
                 Call::Narrowest { number: random.any() >> shift }
@@ -132,6 +143,15 @@ impl Call {
         Call::Write { rows, flag, form, width, places: random.pick(&[0, 2, 9, 40, MOST]) }
     }
 
+    fn any_patched(random: &mut Random) -> Self {
+        let (rows, base, width) = match random.below(32) {
+            0 => (vec![7; random.pick(&[0, 513])], 5, 64),
+            _ => any_patched_rows(random),
+        };
+        let width = if random.once_in(32) { random.any() >> random.below(64) } else { width as u64 };
+        Call::Patched { rows, base, width, places: random.pick(&[0, 5, 9, 40, MOST]) }
+    }
+
     /// The function's name.
     pub fn function(&self) -> &'static str {
         match self {
@@ -141,24 +161,41 @@ impl Call {
             Call::Booleans { .. } => "orc_read_booleans",
             Call::Value { .. } => "orc_byte_value",
             Call::Write { .. } => "orc_write_run",
+            Call::Patched { .. } => "orc_write_patched",
             Call::Narrowest { .. } => "orc_narrowest_code",
             Call::Label(_) => "orc_label",
+            Call::Part(asked) => asked.function(),
+            Call::PartStart { .. } => "orc_part_start",
         }
     }
 
     /// How many words its answer has.
     pub fn words(&self) -> usize {
         match self {
-            Call::Run { .. } | Call::Narrowest { .. } => 0,
+            Call::Run { .. } | Call::Narrowest { .. } | Call::PartStart { .. } => 0,
             Call::Stream { .. } => STREAM_WORDS,
             Call::Label(_) => LABEL_WORDS,
+            Call::Part(_) => PART_WORDS,
             _ => WORDS,
+        }
+    }
+
+    /// The words of a reader in parts, before the call and after it; none of any other call.
+    pub fn state(&self, words: usize) -> (Vec<u64>, Vec<u64>) {
+        match self {
+            Call::Part(asked) => (asked.state.clone(), asked.expected(words).1),
+            Call::PartStart { state } if *state < STATE_WORDS => (vec![1; *state], vec![1; *state]),
+            Call::PartStart { state } => {
+                let behind = vec![1; *state - STATE_WORDS];
+                (vec![1; *state], [vec![0; STATE_WORDS], behind].concat())
+            }
+            _ => (vec![], vec![]),
         }
     }
 
     /// What the call comes to, lent so many words.
     pub fn expected(&self, words: usize) -> Outcome {
-        if words < self.words() {
+        if words < self.words() && !matches!(self, Call::Part(_)) {
             return Outcome { returned: TOO_FEW_WORDS, ..Outcome::default() };
         }
         match self {
@@ -200,7 +237,16 @@ impl Call {
             Call::Write { rows, flag, form, width, places } => {
                 written(rows, *flag != 0, *form, *width, *places)
             }
+            Call::Patched { rows, base, width, places } => {
+                let width = usize::try_from(*width).unwrap_or(usize::MAX);
+                of_written(&model::write_patched(rows, *base, width, *places))
+            }
             Call::Label(asked) => label(asked),
+            Call::Part(asked) => asked.expected(words).0,
+            Call::PartStart { state } => {
+                let returned = if *state < STATE_WORDS { TOO_FEW_WORDS } else { 0 };
+                Outcome { returned, ..Outcome::default() }
+            }
             Call::Narrowest { number } => {
                 Outcome { returned: u64::from(model::narrowest_code(*number)), ..Outcome::default() }
             }
@@ -243,8 +289,11 @@ fn written(rows: &[i64], signed: bool, form: u64, width: u64, places: usize) -> 
         3 => Form::PackedDelta,
         _ => return Outcome::refused(Refusal::whole(10, 0)),
     };
-    let answer = model::write_run(rows, signed, form, u8::try_from(width).unwrap_or(255), places);
-    match (&answer, answer.info()) {
+    of_written(&model::write_run(rows, signed, form, u8::try_from(width).unwrap_or(255), places))
+}
+
+fn of_written(answer: &Written) -> Outcome {
+    match (answer, answer.info()) {
         (Written::Run { bytes, .. }, Some(info)) => Outcome { bytes: bytes.clone(), ..Outcome::read(info) },
         (Written::Refused(refusal), _) => Outcome::refused(*refusal),
         (Written::Run { .. }, None) => unreachable!("what is written is named"),

@@ -5,6 +5,7 @@
 //! that reads or writes one element too far ends the process, which says which call it was.
 pub mod call;
 pub mod fence;
+pub mod parts;
 pub mod watch;
 
 use std::collections::BTreeMap;
@@ -13,7 +14,7 @@ use std::ptr;
 use call::{Call, Outcome, MOST};
 use differential::random::Random;
 use fence::{Fenced, Side};
-use menakovitsy::exported::{self, STREAM_WORDS};
+use menakovitsy::exported::{self, STATE_WORDS, STREAM_WORDS};
 
 /// The longest input that is made, and the most rows that are written.
 const LONGEST: usize = 1 << 16;
@@ -29,6 +30,8 @@ pub struct Session {
     rows: Fenced<i64>,
     bytes: Fenced<u8>,
     words: Fenced<u64>,
+    /// The words of a reader in parts.
+    state: Fenced<u64>,
     /// How many calls of each function came to each number (of `orc_read_run` a run is number 0, as
     /// of the others).
     pub tally: BTreeMap<(&'static str, u64), u64>,
@@ -45,6 +48,7 @@ impl Default for Session {
             rows: Fenced::new(MOST),
             bytes: Fenced::new(MOST),
             words: Fenced::new(STREAM_WORDS + 8),
+            state: Fenced::new(STATE_WORDS + 8),
             tally: BTreeMap::new(),
         }
     }
@@ -77,19 +81,20 @@ impl Session {
             _ => call.words(),
         };
         let expected = call.expected(words);
+        let (state, state_after) = call.state(words);
         watch::begin(seed, number);
-        let returned = self.made(&call, words, &mut random);
+        let returned = self.made(&call, words, &state, &mut random);
         watch::end();
         let tallied = if returned < 65_536 || returned == u64::MAX { returned } else { 0 };
         let tallied = if call.function() == "orc_narrowest_code" { 0 } else { tallied };
         *self.tally.entry((call.function(), tallied)).or_default() += 1;
-        self.held(&call, returned, &expected).map_err(|wrong| {
+        self.held(&call, returned, &expected, &state_after).map_err(|wrong| {
             format!("seed {seed}, call {number}: {wrong}\n  {call:?}, {words} words\n  expected {expected:?}")
         })
     }
 
     /// Lends the slices, each against the fence of a random side, and makes the call.
-    fn made(&mut self, call: &Call, words: usize, random: &mut Random) -> u64 {
+    fn made(&mut self, call: &Call, words: usize, state: &[u64], random: &mut Random) -> u64 {
         let mut side = || if random.once_in(4) { Side::Before } else { Side::Behind };
         let (input, rows, places, bytes): (&[u8], &[i64], usize, usize) = match call {
             Call::Run { input, bytes, .. } => (input, &[], 0, *bytes),
@@ -98,8 +103,11 @@ impl Session {
             }
             Call::Booleans { input, places, .. } => (input, &[], 0, *places),
             Call::Value { input, .. } => (input, &[], 0, 0),
-            Call::Write { rows, places, .. } => (&[], rows, 0, *places),
-            Call::Narrowest { .. } => (&[], &[], 0, 0),
+            Call::Write { rows, places, .. } | Call::Patched { rows, places, .. } => (&[], rows, 0, *places),
+            Call::Narrowest { .. } | Call::PartStart { .. } => (&[], &[], 0, 0),
+            Call::Part(asked) => {
+                (asked.part.as_deref().unwrap_or_default(), &[], asked.places, asked.held.len())
+            }
             Call::Label(asked) => (&asked.block, &asked.lengths, 0, 0),
         };
         let (numbers, flags, fallback) = only_labels(call);
@@ -111,6 +119,10 @@ impl Session {
         self.rows.places(places, side());
         self.bytes.places(bytes, side());
         self.words.places(words, side());
+        self.state.holding(state, side());
+        if let Call::Part(asked) = call {
+            self.bytes.holding(&asked.held, side());
+        }
         let null = random.once_in(2);
         let (i, il) = lent(&self.input, null);
         let (g, gl) = lent(&self.given, null);
@@ -120,12 +132,18 @@ impl Session {
         let (r, rl) = lent(&self.rows, null);
         let (b, bl) = lent(&self.bytes, null);
         let (w, wl) = lent(&self.words, null);
+        let (s, sl) = lent(&self.state, null);
         // SAFETY: the pointers are of mapped pages, of these lengths, and none is borrowed meanwhile.
         unsafe {
             match *call {
                 Call::Label(ref asked) => {
                     exported::orc_label(g, gl, n, nl, f, fl, i, il, o, ol, asked.row, w, wl)
                 }
+                Call::Part(ref asked) if asked.part.is_some() => {
+                    exported::orc_part_take(s, sl, b, bl, i, il, asked.flag, r, rl, w, wl)
+                }
+                Call::Part(ref asked) => exported::orc_part_close(s, sl, b, bl, asked.flag, r, rl, w, wl),
+                Call::PartStart { .. } => exported::orc_part_start(s, sl),
                 Call::Run { flag, .. } => exported::orc_read_run(i, il, b, bl, flag),
                 Call::RunAt { at, flag, .. } => exported::orc_read_run_at(i, il, at, flag, r, rl, w, wl),
                 Call::Stream { at, flag, .. } => exported::orc_read_stream(i, il, at, flag, r, rl, w, wl),
@@ -134,21 +152,27 @@ impl Session {
                 Call::Write { flag, form, width, .. } => {
                     exported::orc_write_run(g, gl, flag, form, width, b, bl, w, wl)
                 }
+                Call::Patched { base, width, .. } => {
+                    exported::orc_write_patched(g, gl, base, width, b, bl, w, wl)
+                }
                 Call::Narrowest { number } => exported::orc_narrowest_code(number),
             }
         }
     }
 
     /// Holds what a call left behind to what it must.
-    fn held(&self, call: &Call, returned: u64, expected: &Outcome) -> Result<(), String> {
+    fn held(&self, call: &Call, returned: u64, expected: &Outcome, state: &[u64]) -> Result<(), String> {
         let kept = match call {
             Call::Run { input, .. }
             | Call::RunAt { input, .. }
             | Call::Stream { input, .. }
             | Call::Booleans { input, .. }
             | Call::Value { input, .. } => self.input.is(input) && self.given.is(&[]),
-            Call::Write { rows, .. } => self.given.is(rows) && self.input.is(&[]),
-            Call::Narrowest { .. } => true,
+            Call::Write { rows, .. } | Call::Patched { rows, .. } => {
+                self.given.is(rows) && self.input.is(&[])
+            }
+            Call::Narrowest { .. } | Call::PartStart { .. } => true,
+            Call::Part(asked) => self.input.is(asked.part.as_deref().unwrap_or_default()),
             Call::Label(asked) => self.given.is(&asked.lengths) && self.input.is(&asked.block),
         };
         let (numbers, flags, fallback) = only_labels(call);
@@ -158,6 +182,7 @@ impl Session {
             (self.words.is(&expected.words), "its words"),
             (self.rows.is(&expected.rows), "its rows"),
             (self.bytes.is(&expected.bytes), "its bytes"),
+            (self.state.is(state), "its state"),
             (kept, "what it was given to read"),
         ];
         match right.iter().find(|(right, _)| !right) {

@@ -16,15 +16,19 @@ fn a_million_calls(seed: u64) {
     // Each function gave each answer that it can give.
     let readers = [0, 1, 2, 3, 4, 5, 6, 7, 8, 12, 13, 14];
     let too_few = u64::MAX;
-    let answers: [(&str, &[u64]); 8] = [
+    let answers: [(&str, &[u64]); 12] = [
         ("orc_read_run", &readers),
         ("orc_read_run_at", &[&readers[..], &[too_few]].concat()),
         ("orc_read_stream", &[&readers[..], &[too_few]].concat()),
         ("orc_read_booleans", &[0, 6, 8, 13, too_few]),
         ("orc_byte_value", &[0, 6, too_few]),
         ("orc_write_run", &[0, 8, 9, 10, 11, too_few]),
+        ("orc_write_patched", &[0, 8, 9, 10, too_few]),
         ("orc_narrowest_code", &[0]),
         ("orc_label", &[0, 16, 18, 19, too_few]),
+        ("orc_part_start", &[0, too_few]),
+        ("orc_part_take", &[&readers[..], &[too_few]].concat()),
+        ("orc_part_close", &[&readers[..], &[too_few]].concat()),
     ];
     for (function, numbers) in answers {
         let given: Vec<u64> =

@@ -5,13 +5,17 @@
 //! allowed. Nothing that is written may overlap another argument. Calls share no state.
 //!
 //! A function that takes words writes its whole answer into the first [`WORDS`] of them, the stream
-//! reader into the first [`STREAM_WORDS`] and `orc_label` into the first [`LABEL_WORDS`], leaves the
-//! others as they were, and returns the refusal's number, 0 where nothing is refused; lent fewer, it
-//! returns [`TOO_FEW_WORDS`] and touches nothing. What each word means stands in [`word`], and of a
-//! label in [`label_word`].
+//! reader into the first [`STREAM_WORDS`], `orc_label` into the first [`LABEL_WORDS`] and the reader in
+//! parts into the first [`PART_WORDS`], leaves the others as they were, and returns the refusal's
+//! number, 0 where nothing is refused; lent fewer, it returns [`TOO_FEW_WORDS`] and touches nothing.
+//! What each word means stands in [`word`], of a label in [`label_word`], and behind them, of the reader
+//! in parts, in [`part_word`].
+//!
+//! The reader in parts keeps nothing either: its state stands in the first [`STATE_WORDS`] of the words
+//! that the caller keeps for it, and the bytes of the unfinished run in the [`MAX_RUN_BYTES`] lent.
 
 /// The version of these functions that this crate is written for.
-pub const VERSION: u64 = 4;
+pub const VERSION: u64 = 6;
 
 /// How many words an answer has; the stream reader's has [`STREAM_WORDS`].
 pub const WORDS: usize = 9;
@@ -21,6 +25,12 @@ pub const STREAM_WORDS: usize = 14;
 
 /// How many words an answer of `orc_label` has.
 pub const LABEL_WORDS: usize = 5;
+
+/// How many words a call of the reader in parts has.
+pub const PART_WORDS: usize = 11;
+
+/// How many words the state of the reader in parts has: `orc_part_start` makes them.
+pub const STATE_WORDS: usize = 7;
 
 /// What a function returns that was lent fewer words than its answer has.
 pub const TOO_FEW_WORDS: u64 = u64::MAX;
@@ -75,9 +85,17 @@ pub mod label_word {
     pub const SIZE: usize = 4;
 }
 
+/// The words of a call of the reader in parts behind those of [`word`] up to the width.
+pub mod part_word {
+    /// The byte where the run starts, counted from the first part modulo 2^64; 0 unless there is a run.
+    pub const START: usize = 9;
+    /// How many of the part's bytes the call took.
+    pub const TAKEN: usize = 10;
+}
+
 /// What the word `CASE` may hold.
 pub mod case {
-    /// The input is empty. Run readers only.
+    /// The input is empty; of the reader in parts: it is closed, and the column has ended.
     pub const END: u64 = 0;
     /// A run, booleans or a byte value; of the stream reader: the whole stream was read; of a label: a
     /// name.
@@ -86,6 +104,8 @@ pub mod case {
     pub const REFUSED: u64 = 2;
     /// Of a label alone: the row has no name, and is called by the fallback.
     pub const FALLBACK: u64 = 3;
+    /// Of the reader in parts alone: all of the part is taken, and no run has ended.
+    pub const MORE: u64 = 3;
 }
 
 /// What the word `KIND` may hold.
@@ -164,6 +184,17 @@ extern "C" {
         words_len: usize,
     ) -> u64;
 
+    pub fn orc_write_patched(
+        rows: *const i64,
+        rows_len: usize,
+        base: i64,
+        width: u64,
+        out: *mut u8,
+        out_len: usize,
+        words: *mut u64,
+        words_len: usize,
+    ) -> u64;
+
     pub fn orc_narrowest_code(x: u64) -> u64;
 
     pub fn orc_label(
@@ -178,6 +209,34 @@ extern "C" {
         fallback: *const u8,
         fallback_len: usize,
         row: u64,
+        words: *mut u64,
+        words_len: usize,
+    ) -> u64;
+
+    pub fn orc_part_start(state: *mut u64, state_len: usize) -> u64;
+
+    pub fn orc_part_take(
+        state: *mut u64,
+        state_len: usize,
+        held: *mut u8,
+        held_len: usize,
+        part: *const u8,
+        part_len: usize,
+        flag: u64,
+        rows: *mut i64,
+        rows_len: usize,
+        words: *mut u64,
+        words_len: usize,
+    ) -> u64;
+
+    pub fn orc_part_close(
+        state: *mut u64,
+        state_len: usize,
+        held: *mut u8,
+        held_len: usize,
+        flag: u64,
+        rows: *mut i64,
+        rows_len: usize,
         words: *mut u64,
         words_len: usize,
     ) -> u64;

@@ -8,11 +8,12 @@
 //! | What | Functions |
 //! |---|---|
 //! | a column of integers | [`Column`]: [`read_into`](Column::read_into), [`rows`](Column::rows), [`runs`](Column::runs) |
+//! | a column that arrives in parts | [`PartReader`]: [`next_run`](PartReader::next_run), [`close`](PartReader::close) |
 //! | one integer run, or all to the end | [`read_run`], [`read_stream`] |
 //! | a column of flags | [`read_booleans`] |
 //! | a byte value, as a part of the input | [`byte_value`] |
 //! | the name of a row, by a dictionary | [`label`] |
-//! | a run written | [`write_run`], [`narrowest_code`] |
+//! | a run written | [`write_run`], [`write_patched`], [`narrowest_code`] |
 //! | the library that is linked | [`check_version`], [`library_version`] |
 //!
 //! ```
@@ -43,6 +44,8 @@ mod column;
 pub mod exported;
 mod labels;
 mod library;
+mod parts;
+mod patched;
 mod refusal;
 mod units;
 mod version;
@@ -55,13 +58,15 @@ pub use library::{
     byte_value, library_version, narrowest_code, read_booleans, read_run, read_run_bytes, read_stream,
     unpack, write_run, Counts,
 };
+pub use parts::{PartReader, PartRun};
+pub use patched::write_patched;
 pub use refusal::Refusal;
 pub use units::{ByteOffset, RowNumber};
 pub use version::{check_version, OtherVersion};
 
 /// The most bytes that one written run takes up: with so many places, none is refused for want of
-/// them.
-pub const MAX_WRITTEN: usize = 4102;
+/// them. It is a patched run of 512 rows of 64 bits over a base of 8 bytes.
+pub const MAX_WRITTEN: usize = 4108;
 
 /// Whether a column's rows are signed.
 #[derive(Debug, Clone, Copy, PartialEq, Eq, Hash)]

@@ -4,7 +4,7 @@ use std::path::{Path, PathBuf};
 use std::process::Command;
 use std::{env, fs};
 
-use menakovitsy::exported::{self, case, kind, label_word, word};
+use menakovitsy::exported::{self, case, kind, label_word, part_word, word};
 use menakovitsy::Refusal;
 
 const HEADER: &str = include_str!("../menakovitsy.h");
@@ -31,6 +31,8 @@ fn the_header_has_the_same_numbers() {
     has(&format!("#define ORC_WORDS {}\n", exported::WORDS));
     has(&format!("#define ORC_STREAM_WORDS {}\n", exported::STREAM_WORDS));
     has(&format!("#define ORC_LABEL_WORDS {}\n", exported::LABEL_WORDS));
+    has(&format!("#define ORC_PART_WORDS {}\n", exported::PART_WORDS));
+    has(&format!("#define ORC_STATE_WORDS {}\n", exported::STATE_WORDS));
     has("#define ORC_TOO_FEW_WORDS UINT64_MAX\n");
     has(&format!("#define ORC_MAX_ROWS {}\n", exported::MAX_ROWS));
     has(&format!("#define ORC_MAX_RUN_BYTES {}\n", exported::MAX_RUN_BYTES));
@@ -51,6 +53,8 @@ fn the_header_has_the_same_numbers() {
         ("LAST_BYTES", word::LAST_BYTES),
         ("LABEL_START", label_word::START),
         ("LABEL_SIZE", label_word::SIZE),
+        ("PART_START", part_word::START),
+        ("PART_TAKEN", part_word::TAKEN),
     ] {
         has(&format!("    ORC_{name} = {place}"));
     }
@@ -59,6 +63,7 @@ fn the_header_has_the_same_numbers() {
         ("CASE_READ", case::READ),
         ("CASE_REFUSED", case::REFUSED),
         ("CASE_FALLBACK", case::FALLBACK),
+        ("CASE_MORE", case::MORE),
     ] {
         has(&format!("    ORC_{name} = {number}"));
     }

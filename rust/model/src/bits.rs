@@ -95,6 +95,11 @@ impl Put {
         }
     }
 
+    /// Zero padding up to a whole byte.
+    pub fn pad(&mut self) {
+        self.bits.resize(self.bits.len().next_multiple_of(8), false);
+    }
+
     /// The shortest varint.
     pub fn varint(&mut self, mut number: u64) {
         while number >= 128 {

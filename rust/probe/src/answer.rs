@@ -1,7 +1,9 @@
 //! The words of an answer, and what is said of them.
 use std::fmt::Write as _;
 
-use menakovitsy::exported::{case, kind, label_word, word, LABEL_WORDS, STREAM_WORDS, WORDS};
+use menakovitsy::exported::{
+    case, kind, label_word, part_word, word, LABEL_WORDS, PART_WORDS, STREAM_WORDS, WORDS,
+};
 
 use crate::lent::Lent;
 
@@ -16,7 +18,7 @@ pub struct Answer {
 }
 
 impl Answer {
-    /// Of any function but the stream reader and the label.
+    /// Of any function that has no words of its own.
     pub fn of(call: impl FnOnce(&mut [u64]) -> u64) -> Self {
         Self::of_words(WORDS, call)
     }
@@ -29,13 +31,17 @@ impl Answer {
         Self::of_words(LABEL_WORDS, call)
     }
 
+    pub fn of_part(call: impl FnOnce(&mut [u64]) -> u64) -> Self {
+        Self::of_words(PART_WORDS, call)
+    }
+
     fn of_words(own: usize, call: impl FnOnce(&mut [u64]) -> u64) -> Self {
         let mut words = Lent::places(own + MORE);
         let returned = call(words.content_mut());
         Answer { returned, words, own }
     }
 
-    fn word(&self, place: usize) -> u64 {
+    pub fn word(&self, place: usize) -> u64 {
         self.words.content()[place]
     }
 
@@ -91,6 +97,11 @@ impl Answer {
         format!("{}/{width}/{rows}/{bytes}", say_kind(self.word(word::LAST_KIND)))
     }
 
+    /// `KIND/WIDTH/ROWS/BYTES`, of a run.
+    pub fn say_run(&self) -> String {
+        self.say_info().replace(' ', "/")
+    }
+
     /// Whether the kind is this one: lines of booleans and byte values do not say it.
     pub fn has_kind(&self, kind: u64) -> bool {
         self.word(word::KIND) == kind
@@ -136,6 +147,17 @@ impl Answer {
         };
         let returned = self.returned == self.word(word::NUMBER);
         fits && returned && self.cut_fits() && (!stream || self.last_fits())
+    }
+
+    /// The same of a call of the reader in parts: only a run starts somewhere, and a call that refuses, or
+    /// ends, takes nothing.
+    pub fn part_fits(&self) -> bool {
+        const NONE: [usize; 9] = [1, 2, 3, 4, 5, 6, 7, 8, part_word::START];
+        match self.case() {
+            case::READ => self.fits(),
+            case::MORE => self.returned == 0 && self.zero(&NONE),
+            _ => self.fits() && self.zero(&[part_word::START, part_word::TAKEN]),
+        }
     }
 
     /// The part of a block, or of the fallback, that a label names; nothing where it is not within.
@@ -240,6 +262,38 @@ mod tests {
             assert_eq!(name(start, size).part_of(b"drums"), None);
         }
         assert_eq!(label(19, [2, 19, 0, 0, 0]).say_other(), "refused 19 0");
+    }
+
+    #[test]
+    fn calls_with_parts_that_contradict_themselves_are_odd() {
+        let part = |returned, words: [u64; PART_WORDS]| {
+            Answer::of_part(|lent| {
+                lent[..PART_WORDS].copy_from_slice(&words);
+                returned
+            })
+        };
+        let fits = [
+            (0, [0; PART_WORDS]),
+            (0, [1, 0, 0, 1, 3, 4, 0, 0, 4, 9, 2]),
+            (13, [2, 13, 9, 0, 0, 0, 1, 11, 0, 0, 0]),
+            (0, [3, 0, 0, 0, 0, 0, 0, 0, 0, 0, 100]),
+        ];
+        for (returned, words) in fits {
+            assert!(part(returned, words).part_fits(), "{words:?}");
+            assert!(!part(returned + 1, words).part_fits(), "{words:?}");
+        }
+        assert_eq!(part(0, fits[1].1).say_run(), "direct/4/3/4");
+        for words in [
+            [0, 0, 0, 0, 0, 0, 0, 0, 0, 0, 1],
+            [0, 0, 0, 0, 0, 0, 0, 0, 0, 1, 0],
+            [3, 0, 0, 0, 1, 0, 0, 0, 0, 0, 1],
+            [3, 0, 0, 0, 0, 0, 0, 0, 0, 1, 1],
+            [4, 0, 0, 0, 0, 0, 0, 0, 0, 0, 0],
+        ] {
+            assert!(!part(0, words).part_fits(), "{words:?}");
+        }
+        assert!(!part(5, [2, 5, 9, 0, 0, 0, 0, 0, 0, 0, 1]).part_fits());
+        assert!(!part(5, [2, 5, 9, 0, 0, 0, 0, 0, 0, 1, 0]).part_fits());
     }
 
     /// What a wrong library could answer shows.

@@ -48,6 +48,14 @@ pub fn write_run(rows: &[i64], writing: Writing, out: &mut [u8], words: &mut [u6
     }
 }
 
+pub fn write_patched(rows: &[i64], base: i64, width: u64, out: &mut [u8], words: &mut [u64]) -> u64 {
+    let (out_len, words_len) = (out.len(), words.len());
+    let (out, words) = (out.as_mut_ptr(), words.as_mut_ptr());
+    unsafe {
+        exported::orc_write_patched(rows.as_ptr(), rows.len(), base, width, out, out_len, words, words_len)
+    }
+}
+
 /// What a label is asked of.
 #[derive(Clone, Copy)]
 pub struct Columns<'a> {
@@ -76,6 +84,52 @@ pub fn label(given: Columns, row: u64, words: &mut [u64]) -> u64 {
             row,
             words,
             words_len,
+        )
+    }
+}
+
+/// What the reader in parts is kept in from call to call.
+pub struct Kept<'a> {
+    pub state: &'a mut [u64],
+    pub held: &'a mut [u8],
+}
+
+pub fn part_start(state: &mut [u64]) -> u64 {
+    unsafe { exported::orc_part_start(state.as_mut_ptr(), state.len()) }
+}
+
+pub fn part_take(kept: Kept, part: &[u8], flag: u64, rows: &mut [i64], words: &mut [u64]) -> u64 {
+    let Kept { state, held } = kept;
+    unsafe {
+        exported::orc_part_take(
+            state.as_mut_ptr(),
+            state.len(),
+            held.as_mut_ptr(),
+            held.len(),
+            part.as_ptr(),
+            part.len(),
+            flag,
+            rows.as_mut_ptr(),
+            rows.len(),
+            words.as_mut_ptr(),
+            words.len(),
+        )
+    }
+}
+
+pub fn part_close(kept: Kept, flag: u64, rows: &mut [i64], words: &mut [u64]) -> u64 {
+    let Kept { state, held } = kept;
+    unsafe {
+        exported::orc_part_close(
+            state.as_mut_ptr(),
+            state.len(),
+            held.as_mut_ptr(),
+            held.len(),
+            flag,
+            rows.as_mut_ptr(),
+            rows.len(),
+            words.as_mut_ptr(),
+            words.len(),
         )
     }
 }

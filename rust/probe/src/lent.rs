@@ -56,7 +56,12 @@ impl<T: Mark> Lent<T> {
     /// Whether the slice holds something else than this, or a place before or behind it has lost its
     /// mark.
     pub fn altered(&self, content: &[T]) -> bool {
-        self.content() != content || self.guards().any(|place| *place != T::MARK)
+        self.content() != content || self.guards_touched()
+    }
+
+    /// Whether a place before or behind the slice has lost its mark.
+    pub fn guards_touched(&self) -> bool {
+        self.guards().any(|place| *place != T::MARK)
     }
 
     fn guards(&self) -> impl Iterator<Item = &T> {

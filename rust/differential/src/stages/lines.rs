@@ -1,5 +1,5 @@
 //! Every public function through the probe program.
-use super::{cuts, labels, patches, varints, Session};
+use super::{cuts, labels, parts, patched_runs, patches, varints, Session};
 use crate::frames;
 use crate::listed::{Call, LIST};
 use crate::probe::Requests;
@@ -34,10 +34,14 @@ impl Session {
         cuts::probe_lines(requests, &mut self.random);
         patches::probe_lines(requests, &mut self.random);
         varints::probe_lines(requests, &mut self.random);
+        patched_runs::fixed_lines(requests);
         labels::fixed_lines(requests);
+        parts::fixed_lines(requests);
         for _ in 0..self.size.pick(1_000, 100_000, 1_000_000) {
             probe_line(&mut probe.requests, &mut self.random);
+            patched_runs::probe_line(&mut probe.requests, &mut self.random);
             labels::probe_line(&mut probe.requests, &mut self.random);
+            parts::probe_line(&mut probe.requests, &mut self.random);
             probe.batch(&mut self.tally);
         }
         probe.flush(&mut self.tally);

@@ -17,7 +17,7 @@ use differential::frames;
 use differential::listed::{self, Call, LIST};
 use differential::probe::Requests;
 use differential::random::Random;
-use differential::stages::{labels, probe_line};
+use differential::stages::{labels, parts, patched_runs, probe_line};
 use model::Form;
 
 use by_hand::{DOCUMENT, FRAMES, SPECIFICATION};
@@ -243,7 +243,10 @@ fn bad_lines(requests: &mut Requests) {
         "010200000000000000000200",
         "02ff00000000000000000200",
         "0502000002000000000000000001",
-        "0500040002000000000000000001",
+        "0500050002000000000000000001",
+        // A patched run without all of its base, and one with a row of seven bytes.
+        "050004010200000000000000",
+        "0500040102000000000000000001000000000000 02",
         "010000000000000000002001",
         "020000000000000000002001",
         "03000000000000000000000000000000002001",
@@ -299,9 +302,17 @@ fn list() -> Requests {
     for _ in 0..300 {
         probe_line(&mut requests, &mut random);
     }
+    patched_runs::fixed_lines(&mut requests);
+    for _ in 0..150 {
+        patched_runs::probe_line(&mut requests, &mut random);
+    }
     labels::fixed_lines(&mut requests);
     for _ in 0..100 {
         labels::probe_line(&mut requests, &mut random);
+    }
+    parts::fixed_lines(&mut requests);
+    for _ in 0..100 {
+        parts::probe_line(&mut requests, &mut random);
     }
     requests
 }

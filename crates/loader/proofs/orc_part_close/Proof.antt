@@ -1,0 +1,62 @@
+-- The closing call's answer and state are put into the words, or there are too few of them. Assumes nothing.
+use mathlib.Core.Path.{refl}
+use denote.Ref.{now}
+use borrow.Author.Needs.{needs}
+use Rattle.loader.proofs.PartWords.{few-state, few-words, is-enough, close-few, close-done}
+use Rattle.loader.proofs.orc_part_close.Statement.{statement}
+use Rattle.loader.proofs.orc_part_close.Tie as tie
+
+returns : tie.Need-returns
+returns c =
+    let a = c .before .before .before .before .args in
+    close-few (few-state (now (a .state)) (now (a .words)) (c .if1 .taken))
+
+returns-2 : tie.Need-returns-2
+returns-2 c =
+    let a = c .before .before .before .before .before .args in
+    close-few (few-words (now (a .state)) (now (a .words)) (c .before .if1 .left) (c .if2 .taken))
+
+reader-of-requires : tie.Need-reader-of-requires
+reader-of-requires c κs = search needs
+
+close-requires : tie.Need-close-requires
+close-requires c κs = search needs
+
+put-step-requires : tie.Need-put-step-requires
+put-step-requires c κs = search needs
+
+same-length : tie.Need-same-length
+same-length c = search needs
+
+same-length-2 : tie.Need-same-length-2
+same-length-2 c = search needs
+
+same-length-3 : tie.Need-same-length-3
+same-length-3 c = search needs
+
+same-length-4 : tie.Need-same-length-4
+same-length-4 c = search needs
+
+returns-3 : tie.Need-returns-3
+returns-3 c =
+    let p = c .before .before .before .before in
+    let k = p .before .before .before .before in
+    let q = k .before .before .before in
+    let e = q .before .before in
+    let a = e .before .before .before .before .before .args in
+    close-done (k .close .result) (is-enough (now (a .state)) (now (a .words)) (e .before .if1 .left) (e .if2 .left)) (p .put-step .ensures) refl (rw (q .reader-of .ensures) at (k .close .ensures))
+
+pub orc-part-close-spec : {M : Type 1} → statement M
+orc-part-close-spec =
+    tie.close
+    (tie.spec
+    returns
+    returns-2
+    reader-of-requires
+    close-requires
+    put-step-requires
+    same-length
+    same-length-2
+    same-length-3
+    same-length-4
+    returns-3)

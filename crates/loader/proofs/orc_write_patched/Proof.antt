@@ -1,0 +1,32 @@
+-- The patched writer's answer is put into the words, or there are too few of them. Assumes nothing.
+use native.Mathlib.Omega.{arith}
+use borrow.Author.Needs.{needs}
+use mir.Facts.{toZ-ofZ}
+use Rattle.loader.proofs.Telling.{answer-long, few-of, put-of}
+use Rattle.loader.proofs.orc_write_patched.Statement.{statement}
+use Rattle.loader.proofs.orc_write_patched.Tie as tie
+
+returns : tie.Need-returns
+returns c = few-of answer-long (omega arith)
+
+write-patched-requires : tie.Need-write-patched-requires
+write-patched-requires c κs = search needs
+
+put-answer-requires : tie.Need-put-answer-requires
+put-answer-requires c κs = search needs
+
+same-length : tie.Need-same-length
+same-length c = search needs
+
+same-length-2 : tie.Need-same-length-2
+same-length-2 c = search needs
+
+returns-2 : tie.Need-returns-2
+returns-2 c =
+    let p = c .before .before in
+    let a = p .before .before .before .before in
+    let w = rw (toZ-ofZ (a .before .before .before .before .before .fits .base)) at (a .write-patched .ensures) in
+    put-of answer-long (w .answer) (a .before .before .if1 .left) (w .places) (p .put-answer .ensures)
+
+pub orc-write-patched-spec : {M : Type 1} → statement M
+orc-write-patched-spec = tie.close (tie.spec returns write-patched-requires put-answer-requires same-length same-length-2 returns-2)

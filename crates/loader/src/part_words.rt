@@ -1,0 +1,180 @@
+// The reader in parts as words: its state, read from the words that the caller keeps and left there, and what a call does.
+ghost use mathlib.Core.Path.{_≡_};
+ghost use mathlib.Core.List.{_++_};
+ghost use Prim.Native.Nat.{_≤_};
+ghost use lib.ListN.{length, drop};
+ghost use Rattle.format.specs.Loader.{Put};
+ghost use Rattle.loader.specs.Parts.{repeated, standingCase, standingOf, cutOf, stateWords, stateWordCount, refusalOf, readerOf, plainAnswer, partCase, partStart, partNumber, partWords, partWordCount, PartPut};
+use crate::words;
+use format::Answer;
+use format::ByteOffset;
+use format::CutField;
+use format::PartAnswer;
+use format::PartReader;
+use format::PartStep;
+use format::Refusal;
+use format::Standing;
+
+// How many words a state has, and a call's answer.
+pub const STATE_COUNT: usize = 7;
+
+pub const COUNT: usize = 11;
+
+fn cut_of(flag: u64, byte: u64) -> CutField
+    ensures { λ r. ⌜ r ≡ cutOf flag byte ⌝ }
+{
+    if flag == 0 {
+        return CutField::None;
+    }
+    CutField::At(ByteOffset {
+        bytes: byte as usize,
+    })
+}
+
+fn standing_of(case: u64, f: Refusal) -> Standing
+    ensures { λ r. ⌜ r ≡ standingOf case f ⌝ }
+{
+    if case == 0 {
+        return Standing::Opened;
+    }
+    if case == 1 {
+        return Standing::Broken(f);
+    }
+    Standing::Closed
+}
+
+// The refusal that the words stand for.
+fn refusal_of(state: &[u64]) -> Refusal
+    requires { ⌜ stateWordCount ≤ length (now state) ⌝ }
+    ensures { λ r. ⌜ r ≡ refusalOf (now (state .entry)) ⌝ }
+{
+    let number = (state[3] % 256) as u8;
+    let place = ByteOffset {
+        bytes: state[4] as usize,
+    };
+    let cut = cut_of(state[5], state[6]);
+    Refusal { number, place, cut }
+}
+
+// The reader that the words stand for.
+pub(crate) fn reader_of(state: &[u64]) -> PartReader
+    requires { ⌜ stateWordCount ≤ length (now state) ⌝ }
+    ensures { λ r. ⌜ r ≡ readerOf (now (state .entry)) ⌝ }
+{
+    let standing = standing_of(state[0], refusal_of(state));
+    let at = ByteOffset {
+        bytes: state[2] as usize,
+    };
+    PartReader {
+        held: state[1] as usize,
+        at,
+        standing,
+    }
+}
+
+fn repeats(standing: Standing) -> Answer
+    ensures { λ r. ⌜ r ≡ repeated standing ⌝ }
+{
+    match standing {
+        Standing::Broken(f) => Answer::Refused(f),
+        Standing::Opened => Answer::End,
+        Standing::Closed => Answer::End,
+    }
+}
+
+fn standing_case(standing: Standing) -> u64
+    ensures { λ r. ⌜ r ≡ standingCase standing ⌝ }
+{
+    match standing {
+        Standing::Opened => 0,
+        Standing::Broken(_) => 1,
+        Standing::Closed => 2,
+    }
+}
+
+// The words of a reader, in the first of the words lent.
+pub(crate) fn put_reader(reader: PartReader, state: &mut [u64]) -> u64
+    requires { ⌜ stateWordCount ≤ length (now state) ⌝ }
+    ensures { λ r. ⌜ Put stateWords (λ s. 0) reader (now (state .entry)) (now (state .exit)) r ⌝ }
+{
+    let standing = reader.standing;
+    let again = repeats(standing);
+    state[0] = standing_case(standing);
+    state[1] = reader.held as u64;
+    state[2] = reader.at.bytes as u64;
+    state[3] = again.number() as u64;
+    state[4] = again.place() as u64;
+    state[5] = words::cut_case(again.cut_field());
+    state[6] = words::cut_byte(again.cut_field()) as u64;
+    0
+}
+
+// A run field by field: one that is moved whole goes through memory in pieces.
+fn plain(answer: PartAnswer) -> Answer
+    ensures { λ r. ⌜ r ≡ plainAnswer answer ⌝ }
+{
+    match answer {
+        PartAnswer::Run(_, r) => {
+            let kind = r.kind;
+            let rows = r.rows;
+            let consumed = r.consumed;
+            Answer::run(kind, r.width, rows.rows, consumed.bytes)
+        }
+        PartAnswer::Refused(f) => Answer::Refused(f),
+        PartAnswer::More => Answer::End,
+        PartAnswer::End => Answer::End,
+    }
+}
+
+fn case(answer: PartAnswer) -> u64
+    ensures { λ r. ⌜ r ≡ partCase answer ⌝ }
+{
+    match answer {
+        PartAnswer::Run(_, _) => 1,
+        PartAnswer::Refused(_) => 2,
+        PartAnswer::More => 3,
+        PartAnswer::End => 0,
+    }
+}
+
+fn start(answer: PartAnswer) -> usize
+    ensures { λ r. ⌜ r ≡ partStart answer ⌝ }
+{
+    match answer {
+        PartAnswer::Run(at, _) => at.bytes,
+        PartAnswer::Refused(_) => 0,
+        PartAnswer::More => 0,
+        PartAnswer::End => 0,
+    }
+}
+
+// The words of what a call does, in the first of the words lent. Answers the refusal's number.
+pub(crate) fn put_part(step: PartStep, words: &mut [u64]) -> u64
+    requires { ⌜ partWordCount ≤ length (now words) ⌝ }
+    ensures { λ r. ⌜ Put partWords partNumber step (now (words .entry)) (now (words .exit)) r ⌝ }
+{
+    let said = step.answer;
+    let a = plain(said);
+    words[0] = case(said);
+    words[1] = a.number() as u64;
+    words[2] = a.place() as u64;
+    words[3] = words::kind(a) as u64;
+    words[4] = a.rows() as u64;
+    words[5] = a.consumed() as u64;
+    words[6] = words::cut_case(a.cut_field());
+    words[7] = words::cut_byte(a.cut_field()) as u64;
+    words[8] = a.width() as u64;
+    words[9] = start(said) as u64;
+    words[10] = step.taken.bytes as u64;
+    a.number() as u64
+}
+
+// What a call does, told: the answer, and the reader for the next call.
+pub(crate) fn put_step(step: PartStep, state: &mut [u64], words: &mut [u64]) -> u64
+    requires { ⌜ stateWordCount ≤ length (now state) ⌝ }
+    requires { ⌜ partWordCount ≤ length (now words) ⌝ }
+    ensures { λ r. ⌜ PartPut step (now (state .entry)) (now (state .exit)) (now (words .entry)) (now (words .exit)) r ⌝ }
+{
+    put_reader(step.reader, state);
+    put_part(step, words)
+}

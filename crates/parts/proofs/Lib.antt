@@ -1,0 +1,4 @@
+-- The laws that the code's proofs cite.
+pub mod Seen
+pub mod Lent
+pub mod Room

@@ -1,0 +1,282 @@
+// The reader in parts (document 02, item 4): it takes the input in parts and hands out one run at a time.
+ghost use mathlib.Core.Path.{_≡_};
+ghost use Prim.Native.Nat.{_+_, _-_, _≤_, min};
+ghost use lib.ListN.{length};
+ghost use lib.Seq.{paste};
+ghost use Rattle.format.specs.Parts.{fresh, Takes, Closes};
+ghost use Rattle.parts.specs.Steps.{still, tooFew, holds, stops, refuses, hands, fromFirst, cutShort, byAnswer, byLast, Goes, goes};
+use format::Answer;
+use format::ByteOffset;
+use format::CutField;
+use format::Kind;
+use format::PartAnswer;
+use format::PartReader;
+use format::PartStep;
+use format::Refusal;
+use format::RowNumber;
+use format::Run;
+use format::Standing;
+
+// A reader that has taken nothing.
+pub fn start() -> PartReader
+    ensures { λ r. ⌜ r ≡ fresh ⌝ }
+{
+    PartReader {
+        held: 0,
+        at: ByteOffset { bytes: 0 },
+        standing: Standing::Opened,
+    }
+}
+
+// Nothing is taken, and nothing changes.
+fn idle(reader: PartReader, answer: PartAnswer) -> PartStep
+    ensures { λ r. ⌜ r ≡ still reader answer ⌝ }
+{
+    let none = ByteOffset { bytes: 0 };
+    PartStep {
+        answer,
+        taken: none,
+        reader,
+    }
+}
+
+// Refusal 8: too few places, or too few lent bytes.
+fn too_few(reader: PartReader) -> PartStep
+    ensures { λ r. ⌜ r ≡ tooFew reader ⌝ }
+{
+    idle(reader, PartAnswer::Refused(Refusal::new(8, 0)))
+}
+
+// All of the part is taken, and the bytes seen are held.
+fn hold(reader: PartReader, seen: usize, part: usize) -> PartStep
+    ensures { λ r. ⌜ r ≡ holds reader seen part ⌝ }
+{
+    let at = reader.at;
+    PartStep {
+        answer: PartAnswer::More,
+        taken: ByteOffset { bytes: part },
+        reader: PartReader {
+            held: seen,
+            at,
+            standing: Standing::Opened,
+        },
+    }
+}
+
+// The run is handed out: the next one starts behind it.
+fn hand(reader: PartReader, taken: usize, run: Run) -> PartStep
+    ensures { λ r. ⌜ r ≡ hands reader taken run ⌝ }
+{
+    let at = reader.at;
+    let consumed = run.consumed;
+    let next = std::num::wrapping_add_usize(at.bytes, consumed.bytes);
+    // field by field: a run that is moved whole goes through memory in pieces, padding too
+    let rows = run.rows;
+    let kind = run.kind;
+    let handed = Run {
+        kind,
+        width: run.width,
+        rows: RowNumber { rows: rows.rows },
+        consumed: ByteOffset {
+            bytes: consumed.bytes,
+        },
+    };
+    PartStep {
+        answer: PartAnswer::Run(at, handed),
+        taken: ByteOffset { bytes: taken },
+        reader: PartReader {
+            held: 0,
+            at: ByteOffset { bytes: next },
+            standing: Standing::Opened,
+        },
+    }
+}
+
+// Nothing is taken, and the reader stops.
+fn stop(reader: PartReader, standing: Standing, answer: PartAnswer) -> PartStep
+    ensures { λ r. ⌜ r ≡ stops reader standing answer ⌝ }
+{
+    let at = reader.at;
+    PartStep {
+        answer,
+        taken: ByteOffset { bytes: 0 },
+        reader: PartReader {
+            held: reader.held,
+            at,
+            standing,
+        },
+    }
+}
+
+fn refuse(reader: PartReader, refusal: Refusal) -> PartStep
+    ensures { λ r. ⌜ r ≡ refuses reader refusal ⌝ }
+{
+    stop(
+        reader,
+        Standing::Broken(refusal),
+        PartAnswer::Refused(refusal),
+    )
+}
+
+// A refusal of the bytes from a run's first on, with its bytes counted from the first part, modulo 2^64.
+fn from_first(at: ByteOffset, f: Refusal) -> Refusal
+    ensures { λ r. ⌜ r ≡ fromFirst (at .bytes) f ⌝ }
+{
+    let number = f.number;
+    let cut = f.cut;
+    match cut {
+        CutField::None => Refusal::new(number, at.bytes),
+        CutField::At(field) => {
+            let byte = std::num::wrapping_add_usize(at.bytes, field.bytes);
+            Refusal::cut(number, at.bytes, byte)
+        }
+    }
+}
+
+// The run is unfinished, in its header (1) or in a field (6, 12, 13, 14): more bytes may turn the refusal into another answer.
+fn cut_short(f: Refusal) -> bool
+    ensures { λ r. ⌜ r ≡ cutShort (f .number) (f .cut) ⌝ }
+{
+    let number = f.number;
+    let cut = f.cut;
+    match cut {
+        CutField::None => number == 1,
+        CutField::At(_) => true,
+    }
+}
+
+// What is above a number: 0 where nothing is.
+fn beyond(n: usize, most: usize) -> usize
+    ensures { λ r. ⌜ r ≡ n - most ⌝ }
+{
+    if n < most { 0 } else { n - most }
+}
+
+// The smaller of two.
+fn least(a: usize, b: usize) -> usize
+    ensures { λ r. ⌜ r ≡ min a b ⌝ }
+{
+    if a < b { a } else { b }
+}
+
+// A call with a part, by what reading gave of the bytes looked at: those held, and as many of the part's behind them as a run can have.
+fn on_part(reader: PartReader, held: usize, seen: usize, part: usize, a: Answer) -> PartStep
+    ensures { λ r. ⌜ r ≡ byAnswer reader held seen part a ⌝ }
+{
+    let at = reader.at;
+    match a {
+        Answer::Run(r) => {
+            let consumed = r.consumed;
+            let taken = beyond(consumed.bytes, held);
+            hand(reader, taken, r)
+        }
+        Answer::Refused(f) => {
+            if cut_short(f) {
+                hold(reader, seen, part)
+            } else {
+                refuse(reader, from_first(at, f))
+            }
+        }
+        Answer::End => hold(reader, seen, part),
+    }
+}
+
+// The first k bytes of the part, into the lent bytes from place h on.
+fn copy(part: &[u8], k: usize, buffer: &mut [u8], h: usize)
+    requires { ⌜ k ≤ length (now part) ⌝ }
+    requires { ⌜ h + k ≤ length (now buffer) ⌝ }
+    ensures { λ _. ⌜ now (buffer .exit) ≡ paste (now (buffer .entry)) h (now (part .entry)) k ⌝ }
+{
+    let mut i = 0;
+    while i < k {
+        buffer[h + i] = part[i];
+        i += 1;
+    }
+}
+
+// A call with a part of an open reader, with room enough.
+fn opened(
+    reader: PartReader,
+    part: &[u8],
+    signed: bool,
+    buffer: &mut [u8],
+    out: &mut [i64],
+) -> PartStep
+    requires { ⌜ 512 ≤ length (now out) ⌝ }
+    requires { ⌜ 4356 ≤ length (now buffer) ⌝ }
+    ensures { λ r. ⌜ Goes reader (now (part .entry)) (now (buffer .entry)) (now (buffer .exit)) signed (now (out .entry)) (now (out .exit)) r (goes reader (now (part .entry)) (now (buffer .entry))) ⌝ }
+{
+    let h = least(reader.held, buffer.len());
+    let n = part.len();
+    if h == 0 {
+        // a run that lies whole in its part is read from there
+        let a = rle_v2::read_run(part, ByteOffset { bytes: 0 }, signed, out);
+        let step = on_part(reader, 0, n, n, a);
+        let kept = step.reader;
+        copy(part, kept.held, buffer, 0);
+        return step;
+    }
+    let k = least(n, beyond(Kind::MAX_BYTES, h));
+    copy(part, k, buffer, h);
+    let a = rle_v2::read_run(&buffer[..h + k], ByteOffset { bytes: 0 }, signed, out);
+    on_part(reader, h, h + k, n, a)
+}
+
+// One call with a part: it is taken up to the end of a run, which is handed out, or all of it; a call that refuses takes nothing. For fewer
+// than 512 places or 4,356 lent bytes the answer is refusal 8, and the call may be made again.
+pub fn take(
+    reader: PartReader,
+    part: &[u8],
+    signed: bool,
+    buffer: &mut [u8],
+    out: &mut [i64],
+) -> PartStep
+    ensures { λ r. ⌜ Takes reader (now (part .entry)) (now (buffer .entry)) (now (buffer .exit)) signed (now (out .entry)) (now (out .exit)) r ⌝ }
+{
+    if out.len() < Kind::MAX_ROWS {
+        return too_few(reader);
+    }
+    if buffer.len() < Kind::MAX_BYTES {
+        return too_few(reader);
+    }
+    let standing = reader.standing;
+    match standing {
+        Standing::Broken(f) => idle(reader, PartAnswer::Refused(f)),
+        Standing::Closed => idle(reader, PartAnswer::End),
+        Standing::Opened => opened(reader, part, signed, buffer, out),
+    }
+}
+
+// The closing call of an open reader, by what reading gave of the bytes held: an unfinished run is refused.
+fn on_close(reader: PartReader, a: Answer) -> PartStep
+    ensures { λ r. ⌜ r ≡ byLast reader a ⌝ }
+{
+    let at = reader.at;
+    match a {
+        Answer::Run(r) => hand(reader, 0, r),
+        Answer::Refused(f) => refuse(reader, from_first(at, f)),
+        Answer::End => stop(reader, Standing::Closed, PartAnswer::End),
+    }
+}
+
+// The closing call: the stream's end, or the refusal of the run that is unfinished.
+pub fn close(reader: PartReader, signed: bool, buffer: &[u8], out: &mut [i64]) -> PartStep
+    ensures { λ r. ⌜ Closes reader (now (buffer .entry)) signed (now (out .entry)) (now (out .exit)) r ⌝ }
+{
+    if out.len() < Kind::MAX_ROWS {
+        return too_few(reader);
+    }
+    if buffer.len() < Kind::MAX_BYTES {
+        return too_few(reader);
+    }
+    let standing = reader.standing;
+    match standing {
+        Standing::Broken(f) => idle(reader, PartAnswer::Refused(f)),
+        Standing::Closed => idle(reader, PartAnswer::End),
+        Standing::Opened => {
+            let h = least(reader.held, buffer.len());
+            let a = rle_v2::read_run(&buffer[..h], ByteOffset { bytes: 0 }, signed, out);
+            on_close(reader, a)
+        }
+    }
+}

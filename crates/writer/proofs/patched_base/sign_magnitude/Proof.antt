@@ -1,0 +1,42 @@
+-- `patched_base::sign_magnitude` meets its contract. Assumes nothing.
+use mathlib.Core.Path.{_≡_, _∙_}
+use Prim.Native.Nat.{_-_, _*_, _^_}
+use native.Mathlib.Omega.{arith}
+use lib.Pow.{pow-mono}
+use borrow.Author.Needs.{needs}
+use borrow.Author.Tests.{lt-leb, le-leb}
+use Rattle.format.specs.Fields.{two64}
+use Rattle.writer.proofs.patched_base.sign_magnitude.Statement.{statement}
+use Rattle.writer.proofs.patched_base.sign_magnitude.Tie as tie
+
+returns : tie.Need-returns
+returns c = simp (lt-leb _ _ (c .if1 .taken)) (omega arith)
+
+mul-result : tie.Need-mul-result
+mul-result c = search needs
+
+sub-result : tie.Need-sub-result
+sub-result c = search needs
+
+shl-result : tie.Need-shl-result
+shl-result c = search needs
+
+magnitude-requires : tie.Need-magnitude-requires
+magnitude-requires c κs = search needs
+
+add-result : tie.Need-add-result
+add-result c =
+    let p = pow-mono {i = 8 * c .before .before .args .size - 1} {j = 63} (omega arith) in
+    omega (arith, c .magnitude .ensures)
+
+returns-2 : tie.Need-returns-2
+returns-2 c =
+    let base = c .before .before .args .base in
+    let p = pow-mono {i = 8 * c .before .before .args .size - 1} {j = 63} (omega arith) in
+    let t = le-leb (2 ^ 63) base (omega arith) in
+    let m : c .magnitude .result ≡ two64 - base = c .magnitude .ensures ∙ rw t in
+    rw t (omega (arith, m))
+
+pub sign-magnitude-spec : {M : Type 1} → statement M
+sign-magnitude-spec =
+    tie.close (tie.spec returns mul-result sub-result shl-result magnitude-requires add-result returns-2)

@@ -1,0 +1,89 @@
+-- `values::keep_low` meets its contract. The loop's invariant: the low bits so far, then those still to come, are the whole. Assumes nothing.
+use mathlib.Core.Path.{_≡_, refl, sym, _∙_}
+use mathlib.Core.List.{List, [], _++_}
+use Prim.Native.Nat.{ℕ, _-_, _%_, _^_, _≤_, _<_}
+use native.Mathlib.Nat.{div-one}
+use native.Mathlib.Omega.{arith}
+use lib.ListN.{length, getD, take, drop, length-set}
+use lib.Seq.{getD-take, length-take-le}
+use denote.Ref.{now}
+use Rattle.format.specs.PatchedWriting.{lows}
+use Rattle.util.proofs.Grow.{grow, kept, filled}
+use Rattle.writer.proofs.Laws.{map-next, map-end, same-at}
+use Rattle.writer.proofs.values.keep_low.Statement.{statement}
+use Rattle.writer.proofs.values.keep_low.Tie as tie
+
+abbrev Inv-loop : tie.InvT-loop
+Inv-loop vals₀ n bits i₀ vals i =
+    (i ≤ n) × (length vals ≡ length vals₀) × (take i vals ++ lows bits (drop i (take n vals₀)) ≡ lows bits (take n vals₀)) × (drop i vals ≡ drop i vals₀)
+
+abbrev μ-loop : tie.MeasureT-loop
+μ-loop vals₀ n bits i₀ vals i = n - i
+
+loop-holds : tie.Need-loop-holds Inv-loop μ-loop
+loop-holds c = (omega arith, refl, refl, refl)
+
+mul-cut : tie.Need-mul-cut Inv-loop μ-loop
+mul-cut c = omega arith
+
+slice-read-cut : tie.Need-slice-read-cut Inv-loop μ-loop
+slice-read-cut c = omega arith
+
+cut-requires : tie.Need-cut-requires Inv-loop μ-loop
+cut-requires c κs = omega arith
+
+mul-vals : tie.Need-mul-vals Inv-loop μ-loop
+mul-vals c = omega arith
+
+slice-write-vals : tie.Need-slice-write-vals Inv-loop μ-loop
+slice-write-vals c = omega arith
+
+add-i : tie.Need-add-i Inv-loop μ-loop
+add-i c = omega arith
+
+loop-less : tie.Need-loop-less Inv-loop μ-loop
+loop-less c = omega arith
+
+loop-again : tie.Need-loop-again Inv-loop μ-loop
+loop-again c =
+    let l = c .before .before .before .loop in
+    let a = c .before .before .before .before .before .args in
+    let vs : List ℕ = take (a .n) (now (a .vals)) in
+    let h : l .i < length vs = rw (length-take-le (a .n) (now (a .vals)) (omega arith)) (omega arith) in
+    let g : getD vs (l .i) 0 ≡ getD (l .vals) (l .i) 0 = getD-take (a .n) (now (a .vals)) (l .i) 0 (omega arith) ∙ sym (same-at (l .vals) (now (a .vals)) (l .i) (l .inv .3)) in
+    let e : c .cut .result ≡ getD vs (l .i) 0 % 2 ^ a .bits = c .cut .ensures ∙ rw (div-one, g) in (
+      omega arith,
+      simp length-set (l .inv .1),
+      grow (l .vals) (l .i) _ _ _ (omega arith) (rw (map-next (λ d. d % 2 ^ a .bits) vs (l .i) h, ← e) at (l .inv .2)),
+      kept (l .vals) (now (a .vals)) (l .i) _ (l .inv .3),
+    )
+
+same-length : tie.Need-same-length Inv-loop μ-loop
+same-length c = c .before .loop .inv .1
+
+returns : tie.Need-returns Inv-loop μ-loop
+returns c =
+    let l = c .before .loop in
+    let a = c .before .before .before .args in
+    let vs : List ℕ = take (a .n) (now (a .vals)) in
+    let n : l .i ≡ a .n = omega arith in
+    let z : lows (a .bits) (drop (l .i) vs) ≡ [] = map-end (λ d. d % 2 ^ a .bits) vs (l .i) (rw (length-take-le (a .n) (now (a .vals)) (omega arith)) (omega arith)) in
+    filled (l .vals) (now (a .vals)) _ (a .n) (rw (z, n) at (l .inv .2)) (rw n at (l .inv .3))
+
+pub keep-low-spec : {M : Type 1} → statement M
+keep-low-spec =
+    tie.close
+    (tie.spec
+    Inv-loop
+    μ-loop
+    loop-holds
+    mul-cut
+    slice-read-cut
+    cut-requires
+    mul-vals
+    slice-write-vals
+    add-i
+    loop-less
+    loop-again
+    same-length
+    returns)

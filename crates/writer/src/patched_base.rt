@@ -1,0 +1,157 @@
+// Patched base: four header bytes, the base, packed values, and a list of patches for the values that need more bits.
+ghost use mathlib.Core.Path.{_≡_};
+ghost use mathlib.Core.List.{_++_, map};
+ghost use Prim.Native.Nat.{_-_, _*_, _^_, _<_, _≤_};
+ghost use lib.ListN.{length, drop};
+ghost use Rattle.format.specs.Rows.{asU64};
+ghost use Rattle.format.specs.PatchedWriting as PatchedWriting;
+ghost use Rattle.format.specs.PatchedWriting.{codeFor, baseSize, PatchedWritten};
+ghost use Rattle.writer.specs.PatchedBase.{signMagnitude, headed, headBytes, Ready, HeaderOf, Laid};
+use crate::head;
+use crate::patch_list;
+use crate::values;
+use format::Answer;
+use format::Kind;
+use util::big_endian;
+use util::packed;
+use util::pattern;
+use util::width;
+
+// What the four header bytes say: width code, rows, base bytes, patch width code, gap width, list length.
+struct Header {
+    code: u8,
+    rows: usize,
+    base: usize,
+    patch: u8,
+    gap: usize,
+    entries: usize,
+}
+
+// The header for some rows: none where no header describes them.
+enum Found {
+    None,
+    Header(Header),
+}
+
+// The code of a width in bits: 32 where it is none of the table.
+fn table_code(bits: usize) -> u8
+    ensures { λ r. ⌜ r ≡ codeFor bits ⌝ }
+{
+    if 64 < bits {
+        return 32;
+    }
+    let code = width::code_of(bits);
+    if width::bits_of(code) == bits {
+        code
+    } else {
+        32
+    }
+}
+
+// The base without its sign.
+fn magnitude(base: u64) -> u64
+    ensures { λ r. ⌜ r ≡ PatchedWriting.magnitude base ⌝ }
+{
+    if base < 9223372036854775808 {
+        base
+    } else {
+        18446744073709551615 - base + 1
+    }
+}
+
+// The bytes that hold the base and its sign bit: 9 where eight do not, for -2^63 alone.
+fn base_size(base: u64) -> usize
+    ensures { λ r. ⌜ r ≡ baseSize base ⌝ }
+{
+    values::bit_length(magnitude(base)) / 8 + 1
+}
+
+// The base as it is stored in so many bytes: the top bit is the sign, and 0 has none.
+fn sign_magnitude(base: u64, size: usize) -> u64
+    requires { ⌜ (1 ≤ size) × (size ≤ 8) × (PatchedWriting.magnitude base < 2 ^ (8 * size - 1)) ⌝ }
+    ensures { λ r. ⌜ r ≡ signMagnitude base size ⌝ }
+{
+    if base < 9223372036854775808 {
+        return base;
+    }
+    (1 << (8 * size - 1)) + magnitude(base)
+}
+
+// The header for the rows, with the values and the list that it describes. A patch of 64 bits leaves no bit for a gap.
+fn header_of(rows: &[i64], base: u64, bits: usize, vals: &mut [u64], list: &mut [u64]) -> Found
+    requires { ⌜ (1 ≤ length (now rows)) × (length (now rows) ≤ 512) × (length (now vals) ≡ 512) × (length (now list) ≡ 31) ⌝ }
+    ensures { λ r. ⌜ HeaderOf base bits (map asU64 (now (rows .entry))) (now (vals .exit)) (now (list .exit)) r ⌝ }
+{
+    let n = rows.len();
+    let code = table_code(bits);
+    let size = base_size(base);
+    if 31 < code {
+        return Found::None;
+    }
+    if 8 < size {
+        return Found::None;
+    }
+    values::differences(rows, base, vals);
+    let patch = width::narrowest_code(values::above(values::largest(vals, n), bits));
+    let pw = width::bits_of(patch);
+    if pw == 64 {
+        return Found::None;
+    }
+    let entries = patch_list::fill(vals, n, bits, pw, list);
+    if list.len() < entries {
+        return Found::None;
+    }
+    let gap = patch_list::gap_width(values::largest(list, entries) >> pw);
+    values::keep_low(vals, n, bits);
+    Found::Header(Header {
+        code,
+        rows: n,
+        base: size,
+        patch,
+        gap,
+        entries,
+    })
+}
+
+// The four header bytes.
+fn write_head(h: Header, out: &mut [u8])
+    requires { ⌜ (h .code < 32) × (1 ≤ h .rows) × (h .rows ≤ 512) × (1 ≤ h .base) × (h .base ≤ 8) × (h .patch < 32) × (1 ≤ h .gap) × (h .gap ≤ 8) × (h .entries ≤ 31) × (4 ≤ length (now out)) ⌝ }
+    ensures { λ _. ⌜ now (out .exit) ≡ headBytes h ++ drop 4 (now (out .entry)) ⌝ }
+{
+    head::write(2, h.code, h.rows, out);
+    out[2] = ((h.base - 1) * 32) as u8 + h.patch;
+    out[3] = ((h.gap - 1) * 32 + h.entries) as u8;
+}
+
+// The run, where it has room.
+fn lay(h: Header, base: u64, vals: &[u64], list: &[u64], out: &mut [u8]) -> Answer
+    requires { ⌜ Ready h base (now vals) (now list) ⌝ }
+    ensures { λ r. ⌜ Laid (headed h base (now (vals .entry)) (now (list .entry))) (now (out .entry)) (now (out .exit)) r ⌝ }
+{
+    let bits = width::bits_of(h.code);
+    let entry = width::entry_width(width::bits_of(h.patch) + h.gap);
+    let values = 4 + h.base;
+    let patches = values + packed::block_size(bits, h.rows);
+    let end = patches + packed::block_size(entry, h.entries);
+    if out.len() < end {
+        return Answer::refused(8, 0);
+    }
+    write_head(h, out);
+    big_endian::write(sign_magnitude(base, h.base), h.base, out, 4);
+    packed::pack(vals, h.rows, bits, out, values);
+    packed::pack(list, h.entries, entry, out, patches);
+    Answer::run(Kind::PatchedBase, bits, h.rows, end)
+}
+
+pub(crate) fn write(rows: &[i64], base: i64, width: u8, out: &mut [u8]) -> Answer
+    requires { ⌜ (1 ≤ length (now rows)) × (length (now rows) ≤ 512) ⌝ }
+    ensures { λ r. ⌜ PatchedWritten (now (rows .entry)) base width (now (out .entry)) (now (out .exit)) r ⌝ }
+{
+    let base_bits = pattern::to_u64(base);
+    let mut vals = values::scratch();
+    let mut list = patch_list::scratch();
+    match header_of(rows, base_bits, width as usize, &mut vals, &mut list) {
+        Found::None => Answer::refused(10, 0),
+        Found::Header(h) => lay(h, base_bits, &vals, &list, out),
+    }
+}
