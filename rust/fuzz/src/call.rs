@@ -37,6 +37,23 @@ pub struct Outcome {
     pub words: Vec<u64>,
     pub rows: Vec<i64>,
     pub bytes: Vec<u8>,
+    pub columns: [Vec<u64>; 3],
+}
+
+/// What a call is lent: what it is given to read, and how many places it may write to.
+#[derive(Debug, Clone, Copy, Default)]
+pub struct Lending<'a> {
+    pub input: &'a [u8],
+    pub given: &'a [i64],
+    /// What only a label is asked of, beside the lengths and the block.
+    pub numbers: &'a [i64],
+    pub flags: &'a [u8],
+    pub fallback: &'a [u8],
+    /// Columns that are read; and how many places those have that are written.
+    pub columns: [&'a [u64]; 3],
+    pub lent_columns: [usize; 3],
+    pub rows: usize,
+    pub bytes: usize,
 }
 
 impl Outcome {
@@ -190,6 +207,32 @@ impl Call {
                 (vec![1; *state], [vec![0; STATE_WORDS], behind].concat())
             }
             _ => (vec![], vec![]),
+        }
+    }
+
+    /// What it is lent, but for the words.
+    pub fn lending(&self) -> Lending<'_> {
+        let none = Lending::default();
+        match self {
+            Call::Run { input, bytes, .. } => Lending { input, bytes: *bytes, ..none },
+            Call::RunAt { input, places, .. } | Call::Stream { input, places, .. } => {
+                Lending { input, rows: *places, ..none }
+            }
+            Call::Booleans { input, places, .. } => Lending { input, bytes: *places, ..none },
+            Call::Value { input, .. } => Lending { input, ..none },
+            Call::Write { rows, places, .. } | Call::Patched { rows, places, .. } => {
+                Lending { given: rows, bytes: *places, ..none }
+            }
+            Call::Narrowest { .. } | Call::PartStart { .. } => none,
+            Call::Part(asked) => Lending {
+                input: asked.part.as_deref().unwrap_or_default(),
+                rows: asked.places,
+                bytes: asked.held.len(),
+                ..none
+            },
+            Call::Label(Asked { block, lengths, numbers, flags, fallback, .. }) => {
+                Lending { input: block, given: lengths, numbers, flags, fallback, ..none }
+            }
         }
     }
 
