@@ -14,6 +14,7 @@
 
 mod bits;
 mod booleans;
+mod index;
 mod labels;
 mod parts;
 mod patched_writer;
@@ -24,6 +25,7 @@ mod writer;
 
 pub use bits::{zigzag, WIDTHS};
 pub use booleans::{first_run, read_booleans, Booleans};
+pub use index::{build_index, look_up, read_from, Columns, Entry, Index, Lookup, Rows};
 pub use labels::{label, Dictionary, Label};
 pub use parts::{read_parts, Parts};
 pub use patched_writer::write_patched;
