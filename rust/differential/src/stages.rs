@@ -1,5 +1,6 @@
 //! What is compared, stage by stage.
 mod cuts;
+pub mod index;
 pub mod labels;
 mod lines;
 pub mod parts;

@@ -1,6 +1,9 @@
 //! A call, and what the model of documents 01 and 02 answers it.
+mod indexed;
+
 use differential::frames;
 use differential::random::Random;
+use differential::stages::index;
 use differential::stages::labels::{self, Asked};
 use differential::stages::patched_runs::any_patched_rows;
 use menakovitsy::exported::{
@@ -27,6 +30,7 @@ pub enum Call {
     Label(Asked),
     Part(parts::Asked),
     PartStart { state: usize },
+    Index(index::Asked),
 }
 
 /// What a call comes to: what it returns, its words (none where it is lent too few, or takes none),
@@ -71,6 +75,11 @@ impl Outcome {
         Self::counted(refusal, 0, 0)
     }
 
+    /// Of words of its own.
+    fn done(words: &[u64]) -> Self {
+        Outcome { returned: words[1], words: words.to_vec(), ..Outcome::default() }
+    }
+
     fn read(run: Info) -> Self {
         let [kind, width, rows, bytes] = named(Some(run));
         Self::of([case::READ, 0, 0, kind, rows, bytes, 0, 0, width])
@@ -109,7 +118,7 @@ impl Call {
     pub fn any(random: &mut Random) -> Self {
         let flag = if random.once_in(8) { random.any() } else { random.below(2) as u64 };
         let places = random.pick(&[0, 1, 5, 12, 64, 512, 1000]);
-        match random.below(23) {
+        match random.below(26) {
             0..=1 => {
                 let bytes = 8 * places + if random.once_in(2) { random.below(8) } else { 0 };
                 Call::Run { input: frames::any_frame(random), flag, bytes: bytes.min(MOST) }
@@ -140,6 +149,7 @@ impl Call {
             17..=18 => Self::any_patched(random),
             19..=20 => Call::Part(parts::any(flag, random)),
             21 => Call::PartStart { state: random.pick(&[0, 6, 7, 8]) },
+            22..=24 => Call::Index(index::any(random)),
             _ => {
                 let shift = random.below(64);
                 Call::Narrowest { number: random.any() >> shift }
@@ -183,6 +193,7 @@ impl Call {
             Call::Label(_) => "orc_label",
             Call::Part(asked) => asked.function(),
             Call::PartStart { .. } => "orc_part_start",
+            Call::Index(asked) => indexed::function(asked).0,
         }
     }
 
@@ -193,6 +204,7 @@ impl Call {
             Call::Stream { .. } => STREAM_WORDS,
             Call::Label(_) => LABEL_WORDS,
             Call::Part(_) => PART_WORDS,
+            Call::Index(asked) => indexed::function(asked).1,
             _ => WORDS,
         }
     }
@@ -233,6 +245,7 @@ impl Call {
             Call::Label(Asked { block, lengths, numbers, flags, fallback, .. }) => {
                 Lending { input: block, given: lengths, numbers, flags, fallback, ..none }
             }
+            Call::Index(asked) => indexed::lending(asked),
         }
     }
 
@@ -290,6 +303,7 @@ impl Call {
                 let returned = if *state < STATE_WORDS { TOO_FEW_WORDS } else { 0 };
                 Outcome { returned, ..Outcome::default() }
             }
+            Call::Index(asked) => indexed::outcome(asked),
             Call::Narrowest { number } => {
                 Outcome { returned: u64::from(model::narrowest_code(*number)), ..Outcome::default() }
             }

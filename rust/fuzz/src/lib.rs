@@ -13,6 +13,7 @@ use std::ptr;
 
 use call::{Call, Lending, Outcome, MOST};
 use differential::random::Random;
+use differential::stages::index::What;
 use fence::{Fenced, Side};
 use menakovitsy::exported::{self, STATE_WORDS, STREAM_WORDS};
 
@@ -121,6 +122,7 @@ impl Session {
         let (b, bl) = lent(&self.bytes, null);
         let (w, wl) = lent(&self.words, null);
         let (s, sl) = lent(&self.state, null);
+        let [(x, xl), (y, yl), (z, zl)] = self.columns.each_ref().map(|column| lent(column, null));
         // SAFETY: the pointers are of mapped pages, of these lengths, and none is borrowed meanwhile.
         unsafe {
             match *call {
@@ -132,6 +134,13 @@ impl Session {
                 }
                 Call::Part(ref asked) => exported::orc_part_close(s, sl, b, bl, asked.flag, r, rl, w, wl),
                 Call::PartStart { .. } => exported::orc_part_start(s, sl),
+                Call::Index(ref asked) => match asked.what {
+                    What::Build(_) => exported::orc_build_index(i, il, x, xl, y, yl, z, zl, w, wl),
+                    What::LookUp { row } => exported::orc_look_up(i, il, x, xl, y, yl, z, zl, row, w, wl),
+                    What::ReadFrom { row, flag, .. } => {
+                        exported::orc_read_from(i, il, x, xl, y, yl, z, zl, row, flag, r, rl, w, wl)
+                    }
+                },
                 Call::Run { flag, .. } => exported::orc_read_run(i, il, b, bl, flag),
                 Call::RunAt { at, flag, .. } => exported::orc_read_run_at(i, il, at, flag, r, rl, w, wl),
                 Call::Stream { at, flag, .. } => exported::orc_read_stream(i, il, at, flag, r, rl, w, wl),
