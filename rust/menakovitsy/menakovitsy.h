@@ -33,23 +33,27 @@ extern "C" {
 
 /* The version of these functions: each change of them makes it one more. A program compares what
  * orc_version answers with the header that it was compiled with. */
-#define ORC_VERSION UINT64_C(7)
+#define ORC_VERSION UINT64_C(8)
 
 uint64_t orc_version(void);
 
 /* The answer. A function that is lent words writes its whole answer into the first ORC_WORDS of
- * them, the stream reader into the first ORC_STREAM_WORDS, and a function with words of its own into
- * as many as are named after it below, and leaves the others as they were. It returns the refusal's
- * number (the word ORC_NUMBER), 0 where nothing is refused. Later versions
- * append words: none changes its meaning. */
+ * them, the stream reader into the first ORC_STREAM_WORDS, those below them into as many as is said
+ * there, and leaves the others as they were. It returns the refusal's number (the word ORC_NUMBER), 0
+ * where nothing is refused. Later versions append words: none changes its meaning. */
 #define ORC_WORDS 9
 #define ORC_STREAM_WORDS 14
+/* orc_label. */
 #define ORC_LABEL_WORDS 5
 #define ORC_PART_WORDS 11
 #define ORC_COUNT_WORDS 6
 
 /* How many words the state of the reader in parts has. */
 #define ORC_STATE_WORDS 7
+/* orc_build_index, orc_look_up, orc_read_from. */
+#define ORC_INDEX_WORDS 8
+#define ORC_ENTRY_WORDS 6
+#define ORC_ROWS_FROM_WORDS 4
 
 /* What it returns where it was lent fewer: then it has touched nothing, no word, row or byte. */
 #define ORC_TOO_FEW_WORDS UINT64_MAX
@@ -113,12 +117,33 @@ enum orc_count_word {
     ORC_COUNT_CUT_AT = 5
 };
 
+/* The word of a built index that is none of the above: ORC_ROWS and ORC_BYTES are the whole stream's, and
+ * ORC_CUT and ORC_CUT_AT its refusal's. */
+enum orc_index_word {
+    /* How many entries there are, in the first places of each column; 0 where refused. */
+    ORC_INDEX_ENTRIES = 3
+};
+
+/* The words of an entry behind ORC_CASE, ORC_NUMBER and ORC_PLACE; 0 where refused. */
+enum orc_entry_word {
+    /* The number of the run's first row, the byte that it begins at, and how many rows it has. */
+    ORC_ENTRY_FIRST = 3,
+    ORC_ENTRY_AT = 4,
+    ORC_ENTRY_ROWS = 5
+};
+
+/* The word of orc_read_from behind these. */
+enum orc_rows_from_word {
+    /* How many rows there are, in the first places; 0 where refused. */
+    ORC_ROWS_FROM_ROWS = 3
+};
+
 enum orc_case {
     /* The input is empty: there is no run. orc_read_run_at only; and of the reader in parts, once it is
      * closed: the column has ended. */
     ORC_CASE_END = 0,
-    /* A run, booleans or a byte value; of the stream: it was read whole; of a label: a name;
-     * of a count: it was counted. */
+    /* A run, booleans or a byte value; of the stream: it was read whole; of a label: a name; of any
+     * other: it was done. */
     ORC_CASE_READ = 1,
     ORC_CASE_REFUSED = 2,
     /* Of a label alone: the row has no name, and is called by the fallback. */
@@ -175,7 +200,11 @@ enum orc_answer {
     ORC_ROWS_CUT = 13,
     /* A patch list is cut. */
     ORC_LIST_CUT = 14,
-    /* There is no such row: it has no flag. Ask for one below the number of flags. */
+    /* The index is not this stream's: its entries are not exactly the stream's, its columns have unequal
+     * lengths, or the stream is refused and has none. Build it again. */
+    ORC_WRONG_INDEX = 15,
+    /* There is no such row (of a label: it has no flag). Ask for one below the number of rows, or of
+     * flags. */
     ORC_NO_SUCH_ROW = 16,
     /* Dictionary: a length is below 0, or they do not add up to the block (as whole numbers, never
      * modulo 2^64). Give the lengths and the block of one dictionary, both whole. */
@@ -274,6 +303,29 @@ uint64_t orc_part_close(uint64_t *state, size_t state_len, uint8_t *held, size_t
  * ORC_COUNT_TRUE. Refused where the bytes hold fewer: ORC_VALUE_CUT, at 0, cut at 0. */
 uint64_t orc_count_true(const uint8_t *packed, size_t packed_len, uint64_t n, uint64_t *words,
                         size_t words_len);
+/* The index beside a stream: three columns, an entry a run, with the number of the run's first row, the
+ * byte that it begins at and how many rows it has. The stream is all of input. A caller's index is not
+ * trusted: it is compared with the stream, whose rows are not read for it. Refusals 8, 15 and 16 have
+ * place 0; ORC_WRONG_INDEX is for columns of unequal length before all else, in building too.
+ *
+ * Builds it: the entries stand in the first places of first, at and counts. Refused, with no place
+ * touched: the stream's own, then ORC_TOO_FEW_PLACES where an entry lacks a place (input_len / 2 hold
+ * any stream's). */
+uint64_t orc_build_index(const uint8_t *input, size_t input_len, uint64_t *first, size_t first_len,
+                         uint64_t *at, size_t at_len, uint64_t *counts, size_t counts_len,
+                         uint64_t *words, size_t words_len);
+
+/* The entry that holds a row. Refused in this order: ORC_WRONG_INDEX, ORC_NO_SUCH_ROW. */
+uint64_t orc_look_up(const uint8_t *input, size_t input_len, const uint64_t *first, size_t first_len,
+                     const uint64_t *at, size_t at_len, const uint64_t *counts, size_t counts_len,
+                     uint64_t row, uint64_t *words, size_t words_len);
+
+/* Reads all rows from a row to the stream's end into the first places of rows. Refused in this order:
+ * ORC_WRONG_INDEX, ORC_NO_SUCH_ROW, ORC_TOO_FEW_PLACES with no place touched. */
+uint64_t orc_read_from(const uint8_t *input, size_t input_len, const uint64_t *first, size_t first_len,
+                       const uint64_t *at, size_t at_len, const uint64_t *counts, size_t counts_len,
+                       uint64_t row, uint64_t flag, int64_t *rows, size_t rows_len, uint64_t *words,
+                       size_t words_len);
 
 /* Reads the run at the start of input, and answers by one number: an orc_answer, or, from ORC_RUN on,
  * a run. Rows are laid into out as eight bytes each, lowest first; a trailing part of fewer than eight

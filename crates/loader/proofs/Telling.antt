@@ -7,6 +7,11 @@ use borrow.Author.Tests.{le-leb, lt-leb}
 use Rattle.format.specs.declared.Answer.{Answer}
 use Rattle.format.specs.declared.Stream.{Stream}
 use Rattle.labels.specs.declared.Label.{Label}
+use Rattle.index.specs.Promises.{BuiltIn}
+use Rattle.index.specs.declared.Built.{Built}
+use Rattle.index.specs.declared.Found.{Found}
+use Rattle.index.specs.declared.Preview.{Preview}
+use Rattle.loader.specs.Index.{builtNumber, builtWords, builtWordCount, IndexTold, foundWords, foundWordCount, previewWords, previewWordCount}
 use Rattle.loader.specs.Labels.{labelWords, labelWordCount, LabelToldDetermined}
 use Rattle.loader.specs.Patched.{PatchedToldDetermined}
 use Rattle.season.specs.declared.Count.{Count}
@@ -14,6 +19,7 @@ use Rattle.loader.specs.Counts.{countWords, countWordCount, CountToldDet
 use Rattle.format.specs.Loader.{answerWords, streamWords, wordCount, streamWordCount, tooFewWords, Put, Told, ToldOf}
 
 -- every answer has as many words, every stream's, every label's and every count's
+-- every answer has as many words, every stream's, every label's and every one of the index's
 pub answer-long : (a : Answer) → length (answerWords a) ≡ wordCount
 unfolding answerWords
 answer-long a = refl
@@ -29,6 +35,17 @@ label-long l = refl
 pub count-long : (c : Count) → length (countWords c) ≡ countWordCount
 unfolding countWords
 count-long c = refl
+pub built-long : (b : Built) → length (builtWords b) ≡ builtWordCount
+unfolding builtWords
+built-long b = refl
+
+pub found-long : (v : Found) → length (foundWords v) ≡ foundWordCount
+unfolding foundWords
+found-long v = refl
+
+pub preview-long : (p : Preview) → length (previewWords p) ≡ previewWordCount
+unfolding previewWords
+preview-long p = refl
 
 -- over any answers whose words are counted
 module _ {B : Type 0} {wordsOf : B → List ℕ} {numberOf : B → ℕ} {n : ℕ} (long : (b : B) → length (wordsOf b) ≡ n) where
@@ -61,3 +78,12 @@ patched-told-determined rows base w out out′ out″ words words′ words″ r 
 -- and so does that of the count
 pub count-told-determined : CountToldDetermined
 count-told-determined packed n words words′ words″ r r′ p q = (p .words-are ∙ sym (q .words-are), p .number-is ∙ sym (q .number-is))
+
+-- what building told: too few words, or what was built put into them
+module _ {input first at counts words : List ℕ} where
+  pub index-few : length words < builtWordCount → IndexTold input first at counts first at counts words words tooFewWords
+  index-few h = record { told = few built-long h; columns-are = rw (lt-leb builtWordCount (length words) h) }
+
+  pub index-put : {first′ at′ counts′ words′ : List ℕ} {b : Built} {r : ℕ} → BuiltIn input first at counts first′ at′ counts′ b → builtWordCount ≤ length words
+      → Put builtWords builtNumber b words words′ r → IndexTold input first at counts first′ at′ counts′ words words′ r
+  index-put q h p = record { told = put built-long (q .answer) h p; columns-are = rw (le-leb builtWordCount (length words) h) (q .columns) }

@@ -4,3 +4,4 @@ pub mod Labels
 pub mod Patched
 pub mod Parts
 pub mod Counts
+pub mod Index

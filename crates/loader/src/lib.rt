@@ -4,6 +4,7 @@
 ghost use mathlib.Core.Path.{_≡_};
 ghost use Rattle.format.specs.Fields.{Narrowest};
 ghost use Rattle.format.specs.Loader.{Loaded, faceVersion, RunTold, StreamTold, BooleansTold, ValueTold, WriteTold};
+ghost use Rattle.loader.specs.Index.{IndexTold, LookUpTold, ReadFromTold};
 ghost use Rattle.loader.specs.Labels.{LabelTold};
 ghost use Rattle.loader.specs.Patched.{PatchedTold};
 ghost use Rattle.loader.specs.Parts.{StartTold, PartTold, CloseTold};
@@ -14,6 +15,7 @@ use format::RowNumber;
 mod bytes;
 mod count_words;
 mod forms;
+mod index_words;
 mod label_words;
 mod part_words;
 mod words;
@@ -23,7 +25,7 @@ mod words;
 pub extern "C" fn orc_version() -> u64
     ensures { λ r. ⌜ r ≡ faceVersion ⌝ }
 {
-    7
+    8
 }
 
 // One run at the start of the input, its rows as eight bytes each, lowest first. The flag is 0 for unsigned, and any other number for signed.
@@ -262,4 +264,63 @@ pub extern "C" fn orc_count_true(packed: &[u8], n: u64, words: &mut [u64]) -> u6
     }
     let count = season::count_true(packed, n as usize);
     count_words::put_count(count, words)
+}
+
+// The row index of a stream, in the first places of three columns: first row, byte offset and rows of each run.
+#[no_mangle]
+pub extern "C" fn orc_build_index(
+    input: &[u8],
+    first: &mut [u64],
+    at: &mut [u64],
+    counts: &mut [u64],
+    words: &mut [u64],
+) -> u64
+    ensures { λ r. ⌜ IndexTold (now (input .entry)) (now (first .entry)) (now (at .entry)) (now (counts .entry)) (now (first .exit)) (now (at .exit)) (now (counts .exit)) (now (words .entry)) (now (words .exit)) r ⌝ }
+{
+    if words.len() < index_words::BUILT_COUNT {
+        return words::TOO_FEW;
+    }
+    let built = index::build(input, first, at, counts);
+    index_words::put_built(built, words)
+}
+
+// The entry of an index that holds a row. The columns have an entry's place for each run, and no other.
+#[no_mangle]
+pub extern "C" fn orc_look_up(
+    input: &[u8],
+    first: &[u64],
+    at: &[u64],
+    counts: &[u64],
+    row: u64,
+    words: &mut [u64],
+) -> u64
+    ensures { λ r. ⌜ LookUpTold (now (input .entry)) (record { firsts = now (first .entry); offsets = now (at .entry); counts = now (counts .entry) }) row (now (words .entry)) (now (words .exit)) r ⌝ }
+{
+    if words.len() < index_words::FOUND_COUNT {
+        return words::TOO_FEW;
+    }
+    let found = index::look_up(input, first, at, counts, RowNumber { rows: row as usize });
+    index_words::put_found(found, words)
+}
+
+// The rows of a stream from a row on, through its index, in the first of the rows lent.
+#[no_mangle]
+pub extern "C" fn orc_read_from(
+    input: &[u8],
+    first: &[u64],
+    at: &[u64],
+    counts: &[u64],
+    row: u64,
+    flag: u64,
+    rows: &mut [i64],
+    words: &mut [u64],
+) -> u64
+    ensures { λ r. ⌜ ReadFromTold (now (input .entry)) (record { firsts = now (first .entry); offsets = now (at .entry); counts = now (counts .entry) }) row flag (now (rows .entry)) (now (rows .exit)) (now (words .entry)) (now (words .exit)) r ⌝ }
+{
+    if words.len() < index_words::PREVIEW_COUNT {
+        return words::TOO_FEW;
+    }
+    let from = RowNumber { rows: row as usize };
+    let preview = index::read_from(input, first, at, counts, from, flag != 0, rows);
+    index_words::put_preview(preview, words)
 }

@@ -29,5 +29,8 @@ pub mod Parts
 pub mod PartsFollow
 pub mod PartsDelivered
 pub mod PartsSample
+-- one flipped byte
+pub mod FlippedFields
+pub mod FlippedByte
 -- any two outcomes are equal
 pub mod Outcomes

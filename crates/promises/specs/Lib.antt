@@ -18,5 +18,6 @@ pub mod BrokeOff
 pub mod Longest
 pub mod Patched
 pub mod Parts
+pub mod FlippedByte
 -- any two outcomes are equal
 pub mod Outcomes

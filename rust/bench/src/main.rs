@@ -5,6 +5,8 @@
 
 mod booleans;
 mod cases;
+#[cfg(feature = "ours")]
+mod index;
 mod measure;
 #[cfg(feature = "ours")]
 mod ours;
@@ -86,6 +88,12 @@ fn main() -> ExitCode {
         columns.push((case, times));
     }
     let tables = table::markdown(&rows, &flags, &columns);
+    #[cfg(feature = "ours")]
+    let tables = {
+        eprintln!("the index");
+        let cases: Vec<_> = rows.iter().map(|row| &row.case).collect();
+        tables + &index::markdown(&index::build(&cases, samples), &index::end(samples))
+    };
     println!("{tables}");
     if mode != Mode::Write {
         return ExitCode::SUCCESS;

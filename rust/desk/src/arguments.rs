@@ -40,6 +40,16 @@ impl Arguments {
         Ok(Some(value))
     }
 
+    /// Takes an option whose value is a number that counts something.
+    pub fn number(&mut self, name: &str) -> Result<Option<u64>, Failure> {
+        let Some(value) = self.value(name)? else { return Ok(None) };
+        let value = value.to_string_lossy();
+        match value.parse() {
+            Ok(number) => Ok(Some(number)),
+            Err(_) => Err(Failure::Usage(format!("{name} wants a number, 0 or more, and {value} is none"))),
+        }
+    }
+
     /// The one name that is left, and nothing else.
     pub fn name(self, what: &str) -> Result<OsString, Failure> {
         let option = |argument: &&OsString| {

@@ -1,7 +1,7 @@
 //! A stream's runs, one after another, from a file of any size: only a window of it is held.
 use std::io::{ErrorKind, Read};
 
-use menakovitsy::{ByteOffset, Column, Refused, Run, Sign, StreamRefused, MAX_RUN_BYTES};
+use menakovitsy::{ByteOffset, Column, Index, Refused, RowNumber, Run, Sign, StreamRefused, MAX_RUN_BYTES};
 
 use crate::ended::Failure;
 
@@ -19,24 +19,51 @@ pub struct RunAt<'r> {
     pub rows: &'r [i64],
 }
 
-/// What a walk came to: the runs that were read, and where it broke off.
+/// So many runs, with so many rows and bytes.
+#[derive(Debug, Clone, Copy, Default, PartialEq, Eq)]
+pub struct Passed {
+    pub runs: u64,
+    pub rows: u64,
+    pub bytes: u64,
+}
+
+/// What a walk came to: the runs that were read or passed over, and where it broke off.
 #[derive(Debug, Clone, Copy, Default)]
 pub struct Walked {
     pub runs: u64,
     pub rows: u64,
     /// The bytes of the runs that were read.
     pub bytes: u64,
+    /// Those before the one that holds the first row that was asked for: none of their rows was read.
+    pub passed: Passed,
     /// The refusal of the run behind them, its bytes counted from the file's first.
     pub refused: Option<Refused>,
     /// How many bytes were taken from the input that are none of a run's.
     pub held: u64,
 }
 
-/// Walks over all runs of an input. `name` is the input's, for a person.
+impl Walked {
+    fn pass(&mut self, Passed { runs, rows, bytes }: Passed) {
+        for (all, more) in [
+            (&mut self.runs, runs),
+            (&mut self.rows, rows),
+            (&mut self.bytes, bytes),
+            (&mut self.passed.runs, runs),
+            (&mut self.passed.rows, rows),
+            (&mut self.passed.bytes, bytes),
+        ] {
+            *all += more;
+        }
+    }
+}
+
+/// Walks over the runs of an input, from the one that holds row `from` on. `name` is the input's, for a
+/// person.
 pub fn walk(
     input: &mut impl Read,
     name: &str,
     sign: Sign,
+    from: u64,
     mut each: impl FnMut(RunAt) -> Result<(), Failure>,
 ) -> Result<Walked, Failure> {
     let mut window = vec![0; WINDOW];
@@ -45,7 +72,10 @@ pub fn walk(
     loop {
         let ended = fill(input, &mut window, &mut held).map_err(Failure::unreadable(name))?;
         let before = walked;
-        let mut runs = Column::new(&window[..held], sign).runs();
+        let passed = passed(&window[..held], from.saturating_sub(walked.rows));
+        walked.pass(passed);
+        let begin = ByteOffset(passed.bytes as usize);
+        let mut runs = Column::new(&window[..held], sign).starting_at(begin).runs();
         // A run that begins further on may go on behind the window: it waits for the next.
         while ended || held - runs.position().0 >= MAX_RUN_BYTES {
             let (at, first) = (before.bytes + runs.position().0 as u64, walked.rows);
@@ -67,6 +97,33 @@ pub fn walk(
         let taken = runs.position().0;
         window.copy_within(taken..held, 0);
         held -= taken;
+    }
+}
+
+/// The runs of a window before the one that holds a row, by the window's index; all, where none does.
+fn passed(window: &[u8], row: u64) -> Passed {
+    if row == 0 {
+        return Passed::default();
+    }
+    // Where a run is refused, or goes on behind the window, those before it have an index.
+    let (whole, index) = match Index::build(window) {
+        Ok(index) => (window, Ok(index)),
+        Err(refused) => {
+            let before = window.get(..refused.at.0).unwrap_or_default();
+            (before, Index::build(before))
+        }
+    };
+    let Ok(index) = index else { return Passed::default() };
+    let [firsts, ..] = index.columns();
+    match index.look_up(whole, RowNumber(row as usize)) {
+        Ok(entry) => Passed {
+            runs: firsts.partition_point(|first| *first < entry.first.0 as u64) as u64,
+            rows: entry.first.0 as u64,
+            bytes: entry.at.0 as u64,
+        },
+        Err(_) => {
+            Passed { runs: firsts.len() as u64, rows: index.rows().0 as u64, bytes: whole.len() as u64 }
+        }
     }
 }
 

@@ -136,7 +136,8 @@ impl Requests {
         self.ask(line.into(), "bad line".into());
     }
 
-    fn ask(&mut self, line: String, expected: String) {
+    /// A line, and the line that answers it.
+    pub(crate) fn ask(&mut self, line: String, expected: String) {
         self.lines.push((line, expected));
     }
 
@@ -211,7 +212,7 @@ impl Probe {
     }
 }
 
-fn refused(Refusal { number, place, cut }: Refusal) -> String {
+pub(crate) fn refused(Refusal { number, place, cut }: Refusal) -> String {
     match cut {
         None => format!("refused {number} {place}"),
         Some(byte) => format!("refused {number} {place} cut {byte}"),
@@ -258,7 +259,7 @@ fn with_numbers(mut line: String, rows: &[i64]) -> String {
     line
 }
 
-fn with_rows(mut line: String, rows: &[i64]) -> String {
+pub(crate) fn with_rows(mut line: String, rows: &[i64]) -> String {
     for row in rows {
         write!(line, " {row}").expect("a string takes it");
     }

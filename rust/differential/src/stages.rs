@@ -1,6 +1,7 @@
 //! What is compared, stage by stage.
 pub mod count;
 mod cuts;
+pub mod index;
 pub mod labels;
 mod lines;
 pub mod parts;

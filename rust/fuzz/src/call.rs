@@ -1,7 +1,10 @@
 //! A call, and what the model of documents 01 and 02 answers it.
+mod indexed;
+
 use differential::frames;
 use differential::random::Random;
 use differential::stages::count;
+use differential::stages::index;
 use differential::stages::labels::{self, Asked};
 use differential::stages::patched_runs::any_patched_rows;
 use menakovitsy::exported::{
@@ -29,6 +32,7 @@ pub enum Call {
     Part(parts::Asked),
     PartStart { state: usize },
     Count { input: Vec<u8>, n: u64 },
+    Index(index::Asked),
 }
 
 /// What a call comes to: what it returns, its words (none where it is lent too few, or takes none),
@@ -39,6 +43,23 @@ pub struct Outcome {
     pub words: Vec<u64>,
     pub rows: Vec<i64>,
     pub bytes: Vec<u8>,
+    pub columns: [Vec<u64>; 3],
+}
+
+/// What a call is lent: what it is given to read, and how many places it may write to.
+#[derive(Debug, Clone, Copy, Default)]
+pub struct Lending<'a> {
+    pub input: &'a [u8],
+    pub given: &'a [i64],
+    /// What only a label is asked of, beside the lengths and the block.
+    pub numbers: &'a [i64],
+    pub flags: &'a [u8],
+    pub fallback: &'a [u8],
+    /// Columns that are read; and how many places those have that are written.
+    pub columns: [&'a [u64]; 3],
+    pub lent_columns: [usize; 3],
+    pub rows: usize,
+    pub bytes: usize,
 }
 
 impl Outcome {
@@ -54,6 +75,11 @@ impl Outcome {
 
     fn refused(refusal: Refusal) -> Self {
         Self::counted(refusal, 0, 0)
+    }
+
+    /// Of words of its own.
+    fn done(words: &[u64]) -> Self {
+        Outcome { returned: words[1], words: words.to_vec(), ..Outcome::default() }
     }
 
     fn read(run: Info) -> Self {
@@ -94,7 +120,7 @@ impl Call {
     pub fn any(random: &mut Random) -> Self {
         let flag = if random.once_in(8) { random.any() } else { random.below(2) as u64 };
         let places = random.pick(&[0, 1, 5, 12, 64, 512, 1000]);
-        match random.below(25) {
+        match random.below(28) {
             0..=1 => {
                 let bytes = 8 * places + if random.once_in(2) { random.below(8) } else { 0 };
                 Call::Run { input: frames::any_frame(random), flag, bytes: bytes.min(MOST) }
@@ -129,6 +155,7 @@ impl Call {
                 let (input, n) = count::any(random);
                 Call::Count { input, n }
             }
+            24..=26 => Call::Index(index::any(random)),
             _ => {
                 let shift = random.below(64);
                 Call::Narrowest { number: random.any() >> shift }
@@ -173,6 +200,7 @@ impl Call {
             Call::Part(asked) => asked.function(),
             Call::PartStart { .. } => "orc_part_start",
             Call::Count { .. } => "orc_count_true",
+            Call::Index(asked) => indexed::function(asked).0,
         }
     }
 
@@ -184,6 +212,7 @@ impl Call {
             Call::Label(_) => LABEL_WORDS,
             Call::Part(_) => PART_WORDS,
             Call::Count { .. } => COUNT_WORDS,
+            Call::Index(asked) => indexed::function(asked).1,
             _ => WORDS,
         }
     }
@@ -198,6 +227,33 @@ impl Call {
                 (vec![1; *state], [vec![0; STATE_WORDS], behind].concat())
             }
             _ => (vec![], vec![]),
+        }
+    }
+
+    /// What it is lent, but for the words.
+    pub fn lending(&self) -> Lending<'_> {
+        let none = Lending::default();
+        match self {
+            Call::Run { input, bytes, .. } => Lending { input, bytes: *bytes, ..none },
+            Call::RunAt { input, places, .. } | Call::Stream { input, places, .. } => {
+                Lending { input, rows: *places, ..none }
+            }
+            Call::Booleans { input, places, .. } => Lending { input, bytes: *places, ..none },
+            Call::Value { input, .. } | Call::Count { input, .. } => Lending { input, ..none },
+            Call::Write { rows, places, .. } | Call::Patched { rows, places, .. } => {
+                Lending { given: rows, bytes: *places, ..none }
+            }
+            Call::Narrowest { .. } | Call::PartStart { .. } => none,
+            Call::Part(asked) => Lending {
+                input: asked.part.as_deref().unwrap_or_default(),
+                rows: asked.places,
+                bytes: asked.held.len(),
+                ..none
+            },
+            Call::Label(Asked { block, lengths, numbers, flags, fallback, .. }) => {
+                Lending { input: block, given: lengths, numbers, flags, fallback, ..none }
+            }
+            Call::Index(asked) => indexed::lending(asked),
         }
     }
 
@@ -256,6 +312,7 @@ impl Call {
                 Outcome { returned, ..Outcome::default() }
             }
             Call::Count { input, n } => counted(input, *n),
+            Call::Index(asked) => indexed::outcome(asked),
             Call::Narrowest { number } => {
                 Outcome { returned: u64::from(model::narrowest_code(*number)), ..Outcome::default() }
             }

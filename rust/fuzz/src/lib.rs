@@ -11,8 +11,9 @@ pub mod watch;
 use std::collections::BTreeMap;
 use std::ptr;
 
-use call::{Call, Outcome, MOST};
+use call::{Call, Lending, Outcome, MOST};
 use differential::random::Random;
+use differential::stages::index::What;
 use fence::{Fenced, Side};
 use menakovitsy::exported::{self, STATE_WORDS, STREAM_WORDS};
 
@@ -27,6 +28,8 @@ pub struct Session {
     numbers: Fenced<i64>,
     flags: Fenced<u8>,
     fallback: Fenced<u8>,
+    /// Columns of numbers, which are read or written.
+    columns: [Fenced<u64>; 3],
     rows: Fenced<i64>,
     bytes: Fenced<u8>,
     words: Fenced<u64>,
@@ -45,6 +48,7 @@ impl Default for Session {
             numbers: Fenced::new(MOST),
             flags: Fenced::new(MOST),
             fallback: Fenced::new(MOST),
+            columns: [(); 3].map(|()| Fenced::new(MOST)),
             rows: Fenced::new(MOST),
             bytes: Fenced::new(MOST),
             words: Fenced::new(STREAM_WORDS + 8),
@@ -58,14 +62,6 @@ impl Default for Session {
 fn lent<T: fence::Mark>(slice: &Fenced<T>, null: bool) -> (*mut T, usize) {
     let pointer = if null && slice.is_empty() { ptr::null_mut() } else { slice.pointer() };
     (pointer, slice.len())
-}
-
-/// What only a label is asked of: empty for any other call.
-fn only_labels(call: &Call) -> (&[i64], &[u8], &[u8]) {
-    match call {
-        Call::Label(asked) => (&asked.numbers, &asked.flags, &asked.fallback),
-        _ => (&[], &[], &[]),
-    }
 }
 
 impl Session {
@@ -96,27 +92,20 @@ impl Session {
     /// Lends the slices, each against the fence of a random side, and makes the call.
     fn made(&mut self, call: &Call, words: usize, state: &[u64], random: &mut Random) -> u64 {
         let mut side = || if random.once_in(4) { Side::Before } else { Side::Behind };
-        let (input, rows, places, bytes): (&[u8], &[i64], usize, usize) = match call {
-            Call::Run { input, bytes, .. } => (input, &[], 0, *bytes),
-            Call::RunAt { input, places, .. } | Call::Stream { input, places, .. } => {
-                (input, &[], *places, 0)
-            }
-            Call::Booleans { input, places, .. } => (input, &[], 0, *places),
-            Call::Value { input, .. } | Call::Count { input, .. } => (input, &[], 0, 0),
-            Call::Write { rows, places, .. } | Call::Patched { rows, places, .. } => (&[], rows, 0, *places),
-            Call::Narrowest { .. } | Call::PartStart { .. } => (&[], &[], 0, 0),
-            Call::Part(asked) => {
-                (asked.part.as_deref().unwrap_or_default(), &[], asked.places, asked.held.len())
-            }
-            Call::Label(asked) => (&asked.block, &asked.lengths, 0, 0),
-        };
-        let (numbers, flags, fallback) = only_labels(call);
+        let Lending { input, given, numbers, flags, fallback, columns, lent_columns, rows, bytes } =
+            call.lending();
         self.input.holding(input, side());
-        self.given.holding(rows, side());
+        self.given.holding(given, side());
         self.numbers.holding(numbers, side());
         self.flags.holding(flags, side());
         self.fallback.holding(fallback, side());
-        self.rows.places(places, side());
+        for ((fenced, held), places) in self.columns.iter_mut().zip(columns).zip(lent_columns) {
+            match held {
+                [] => fenced.places(places, side()),
+                held => fenced.holding(held, side()),
+            };
+        }
+        self.rows.places(rows, side());
         self.bytes.places(bytes, side());
         self.words.places(words, side());
         self.state.holding(state, side());
@@ -133,6 +122,7 @@ impl Session {
         let (b, bl) = lent(&self.bytes, null);
         let (w, wl) = lent(&self.words, null);
         let (s, sl) = lent(&self.state, null);
+        let [(x, xl), (y, yl), (z, zl)] = self.columns.each_ref().map(|column| lent(column, null));
         // SAFETY: the pointers are of mapped pages, of these lengths, and none is borrowed meanwhile.
         unsafe {
             match *call {
@@ -144,6 +134,13 @@ impl Session {
                 }
                 Call::Part(ref asked) => exported::orc_part_close(s, sl, b, bl, asked.flag, r, rl, w, wl),
                 Call::PartStart { .. } => exported::orc_part_start(s, sl),
+                Call::Index(ref asked) => match asked.what {
+                    What::Build(_) => exported::orc_build_index(i, il, x, xl, y, yl, z, zl, w, wl),
+                    What::LookUp { row } => exported::orc_look_up(i, il, x, xl, y, yl, z, zl, row, w, wl),
+                    What::ReadFrom { row, flag, .. } => {
+                        exported::orc_read_from(i, il, x, xl, y, yl, z, zl, row, flag, r, rl, w, wl)
+                    }
+                },
                 Call::Run { flag, .. } => exported::orc_read_run(i, il, b, bl, flag),
                 Call::RunAt { at, flag, .. } => exported::orc_read_run_at(i, il, at, flag, r, rl, w, wl),
                 Call::Stream { at, flag, .. } => exported::orc_read_stream(i, il, at, flag, r, rl, w, wl),
@@ -163,28 +160,25 @@ impl Session {
 
     /// Holds what a call left behind to what it must.
     fn held(&self, call: &Call, returned: u64, expected: &Outcome, state: &[u64]) -> Result<(), String> {
-        let kept = match call {
-            Call::Run { input, .. }
-            | Call::RunAt { input, .. }
-            | Call::Stream { input, .. }
-            | Call::Booleans { input, .. }
-            | Call::Value { input, .. }
-            | Call::Count { input, .. } => self.input.is(input) && self.given.is(&[]),
-            Call::Write { rows, .. } | Call::Patched { rows, .. } => {
-                self.given.is(rows) && self.input.is(&[])
-            }
-            Call::Narrowest { .. } | Call::PartStart { .. } => true,
-            Call::Part(asked) => self.input.is(asked.part.as_deref().unwrap_or_default()),
-            Call::Label(asked) => self.given.is(&asked.lengths) && self.input.is(&asked.block),
-        };
-        let (numbers, flags, fallback) = only_labels(call);
-        let kept = kept && self.numbers.is(numbers) && self.flags.is(flags) && self.fallback.is(fallback);
+        let lending = call.lending();
+        let kept = self.input.is(lending.input)
+            && self.given.is(lending.given)
+            && self.numbers.is(lending.numbers)
+            && self.flags.is(lending.flags)
+            && self.fallback.is(lending.fallback);
+        // A column is what it was given with, or what the call has written into it.
+        let mut columns = self.columns.iter().zip(lending.columns).zip(&expected.columns);
+        let columns = columns.all(|((fenced, held), written)| match held {
+            [] => fenced.is(written),
+            held => fenced.is(held),
+        });
         let right = [
             (returned == expected.returned, "what it returned"),
             (self.words.is(&expected.words), "its words"),
             (self.rows.is(&expected.rows), "its rows"),
             (self.bytes.is(&expected.bytes), "its bytes"),
             (self.state.is(state), "its state"),
+            (columns, "its columns"),
             (kept, "what it was given to read"),
         ];
         match right.iter().find(|(right, _)| !right) {

@@ -74,7 +74,10 @@ impl Asked {
         let mut state = State::of(&self.state);
         let mut bytes = self.held.clone();
         let (said, rows) = self.answered(&mut state, &mut bytes);
-        (Outcome { returned: said[1], words: said.to_vec(), rows, bytes }, state.words())
+        (
+            Outcome { returned: said[1], words: said.to_vec(), rows, bytes, ..Outcome::default() },
+            state.words(),
+        )
     }
 
     fn answered(&self, state: &mut State, bytes: &mut [u8]) -> Said {

@@ -3,7 +3,7 @@
 use std::error::Error;
 use std::fmt;
 
-use crate::exported::{case, count_word, kind, label_word, word, TOO_FEW_WORDS};
+use crate::exported::{case, kind, label_word, word, TOO_FEW_WORDS};
 use crate::{ByteOffset, Refusal, RowNumber};
 
 /// The kind of what was read or written.
@@ -195,18 +195,16 @@ impl Words {
         }
     }
 
-    /// How many booleans are true, of so many; or the refusal.
-    pub fn count(&self, most: usize) -> Result<usize, Refused> {
-        let count = self.lent[count_word::TRUE] as usize;
-        match self.lent[word::CASE] {
-            case::READ if self.number == 0 && count <= most => Ok(count),
+    /// That an answer with words of its own refuses nothing; or its refusal. `cut` is the word that says
+    /// whether a field is cut, with its byte behind it, where the answer has such.
+    pub fn accepted(&self, cut: Option<usize>) -> Result<(), Refused> {
+        let at = |place: usize| self.lent.get(place).copied().unwrap_or_default();
+        match at(word::CASE) {
+            case::READ if self.number == 0 => Ok(()),
             case::REFUSED if self.number != TOO_FEW_WORDS => {
-                let byte = ByteOffset(self.lent[count_word::CUT_AT] as usize);
-                Err(Refused {
-                    refusal: Refusal::of_number(self.lent[word::NUMBER]),
-                    at: ByteOffset(self.lent[word::PLACE] as usize),
-                    cut: (self.lent[count_word::CUT] == 1).then_some(byte),
-                })
+                let cut = cut.filter(|cut| at(*cut) == 1).map(|cut| ByteOffset(at(cut + 1) as usize));
+                let refusal = Refusal::of_number(at(word::NUMBER));
+                Err(Refused { refusal, at: ByteOffset(at(word::PLACE) as usize), cut })
             }
             _ => Err(self.unknown()),
         }
@@ -330,6 +328,22 @@ mod tests {
         assert_eq!(later.meaning(), "the field that begins at byte 7 is cut");
         let none = words(5, &[2, 5, 3, 0, 0, 0, 0, 0]).one_run().unwrap_err();
         assert_eq!((none.cut, none.meaning().as_str()), (None, Refusal::VarintTooLong.meaning()));
+    }
+
+    /// An answer with words of its own: accepted, refused with a cut field and without, and what is none.
+    #[test]
+    fn words_of_its_own() {
+        assert_eq!(words(0, &[1, 0, 0, 7]).accepted(None), Ok(()));
+        let refused = words(13, &[2, 13, 4, 0, 0, 1, 6]);
+        let cut = Refused { refusal: Refusal::RowsCut, at: ByteOffset(4), cut: Some(ByteOffset(6)) };
+        assert_eq!(refused.accepted(Some(5)), Err(cut));
+        assert_eq!(refused.accepted(None), Err(Refused { cut: None, ..cut }));
+        for (number, first) in
+            [(0, &[0][..]), (0, &[3]), (4, &[1]), (TOO_FEW_WORDS, &[]), (TOO_FEW_WORDS, &[2])]
+        {
+            let refusal = words(number, first).accepted(None).unwrap_err().refusal;
+            assert_eq!(refusal, Refusal::Unknown(number));
+        }
     }
 
     /// Counts that pass what was lent are never handed on.

@@ -5,17 +5,16 @@
 //! allowed. Nothing that is written may overlap another argument. Calls share no state.
 //!
 //! A function that takes words writes its whole answer into the first [`WORDS`] of them, the stream
-//! reader into the first [`STREAM_WORDS`], and a function with words of its own into as many as these
-//! are ([`LABEL_WORDS`], [`PART_WORDS`], [`COUNT_WORDS`]), leaves the others as they were, and returns
-//! the refusal's number, 0 where nothing is refused; lent fewer, it returns [`TOO_FEW_WORDS`] and touches
-//! nothing. What each word means stands in [`word`], and of a function's own words in the module of
-//! their name ([`label_word`], [`part_word`], [`count_word`]).
+//! reader into the first [`STREAM_WORDS`], and those with words of their own into as many as their
+//! constants say ([`LABEL_WORDS`] of `orc_label`, and so on). It leaves the others as they were, and
+//! returns the refusal's number, 0 where nothing is refused; lent fewer, it returns [`TOO_FEW_WORDS`] and
+//! touches nothing. What each word means stands in [`word`], and of those in the modules beside it.
 //!
 //! The reader in parts keeps nothing either: its state stands in the first [`STATE_WORDS`] of the words
 //! that the caller keeps for it, and the bytes of the unfinished run in the [`MAX_RUN_BYTES`] lent.
 
 /// The version of these functions that this crate is written for.
-pub const VERSION: u64 = 7;
+pub const VERSION: u64 = 8;
 
 /// How many words an answer has; the stream reader's has [`STREAM_WORDS`].
 pub const WORDS: usize = 9;
@@ -33,6 +32,13 @@ pub const PART_WORDS: usize = 11;
 pub const STATE_WORDS: usize = 7;
 /// How many words an answer of `orc_count_true` has.
 pub const COUNT_WORDS: usize = 6;
+
+/// How many words an answer of `orc_build_index` has, of `orc_look_up`, and of `orc_read_from`.
+pub const INDEX_WORDS: usize = 8;
+/// See [`INDEX_WORDS`].
+pub const ENTRY_WORDS: usize = 6;
+/// See [`INDEX_WORDS`].
+pub const ROWS_FROM_WORDS: usize = 4;
 
 /// What a function returns that was lent fewer words than its answer has.
 pub const TOO_FEW_WORDS: u64 = u64::MAX;
@@ -106,12 +112,35 @@ pub mod count_word {
     pub const CUT_AT: usize = 5;
 }
 
+/// The word of a built index that is none of [`word`]: the others, rows and bytes and the cut field
+/// among them, are.
+pub mod index_word {
+    /// How many entries there are, in the first places of each column; 0 where refused.
+    pub const ENTRIES: usize = 3;
+}
+
+/// The words of a looked-up entry behind the case, the refusal's number and its place.
+pub mod entry_word {
+    /// The number of its run's first row, 0 where refused.
+    pub const FIRST: usize = 3;
+    /// The byte that the run begins at, 0 where refused.
+    pub const AT: usize = 4;
+    /// How many rows it has, 0 where refused.
+    pub const ROWS: usize = 5;
+}
+
+/// The word of `orc_read_from` behind the case, the refusal's number and its place.
+pub mod rows_from_word {
+    /// How many rows there are, in the first places; 0 where refused.
+    pub const ROWS: usize = 3;
+}
+
 /// What the word `CASE` may hold.
 pub mod case {
     /// The input is empty; of the reader in parts: it is closed, and the column has ended.
     pub const END: u64 = 0;
     /// A run, booleans or a byte value; of the stream reader: the whole stream was read; of a label: a
-    /// name; of a count: it was counted.
+    /// name; of any other: it was done.
     pub const READ: u64 = 1;
     /// A refusal.
     pub const REFUSED: u64 = 2;
@@ -257,6 +286,50 @@ extern "C" {
         packed: *const u8,
         packed_len: usize,
         n: u64,
+        words: *mut u64,
+        words_len: usize,
+    ) -> u64;
+
+    pub fn orc_build_index(
+        input: *const u8,
+        input_len: usize,
+        first: *mut u64,
+        first_len: usize,
+        at: *mut u64,
+        at_len: usize,
+        counts: *mut u64,
+        counts_len: usize,
+        words: *mut u64,
+        words_len: usize,
+    ) -> u64;
+
+    pub fn orc_look_up(
+        input: *const u8,
+        input_len: usize,
+        first: *const u64,
+        first_len: usize,
+        at: *const u64,
+        at_len: usize,
+        counts: *const u64,
+        counts_len: usize,
+        row: u64,
+        words: *mut u64,
+        words_len: usize,
+    ) -> u64;
+
+    pub fn orc_read_from(
+        input: *const u8,
+        input_len: usize,
+        first: *const u64,
+        first_len: usize,
+        at: *const u64,
+        at_len: usize,
+        counts: *const u64,
+        counts_len: usize,
+        row: u64,
+        flag: u64,
+        rows: *mut i64,
+        rows_len: usize,
         words: *mut u64,
         words_len: usize,
     ) -> u64;

@@ -13,6 +13,7 @@
 //! | a column of flags | [`read_booleans`] |
 //! | how many flags are true, packed eight to a byte | [`count_true`] |
 //! | a byte value, as a part of the input | [`byte_value`] |
+//! | an index beside a column, to start at any row | [`Index`]: [`build`](Index::build), [`look_up`](Index::look_up), [`rows_from`](Index::rows_from) |
 //! | the name of a row, by a dictionary | [`label`] |
 //! | a run written | [`write_run`], [`write_patched`], [`narrowest_code`] |
 //! | the library that is linked | [`check_version`], [`library_version`] |
@@ -43,6 +44,7 @@ compile_error!("libloader.a is for a little-endian processor with 64-bit pointer
 mod answers;
 mod column;
 pub mod exported;
+mod index;
 mod labels;
 mod library;
 mod ones;
@@ -55,6 +57,7 @@ mod version;
 pub use answers::{Kind, Refused, Run, Stream, StreamRefused};
 pub use column::{Column, Rows, RunAt, Runs};
 pub use exported::{MAX_ROWS, MAX_RUN_BYTES};
+pub use index::{Entry, Index};
 pub use labels::{label, Dictionary, Label};
 pub use library::{
     byte_value, library_version, narrowest_code, read_booleans, read_run, read_run_bytes, read_stream,

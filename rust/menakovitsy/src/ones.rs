@@ -1,6 +1,7 @@
 //! How many booleans are true, of booleans packed eight to a byte.
 use crate::answers::Words;
-use crate::{exported, Refused};
+use crate::exported::{self, count_word};
+use crate::Refused;
 
 /// How many of the first n booleans are true, packed eight to a byte, the highest bit first. Ones are
 /// counted a byte at a time, and of the last byte only the bits that are asked for.
@@ -29,5 +30,11 @@ pub fn count_true(packed: &[u8], n: usize) -> Result<usize, Refused> {
             words.lent.len(),
         )
     };
-    words.count(n)
+    words.accepted(Some(count_word::CUT))?;
+    let count = words.lent[count_word::TRUE] as usize;
+    // Whatever library is linked, no more are true than were asked of.
+    if count > n {
+        return Err(words.unknown());
+    }
+    Ok(count)
 }

@@ -2,8 +2,8 @@
 use std::error::Error;
 use std::fmt;
 
-/// A refusal, by its number. Readers give 1 to 8 and 12 to 14; 9 to 11 are the run writer's; labels are
-/// refused with 16, 18 and 19.
+/// A refusal, by its number. Readers give 1 to 8 and 12 to 14; 9 to 11 are the run writer's; a caller's
+/// index is refused with 15, a row with 16; labels with 16, 18 and 19.
 #[derive(Debug, Clone, Copy, PartialEq, Eq, Hash)]
 #[non_exhaustive]
 pub enum Refusal {
@@ -36,6 +36,8 @@ pub enum Refusal {
     RowsCut,
     /// 14: a patch list is cut.
     ListCut,
+    /// 15: the index is not the column's, or its columns have unequal lengths.
+    WrongIndex,
     /// 16: there is no such row.
     NoSuchRow,
     /// 18: a length of the dictionary is below 0, or they do not add up to its block.
@@ -49,7 +51,7 @@ pub enum Refusal {
 
 impl Refusal {
     /// All that have a number of their own, in the order of the numbers.
-    pub const ALL: [Refusal; 17] = [
+    pub const ALL: [Refusal; 18] = [
         Refusal::HeaderCut,
         Refusal::EntryOver64,
         Refusal::PatchTooLarge,
@@ -64,6 +66,7 @@ impl Refusal {
         Refusal::VarintCut,
         Refusal::RowsCut,
         Refusal::ListCut,
+        Refusal::WrongIndex,
         Refusal::NoSuchRow,
         Refusal::LengthsNotTheBlock,
         Refusal::NoSuchName,
@@ -87,6 +90,7 @@ impl Refusal {
             Refusal::VarintCut => 12,
             Refusal::RowsCut => 13,
             Refusal::ListCut => 14,
+            Refusal::WrongIndex => 15,
             Refusal::NoSuchRow => 16,
             Refusal::LengthsNotTheBlock => 18,
             Refusal::NoSuchName => 19,
@@ -123,6 +127,7 @@ impl Refusal {
             Refusal::VarintCut => "a varint is cut",
             Refusal::RowsCut => "a block of packed rows or of bytes is cut",
             Refusal::ListCut => "a patch list is cut",
+            Refusal::WrongIndex => "the index is not this column's, or its columns have unequal lengths",
             Refusal::NoSuchRow => "there is no such row",
             Refusal::LengthsNotTheBlock => {
                 "dictionary: a length is below 0, or the lengths do not add up to the block"
@@ -180,7 +185,8 @@ impl Refusal {
             }
             Refusal::NotTheForm => "choose another form or width",
             Refusal::TooNarrow => "choose a wider width",
-            Refusal::NoSuchRow => "ask for a row below the number of flags",
+            Refusal::WrongIndex => "build the index again; where that is refused, the column is damaged",
+            Refusal::NoSuchRow => "ask for a row below the number of rows (of labels: of flags)",
             Refusal::LengthsNotTheBlock => {
                 "give the lengths and the block of one dictionary, both whole; if they are, the file is damaged"
             }

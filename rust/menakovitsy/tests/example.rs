@@ -27,3 +27,22 @@ wrong)
 fn chunk_table() {
     assert_eq!(chunk_table::report(), EXPECTED);
 }
+
+#[path = "../examples/preview.rs"]
+mod preview;
+
+/// Four runs of 500 chunks: two bytes of header each, 22,050 as a step in three, and the first rows 0,
+/// 11,025,000, 22,050,000 and 33,075,000 in one, four, four and four. Chunk 1,234 begins 1,234 times
+/// 22,050 samples on.
+const PREVIEW: &str = "\
+33 bytes, 4 runs, 2000 chunks
+chunk 1234 is in the run at byte 15, whose first is chunk 1000
+the preview begins at sample 27209700: 766 chunks are left
+chunk 2000: at byte 0: refusal 16: there is no such row (ask for a row below the number of rows (of labels: of \
+flags))
+";
+
+#[test]
+fn start_at_a_chunk() {
+    assert_eq!(preview::report().as_deref(), Ok(PREVIEW));
+}

@@ -4,7 +4,9 @@ use std::path::{Path, PathBuf};
 use std::process::Command;
 use std::{env, fs};
 
-use menakovitsy::exported::{self, case, count_word, kind, label_word, part_word, word};
+use menakovitsy::exported::{
+    self, case, count_word, entry_word, index_word, kind, label_word, part_word, rows_from_word, word,
+};
 use menakovitsy::Refusal;
 
 const HEADER: &str = include_str!("../menakovitsy.h");
@@ -34,6 +36,9 @@ fn the_header_has_the_same_numbers() {
     has(&format!("#define ORC_PART_WORDS {}\n", exported::PART_WORDS));
     has(&format!("#define ORC_STATE_WORDS {}\n", exported::STATE_WORDS));
     has(&format!("#define ORC_COUNT_WORDS {}\n", exported::COUNT_WORDS));
+    has(&format!("#define ORC_INDEX_WORDS {}\n", exported::INDEX_WORDS));
+    has(&format!("#define ORC_ENTRY_WORDS {}\n", exported::ENTRY_WORDS));
+    has(&format!("#define ORC_ROWS_FROM_WORDS {}\n", exported::ROWS_FROM_WORDS));
     has("#define ORC_TOO_FEW_WORDS UINT64_MAX\n");
     has(&format!("#define ORC_MAX_ROWS {}\n", exported::MAX_ROWS));
     has(&format!("#define ORC_MAX_RUN_BYTES {}\n", exported::MAX_RUN_BYTES));
@@ -59,6 +64,11 @@ fn the_header_has_the_same_numbers() {
         ("COUNT_TRUE", count_word::TRUE),
         ("COUNT_CUT", count_word::CUT),
         ("COUNT_CUT_AT", count_word::CUT_AT),
+        ("INDEX_ENTRIES", index_word::ENTRIES),
+        ("ENTRY_FIRST", entry_word::FIRST),
+        ("ENTRY_AT", entry_word::AT),
+        ("ENTRY_ROWS", entry_word::ROWS),
+        ("ROWS_FROM_ROWS", rows_from_word::ROWS),
     ] {
         has(&format!("    ORC_{name} = {place}"));
     }

@@ -67,6 +67,7 @@ fn refusals_in_their_order() {
     }
     assert_eq!(
         label(STEMS, RowNumber(7), FALLBACK).unwrap_err().to_string(),
-        "at byte 0: refusal 16: there is no such row (ask for a row below the number of flags)"
+        "at byte 0: refusal 16: there is no such row (ask for a row below the number of rows (of labels: of \
+         flags))"
     );
 }

@@ -309,7 +309,7 @@ fn the_one_number() {
     }
     let counts = unpack(65_536 * 4098 + 512).unwrap().unwrap();
     assert_eq!((counts.rows, counts.bytes), (RowNumber(512), ByteOffset(4098)));
-    for none in [15, 65_535, 65_536, 65_536 + 513] {
+    for none in [17, 65_535, 65_536, 65_536 + 513] {
         assert_eq!(unpack(none), Err(Refusal::Unknown(none)));
     }
 }
@@ -317,12 +317,12 @@ fn the_one_number() {
 /// Each has its number, and each text says what to do.
 #[test]
 fn refusals_by_their_numbers() {
-    let numbers = (1..=14).chain([16, 18, 19]);
+    let numbers = (1..=16).chain([18, 19]);
     assert_eq!(numbers.clone().count(), Refusal::ALL.len());
     for (number, refusal) in numbers.zip(Refusal::ALL) {
         assert_eq!((refusal.number(), Refusal::of_number(number)), (number, refusal));
     }
-    for none in [0, 15, 17, 20, u64::MAX] {
+    for none in [0, 17, 20, u64::MAX] {
         assert_eq!(Refusal::of_number(none), Refusal::Unknown(none));
     }
     // Those that more bytes may help, and those of them that name a field.

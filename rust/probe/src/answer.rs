@@ -2,8 +2,7 @@
 use std::fmt::Write as _;
 
 use menakovitsy::exported::{
-    case, count_word, kind, label_word, part_word, word, COUNT_WORDS, LABEL_WORDS, PART_WORDS, STREAM_WORDS,
-    WORDS,
+    case, kind, label_word, part_word, word, LABEL_WORDS, PART_WORDS, STREAM_WORDS, WORDS,
 };
 
 use crate::lent::Lent;
@@ -16,35 +15,33 @@ pub struct Answer {
     returned: u64,
     words: Lent<u64>,
     own: usize,
+    /// The word that says whether a field is cut, with its byte behind it, where the answer has such.
+    cut: Option<usize>,
 }
 
 impl Answer {
     /// Of any function that has no words of its own.
-    /// Of any function but the stream reader, the label and the count.
     pub fn of(call: impl FnOnce(&mut [u64]) -> u64) -> Self {
-        Self::of_words(WORDS, call)
+        Self::of_words(WORDS, Some(word::CUT), call)
     }
 
     pub fn of_stream(call: impl FnOnce(&mut [u64]) -> u64) -> Self {
-        Self::of_words(STREAM_WORDS, call)
+        Self::of_words(STREAM_WORDS, Some(word::CUT), call)
     }
 
     pub fn of_label(call: impl FnOnce(&mut [u64]) -> u64) -> Self {
-        Self::of_words(LABEL_WORDS, call)
+        Self::of_words(LABEL_WORDS, None, call)
     }
 
     pub fn of_part(call: impl FnOnce(&mut [u64]) -> u64) -> Self {
-        Self::of_words(PART_WORDS, call)
+        Self::of_words(PART_WORDS, Some(word::CUT), call)
     }
 
-    pub fn of_count(call: impl FnOnce(&mut [u64]) -> u64) -> Self {
-        Self::of_words(COUNT_WORDS, call)
-    }
-
-    fn of_words(own: usize, call: impl FnOnce(&mut [u64]) -> u64) -> Self {
+    /// Of a function with so many words.
+    pub fn of_words(own: usize, cut: Option<usize>, call: impl FnOnce(&mut [u64]) -> u64) -> Self {
         let mut words = Lent::places(own + MORE);
         let returned = call(words.content_mut());
-        Answer { returned, words, own }
+        Answer { returned, words, own, cut }
     }
 
     pub fn word(&self, place: usize) -> u64 {
@@ -73,14 +70,9 @@ impl Answer {
         match self.case() {
             case::REFUSED => {
                 let refused = format!("refused {} {}", self.word(word::NUMBER), self.word(word::PLACE));
-                let cut = match self.own {
-                    LABEL_WORDS => None,
-                    COUNT_WORDS => Some((count_word::CUT, count_word::CUT_AT)),
-                    _ => Some((word::CUT, word::CUT_AT)),
-                };
-                match cut.filter(|(cut, _)| self.word(*cut) != 0) {
+                match self.cut.filter(|cut| self.word(*cut) != 0) {
                     None => refused,
-                    Some((_, at)) => format!("{refused} cut {}", self.word(at)),
+                    Some(cut) => format!("{refused} cut {}", self.word(cut + 1)),
                 }
             }
             case::END => "end".into(),
@@ -121,9 +113,10 @@ impl Answer {
     /// Whether there is a cut field exactly for the refusals that have one.
     fn cut_fits(&self) -> bool {
         let has_field = self.refused() && [6, 12, 13, 14].contains(&self.word(word::NUMBER));
-        match has_field {
-            true => self.word(word::CUT) == 1,
-            false => self.word(word::CUT) == 0 && self.word(word::CUT_AT) == 0,
+        match self.cut {
+            None => !has_field,
+            Some(cut) if has_field => self.word(cut) == 1,
+            Some(cut) => self.zero(&[cut, cut + 1]),
         }
     }
 
@@ -171,6 +164,19 @@ impl Answer {
         }
     }
 
+    /// Whether the words fit together of an answer that has words of its own behind the place: where it
+    /// is refused, these are 0, but for a cut field's.
+    pub fn own_fits(&self) -> bool {
+        let cut = self.cut.map_or(0..0, |cut| cut..cut + 2);
+        let own: Vec<usize> = (word::PLACE + 1..self.own).filter(|place| !cut.contains(place)).collect();
+        let fits = match self.case() {
+            case::READ => self.zero(&[word::NUMBER, word::PLACE]),
+            case::REFUSED => !self.zero(&[word::NUMBER]) && self.zero(&own),
+            _ => false,
+        };
+        fits && self.returned == self.word(word::NUMBER) && self.cut_fits()
+    }
+
     /// The part of a block, or of the fallback, that a label names; nothing where it is not within.
     pub fn part_of<'a>(&self, block: &'a [u8]) -> Option<&'a [u8]> {
         let [start, size] =
@@ -186,23 +192,6 @@ impl Answer {
             case::READ => self.zero(&[word::NUMBER, word::PLACE]),
             case::FALLBACK => self.zero(&[word::NUMBER, word::PLACE, START]),
             case::REFUSED => !self.zero(&[word::NUMBER]) && self.zero(&[word::PLACE, START, SIZE]),
-            _ => false,
-        };
-        fits && self.returned == self.word(word::NUMBER)
-    }
-
-    /// How many booleans are true.
-    pub fn trues(&self) -> u64 {
-        self.word(count_word::TRUE)
-    }
-
-    /// Whether a count's words fit together: a count has no refusal, and a refusal no count, but a cut
-    /// field.
-    pub fn count_fits(&self) -> bool {
-        use count_word::{CUT, CUT_AT, TRUE};
-        let fits = match self.case() {
-            case::READ => self.zero(&[word::NUMBER, word::PLACE, CUT, CUT_AT]),
-            case::REFUSED => !self.zero(&[word::NUMBER]) && self.zero(&[TRUE]) && self.word(CUT) == 1,
             _ => false,
         };
         fits && self.returned == self.word(word::NUMBER)
@@ -324,24 +313,30 @@ mod tests {
         assert!(!part(5, [2, 5, 9, 0, 0, 0, 0, 0, 0, 1, 0]).part_fits());
     }
 
-    fn counts_that_contradict_themselves_are_odd() {
-        let count = |returned, words: [u64; COUNT_WORDS]| {
-            Answer::of_count(|lent| {
-                lent[..COUNT_WORDS].copy_from_slice(&words);
+    #[test]
+    fn words_of_its_own_that_contradict_each_other_are_odd() {
+        let own = |returned, words: [u64; 7]| {
+            Answer::of_words(7, Some(5), |lent| {
+                lent[..7].copy_from_slice(&words);
                 returned
             })
         };
-        for (returned, words) in [(0, [1, 0, 0, 7, 0, 0]), (6, [2, 6, 0, 0, 1, 0])] {
-            assert!(count(returned, words).count_fits(), "{words:?}");
-            assert!(!count(returned + 1, words).count_fits(), "{words:?}");
-        }
-        for words in [[0; 6], [1, 0, 0, 7, 1, 0], [1, 0, 2, 7, 0, 0], [3, 0, 0, 7, 0, 0], [2, 0, 0, 0, 1, 0]]
+        for (returned, words) in
+            [(0, [1, 0, 0, 3, 9, 0, 0]), (8, [2, 8, 0, 0, 0, 0, 0]), (13, [2, 13, 4, 0, 0, 1, 6])]
         {
-            assert!(!count(0, words).count_fits(), "{words:?}");
+            assert!(own(returned, words).own_fits(), "{words:?}");
+            assert!(!own(returned + 1, words).own_fits(), "{words:?}");
         }
-        assert!(!count(6, [2, 6, 0, 1, 1, 0]).count_fits());
-        assert!(!count(6, [2, 6, 0, 0, 0, 0]).count_fits());
-        assert_eq!(count(6, [2, 6, 0, 0, 1, 0]).say_other(), "refused 6 0 cut 0");
+        // A case that is none, a place or a cut field where there is none, counts of what is refused.
+        for words in [[0; 7], [3, 0, 0, 0, 0, 0, 0], [1, 0, 1, 3, 9, 0, 0], [1, 0, 0, 3, 9, 0, 1], [2; 7]] {
+            assert!(!own(words[1], words).own_fits(), "{words:?}");
+        }
+        for words in
+            [[2, 8, 0, 1, 0, 0, 0], [2, 8, 0, 0, 1, 0, 0], [2, 8, 0, 0, 0, 1, 6], [2, 13, 4, 0, 0, 0, 0]]
+        {
+            assert!(!own(words[1], words).own_fits(), "{words:?}");
+        }
+        assert_eq!(own(13, [2, 13, 4, 0, 0, 1, 6]).say_other(), "refused 13 4 cut 6");
     }
 
     /// What a wrong library could answer shows.

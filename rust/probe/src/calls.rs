@@ -138,6 +138,72 @@ pub fn count_true(packed: &[u8], n: u64, words: &mut [u64]) -> u64 {
     unsafe { exported::orc_count_true(packed.as_ptr(), packed.len(), n, words.as_mut_ptr(), words.len()) }
 }
 
+pub fn build_index(input: &[u8], columns: [&mut [u64]; 3], words: &mut [u64]) -> u64 {
+    let [first, at, counts] = columns.map(|column| (column.as_mut_ptr(), column.len()));
+    unsafe {
+        exported::orc_build_index(
+            input.as_ptr(),
+            input.len(),
+            first.0,
+            first.1,
+            at.0,
+            at.1,
+            counts.0,
+            counts.1,
+            words.as_mut_ptr(),
+            words.len(),
+        )
+    }
+}
+
+pub fn look_up(input: &[u8], columns: [&[u64]; 3], row: u64, words: &mut [u64]) -> u64 {
+    let [first, at, counts] = columns.map(|column| (column.as_ptr(), column.len()));
+    unsafe {
+        exported::orc_look_up(
+            input.as_ptr(),
+            input.len(),
+            first.0,
+            first.1,
+            at.0,
+            at.1,
+            counts.0,
+            counts.1,
+            row,
+            words.as_mut_ptr(),
+            words.len(),
+        )
+    }
+}
+
+pub fn read_from(
+    input: &[u8],
+    columns: [&[u64]; 3],
+    row: u64,
+    flag: u64,
+    rows: &mut [i64],
+    words: &mut [u64],
+) -> u64 {
+    let [first, at, counts] = columns.map(|column| (column.as_ptr(), column.len()));
+    unsafe {
+        exported::orc_read_from(
+            input.as_ptr(),
+            input.len(),
+            first.0,
+            first.1,
+            at.0,
+            at.1,
+            counts.0,
+            counts.1,
+            row,
+            flag,
+            rows.as_mut_ptr(),
+            rows.len(),
+            words.as_mut_ptr(),
+            words.len(),
+        )
+    }
+}
+
 pub fn narrowest_code(number: u64) -> u64 {
     unsafe { exported::orc_narrowest_code(number) }
 }

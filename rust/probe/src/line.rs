@@ -66,6 +66,11 @@ impl<'a> Fields<'a> {
         Fields(bytes).rows()
     }
 
+    /// The same, as numbers without a sign.
+    pub fn numbers(&mut self, count: usize) -> Option<Vec<u64>> {
+        Some(self.words(count)?.into_iter().map(|number| number as u64).collect())
+    }
+
     /// All that is left, as it is.
     pub fn rest(self) -> &'a [u8] {
         self.0
@@ -108,6 +113,7 @@ mod tests {
         assert_eq!(Fields::new(&[0; 7]).word(), None);
         assert_eq!(Fields::new(&[0xFF; 16]).rows(), Some(vec![-1, -1]));
         assert_eq!(Fields::new(&[0xFF; 15]).rows(), None);
+        assert_eq!(Fields::new(&[0xFF; 16]).numbers(2), Some(vec![u64::MAX; 2]));
         let mut fields = Fields::new(&[0xFF; 13]);
         assert_eq!((fields.count(), fields.words(2), fields.words(1)), (Some(65_535), None, Some(vec![-1])));
         assert_eq!((fields.bytes(4), fields.bytes(3)), (None, Some(&[0xFF; 3][..])));

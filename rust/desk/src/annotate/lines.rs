@@ -4,7 +4,7 @@ use std::io::{self, Write};
 use menakovitsy::{Refusal, Refused};
 
 use super::summary::Summary;
-use crate::walk::{RunAt, Walked};
+use crate::walk::{Passed, RunAt, Walked};
 
 pub fn head(output: &mut impl Write) -> io::Result<()> {
     writeln!(
@@ -24,35 +24,73 @@ pub fn run(output: &mut impl Write, RunAt { at, first, run, rows }: &RunAt) -> i
     }
 }
 
-/// The summary, and then that the file is whole, or where and why it breaks off. `all` is how many bytes
-/// the file has.
-pub fn end(output: &mut impl Write, summary: &Summary, walked: &Walked, all: u64) -> io::Result<()> {
-    if walked.runs > 0 {
+/// The summary, and then that the file is whole, or where and why it breaks off. `from` is the row that was
+/// asked for first, and `all` how many bytes the file has.
+pub fn end(
+    output: &mut impl Write,
+    summary: &Summary,
+    walked: &Walked,
+    from: u64,
+    all: u64,
+) -> io::Result<()> {
+    let Walked { runs, rows, bytes, passed, .. } = *walked;
+    if runs > passed.runs {
         writeln!(output, "\n{:<12} {:>4} {:>10} {:>12} {:>12}", "kind", "bits", "runs", "rows", "bytes")?;
         for (kind, width, count) in summary.counts() {
             let (runs, rows, bytes) = (count.runs, count.rows, count.bytes);
             writeln!(output, "{kind:<12} {width:>4} {runs:>10} {rows:>12} {bytes:>12}")?;
         }
-        let Walked { runs, rows, bytes, .. } = walked;
+        let [runs, rows, bytes] = [runs - passed.runs, rows - passed.rows, bytes - passed.bytes];
         writeln!(output, "{:<12} {:>4} {runs:>10} {rows:>12} {bytes:>12}\n", "all", "")?;
     }
+    if passed.runs > 0 {
+        writeln!(output, "passed over, before row {from}: {}\n", counts(passed))?;
+    }
     match &walked.refused {
-        None if walked.runs == 0 => writeln!(output, "whole: the file is empty"),
+        None if from > 0 && from >= rows => no_such_row(output, walked),
+        None if runs == 0 => writeln!(output, "whole: the file is empty"),
         None => writeln!(output, "whole: {}", good(walked)),
-        Some(refused) => broke_off(output, walked, refused, all),
+        Some(refused) => broke_off(output, walked, refused, from, all),
     }
 }
 
 /// The rows that there are, and what they take up.
 fn good(walked: &Walked) -> String {
-    let many = |number: u64, one: &str| format!("{number} {one}{}", if number == 1 { "" } else { "s" });
-    format!("{} in {}, {}", many(walked.rows, "row"), many(walked.runs, "run"), many(walked.bytes, "byte"))
+    let Walked { runs, rows, bytes, .. } = *walked;
+    counts(Passed { runs, rows, bytes })
 }
 
-fn broke_off(output: &mut impl Write, walked: &Walked, refused: &Refused, all: u64) -> io::Result<()> {
+fn counts(Passed { runs, rows, bytes }: Passed) -> String {
+    let many = |number: u64, one: &str| format!("{number} {one}{}", if number == 1 { "" } else { "s" });
+    format!("{} in {}, {}", many(rows, "row"), many(runs, "run"), many(bytes, "byte"))
+}
+
+fn no_such_row(output: &mut impl Write, walked: &Walked) -> io::Result<()> {
+    let refusal = Refusal::NoSuchRow;
+    writeln!(output, "refusal {}: {}", refusal.number(), refusal.meaning())?;
+    match walked.rows.checked_sub(1) {
+        None => writeln!(output, "  what to do: the file is empty: there is no row to start at"),
+        Some(last) => {
+            writeln!(output, "  the file is whole: {}", good(walked))?;
+            writeln!(output, "  what to do: start at a row from 0 to {last}")
+        }
+    }
+}
+
+fn broke_off(
+    output: &mut impl Write,
+    walked: &Walked,
+    refused: &Refused,
+    from: u64,
+    all: u64,
+) -> io::Result<()> {
     writeln!(output, "breaks off at {}, where row {} would begin", refused.at, walked.rows)?;
     writeln!(output, "  refusal {}: {}", refused.refusal.number(), refused.meaning())?;
-    writeln!(output, "  before it:  {}, all read", good(walked))?;
+    let read = if walked.passed.runs == 0 { "read" } else { "read or passed over" };
+    writeln!(output, "  before it:  {}, all {read}", good(walked))?;
+    if from > 0 && from >= walked.rows {
+        writeln!(output, "  row {from}: not among them")?;
+    }
     writeln!(output, "  from it on: {} of {all} bytes, not read", all - walked.bytes)?;
     let advice = advice(refused.refusal).join("\n              ");
     writeln!(output, "  what to do: {advice}")

@@ -1,5 +1,5 @@
 //! Every public function through the probe program.
-use super::{count, cuts, labels, parts, patched_runs, patches, varints, Session};
+use super::{count, cuts, index, labels, parts, patched_runs, patches, varints, Session};
 use crate::frames;
 use crate::listed::{Call, LIST};
 use crate::probe::Requests;
@@ -38,12 +38,14 @@ impl Session {
         labels::fixed_lines(requests);
         parts::fixed_lines(requests);
         count::fixed_lines(requests);
+        index::fixed_lines(requests);
         for _ in 0..self.size.pick(1_000, 100_000, 1_000_000) {
             probe_line(&mut probe.requests, &mut self.random);
             patched_runs::probe_line(&mut probe.requests, &mut self.random);
             labels::probe_line(&mut probe.requests, &mut self.random);
             parts::probe_line(&mut probe.requests, &mut self.random);
             count::probe_line(&mut probe.requests, &mut self.random);
+            index::probe_line(&mut probe.requests, &mut self.random);
             probe.batch(&mut self.tally);
         }
         probe.flush(&mut self.tally);

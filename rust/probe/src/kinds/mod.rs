@@ -3,6 +3,7 @@
 //! A further kind is a function and a line of the table.
 mod booleans;
 mod count;
+mod index;
 mod labels;
 mod parts;
 mod runs;
@@ -14,7 +15,7 @@ use crate::line::Fields;
 /// Takes the fields behind the first byte, and answers the line. Nothing for a bad line.
 type Kind = fn(Fields) -> Option<String>;
 
-const KINDS: [(u64, Kind); 9] = [
+const KINDS: [(u64, Kind); 12] = [
     (0x01, runs::run),
     (0x02, runs::stream),
     (0x03, booleans::booleans),
@@ -22,6 +23,9 @@ const KINDS: [(u64, Kind); 9] = [
     (0x05, write::write),
     (0x06, write::narrowest),
     (0x07, parts::parts),
+    (0x08, index::index),
+    (0x09, index::look_up),
+    (0x0A, index::read_from),
     (0x0F, labels::label),
     (0x10, count::count),
 ];

@@ -17,7 +17,7 @@ use differential::frames;
 use differential::listed::{self, Call, LIST};
 use differential::probe::Requests;
 use differential::random::Random;
-use differential::stages::{count, labels, parts, patched_runs, probe_line};
+use differential::stages::{count, index, labels, parts, patched_runs, probe_line};
 use model::Form;
 
 use by_hand::{DOCUMENT, FRAMES, SPECIFICATION};
@@ -317,6 +317,10 @@ fn list() -> Requests {
     count::fixed_lines(&mut requests);
     for _ in 0..100 {
         count::probe_line(&mut requests, &mut random);
+    }
+    index::fixed_lines(&mut requests);
+    for _ in 0..100 {
+        index::probe_line(&mut requests, &mut random);
     }
     requests
 }
