@@ -1,0 +1,7 @@
+-- The theorems of specs/Laws.antt.
+pub mod Tests
+pub mod Filling
+pub mod Grouping
+pub mod Starting
+pub mod Calling
+pub mod Proved
