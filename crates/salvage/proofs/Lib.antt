@@ -3,5 +3,6 @@ pub mod Tests
 pub mod Filling
 pub mod Grouping
 pub mod Starting
+pub mod Laying
 pub mod Calling
 pub mod Proved

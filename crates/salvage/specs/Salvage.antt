@@ -70,13 +70,16 @@ salvaged signed fill (g ∷ gs) = mended signed fill g ++ salvaged signed fill g
 
 -- ---- THE REPORT: one line a group, in order: `kept` or `replaced`, the group number, its rows
 
-unfoldable pub line : ℕ → Group → List ℕ
-line i g = pick (kept g) (ascii "kept ") (ascii "replaced ") ++ (decimal i ++ (ascii " " ++ (decimal (g .rows) ++ ascii "\n")))
+abbrev pub verdict : Bool → List ℕ
+verdict keep = pick keep (ascii "kept ") (ascii "replaced ")
+
+unfoldable pub line : Bool → ℕ → ℕ → List ℕ
+line keep i n = verdict keep ++ (decimal i ++ (ascii " " ++ (decimal n ++ ascii "\n")))
 
 -- the first group's number is i
 unfoldable pub report : ℕ → List Group → List ℕ
 report i [] = []
-report i (g ∷ gs) = line i g ++ report (suc i) gs
+report i (g ∷ gs) = line (kept g) i (g .rows) ++ report (suc i) gs
 
 -- ---- THE CALL: a refusal, or the new stream and the report
 
