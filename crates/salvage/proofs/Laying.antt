@@ -3,6 +3,7 @@
 use mathlib.Core.Path.{_≡_, refl, sym, ap, _∙_}
 use mathlib.Core.Logic.{_≢_}
 use Prim.Native.Nat.{ℕ, zero, suc, _+_, _-_, _*_, _/_, _%_, _<_, _≤_}
+use native.Mathlib.Nat.{mul-le-mul}
 use native.Mathlib.Omega.{arith}
 use mathlib.Core.Bool.{Bool, true, false}
 use mathlib.Core.List.{List, [], _∷_, _++_, append-assoc, append-nil}
@@ -16,6 +17,7 @@ use Rattle.format.specs.Fields.{pick, shortest, two64}
 use Rattle.format.specs.Rows.{asU64}
 use Rattle.format.specs.Runs.{Description, layout, joined}
 use Rattle.format.specs.Writing.{stored}
+use Rattle.format.proofs.Varints.{shortest-length}
 use Rattle.text.specs.Written.{Written}
 use Rattle.text.proofs.Texts.{none-written, then-written}
 use Rattle.util.specs.Varint as Varint
@@ -51,6 +53,12 @@ module _ (first n : ℕ) where
   unfolding filled
   filled-odd e = sym (runs-odd first (n % 512) (n / 512) e)
 
+-- no count of rows has so many runs that their bytes pass 2^64
+pub runs-small : (q first : ℕ) → q ≤ 36028797018963968 → first < two64 → q * (3 + length (shortest first)) < two64
+runs-small q first l h =
+    let m : q * (3 + length (shortest first)) ≤ 36028797018963968 * 13 = mul-le-mul {n₂ = 36028797018963968} {m₂ = 13} l (omega (arith, shortest-length first h)) in
+    omega (arith, m)
+
 -- ---- they are the definition's
 
 module _ (signed : Bool) (fill : ℤ) (fits : SFits w64 fill) where
@@ -71,7 +79,7 @@ module _ (signed : Bool) (fill : ℤ) (fits : SFits w64 fill) where
 -- ---- written
 
 pub varint-written : {x at r : ℕ} {out out′ : List ℕ} → Varint.Written x out at out′ r → Written (shortest x) out at out′ r
-varint-written {x} {at} {r} {out} w = record { next = w .next; places = w .places ∙ sym (append-assoc (take at out) (shortest x) (drop (at + length (shortest x)) out)) }
+varint-written w = record { next = w .next; places = w .places }
 
 -- some of the runs are written, and q of 512 rows are left, and then the remainder
 pub record Runs (first n : ℕ) (out₀ : List ℕ) (at : ℕ) (out : List ℕ) (place q : ℕ) : Type 0 where
@@ -80,3 +88,52 @@ pub record Runs (first n : ℕ) (out₀ : List ℕ) (at : ℕ) (out : List ℕ) 
   pub rest : done ++ runsFor first q (n % 512) ≡ filled first n
   pub same : length out ≡ length out₀
   pub fits : at + length (filled first n) ≤ length out₀
+
+module _ {first n at : ℕ} {out₀ : List ℕ} where
+  pub runs-begin : at + length (filled first n) ≤ length out₀ → Runs first n out₀ at out₀ at (n / 512)
+  unfolding filled
+  runs-begin h = record { done = []; written = none-written out₀ at; rest = refl; same = refl; fits = h }
+
+  -- there is room for what is left
+  pub runs-room : {out : List ℕ} {place q : ℕ} → Runs first n out₀ at out place q → place + length (runsFor first q (n % 512)) ≤ length out
+  runs-room {out} {place} {q} r = omega (arith, r .written .next, r .same, r .fits, length-append (r .done) (runsFor first q (n % 512)), ap length (r .rest))
+
+  pub runs-full : {out : List ℕ} {place q : ℕ} → Runs first n out₀ at out place q → 0 < q → place + length (runOf first 512) ≤ length out
+  unfolding runsFor
+  runs-full {out} {place} {q = zero} r h = absurd (omega arith)
+  runs-full {out} {place} {q = suc q} r h = omega (arith, runs-room r, length-append (runOf first 512) (runsFor first q (n % 512)))
+
+  pub runs-next : {out out′ : List ℕ} {place place′ q : ℕ} → Runs first n out₀ at out place q → 0 < q → Written (runOf first 512) out place out′ place′ → length out′ ≡ length out
+      → Runs first n out₀ at out′ place′ (q - 1)
+  unfolding runsFor
+  runs-next {out} {out′} {place} {place′} {q = zero} r h w s = absurd (omega arith)
+  runs-next {out} {out′} {place} {place′} {q = suc q} r h w s =
+      let e : suc q - 1 ≡ q = omega arith in
+      rw e (record {
+        done = r .done ++ runOf first 512;
+        written = then-written (omega (arith, r .fits)) (r .written) w;
+        rest = append-assoc (r .done) (runOf first 512) (runsFor first q (n % 512)) ∙ r .rest;
+        same = s ∙ r .same;
+        fits = r .fits;
+      })
+
+  -- no remainder, or its run
+  pub runs-done : {out : List ℕ} {place q : ℕ} → Runs first n out₀ at out place q → q ≡ 0 → n % 512 ≡ 0 → Written (filled first n) out₀ at out place
+  unfolding runsFor
+  runs-done {out} {place} {q = zero} r z e =
+      let d : r .done ≡ filled first n = sym (append-nil (r .done)) ∙ (rw (eq-eqb (n % 512) 0 e) at (r .rest)) in
+      rw (← d) (r .written)
+  runs-done {out} {place} {q = suc q} r z e = absurd (omega arith)
+
+  pub runs-rest-room : {out : List ℕ} {place q : ℕ} → Runs first n out₀ at out place q → q ≡ 0 → n % 512 ≢ 0 → place + length (runOf first (n % 512)) ≤ length out
+  unfolding runsFor
+  runs-rest-room {out} {place} {q = zero} r z e = rw (ne-eqb (n % 512) 0 e) at (runs-room r)
+  runs-rest-room {out} {place} {q = suc q} r z e = absurd (omega arith)
+
+  pub runs-rest : {out out′ : List ℕ} {place place′ q : ℕ} → Runs first n out₀ at out place q → q ≡ 0 → n % 512 ≢ 0 → Written (runOf first (n % 512)) out place out′ place′
+      → Written (filled first n) out₀ at out′ place′
+  unfolding runsFor
+  runs-rest {out} {out′} {place} {place′} {q = zero} r z e w =
+      let d : r .done ++ runOf first (n % 512) ≡ filled first n = rw (ne-eqb (n % 512) 0 e) at (r .rest) in
+      rw (← d) (then-written (omega (arith, r .fits)) (r .written) w)
+  runs-rest {out} {out′} {place} {place′} {q = suc q} r z e w = absurd (omega arith)

@@ -3,6 +3,10 @@ pub mod Tests
 pub mod Filling
 pub mod Grouping
 pub mod Starting
+pub mod Keeping
+pub mod Telling
 pub mod Laying
+pub mod Walking
+pub mod Turning
 pub mod Calling
 pub mod Proved

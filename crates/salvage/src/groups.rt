@@ -57,6 +57,9 @@ pub(crate) fn bytes_of<'a>(input: &'a [u8], starts: &[u64], i: usize) -> &'a [u8
 pub(crate) fn is_kept(bytes: &[u8], rows: u64) -> bool
     ensures { λ r. ⌜ r ≡ kept (group (now (bytes .entry)) rows) ⌝ }
 {
+    if bytes.len() == 0 {
+        return rows == 0;
+    }
     let said = rle_v2::measure_stream(bytes, ByteOffset { bytes: 0 });
     match said {
         Stream::Whole(counts) => {

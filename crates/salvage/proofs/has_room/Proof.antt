@@ -1,90 +1,100 @@
+-- `has_room` meets its contract. The loop's invariant: the bytes measured, and those of the groups that are left, are all. Assumes nothing.
+use mathlib.Core.Path.{_≡_, sym, ap, _∙_}
+use Prim.Native.Nat.{_-_, _<_}
+use native.Mathlib.Omega.{arith}
+use borrow.Author.Needs.{needs}
+use lib.ListN.{length, getD}
+use mir.Facts.{toZ-ofZ}
+use mir.Syntax.{w64}
+use mir.Val.{toZ, ofZ}
+use Rattle.salvage.proofs.Turning.{Turn, turn, Measured, measured-none, measured-short, measured-few, measured-next, measured-all}
 use Rattle.salvage.proofs.has_room.Statement.{statement}
 use Rattle.salvage.proofs.has_room.Tie as tie
-use Rattle.salvage.proofs.has_room.Reads as reads
-use Rattle.salvage.proofs.has_room.Lts as lts
-use Rattle.salvage.proofs.fill.group_size.Reads as group-size-reads
-use Rattle.salvage.proofs.fill.stored.Reads as stored-reads
-use Rattle.salvage.proofs.groups.bytes_of.Reads as bytes-of-reads
-use Rattle.salvage.proofs.groups.is_kept.Reads as is-kept-reads
-use Rattle.salvage.proofs.line.size.Reads as size-reads
 
 abbrev Inv-loop : tie.InvT-loop
-Inv-loop input starts counts fill signed out report first stream₀ lines₀ i₀ stream lines i = ?
+Inv-loop input starts counts fill signed out report first stream₀ lines₀ i₀ stream lines i =
+    Measured signed (toZ w64 fill) input starts counts (length out) (length report) stream lines i
 
 abbrev μ-loop : tie.MeasureT-loop
-μ-loop input starts counts fill signed out report first stream₀ lines₀ i₀ stream lines i = ?
+μ-loop input starts counts fill signed out report first stream₀ lines₀ i₀ stream lines i = length starts - i
 
--- src/lib.rt:58:9
+-- what is known of the group of this turn
+turn-of : (k : tie.After-is-kept Inv-loop μ-loop) → let l = k .before .before .before .before .loop in let s = k .before .before .before .before .before in let a = s .before .before .before .before .before .before .args in Turn (a .signed) (toZ w64 (ofZ w64 (a .fill))) (a .input .now) (a .starts .now) (a .counts .now) (l .i) (k .before .bytes-of .result .now) (getD (a .counts .now) (l .i) 0) (k .is-kept .result) (s .stored .result)
+turn-of k =
+    let l = k .before .before .before .before .loop in
+    let s = k .before .before .before .before .before in
+    let z = s .before .before .before .before .before .before in
+    let a = z .args in
+    turn (a .signed) (toZ w64 (ofZ w64 (a .fill))) (a .input .now) (a .starts .now) (a .counts .now) (rw (toZ-ofZ (z .fits .fill)) (z .fits .fill)) (l .i) (k .before .before .before .loop-test .taken) (z .pre .lengths) _ (k .before .bytes-of .ensures) _ (k .is-kept .ensures) _
+    (s .stored .ensures)
+
 stored-requires : tie.Need-stored-requires Inv-loop μ-loop
-stored-requires c κs = ?
+stored-requires c κs = search needs
 
--- src/lib.rt:62:5
 loop-holds : tie.Need-loop-holds Inv-loop μ-loop
-loop-holds c = ?
+loop-holds c = let a = c .before .before .before .before .before .before .args in measured-none (a .signed) (toZ w64 (ofZ w64 (a .fill))) (a .input .now) (a .starts .now) (a .counts .now) (length (a .out .now)) (length (a .report .now))
 
--- src/lib.rt:63:20
 mul-rows : tie.Need-mul-rows Inv-loop μ-loop
 mul-rows c = ?
 
--- src/lib.rt:63:20
 shared-slice-read-rows : tie.Need-shared-slice-read-rows Inv-loop μ-loop
-shared-slice-read-rows c = ?
+shared-slice-read-rows c = let s = c .before .before .before .before .before .before .before .before .before in omega (arith, s .pre .lengths)
 
--- src/lib.rt:64:13
 bytes-of-requires : tie.Need-bytes-of-requires Inv-loop μ-loop
-bytes-of-requires c κs = ?
+bytes-of-requires c κs = let s = c .before .before .before .before .before .before .before .before .before in (s .pre .right, omega arith)
 
--- src/lib.rt:65:13
 is-kept-requires : tie.Need-is-kept-requires Inv-loop μ-loop
-is-kept-requires c κs = ?
+is-kept-requires c κs = search needs
 
--- src/lib.rt:66:13
 group-size-requires : tie.Need-group-size-requires Inv-loop μ-loop
-group-size-requires c κs = ?
+group-size-requires c κs = search needs
 
--- src/lib.rt:67:12
 sub-if1 : tie.Need-sub-if1 Inv-loop μ-loop
-sub-if1 c = ?
+sub-if1 c = c .before .before .before .before .before .loop .inv .stream-fits
 
--- src/lib.rt:68:13
 returns : tie.Need-returns Inv-loop μ-loop
-returns c = ?
+returns c = 
+    let z = c .before in
+    let k = z .before in
+    let a = k .before .before .before .before .before .before .before .before .before .before .before .args in
+    rw (toZ-ofZ (k .before .before .before .before .before .before .before .before .before .before .before .fits .fill)) at (measured-short (a .signed) (toZ w64 (ofZ w64 (a .fill))) (a .input .now) (a .starts .now) (a .counts .now) (k .before .before .before .before .loop .inv) (turn-of k) (rw (z .group-size .ensures) at (c .if1 .taken)))
 
--- src/lib.rt:70:13
 size-requires : tie.Need-size-requires Inv-loop μ-loop
-size-requires c κs = ?
+size-requires c κs = search needs
 
--- src/lib.rt:71:12
 sub-if2 : tie.Need-sub-if2 Inv-loop μ-loop
-sub-if2 c = ?
+sub-if2 c = c .before .before .before .before .before .before .before .loop .inv .lines-fit
 
--- src/lib.rt:72:13
 returns-2 : tie.Need-returns-2 Inv-loop μ-loop
-returns-2 c = ?
+returns-2 c = 
+    let y = c .before in
+    let k = y .before .before .before in
+    let a = k .before .before .before .before .before .before .before .before .before .before .before .args in
+    rw (toZ-ofZ (k .before .before .before .before .before .before .before .before .before .before .before .fits .fill)) at (measured-few (a .signed) (toZ w64 (ofZ w64 (a .fill))) (a .input .now) (a .starts .now) (a .counts .now) (k .before .before .before .before .loop .inv) (turn-of k) (rw (y .size .ensures) at (c .if2 .taken)))
 
--- src/lib.rt:74:9
 add-stream : tie.Need-add-stream Inv-loop μ-loop
 add-stream c = ?
 
--- src/lib.rt:75:9
 add-lines : tie.Need-add-lines Inv-loop μ-loop
 add-lines c = ?
 
--- src/lib.rt:76:9
 add-i : tie.Need-add-i Inv-loop μ-loop
-add-i c = ?
+add-i c = omega arith
 
--- src/lib.rt:62:5
 loop-less : tie.Need-loop-less Inv-loop μ-loop
-loop-less c = ?
+loop-less c = omega arith
 
--- src/lib.rt:62:5
 loop-again : tie.Need-loop-again Inv-loop μ-loop
-loop-again c = ?
+loop-again c = 
+    let y = c .before in
+    let z = y .before .before in
+    let k = z .before in
+    let a = k .before .before .before .before .before .before .before .before .before .before .before .args in
+    measured-next (a .signed) (toZ w64 (ofZ w64 (a .fill))) (a .input .now) (a .starts .now) (a .counts .now) (k .before .before .before .before .loop .inv) (turn-of k) (omega arith) (z .group-size .result) (y .size .result) (z .group-size .ensures) (y .size .ensures)
+    (y .before .if1 .left) (c .if2 .left)
 
--- src/lib.rt:46:1
 returns-3 : tie.Need-returns-3 Inv-loop μ-loop
-returns-3 c = ?
+returns-3 c = let s = c .before .before .before .before .before .before .before .before in let a = s .args in rw (toZ-ofZ (s .fits .fill)) at (measured-all (a .signed) (toZ w64 (ofZ w64 (a .fill))) (a .input .now) (a .starts .now) (a .counts .now) (c .before .loop .inv) (omega arith))
 
 pub has-room-spec : {M : Type 1} → statement M
 has-room-spec =

@@ -1,50 +1,62 @@
+-- `fill::put_run` meets its contract: four texts, one after the other. Assumes nothing.
+use native.Mathlib.Omega.{arith}
 use borrow.Author.Needs.{needs}
+use Rattle.text.proofs.Texts.{then-written}
+use Rattle.salvage.specs.Steps.{runOf}
+use Rattle.salvage.proofs.Laying.{run-long, varint-written}
 use Rattle.salvage.proofs.fill.put_run.Statement.{statement}
 use Rattle.salvage.proofs.fill.put_run.Tie as tie
-use Rattle.salvage.proofs.fill.put_run.Reads as reads
-use Rattle.salvage.proofs.fill.put_run.Lts as lts
-use Rattle.text.proofs.put.Reads as put-reads
-use Rattle.util.proofs.varint.write.Reads as write-reads
 
--- src/fill.rt:38:16
 sub-less : tie.Need-sub-less
 sub-less c = search needs
 
--- src/fill.rt:39:25
 add-put : tie.Need-add-put
 add-put c = search needs
 
--- src/fill.rt:39:24
 cast-put : tie.Need-cast-put
 cast-put c = search needs
 
--- src/fill.rt:39:9
 put-requires : tie.Need-put-requires
-put-requires c κs = ?
+put-requires c κs = let s = c .before .before in omega (arith, s .pre, run-long (s .args .first) (s .args .rows))
 
--- src/fill.rt:40:16
 cast-put-2 : tie.Need-cast-put-2
 cast-put-2 c = search needs
 
--- src/fill.rt:40:5
 put-requires-2 : tie.Need-put-requires-2
-put-requires-2 c κs = ?
+put-requires-2 c κs = 
+    let p = c .before .before .before in
+    let s = p .before .before .before in
+    omega (arith, s .pre, run-long (s .args .first) (s .args .rows), p .put .ensures .next, p .put .kept .1 .0)
 
--- src/fill.rt:41:5
 write-requires : tie.Need-write-requires
-write-requires c κs = ?
+write-requires c κs = 
+    let q = c .before .before .before in
+    let p = q .before .before .before .before in
+    let s = p .before .before .before in
+    omega (arith, s .pre, run-long (s .args .first) (s .args .rows), p .put .ensures .next, p .put .kept .1 .0, q .put2 .ensures .next, q .put2 .kept .1 .0)
 
--- src/fill.rt:42:5
 put-requires-3 : tie.Need-put-requires-3
-put-requires-3 c κs = ?
+put-requires-3 c κs = 
+    let w = c .before .before .before in
+    let q = w .before .before .before .before in
+    let p = q .before .before .before .before in
+    let s = p .before .before .before in
+    omega (arith, s .pre, run-long (s .args .first) (s .args .rows), p .put .ensures .next, p .put .kept .1 .0, q .put2 .ensures .next, q .put2 .kept .1 .0, w .write .ensures .next, w .write .kept .1 .0)
 
--- src/fill.rt:34:1
 same-length : tie.Need-same-length
 same-length c = search needs
 
--- src/fill.rt:34:1
 returns : tie.Need-returns
-returns c = ?
+unfolding runOf
+returns c = 
+    let r = c .before .before in
+    let w = r .before .before .before .before in
+    let q = w .before .before .before .before in
+    let p = q .before .before .before .before in
+    let s = p .before .before .before in
+    then-written (omega (arith, s .pre, run-long (s .args .first) (s .args .rows))) (p .put .ensures)
+    (then-written (omega (arith, s .pre, run-long (s .args .first) (s .args .rows), p .put .ensures .next, p .put .kept .1 .0)) (q .put2 .ensures)
+    (then-written (omega (arith, s .pre, run-long (s .args .first) (s .args .rows), p .put .ensures .next, p .put .kept .1 .0, q .put2 .ensures .next, q .put2 .kept .1 .0)) (varint-written (w .write .ensures)) (r .put3 .ensures)))
 
 pub put-run-spec : {M : Type 1} → statement M
 put-run-spec =

@@ -1,54 +1,45 @@
+-- `fill::put_runs` meets its contract. The loop's invariant: what is written, and the runs that are left, are all. Assumes nothing.
+use native.Mathlib.Omega.{arith}
+use mathlib.Core.Path.{_∙_}
+use Rattle.salvage.proofs.Laying.{Runs, runs-begin, runs-full, runs-next, runs-done, runs-rest-room, runs-rest}
 use Rattle.salvage.proofs.fill.put_runs.Statement.{statement}
 use Rattle.salvage.proofs.fill.put_runs.Tie as tie
-use Rattle.salvage.proofs.fill.put_runs.Reads as reads
-use Rattle.salvage.proofs.fill.put_runs.Lts as lts
-use Rattle.salvage.proofs.fill.put_run.Reads as put-run-reads
 
 abbrev Inv-loop : tie.InvT-loop
-Inv-loop rows first out₀ at place₀ runs₀ out place runs = ?
+Inv-loop rows first out₀ at place₀ runs₀ out place runs = Runs first rows out₀ at out place runs
 
 abbrev μ-loop : tie.MeasureT-loop
-μ-loop rows first out₀ at place₀ runs₀ out place runs = ?
+μ-loop rows first out₀ at place₀ runs₀ out place runs = runs
 
--- src/fill.rt:52:5
 loop-holds : tie.Need-loop-holds Inv-loop μ-loop
-loop-holds c = ?
+loop-holds c = runs-begin (c .before .pre)
 
--- src/fill.rt:53:9
 put-run-requires : tie.Need-put-run-requires Inv-loop μ-loop
-put-run-requires c κs = ?
+put-run-requires c κs = (omega arith, omega arith, runs-full (c .before .before .loop .inv) (omega arith))
 
--- src/fill.rt:54:9
 sub-runs : tie.Need-sub-runs Inv-loop μ-loop
-sub-runs c = ?
+sub-runs c = omega arith
 
--- src/fill.rt:52:5
 loop-less : tie.Need-loop-less Inv-loop μ-loop
-loop-less c = ?
+loop-less c = omega arith
 
--- src/fill.rt:52:5
 loop-again : tie.Need-loop-again Inv-loop μ-loop
-loop-again c = ?
+loop-again c = let p = c .before .before in runs-next (p .before .before .before .loop .inv) (omega arith) (p .put-run .ensures) (p .put-run .kept .1 .1 .0)
 
--- src/fill.rt:58:9
 same-length : tie.Need-same-length Inv-loop μ-loop
-same-length c = ?
+same-length c = c .before .before .loop .inv .same
 
--- src/fill.rt:58:9
 returns : tie.Need-returns Inv-loop μ-loop
-returns c = ?
+returns c = runs-done (c .before .before .loop .inv) (omega arith) (omega arith)
 
--- src/fill.rt:60:5
 put-run-requires-2 : tie.Need-put-run-requires-2 Inv-loop μ-loop
-put-run-requires-2 c κs = ?
+put-run-requires-2 c κs = (omega arith, omega arith, runs-rest-room (c .before .before .before .loop .inv) (omega arith) (λ e. omega arith))
 
--- src/fill.rt:46:1
 same-length-2 : tie.Need-same-length-2 Inv-loop μ-loop
-same-length-2 c = ?
+same-length-2 c = let p = c .before .before in p .put-run2 .kept .1 .1 .0 ∙ p .before .before .before .before .loop .inv .same
 
--- src/fill.rt:46:1
 returns-2 : tie.Need-returns-2 Inv-loop μ-loop
-returns-2 c = ?
+returns-2 c = let p = c .before .before in runs-rest (p .before .before .before .before .loop .inv) (omega arith) (λ e. omega arith) (p .put-run2 .ensures)
 
 pub put-runs-spec : {M : Type 1} → statement M
 put-runs-spec =

@@ -1,39 +1,42 @@
+-- `fill::runs_size` meets its contract: at most 2^55 runs of at most 13 bytes. Assumes nothing.
+use mathlib.Core.Path.{_≡_, _∙_}
+use Prim.Native.Nat.{_+_, _/_}
+use native.Mathlib.Omega.{arith}
 use borrow.Author.Needs.{needs}
+use Rattle.format.proofs.Varints.{shortest-length}
+use Rattle.salvage.proofs.Laying.{runs-small, filled-even, filled-odd}
 use Rattle.salvage.proofs.fill.runs_size.Statement.{statement}
 use Rattle.salvage.proofs.fill.runs_size.Tie as tie
-use Rattle.salvage.proofs.fill.runs_size.Reads as reads
-use Rattle.salvage.proofs.fill.runs_size.Lts as lts
-use Rattle.util.proofs.varint.size.Reads as size-reads
 
--- src/fill.rt:27:20
 size-requires : tie.Need-size-requires
 size-requires c κs = search needs
 
--- src/fill.rt:27:16
 add-size : tie.Need-add-size
-add-size c = ?
+add-size c = omega (arith, c .size .ensures, shortest-length (c .before .args .first) (omega arith))
 
--- src/fill.rt:29:16
 mul-result : tie.Need-mul-result
-mul-result c = ?
+mul-result c = let z = c .before in let a = z .before .args in rw (z .size .ensures) (omega (arith, runs-small (a .rows / 512) (a .first) (omega arith) (omega arith)))
 
--- src/fill.rt:29:9
 returns : tie.Need-returns
-returns c = ?
+returns c = let z = c .before in let a = z .before .args in rw (z .size .ensures) (filled-even (a .first) (a .rows) (omega arith))
 
--- src/fill.rt:31:6
 add-result : tie.Need-add-result
 add-result c = search needs
 
--- src/fill.rt:31:5
 mul-result-2 : tie.Need-mul-result-2
-mul-result-2 c = ?
+mul-result-2 c = let z = c .before in let a = z .before .args in rw (z .size .ensures) (omega (arith, runs-small (a .rows / 512 + 1) (a .first) (omega arith) (omega arith)))
 
--- src/fill.rt:23:1
 returns-2 : tie.Need-returns-2
-returns-2 c = ?
+returns-2 c = let z = c .before in let a = z .before .args in rw (z .size .ensures) (filled-odd (a .first) (a .rows) (λ e. omega arith))
 
 pub runs-size-spec : {M : Type 1} → statement M
 runs-size-spec =
     tie.close
-    (tie.spec size-requires add-size mul-result returns add-result mul-result-2 returns-2)
+    (tie.spec
+    size-requires
+    add-size
+    mul-result
+    returns
+    add-result
+    mul-result-2
+    returns-2)

@@ -1,37 +1,36 @@
+-- `groups::bytes_of` meets its contract: the group lies in the stream. Assumes nothing.
+use Prim.Native.Nat.{_≤_}
+use lib.ListN.{length, getD}
 use borrow.Author.Needs.{needs}
+use Rattle.salvage.proofs.Walking.{inside}
 use Rattle.salvage.proofs.groups.bytes_of.Statement.{statement}
 use Rattle.salvage.proofs.groups.bytes_of.Tie as tie
-use Rattle.salvage.proofs.groups.bytes_of.Reads as reads
-use Rattle.salvage.proofs.groups.bytes_of.Lts as lts
-use Rattle.salvage.proofs.groups.stop_of.Reads as stop-of-reads
 
--- src/groups.rt:51:16
+lies : (c : tie.After-stop-of) → let a = c .before .before .before .before .args in (getD (a .starts .now) (a .i) 0 ≤ c .stop-of .result) × (c .stop-of .result ≤ length (a .input .now))
+lies c =
+    let s = c .before .before .before .before in
+    rw (c .stop-of .ensures) (inside (length (s .args .input .now)) (s .args .starts .now) (s .args .i) (s .pre .0) (s .pre .1))
+
 mul-from : tie.Need-mul-from
 mul-from c = search needs
 
--- src/groups.rt:51:16
 shared-slice-read-from : tie.Need-shared-slice-read-from
 shared-slice-read-from c = search needs
 
--- src/groups.rt:52:9
 stop-of-requires : tie.Need-stop-of-requires
 stop-of-requires c κs = search needs
 
--- src/groups.rt:53:5
 sub-result : tie.Need-sub-result
-sub-result c = ?
+sub-result c = lies c .0
 
--- src/groups.rt:53:5
 part-result-start : tie.Need-part-result-start
-part-result-start c = ?
+part-result-start c = lies c .0
 
--- src/groups.rt:53:5
 part-result-end : tie.Need-part-result-end
-part-result-end c = ?
+part-result-end c = lies c .1
 
--- src/groups.rt:47:1
 returns : tie.Need-returns
-returns c = ?
+returns c = rw (c .before .stop-of .ensures)
 
 pub bytes-of-spec : {M : Type 1} → statement M
 bytes-of-spec =

@@ -1,57 +1,55 @@
+-- `groups::starts_right` meets its contract. The loop's invariant: the starts are right exactly if those that are left rise from the last. Assumes nothing.
+use mathlib.Core.Path.{_≡_, sym, _∙_}
+use Prim.Native.Nat.{suc, _+_, _-_, _≤_}
+use native.Mathlib.Omega.{arith}
+use borrow.Author.Needs.{needs}
+use lib.ListN.{length, drop}
+use Rattle.salvage.specs.Salvage.{rising, startsRight}
+use Rattle.salvage.proofs.Walking.{right-none, right-late, right-first, rising-on, rising-stops, rising-end}
 use Rattle.salvage.proofs.groups.starts_right.Statement.{statement}
 use Rattle.salvage.proofs.groups.starts_right.Tie as tie
-use Rattle.salvage.proofs.groups.starts_right.Reads as reads
-use Rattle.salvage.proofs.groups.starts_right.Lts as lts
 
 abbrev Inv-loop : tie.InvT-loop
-Inv-loop starts end last₀ i₀ last i = ?
+Inv-loop starts end last₀ i₀ last i = (i ≤ length starts) × (startsRight end starts ≡ rising end last (drop i starts))
 
 abbrev μ-loop : tie.MeasureT-loop
-μ-loop starts end last₀ i₀ last i = ?
+μ-loop starts end last₀ i₀ last i = length starts - i
 
--- src/groups.rt:16:9
 returns : tie.Need-returns Inv-loop μ-loop
-returns c = ?
+returns c = right-none _ _ (omega arith)
 
--- src/groups.rt:18:8
 shared-slice-read-if2 : tie.Need-shared-slice-read-if2 Inv-loop μ-loop
-shared-slice-read-if2 c = ?
+shared-slice-read-if2 c = omega arith
 
--- src/groups.rt:19:9
 returns-2 : tie.Need-returns-2 Inv-loop μ-loop
-returns-2 c = ?
+returns-2 c = right-late _ _ (omega arith) (λ e. omega arith)
 
--- src/groups.rt:23:5
 loop-holds : tie.Need-loop-holds Inv-loop μ-loop
-loop-holds c = ?
+loop-holds c = (omega arith, right-first _ _ (omega arith) (omega arith))
 
--- src/groups.rt:24:20
 mul-next : tie.Need-mul-next Inv-loop μ-loop
 mul-next c = ?
 
--- src/groups.rt:24:20
 shared-slice-read-next : tie.Need-shared-slice-read-next Inv-loop μ-loop
-shared-slice-read-next c = ?
+shared-slice-read-next c = omega arith
 
--- src/groups.rt:26:13
 returns-3 : tie.Need-returns-3 Inv-loop μ-loop
-returns-3 c = ?
+returns-3 c = let l = c .before .before .before .loop in sym (l .inv .1 ∙ rising-stops _ _ (l .last) (l .i) (omega arith) (omega arith))
 
--- src/groups.rt:29:9
 add-i : tie.Need-add-i Inv-loop μ-loop
-add-i c = ?
+add-i c = omega arith
 
--- src/groups.rt:23:5
 loop-less : tie.Need-loop-less Inv-loop μ-loop
-loop-less c = ?
+loop-less c = omega arith
 
--- src/groups.rt:23:5
 loop-again : tie.Need-loop-again Inv-loop μ-loop
-loop-again c = ?
+loop-again c = 
+    let l = c .before .before .before .loop in
+    let s : l .i + 1 ≡ suc (l .i) = omega arith in
+    (omega arith, rw s (l .inv .1 ∙ rising-on _ _ (l .last) (l .i) (omega arith) (omega arith)))
 
--- src/groups.rt:12:1
 returns-4 : tie.Need-returns-4 Inv-loop μ-loop
-returns-4 c = ?
+returns-4 c = let l = c .before .loop in sym (l .inv .1 ∙ rising-end _ _ (l .last) (l .i) (omega arith))
 
 pub starts-right-spec : {M : Type 1} → statement M
 starts-right-spec =

@@ -1,28 +1,33 @@
+-- `groups::stop_of` meets its contract. Assumes nothing.
+use mathlib.Core.Path.{_≡_, sym}
+use Prim.Native.Nat.{suc, _+_}
+use native.Mathlib.Omega.{arith}
 use borrow.Author.Needs.{needs}
+use Rattle.salvage.proofs.Walking.{stop-next, stop-end}
 use Rattle.salvage.proofs.groups.stop_of.Statement.{statement}
 use Rattle.salvage.proofs.groups.stop_of.Tie as tie
-use Rattle.salvage.proofs.groups.stop_of.Reads as reads
-use Rattle.salvage.proofs.groups.stop_of.Lts as lts
 
--- src/groups.rt:39:16
 add-next : tie.Need-add-next
 add-next c = search needs
 
--- src/groups.rt:41:16
 mul-result : tie.Need-mul-result
 mul-result c = search needs
 
--- src/groups.rt:41:16
 shared-slice-read-result : tie.Need-shared-slice-read-result
 shared-slice-read-result c = search needs
 
--- src/groups.rt:41:9
 returns : tie.Need-returns
-returns c = ?
+returns c = let a = c .before .before .args in stop-next (a .end) (a .starts .now) (a .i) (omega arith)
 
--- src/groups.rt:35:1
 returns-2 : tie.Need-returns-2
-returns-2 c = ?
+returns-2 c = let a = c .before .args in stop-end (a .end) (a .starts .now) (a .i) (omega arith)
 
 pub stop-of-spec : {M : Type 1} → statement M
-stop-of-spec = tie.close (tie.spec add-next mul-result shared-slice-read-result returns returns-2)
+stop-of-spec =
+    tie.close
+    (tie.spec
+    add-next
+    mul-result
+    shared-slice-read-result
+    returns
+    returns-2)

@@ -1,41 +1,35 @@
+-- `line::put_verdict` meets its contract. Assumes nothing.
+use native.Mathlib.Omega.{arith}
 use borrow.Author.Needs.{needs}
+use mathlib.Core.Path.{ap}
+use lib.ListN.{length}
+use Rattle.salvage.specs.Salvage.{verdict}
 use Rattle.salvage.proofs.line.put_verdict.Statement.{statement}
 use Rattle.salvage.proofs.line.put_verdict.Tie as tie
-use Rattle.salvage.proofs.line.put_verdict.Reads as reads
-use Rattle.salvage.proofs.line.put_verdict.Lts as lts
-use Rattle.text.proofs.put_word.Reads as put-word-reads
 
--- src/line.rt:45:25
 slice-aggregate-put-word : tie.Need-slice-aggregate-put-word
 slice-aggregate-put-word c = search needs
 
--- src/line.rt:45:9
 put-word-requires : tie.Need-put-word-requires
-put-word-requires c κs = ?
+put-word-requires c κs = let t = c .before .before in let s = t .before .before in omega (arith, s .pre, ap (λ k. length (verdict k)) (t .if1 .taken))
 
--- src/line.rt:45:9
 same-length : tie.Need-same-length
 same-length c = search needs
 
--- src/line.rt:45:9
 returns : tie.Need-returns
-returns c = ?
+returns c = let p = c .before .before in rw (p .before .before .before .if1 .taken) (p .put-word .ensures)
 
--- src/line.rt:47:14
 slice-aggregate-put-word-2 : tie.Need-slice-aggregate-put-word-2
 slice-aggregate-put-word-2 c = search needs
 
--- src/line.rt:47:5
 put-word-requires-2 : tie.Need-put-word-requires-2
-put-word-requires-2 c κs = ?
+put-word-requires-2 c κs = let t = c .before .before in let s = t .before .before in omega (arith, s .pre, ap (λ k. length (verdict k)) (t .if1 .left))
 
--- src/line.rt:40:1
 same-length-2 : tie.Need-same-length-2
 same-length-2 c = search needs
 
--- src/line.rt:40:1
 returns-2 : tie.Need-returns-2
-returns-2 c = ?
+returns-2 c = let p = c .before .before in rw (p .before .before .before .if1 .left) (p .put-word2 .ensures)
 
 pub put-verdict-spec : {M : Type 1} → statement M
 put-verdict-spec =

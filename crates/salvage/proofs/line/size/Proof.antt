@@ -1,37 +1,32 @@
+-- `line::size` meets its contract. Assumes nothing.
+use mathlib.Core.Path.{_∙_}
+use native.Mathlib.Omega.{arith}
 use borrow.Author.Needs.{needs}
+use Rattle.text.proofs.Texts.{decimal-length}
+use Rattle.salvage.proofs.Telling.{kept-long, replaced-long}
 use Rattle.salvage.proofs.line.size.Statement.{statement}
 use Rattle.salvage.proofs.line.size.Tie as tie
-use Rattle.salvage.proofs.line.size.Reads as reads
-use Rattle.salvage.proofs.line.size.Lts as lts
-use Rattle.salvage.proofs.line.decimal_size.Reads as decimal-size-reads
 
--- src/line.rt:33:18
 decimal-size-requires : tie.Need-decimal-size-requires
 decimal-size-requires c κs = search needs
 
--- src/line.rt:33:41
 decimal-size-requires-2 : tie.Need-decimal-size-requires-2
 decimal-size-requires-2 c κs = search needs
 
--- src/line.rt:33:18
 add-digits : tie.Need-add-digits
-add-digits c = ?
+add-digits c = let a = c .before .before .args in omega (arith, c .before .decimal-size .ensures, c .decimal-size2 .ensures, decimal-length (a .number), decimal-length (a .rows))
 
--- src/line.rt:35:16
 add-result : tie.Need-add-result
-add-result c = ?
+add-result c = let a = c .before .before .before .args in omega (arith, c .before .before .decimal-size .ensures, c .before .decimal-size2 .ensures, decimal-length (a .number), decimal-length (a .rows))
 
--- src/line.rt:35:9
 returns : tie.Need-returns
-returns c = ?
+returns c = let a = c .before .before .before .args in omega (arith, c .before .before .decimal-size .ensures, c .before .decimal-size2 .ensures, kept-long (a .keep) (a .number) (a .rows) (c .if1 .taken))
 
--- src/line.rt:37:5
 add-result-2 : tie.Need-add-result-2
-add-result-2 c = ?
+add-result-2 c = let a = c .before .before .before .args in omega (arith, c .before .before .decimal-size .ensures, c .before .decimal-size2 .ensures, decimal-length (a .number), decimal-length (a .rows))
 
--- src/line.rt:30:1
 returns-2 : tie.Need-returns-2
-returns-2 c = ?
+returns-2 c = let a = c .before .before .before .args in omega (arith, c .before .before .decimal-size .ensures, c .before .decimal-size2 .ensures, replaced-long (a .keep) (a .number) (a .rows) (c .if1 .left))
 
 pub size-spec : {M : Type 1} → statement M
 size-spec =
