@@ -8,5 +8,6 @@ pub mod Telling
 pub mod Laying
 pub mod Walking
 pub mod Turning
+pub mod Setting
 pub mod Calling
 pub mod Proved

@@ -20,13 +20,13 @@ use Rattle.salvage.proofs.Laying.{made-is}
 use Rattle.salvage.proofs.Walking.{groups-at, groups-end}
 
 module _ (signed : Bool) (fill : ℤ) (bs starts ns : List ℕ) where
-  abbrev gs : List Group
+  abbrev pub gs : List Group
   gs = groups bs starts ns
 
-  abbrev new : List ℕ
+  abbrev pub new : List ℕ
   new = salvaged signed fill gs
 
-  abbrev text : List ℕ
+  abbrev pub text : List ℕ
   text = report 0 gs
 
   -- what is known of group i in its turn: its bytes, rows, whether it is kept, and what stands for it
@@ -44,11 +44,11 @@ module _ (signed : Bool) (fill : ℤ) (bs starts ns : List ℕ) where
   }
 
   module _ {i rows first : ℕ} {bytes : List ℕ} {keep : Bool} (t : Turn i bytes rows keep first) where
-    stream-next : salvaged signed fill (drop i gs) ≡ made keep bytes first rows ++ salvaged signed fill (drop (suc i) gs)
+    pub stream-next : salvaged signed fill (drop i gs) ≡ made keep bytes first rows ++ salvaged signed fill (drop (suc i) gs)
     unfolding salvaged
     stream-next = ap (salvaged signed fill) (t .next) ∙ ap (λ (l : List ℕ). l ++ salvaged signed fill (drop (suc i) gs)) (sym (t .piece))
 
-    lines-next : report i (drop i gs) ≡ line keep i rows ++ report (suc i) (drop (suc i) gs)
+    pub lines-next : report i (drop i gs) ≡ line keep i rows ++ report (suc i) (drop (suc i) gs)
     unfolding report
     lines-next = ap (report i) (t .next) ∙ ap (λ (k : Bool). line k i rows ++ report (suc i) (drop (suc i) gs)) (sym (t .keep-is))
 

@@ -35,7 +35,7 @@ loop-holds : tie.Need-loop-holds Inv-loop μ-loop
 loop-holds c = let a = c .before .before .before .before .before .before .args in measured-none (a .signed) (toZ w64 (ofZ w64 (a .fill))) (a .input .now) (a .starts .now) (a .counts .now) (length (a .out .now)) (length (a .report .now))
 
 mul-rows : tie.Need-mul-rows Inv-loop μ-loop
-mul-rows c = ?
+mul-rows c = omega arith
 
 shared-slice-read-rows : tie.Need-shared-slice-read-rows Inv-loop μ-loop
 shared-slice-read-rows c = let s = c .before .before .before .before .before .before .before .before .before in omega (arith, s .pre .lengths)
@@ -73,10 +73,10 @@ returns-2 c =
     rw (toZ-ofZ (k .before .before .before .before .before .before .before .before .before .before .before .fits .fill)) at (measured-few (a .signed) (toZ w64 (ofZ w64 (a .fill))) (a .input .now) (a .starts .now) (a .counts .now) (k .before .before .before .before .loop .inv) (turn-of k) (rw (y .size .ensures) at (c .if2 .taken)))
 
 add-stream : tie.Need-add-stream Inv-loop μ-loop
-add-stream c = ?
+add-stream c = let y = c .before in let z = y .before .before in omega (arith, z .before .before .before .before .before .loop .inv .stream-fits, y .before .if1 .left, c .before .before .before .before .before .before .before .before .before .before .before .before .before .before .before .good)
 
 add-lines : tie.Need-add-lines Inv-loop μ-loop
-add-lines c = ?
+add-lines c = omega (arith, c .before .before .before .before .before .before .before .before .loop .inv .lines-fit, c .if2 .left)
 
 add-i : tie.Need-add-i Inv-loop μ-loop
 add-i c = omega arith

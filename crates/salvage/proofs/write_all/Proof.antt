@@ -1,81 +1,89 @@
+-- `write_all` meets its contract. The loop's invariant: what is written, and what stands for the groups that are left, is all. Assumes nothing.
+use mathlib.Core.Path.{_≡_}
+use Prim.Native.Nat.{_-_}
+use native.Mathlib.Omega.{arith}
+use borrow.Author.Needs.{needs}
+use lib.ListN.{length, getD}
+use mir.Facts.{toZ-ofZ}
+use mir.Syntax.{w64}
+use mir.Val.{toZ, ofZ}
+use Rattle.salvage.proofs.Turning.{Turn, turn}
+use Rattle.salvage.proofs.Setting.{Laid, laid-none, stream-room, lines-room, laid-next, was-written}
 use Rattle.salvage.proofs.write_all.Statement.{statement}
 use Rattle.salvage.proofs.write_all.Tie as tie
-use Rattle.salvage.proofs.write_all.Reads as reads
-use Rattle.salvage.proofs.write_all.Lts as lts
-use Rattle.salvage.proofs.Outcome.written.Reads as written-reads
-use Rattle.salvage.proofs.fill.put_group.Reads as put-group-reads
-use Rattle.salvage.proofs.fill.stored.Reads as stored-reads
-use Rattle.salvage.proofs.groups.bytes_of.Reads as bytes-of-reads
-use Rattle.salvage.proofs.groups.is_kept.Reads as is-kept-reads
-use Rattle.salvage.proofs.line.put_line.Reads as put-line-reads
 
 abbrev Inv-loop : tie.InvT-loop
 Inv-loop input starts counts fill signed out₀ report₀ first stream₀ lines₀ i₀ out report stream lines i =
-    ?
+    Laid signed (toZ w64 fill) input starts counts out₀ report₀ out report stream lines i
 
 abbrev μ-loop : tie.MeasureT-loop
-μ-loop input starts counts fill signed out₀ report₀ first stream₀ lines₀ i₀ out report stream lines i =
-    ?
+μ-loop input starts counts fill signed out₀ report₀ first stream₀ lines₀ i₀ out report stream lines i = length starts - i
 
--- src/lib.rt:94:9
+-- what is known of the group of this turn
+turn-of : (k : tie.After-is-kept Inv-loop μ-loop) → let l = k .before .before .before .before .loop in let s = k .before .before .before .before .before in let a = s .before .before .before .before .before .before .args in Turn (a .signed) (toZ w64 (ofZ w64 (a .fill))) (a .input .now) (a .starts .now) (a .counts .now) (l .i) (k .before .bytes-of .result .now) (getD (a .counts .now) (l .i) 0) (k .is-kept .result) (s .stored .result)
+turn-of k =
+    let l = k .before .before .before .before .loop in
+    let s = k .before .before .before .before .before in
+    let z = s .before .before .before .before .before .before in
+    let a = z .args in
+    turn (a .signed) (toZ w64 (ofZ w64 (a .fill))) (a .input .now) (a .starts .now) (a .counts .now) (rw (toZ-ofZ (z .fits .fill)) (z .fits .fill)) (l .i) (k .before .before .before .loop-test .taken) (z .pre .0 .lengths) _ (k .before .bytes-of .ensures) _ (k .is-kept .ensures) _
+    (s .stored .ensures)
+
 stored-requires : tie.Need-stored-requires Inv-loop μ-loop
-stored-requires c κs = ?
+stored-requires c κs = search needs
 
--- src/lib.rt:98:5
 loop-holds : tie.Need-loop-holds Inv-loop μ-loop
-loop-holds c = ?
+loop-holds c = let s = c .before .before .before .before .before .before in let a = s .args in laid-none (a .signed) (toZ w64 (ofZ w64 (a .fill))) (a .input .now) (a .starts .now) (a .counts .now) (a .out .now) (a .report .now) (rw (toZ-ofZ (s .fits .fill)) (s .pre .1))
 
--- src/lib.rt:99:20
 mul-rows : tie.Need-mul-rows Inv-loop μ-loop
-mul-rows c = ?
+mul-rows c = omega arith
 
--- src/lib.rt:99:20
 shared-slice-read-rows : tie.Need-shared-slice-read-rows Inv-loop μ-loop
-shared-slice-read-rows c = ?
+shared-slice-read-rows c = let s = c .before .before .before .before .before .before .before .before .before in omega (arith, s .pre .0 .lengths)
 
--- src/lib.rt:100:13
 bytes-of-requires : tie.Need-bytes-of-requires Inv-loop μ-loop
-bytes-of-requires c κs = ?
+bytes-of-requires c κs = let s = c .before .before .before .before .before .before .before .before .before in (s .pre .0 .right, omega arith)
 
--- src/lib.rt:101:13
 is-kept-requires : tie.Need-is-kept-requires Inv-loop μ-loop
-is-kept-requires c κs = ?
+is-kept-requires c κs = search needs
 
--- src/lib.rt:102:9
 put-group-requires : tie.Need-put-group-requires Inv-loop μ-loop
-put-group-requires c κs = ?
+put-group-requires c κs = let k = c .before in let a = k .before .before .before .before .before .before .before .before .before .before .before .args in stream-room (a .signed) (toZ w64 (ofZ w64 (a .fill))) (a .input .now) (a .starts .now) (a .counts .now) (k .before .before .before .before .loop .inv) (turn-of k)
 
--- src/lib.rt:103:9
 put-line-requires : tie.Need-put-line-requires Inv-loop μ-loop
-put-line-requires c κs = ?
+put-line-requires c κs = let k = c .before .before .before .before .before in let a = k .before .before .before .before .before .before .before .before .before .before .before .args in lines-room (a .signed) (toZ w64 (ofZ w64 (a .fill))) (a .input .now) (a .starts .now) (a .counts .now) (k .before .before .before .before .loop .inv) (turn-of k)
 
--- src/lib.rt:104:9
 add-i : tie.Need-add-i Inv-loop μ-loop
-add-i c = ?
+add-i c = omega arith
 
--- src/lib.rt:98:5
 loop-less : tie.Need-loop-less Inv-loop μ-loop
-loop-less c = ?
+loop-less c = omega arith
 
--- src/lib.rt:98:5
 loop-again : tie.Need-loop-again Inv-loop μ-loop
-loop-again c = ?
+loop-again c = 
+    let y = c .before .before in
+    let z = y .before .before .before .before in
+    let k = z .before .before in
+    let a = k .before .before .before .before .before .before .before .before .before .before .before .args in
+    laid-next (a .signed) (toZ w64 (ofZ w64 (a .fill))) (a .input .now) (a .starts .now) (a .counts .now) (k .before .before .before .before .loop .inv) (turn-of k) (omega arith)
+    (z .put-group .ensures) (z .put-group .kept .1 .1 .1 .1 .0) (y .put-line .ensures) (y .put-line .kept .1 .1 .1 .0)
 
--- src/lib.rt:106:5
 written-requires : tie.Need-written-requires Inv-loop μ-loop
-written-requires c κs = ?
+written-requires c κs = search needs
 
--- src/lib.rt:82:1
 same-length : tie.Need-same-length Inv-loop μ-loop
-same-length c = ?
+same-length c = c .before .before .loop .inv .same-out
 
--- src/lib.rt:82:1
 same-length-2 : tie.Need-same-length-2 Inv-loop μ-loop
-same-length-2 c = ?
+same-length-2 c = c .before .before .loop .inv .same-lines
 
--- src/lib.rt:82:1
 returns : tie.Need-returns Inv-loop μ-loop
-returns c = ?
+returns c = 
+    let l = c .before .before .loop in
+    let s = c .before .before .before .before .before .before .before .before .before in
+    let a = s .args in
+    rw (toZ-ofZ (s .fits .fill)) at
+    (was-written (a .signed) (toZ w64 (ofZ w64 (a .fill))) (a .input .now) (a .starts .now) (a .counts .now) (s .pre .0) (rw (toZ-ofZ (s .fits .fill)) (s .pre .1)) (l .inv) (omega arith) (c .written .ensures))
 
 pub write-all-spec : {M : Type 1} → statement M
 write-all-spec =
