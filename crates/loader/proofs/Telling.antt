@@ -7,10 +7,12 @@ use borrow.Author.Tests.{le-leb, lt-leb}
 use Rattle.format.specs.declared.Answer.{Answer}
 use Rattle.format.specs.declared.Stream.{Stream}
 use Rattle.labels.specs.declared.Label.{Label}
+use Rattle.salvage.specs.declared.Outcome.{Outcome}
 use Rattle.loader.specs.Labels.{labelWords, labelWordCount, LabelToldDetermined}
+use Rattle.loader.specs.Salvage.{salvageWords, salvageWordCount, SalvageToldDetermined}
 use Rattle.format.specs.Loader.{answerWords, streamWords, wordCount, streamWordCount, tooFewWords, Put, Told, ToldOf}
 
--- every answer has as many words, every stream's and every label's
+-- every answer has as many words, every stream's, every label's and every salvage's
 pub answer-long : (a : Answer) → length (answerWords a) ≡ wordCount
 unfolding answerWords
 answer-long a = refl
@@ -22,6 +24,10 @@ stream-long s = refl
 pub label-long : (l : Label) → length (labelWords l) ≡ labelWordCount
 unfolding labelWords
 label-long l = refl
+
+pub salvage-long : (m : Outcome) → length (salvageWords m) ≡ salvageWordCount
+unfolding salvageWords
+salvage-long m = refl
 
 -- over any answers whose words are counted
 module _ {B : Type 0} {wordsOf : B → List ℕ} {numberOf : B → ℕ} {n : ℕ} (long : (b : B) → length (wordsOf b) ≡ n) where
@@ -46,3 +52,12 @@ module _ {B : Type 0} {wordsOf : B → List ℕ} {numberOf : B → ℕ} {n : ℕ
 pub label-told-determined : LabelToldDetermined
 label-told-determined lengths numbers flags block fall row words words′ words″ r r′ p q =
     (p .words-are ∙ sym (q .words-are), p .number-is ∙ sym (q .number-is))
+
+-- and the salvage's, with both outputs
+pub salvage-told-determined : SalvageToldDetermined
+salvage-told-determined input starts counts fill flag out out′ out″ lines lines′ lines″ words words′ words″ r r′ p q = (
+  p .stream-told .places-are ∙ sym (q .stream-told .places-are),
+  p .report-told .places-are ∙ sym (q .report-told .places-are),
+  p .stream-told .told .words-are ∙ sym (q .stream-told .told .words-are),
+  p .stream-told .told .number-is ∙ sym (q .stream-told .told .number-is),
+)

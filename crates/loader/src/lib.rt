@@ -5,12 +5,14 @@ ghost use mathlib.Core.Path.{_≡_};
 ghost use Rattle.format.specs.Fields.{Narrowest};
 ghost use Rattle.format.specs.Loader.{Loaded, faceVersion, RunTold, StreamTold, BooleansTold, ValueTold, WriteTold};
 ghost use Rattle.loader.specs.Labels.{LabelTold};
+ghost use Rattle.loader.specs.Salvage.{SalvageTold};
 use format::ByteOffset;
 use format::RowNumber;
 
 mod bytes;
 mod forms;
 mod label_words;
+mod salvage_words;
 mod words;
 
 // The version of these functions: one more with each change of what they take or answer.
@@ -166,4 +168,26 @@ pub extern "C" fn orc_label(
         RowNumber { rows: row as usize },
     );
     label_words::put_label(label, words)
+}
+
+// Salvages a stream by its groups, each with a start byte and a row count: the new stream in the first bytes of `out`, and a line for each group in
+// the first of `report`. A refused call leaves both as they were.
+#[no_mangle]
+pub extern "C" fn orc_salvage(
+    input: &[u8],
+    starts: &[u64],
+    counts: &[u64],
+    fill: i64,
+    flag: u64,
+    out: &mut [u8],
+    report: &mut [u8],
+    words: &mut [u64],
+) -> u64
+    ensures { λ r. ⌜ SalvageTold (now (input .entry)) (now (starts .entry)) (now (counts .entry)) fill flag (now (out .entry)) (now (out .exit)) (now (report .entry)) (now (report .exit)) (now (words .entry)) (now (words .exit)) r ⌝ }
+{
+    if words.len() < salvage_words::COUNT {
+        return words::TOO_FEW;
+    }
+    let outcome = salvage::salvage(input, starts, counts, fill, flag != 0, out, report);
+    salvage_words::put_outcome(outcome, words)
 }
