@@ -16,7 +16,11 @@ pub(crate) fn stored(fill: i64, signed: bool) -> u64
     ensures { λ r. ⌜ r ≡ Writing.stored signed (asU64 fill) ⌝ }
 {
     let bits = pattern::to_u64(fill);
-    if signed { pattern::zigzag_of(bits) } else { bits }
+    if signed {
+        pattern::zigzag_of(bits)
+    } else {
+        bits
+    }
 }
 
 // How many bytes the runs of so many rows have, without writing them: one run for each 512 rows begun, all of one size.
@@ -71,7 +75,14 @@ pub(crate) fn group_size(bytes: &[u8], rows: u64, keep: bool, first: u64) -> usi
     runs_size(rows, first)
 }
 
-pub(crate) fn put_group(bytes: &[u8], rows: u64, keep: bool, first: u64, out: &mut [u8], at: usize) -> usize
+pub(crate) fn put_group(
+    bytes: &[u8],
+    rows: u64,
+    keep: bool,
+    first: u64,
+    out: &mut [u8],
+    at: usize,
+) -> usize
     requires { ⌜ at + length (made keep (now bytes) first rows) ≤ length (now out) ⌝ }
     ensures { λ r. ⌜ Written (made keep (now (bytes .entry)) first rows) (now (out .entry)) at (now (out .exit)) r ⌝ }
 {

@@ -53,7 +53,7 @@ sub-if1 : tie.Need-sub-if1 Inv-loop μ-loop
 sub-if1 c = c .before .before .before .before .before .loop .inv .stream-fits
 
 returns : tie.Need-returns Inv-loop μ-loop
-returns c = 
+returns c =
     let z = c .before in
     let k = z .before in
     let a = k .before .before .before .before .before .before .before .before .before .before .before .args in
@@ -66,7 +66,7 @@ sub-if2 : tie.Need-sub-if2 Inv-loop μ-loop
 sub-if2 c = c .before .before .before .before .before .before .before .loop .inv .lines-fit
 
 returns-2 : tie.Need-returns-2 Inv-loop μ-loop
-returns-2 c = 
+returns-2 c =
     let y = c .before in
     let k = y .before .before .before in
     let a = k .before .before .before .before .before .before .before .before .before .before .before .args in
@@ -85,7 +85,7 @@ loop-less : tie.Need-loop-less Inv-loop μ-loop
 loop-less c = omega arith
 
 loop-again : tie.Need-loop-again Inv-loop μ-loop
-loop-again c = 
+loop-again c =
     let y = c .before in
     let z = y .before .before in
     let k = z .before in

@@ -19,7 +19,7 @@ refused-requires : tie.Need-refused-requires
 refused-requires c κs = search needs
 
 returns : tie.Need-returns
-returns c = 
+returns c =
     let a = c .before .before .before .before .before .before .before .args in
     was-refused (a .signed) (a .fill) (a .input .now) (a .starts .now) (a .counts .now) 17 (other-lengths (a .signed) (a .fill) (a .input .now) (a .starts .now) (a .counts .now) _ _ (λ e. omega (arith, e))) (c .refused .ensures)
 
@@ -30,7 +30,7 @@ refused-requires-2 : tie.Need-refused-requires-2
 refused-requires-2 c κs = search needs
 
 returns-2 : tie.Need-returns-2
-returns-2 c = 
+returns-2 c =
     let t = c .before .before in
     let a = t .before .before .before .before .before .before .before .args in
     was-refused (a .signed) (a .fill) (a .input .now) (a .starts .now) (a .counts .now) 17
@@ -49,7 +49,7 @@ same-length-2 : tie.Need-same-length-2
 same-length-2 c = search needs
 
 returns-3 : tie.Need-returns-3
-returns-3 c = 
+returns-3 c =
     let h = c .before .before in
     let e = h .before .before .before in
     let s = e .before .before .before .before .before .before .before .before in

@@ -23,20 +23,20 @@ cast-put-2 : tie.Need-cast-put-2
 cast-put-2 c = search needs
 
 put-requires-2 : tie.Need-put-requires-2
-put-requires-2 c κs = 
+put-requires-2 c κs =
     let p = c .before .before .before in
     let s = p .before .before .before in
     omega (arith, s .pre, run-long (s .args .first) (s .args .rows), p .put .ensures .next, p .put .kept .1 .0)
 
 write-requires : tie.Need-write-requires
-write-requires c κs = 
+write-requires c κs =
     let q = c .before .before .before in
     let p = q .before .before .before .before in
     let s = p .before .before .before in
     omega (arith, s .pre, run-long (s .args .first) (s .args .rows), p .put .ensures .next, p .put .kept .1 .0, q .put2 .ensures .next, q .put2 .kept .1 .0)
 
 put-requires-3 : tie.Need-put-requires-3
-put-requires-3 c κs = 
+put-requires-3 c κs =
     let w = c .before .before .before in
     let q = w .before .before .before .before in
     let p = q .before .before .before .before in
@@ -48,7 +48,7 @@ same-length c = search needs
 
 returns : tie.Need-returns
 unfolding runOf
-returns c = 
+returns c =
     let r = c .before .before in
     let w = r .before .before .before .before in
     let q = w .before .before .before .before in

@@ -20,7 +20,7 @@ enum-told : tie.Need-enum-told
 enum-told c = search needs
 
 returns-2 : tie.Need-returns-2
-returns-2 c = 
+returns-2 c =
     let m = c .before .before .before .before in
     let k = m .before .before in
     let a = k .before .args in
@@ -28,7 +28,7 @@ returns-2 c =
     (sym (m .measure-stream .ensures) ∙ c .before .before .said .given .1)
 
 returns-3 : tie.Need-returns-3
-returns-3 c = 
+returns-3 c =
     let m = c .before .before in
     let k = m .before .before in
     let a = k .before .args in

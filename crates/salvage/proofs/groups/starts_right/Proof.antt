@@ -43,7 +43,7 @@ loop-less : tie.Need-loop-less Inv-loop μ-loop
 loop-less c = omega arith
 
 loop-again : tie.Need-loop-again Inv-loop μ-loop
-loop-again c = 
+loop-again c =
     let l = c .before .before .before .loop in
     let s : l .i + 1 ≡ suc (l .i) = omega arith in
     (omega arith, rw s (l .inv .1 ∙ rising-on _ _ (l .last) (l .i) (omega arith) (omega arith)))

@@ -11,20 +11,20 @@ put-verdict-requires : tie.Need-put-verdict-requires
 put-verdict-requires c κs = let s = c .before .before in omega (arith, s .pre, line-long (s .args .keep) (s .args .number) (s .args .rows))
 
 put-decimal-requires : tie.Need-put-decimal-requires
-put-decimal-requires c κs = 
+put-decimal-requires c κs =
     let v = c .before .before .before in
     let s = v .before .before .before in
     omega (arith, s .pre, line-long (s .args .keep) (s .args .number) (s .args .rows), v .put-verdict .ensures .next, v .put-verdict .kept .1 .0)
 
 put-requires : tie.Need-put-requires
-put-requires c κs = 
+put-requires c κs =
     let d = c .before .before .before in
     let v = d .before .before .before .before in
     let s = v .before .before .before in
     omega (arith, s .pre, line-long (s .args .keep) (s .args .number) (s .args .rows), v .put-verdict .ensures .next, v .put-verdict .kept .1 .0, d .put-decimal .ensures .next, d .put-decimal .kept .1 .0)
 
 put-decimal-requires-2 : tie.Need-put-decimal-requires-2
-put-decimal-requires-2 c κs = 
+put-decimal-requires-2 c κs =
     let p = c .before .before .before in
     let d = p .before .before .before .before in
     let v = d .before .before .before .before in
@@ -32,7 +32,7 @@ put-decimal-requires-2 c κs =
     omega (arith, s .pre, line-long (s .args .keep) (s .args .number) (s .args .rows), v .put-verdict .ensures .next, v .put-verdict .kept .1 .0, d .put-decimal .ensures .next, d .put-decimal .kept .1 .0, p .put .ensures .next, p .put .kept .1 .0)
 
 put-requires-2 : tie.Need-put-requires-2
-put-requires-2 c κs = 
+put-requires-2 c κs =
     let e = c .before .before .before in
     let p = e .before .before .before .before in
     let d = p .before .before .before .before in
@@ -45,7 +45,7 @@ same-length c = search needs
 
 returns : tie.Need-returns
 unfolding line
-returns c = 
+returns c =
     let q = c .before .before in
     let e = q .before .before .before .before in
     let p = e .before .before .before .before in
