@@ -159,7 +159,8 @@ module _ (signed : Bool) (fill : ℤ) (fits : SFits w64 fill) where
       let k = renewed-kept gs h in
       record {
         runs = r .runs;
-        reads-whole = λ n l. ap (readAll n) (r .bytes) ∙ stream-whole n (r .runs) (r .valid) (omega (arith, r .total));
+        reads-whole = ap stream (r .bytes) ∙ stream-is (r .runs) (r .valid);
+        in-places = λ n l. ap (readAll n) (r .bytes) ∙ stream-whole n (r .runs) (r .valid) (omega (arith, r .total));
         total = r .total;
         rows = r .rows;
         unchanged = kept-together gs;

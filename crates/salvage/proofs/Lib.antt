@@ -11,3 +11,4 @@ pub mod Turning
 pub mod Setting
 pub mod Calling
 pub mod Proved
+pub mod Examples

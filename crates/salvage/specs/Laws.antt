@@ -18,7 +18,8 @@ use Rattle.format.specs.Rows.{asU64}
 use Rattle.format.specs.Parse.{got}
 use Rattle.format.specs.Streams.{whole, readAll, stream, runsOf, totalRows, joinedRows}
 use Rattle.format.specs.Writing.{stored, writing}
-use Rattle.salvage.specs.Salvage.{Group, groups, startsRight, kept, fillRun, fillRuns, mended, salvaged, report, Call, refused, written, salvaging}
+use Rattle.salvage.specs.declared.Outcome.{Outcome}
+use Rattle.salvage.specs.Salvage.{Group, groups, startsRight, kept, fillRun, fillRuns, mended, salvaged, report, Call, refused, written, salvaging, writtenOf, refusedWith, Salvaged}
 
 -- each group's bytes are bytes
 abbrev pub AllBytes : List Group → Type 0
@@ -97,7 +98,8 @@ module _ (signed : Bool) (fill : ℤ) where
   -- ---- THE NEW STREAM reads whole, with no condition; its rows are the listed ones in all, those of each group standing at their listed place
   pub record SalvagedHolds (gs : List Group) : Type 0 where
     pub runs : List Description
-    pub reads-whole : (n : ℕ) → sum (counts gs) ≤ n → readAll n (salvaged signed fill gs) ≡ whole runs
+    pub reads-whole : stream (salvaged signed fill gs) ≡ whole runs
+    pub in-places : (n : ℕ) → sum (counts gs) ≤ n → readAll n (salvaged signed fill gs) ≡ whole runs
     pub total : totalRows runs ≡ sum (counts gs)
     pub rows : (before behind : List Group) (g : Group) → gs ≡ before ++ (g ∷ behind)
         → take (g .rows) (drop (sum (counts before)) (joinedRows signed runs)) ≡ groupRows g
@@ -151,3 +153,24 @@ pub record SalvageHolds (signed : Bool) (fill : ℤ) : Type 0 where
 
 abbrev pub SalvageProved : Type 0
 SalvageProved = (signed : Bool) (fill : ℤ) → SFits w64 fill → SalvageHolds signed fill
+
+-- ---- THE PROMISE, as a caller has it
+
+module _ (input starts ns : List ℕ) (out out′ lines lines′ : List ℕ) (r : Outcome) where
+  pub record Given : Type 0 where
+    -- where bytes were written, they read whole, with the sum of the listed counts for their rows
+    pub reads : (m k : ℕ) → r ≡ writtenOf m k → (ds : List Description) × (stream (take m out′) ≡ whole ds) × (totalRows ds ≡ sum ns)
+    -- a refused call leaves every byte as it was
+    pub untouched : (n : ℕ) → r ≡ refusedWith n → (out′ ≡ out) × (lines′ ≡ lines)
+
+abbrev pub SalvageGiven : Type 0
+SalvageGiven =
+    (input starts ns : List ℕ) (fill : ℤ) (signed : Bool) (out out′ lines lines′ : List ℕ) (r : Outcome) → SFits w64 fill → AllBelow 256 input
+    → Salvaged input starts ns fill signed out out′ lines lines′ r → Given input starts ns out out′ lines lines′ r
+
+-- any two outcomes that the promise allows are equal
+abbrev pub SalvageDetermined : Type 0
+SalvageDetermined =
+    (input starts ns : List ℕ) (fill : ℤ) (signed : Bool) (out out′ out″ lines lines′ lines″ : List ℕ) (r r′ : Outcome)
+    → Salvaged input starts ns fill signed out out′ lines lines′ r → Salvaged input starts ns fill signed out out″ lines lines″ r′
+    → (out′ ≡ out″) × (lines′ ≡ lines″) × (r ≡ r′)
