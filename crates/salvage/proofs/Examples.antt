@@ -7,7 +7,6 @@ use lib.IntN.{ℤ, pos, negsuc}
 use Rattle.format.specs.Digits
 use Rattle.format.specs.Fields
 use Rattle.format.specs.Runs
-use Rattle.format.specs.Rows
 use Rattle.format.specs.Parse
 use Rattle.format.specs.Streams
 use Rattle.format.specs.Writing

@@ -7,7 +7,7 @@ use native.Mathlib.Nat.{mul-le-mul}
 use native.Mathlib.Omega.{arith}
 use mathlib.Core.Bool.{Bool, true, false}
 use mathlib.Core.List.{List, [], _∷_, _++_, append-assoc, append-nil}
-use lib.ListN.{length, take, drop, replicate, length-append}
+use lib.ListN.{length, replicate, length-append}
 use lib.Dec.{eqb}
 use lib.IntN.{ℤ}
 use borrow.Author.Tests.{eq-eqb, ne-eqb, eqb-false}
@@ -15,7 +15,7 @@ use mir.Syntax.{w64}
 use mir.Val.{SFits}
 use Rattle.format.specs.Fields.{pick, shortest, two64}
 use Rattle.format.specs.Rows.{asU64}
-use Rattle.format.specs.Runs.{Description, layout, joined}
+use Rattle.format.specs.Runs.{layout, joined}
 use Rattle.format.specs.Writing.{stored}
 use Rattle.format.proofs.Varints.{shortest-length}
 use Rattle.text.specs.Written.{Written}

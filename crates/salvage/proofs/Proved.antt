@@ -2,14 +2,9 @@
 use mathlib.Core.Path.{_≡_, refl, sym, ap, _∙_}
 use Prim.Native.Nat.{ℕ}
 use native.Mathlib.Omega.{arith}
-use mathlib.Core.Bool.{Bool}
-use mathlib.Core.List.{List, _++_}
+use mathlib.Core.List.{List}
 use lib.ListN.{length, take, drop}
 use lib.Seq.{take-at}
-use lib.IntN.{ℤ}
-use mir.Syntax.{w64}
-use mir.Val.{SFits}
-use Rattle.format.specs.Digits.{AllBelow}
 use Rattle.format.specs.Runs.{Description}
 use Rattle.format.specs.Streams.{stream, whole, totalRows}
 use Rattle.salvage.specs.declared.Outcome.{Outcome}

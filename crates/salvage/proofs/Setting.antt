@@ -4,7 +4,7 @@ use mathlib.Core.Logic.{_≢_}
 use Prim.Native.Nat.{ℕ, suc, _+_, _<_, _≤_}
 use native.Mathlib.Omega.{arith}
 use mathlib.Core.Bool.{Bool, true, false, not, _&&_, _||_}
-use mathlib.Core.List.{List, [], _∷_, _++_, append-assoc, append-nil}
+use mathlib.Core.List.{List, [], _++_, append-assoc, append-nil}
 use lib.ListN.{length, drop, length-append}
 use lib.Dec.{ltb, eqb}
 use lib.IntN.{ℤ}
@@ -12,7 +12,7 @@ use borrow.Author.Tests.{ltb-false, eq-eqb, ne-eqb}
 use Rattle.text.specs.Written.{Written}
 use Rattle.text.proofs.Texts.{none-written, then-written}
 use Rattle.salvage.specs.declared.Outcome.{Outcome}
-use Rattle.salvage.specs.Salvage.{groups, startsRight, salvaged, line, report, Call, refused, written, unless, salvaging, writtenOf, refusedWith, outcomeOf, streamIn, reportIn, Salvaged}
+use Rattle.salvage.specs.Salvage.{startsRight, salvaged, line, report, Call, refused, written, unless, salvaging, writtenOf, refusedWith, Salvaged}
 use Rattle.salvage.specs.Steps.{made, roomFor}
 use Rattle.salvage.specs.Laws.{RightStarts, Room}
 use Rattle.salvage.proofs.Tests.{T-true}

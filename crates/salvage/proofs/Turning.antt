@@ -3,7 +3,7 @@ use mathlib.Core.Path.{_≡_, refl, sym, ap, _∙_}
 use Prim.Native.Nat.{ℕ, suc, _+_, _-_, _<_, _≤_}
 use native.Mathlib.Omega.{arith}
 use mathlib.Core.Bool.{Bool, true, false, not, _||_}
-use mathlib.Core.List.{List, [], _∷_, _++_, append-assoc, append-nil}
+use mathlib.Core.List.{List, [], _∷_, _++_}
 use lib.ListN.{length, drop, getD, length-append}
 use lib.Dec.{ltb}
 use lib.IntN.{ℤ}
@@ -12,8 +12,6 @@ use mir.Syntax.{w64}
 use mir.Val.{SFits}
 use Rattle.format.specs.Rows.{asU64}
 use Rattle.format.specs.Writing.{stored}
-use Rattle.text.specs.Written.{Written}
-use Rattle.text.proofs.Texts.{none-written, then-written}
 use Rattle.salvage.specs.Salvage.{Group, groups, kept, mended, salvaged, line, report}
 use Rattle.salvage.specs.Steps.{group, bytesOf, made, roomFor}
 use Rattle.salvage.proofs.Laying.{made-is}

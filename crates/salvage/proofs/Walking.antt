@@ -3,13 +3,13 @@ use mathlib.Core.Path.{_≡_, refl, sym, ap, _∙_}
 use mathlib.Core.Logic.{_≢_}
 use Prim.Native.Nat.{ℕ, zero, suc, _+_, _-_, _<_, _≤_}
 use native.Mathlib.Omega.{arith}
-use mathlib.Core.Bool.{Bool, true, false, _&&_}
+use mathlib.Core.Bool.{false, _&&_}
 use mathlib.Core.List.{List, [], _∷_}
-use lib.ListN.{length, take, drop, getD, length-drop, drop-of-length-le, List·getD-eq-default}
+use lib.ListN.{length, drop, getD, length-drop, drop-of-length-le, List·getD-eq-default}
 use lib.Seq.{drop-cons, take-all}
 use lib.Dec.{T, ltb, eqb, leb, ltb→lt, leb→le}
-use borrow.Author.Tests.{eq-eqb, ne-eqb, lt-ltb, le-ltb}
-use Rattle.salvage.specs.Salvage.{Group, groups, rising, startsRight}
+use borrow.Author.Tests.{ne-eqb, lt-ltb, le-ltb}
+use Rattle.salvage.specs.Salvage.{groups, rising, startsRight}
 use Rattle.salvage.specs.Steps.{stopOf, bytesOf, group}
 use Rattle.salvage.proofs.Tests.{and-e}
 use Rattle.salvage.proofs.Starting.{groups-none, groups-last, groups-cons}

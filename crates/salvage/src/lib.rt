@@ -2,7 +2,6 @@
 // report with a line for each.
 ghost use mathlib.Core.Path.{_≡_};
 ghost use mathlib.Core.Bool.{Bool};
-ghost use Prim.Native.Nat.{_≤_};
 ghost use lib.ListN.{length};
 ghost use Rattle.salvage.specs.Salvage.{writtenOf, refusedWith, Salvaged};
 ghost use Rattle.salvage.specs.Laws.{RightStarts};

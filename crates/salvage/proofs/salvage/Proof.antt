@@ -1,6 +1,5 @@
 -- `salvage` meets its contract. Assumes nothing.
-use mathlib.Core.Path.{_≡_, sym, ap, _∙_}
-use mathlib.Core.Bool.{not}
+use mathlib.Core.Path.{sym, _∙_}
 use native.Mathlib.Omega.{arith}
 use borrow.Author.Needs.{needs}
 use borrow.Author.Tests.{not-true, not-false}
@@ -58,7 +57,7 @@ returns-3 c =
     (no-room (a .signed) (a .fill) (a .input .now) (a .starts .now) (a .counts .now) _ _ (right e) (sym (rw (toZ-ofZ (s .fits .fill)) at (h .has-room .ensures)) ∙ not-true _ (c .before .if3 .taken))) (c .refused3 .ensures)
 
 write-all-requires : tie.Need-write-all-requires
-write-all-requires c κs = let h = c .before .before .before in (right (h .before .before .before), sym (h .has-room .ensures) ∙ not-false _ (c .before .before .if3 .left))
+write-all-requires c κs = let h = c .before .before .before in (right (h .before .before .before), rw (h .has-room .ensures) at (not-false _ (c .before .before .if3 .left)))
 
 same-length-3 : tie.Need-same-length-3
 same-length-3 c = search needs

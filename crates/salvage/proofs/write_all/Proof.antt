@@ -1,5 +1,4 @@
 -- `write_all` meets its contract. The loop's invariant: what is written, and what stands for the groups that are left, is all. Assumes nothing.
-use mathlib.Core.Path.{_≡_}
 use Prim.Native.Nat.{_-_}
 use native.Mathlib.Omega.{arith}
 use borrow.Author.Needs.{needs}

@@ -1,5 +1,4 @@
 -- `fill::put_group` meets its contract. Assumes nothing.
-use native.Mathlib.Omega.{arith}
 use borrow.Author.Needs.{needs}
 use Rattle.salvage.proofs.fill.put_group.Statement.{statement}
 use Rattle.salvage.proofs.fill.put_group.Tie as tie

@@ -1,5 +1,4 @@
 -- `fill::runs_size` meets its contract: at most 2^55 runs of at most 13 bytes. Assumes nothing.
-use mathlib.Core.Path.{_≡_, _∙_}
 use Prim.Native.Nat.{_+_, _/_}
 use native.Mathlib.Omega.{arith}
 use borrow.Author.Needs.{needs}

@@ -2,7 +2,6 @@
 use mathlib.Core.Path.{_≡_, sym, _∙_}
 use Prim.Native.Nat.{suc, _+_, _-_, _≤_}
 use native.Mathlib.Omega.{arith}
-use borrow.Author.Needs.{needs}
 use lib.ListN.{length, drop}
 use Rattle.salvage.specs.Salvage.{rising, startsRight}
 use Rattle.salvage.proofs.Walking.{right-none, right-late, right-first, rising-on, rising-stops, rising-end}

@@ -1,6 +1,4 @@
 -- `groups::stop_of` meets its contract. Assumes nothing.
-use mathlib.Core.Path.{_≡_, sym}
-use Prim.Native.Nat.{suc, _+_}
 use native.Mathlib.Omega.{arith}
 use borrow.Author.Needs.{needs}
 use Rattle.salvage.proofs.Walking.{stop-next, stop-end}
