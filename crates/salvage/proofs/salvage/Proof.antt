@@ -57,7 +57,7 @@ returns-3 c =
     (no-room (a .signed) (a .fill) (a .input .now) (a .starts .now) (a .counts .now) _ _ (right e) (sym (rw (toZ-ofZ (s .fits .fill)) at (h .has-room .ensures)) ∙ not-true _ (c .before .if3 .taken))) (c .refused3 .ensures)
 
 write-all-requires : tie.Need-write-all-requires
-write-all-requires c κs = let h = c .before .before .before in (right (h .before .before .before), rw (h .has-room .ensures) at (not-false _ (c .before .before .if3 .left)))
+write-all-requires c κs = let h = c .before .before .before in (right (h .before .before .before), rw (h .has-room .ensures) at (not-false (h .has-room .result) (c .before .before .if3 .left)))
 
 same-length-3 : tie.Need-same-length-3
 same-length-3 c = search needs
