@@ -19,6 +19,7 @@ pub struct Sizes {
     pub report: ByteOffset,
 }
 
+// What a call comes to.
 pub enum Outcome {
     Written(Sizes),
     Refused(Refusal),
@@ -41,7 +42,8 @@ impl Outcome {
     }
 }
 
-// Both outputs have room for what is to be written. Nothing is: sizes are enough, and each is compared with the room that is left, so that no sum passes it.
+// Both outputs have room for what is to be written. Only sizes are needed for that, and each is compared with the room that is left: no sum passes
+// 2^64, and a count of any size costs the same.
 fn has_room(
     input: &[u8],
     starts: &[u64],
