@@ -38,17 +38,19 @@ extern "C" {
 uint64_t orc_version(void);
 
 /* The answer. A function that is lent words writes its whole answer into the first ORC_WORDS of
- * them, the stream reader into the first ORC_STREAM_WORDS, orc_label into the first ORC_LABEL_WORDS,
- * orc_part_take and orc_part_close into the first ORC_PART_WORDS, and leaves the others as they were.
- * It returns the refusal's number (the word ORC_NUMBER), 0 where nothing is refused. Later versions
- * append words: none changes its meaning. */
+ * them, the stream reader into the first ORC_STREAM_WORDS, those below them into as many as is said
+ * there, and leaves the others as they were. It returns the refusal's number (the word ORC_NUMBER), 0
+ * where nothing is refused. Later versions append words: none changes its meaning. */
 #define ORC_WORDS 9
 #define ORC_STREAM_WORDS 14
+/* orc_label. */
 #define ORC_LABEL_WORDS 5
 #define ORC_PART_WORDS 11
 
 /* How many words the state of the reader in parts has. */
 #define ORC_STATE_WORDS 7
+/* orc_salvage. */
+#define ORC_SALVAGE_WORDS 5
 
 /* What it returns where it was lent fewer: then it has touched nothing, no word, row or byte. */
 #define ORC_TOO_FEW_WORDS UINT64_MAX
@@ -102,11 +104,19 @@ enum orc_part_word {
     ORC_PART_TAKEN = 10
 };
 
+/* The words of a salvage behind ORC_CASE, ORC_NUMBER and ORC_PLACE; 0 where refused. */
+enum orc_salvage_word {
+    /* How many bytes the new stream has, and how many the report. */
+    ORC_SALVAGE_BYTES = 3,
+    ORC_SALVAGE_REPORT = 4
+};
+
 enum orc_case {
     /* The input is empty: there is no run. orc_read_run_at only; and of the reader in parts, once it is
      * closed: the column has ended. */
     ORC_CASE_END = 0,
-    /* A run, booleans or a byte value; of the stream: it was read whole; of a label: a name. */
+    /* A run, booleans or a byte value; of the stream: it was read whole; of a label: a name; of any
+     * other: it was done. */
     ORC_CASE_READ = 1,
     ORC_CASE_REFUSED = 2,
     /* Of a label alone: the row has no name, and is called by the fallback. */
@@ -165,6 +175,9 @@ enum orc_answer {
     ORC_LIST_CUT = 14,
     /* There is no such row: it has no flag. Ask for one below the number of flags. */
     ORC_NO_SUCH_ROW = 16,
+    /* Row groups: the starts do not begin at 0, do not rise strictly or pass the stream's end, or the two
+     * columns have unequal lengths. Give those of this stream, all of them and in order. */
+    ORC_WRONG_STARTS = 17,
     /* Dictionary: a length is below 0, or they do not add up to the block (as whole numbers, never
      * modulo 2^64). Give the lengths and the block of one dictionary, both whole. */
     ORC_LENGTHS_NOT_THE_BLOCK = 18,
@@ -257,6 +270,19 @@ uint64_t orc_part_take(uint64_t *state, size_t state_len, uint8_t *held, size_t 
 uint64_t orc_part_close(uint64_t *state, size_t state_len, uint8_t *held, size_t held_len,
                         uint64_t flag, int64_t *rows, size_t rows_len, uint64_t *words,
                         size_t words_len);
+
+/* Salvages a damaged stream by its row groups: the byte that each starts at, and its rows. A group is
+ * kept, byte for byte, exactly if its bytes up to the next start (or the end) read as a whole stream of
+ * exactly its rows; otherwise it is replaced by fixed delta runs of the fill row, 512 rows each and the
+ * rest last (a group of 0 rows by nothing). The new stream stands in the first bytes of out; it reads
+ * whole, with the listed rows. The report stands in the first bytes of report: a line a group, in order,
+ * "kept" or "replaced", the group's number from 0 and its rows, with a space between them. Refused with
+ * nothing written, place 0: ORC_WRONG_STARTS (an empty list only with an empty stream), then
+ * ORC_TOO_FEW_PLACES where either lacks room. */
+uint64_t orc_salvage(const uint8_t *input, size_t input_len, const uint64_t *starts, size_t starts_len,
+                     const uint64_t *counts, size_t counts_len, int64_t fill, uint64_t flag,
+                     uint8_t *out, size_t out_len, uint8_t *report, size_t report_len,
+                     uint64_t *words, size_t words_len);
 
 /* Reads the run at the start of input, and answers by one number: an orc_answer, or, from ORC_RUN on,
  * a run. Rows are laid into out as eight bytes each, lowest first; a trailing part of fewer than eight

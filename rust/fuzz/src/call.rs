@@ -3,10 +3,11 @@ use differential::frames;
 use differential::random::Random;
 use differential::stages::labels::{self, Asked};
 use differential::stages::patched_runs::any_patched_rows;
+use differential::stages::salvage;
 use menakovitsy::exported::{
-    case, kind, LABEL_WORDS, PART_WORDS, STATE_WORDS, STREAM_WORDS, TOO_FEW_WORDS, WORDS,
+    case, kind, LABEL_WORDS, PART_WORDS, SALVAGE_WORDS, STATE_WORDS, STREAM_WORDS, TOO_FEW_WORDS, WORDS,
 };
-use model::{Answer, Booleans, Form, Info, Kind, Label, Refusal, Stream, Value, Written};
+use model::{Answer, Booleans, Form, Info, Kind, Label, Refusal, Salvaged, Stream, Value, Written};
 
 use crate::parts;
 
@@ -27,6 +28,7 @@ pub enum Call {
     Label(Asked),
     Part(parts::Asked),
     PartStart { state: usize },
+    Salvage(salvage::Asked, usize),
 }
 
 /// What a call comes to: what it returns, its words (none where it is lent too few, or takes none),
@@ -38,6 +40,7 @@ pub struct Outcome {
     pub rows: Vec<i64>,
     pub bytes: Vec<u8>,
     pub columns: [Vec<u64>; 3],
+    pub report: Vec<u8>,
 }
 
 /// What a call is lent: what it is given to read, and how many places it may write to.
@@ -54,6 +57,7 @@ pub struct Lending<'a> {
     pub lent_columns: [usize; 3],
     pub rows: usize,
     pub bytes: usize,
+    pub report: usize,
 }
 
 impl Outcome {
@@ -69,6 +73,11 @@ impl Outcome {
 
     fn refused(refusal: Refusal) -> Self {
         Self::counted(refusal, 0, 0)
+    }
+
+    /// Of words of its own.
+    fn done(words: &[u64]) -> Self {
+        Outcome { returned: words[1], words: words.to_vec(), ..Outcome::default() }
     }
 
     fn read(run: Info) -> Self {
@@ -109,7 +118,7 @@ impl Call {
     pub fn any(random: &mut Random) -> Self {
         let flag = if random.once_in(8) { random.any() } else { random.below(2) as u64 };
         let places = random.pick(&[0, 1, 5, 12, 64, 512, 1000]);
-        match random.below(23) {
+        match random.below(25) {
             0..=1 => {
                 let bytes = 8 * places + if random.once_in(2) { random.below(8) } else { 0 };
                 Call::Run { input: frames::any_frame(random), flag, bytes: bytes.min(MOST) }
@@ -140,6 +149,7 @@ impl Call {
             17..=18 => Self::any_patched(random),
             19..=20 => Call::Part(parts::any(flag, random)),
             21 => Call::PartStart { state: random.pick(&[0, 6, 7, 8]) },
+            22..=23 => Self::any_salvage(flag, random),
             _ => {
                 let shift = random.below(64);
                 Call::Narrowest { number: random.any() >> shift }
@@ -169,6 +179,21 @@ impl Call {
         Call::Patched { rows, base, width, places: random.pick(&[0, 5, 9, 40, MOST]) }
     }
 
+    /// Any salvage: its two columns may have unequal lengths here.
+    fn any_salvage(flag: u64, random: &mut Random) -> Self {
+        let mut asked = salvage::Asked { flag, ..salvage::any(random) };
+        if random.once_in(16) {
+            asked.counts.push(1);
+        }
+        asked.places = asked.places.min(MOST);
+        let report = match asked.answer(usize::MAX) {
+            Salvaged::Written { report, .. } => report.len(),
+            Salvaged::Refused(_) => 100,
+        };
+        let report = random.pick(&[report, report, report, report + 9, report.saturating_sub(1), 0]);
+        Call::Salvage(asked, report)
+    }
+
     /// The function's name.
     pub fn function(&self) -> &'static str {
         match self {
@@ -183,6 +208,7 @@ impl Call {
             Call::Label(_) => "orc_label",
             Call::Part(asked) => asked.function(),
             Call::PartStart { .. } => "orc_part_start",
+            Call::Salvage(..) => "orc_salvage",
         }
     }
 
@@ -193,6 +219,7 @@ impl Call {
             Call::Stream { .. } => STREAM_WORDS,
             Call::Label(_) => LABEL_WORDS,
             Call::Part(_) => PART_WORDS,
+            Call::Salvage(..) => SALVAGE_WORDS,
             _ => WORDS,
         }
     }
@@ -233,6 +260,13 @@ impl Call {
             Call::Label(Asked { block, lengths, numbers, flags, fallback, .. }) => {
                 Lending { input: block, given: lengths, numbers, flags, fallback, ..none }
             }
+            Call::Salvage(asked, report) => Lending {
+                input: &asked.input,
+                columns: [&asked.starts, &asked.counts, &[]],
+                bytes: asked.places,
+                report: *report,
+                ..none
+            },
         }
     }
 
@@ -290,6 +324,13 @@ impl Call {
                 let returned = if *state < STATE_WORDS { TOO_FEW_WORDS } else { 0 };
                 Outcome { returned, ..Outcome::default() }
             }
+            Call::Salvage(asked, report) => match asked.answer(*report) {
+                Salvaged::Written { report, bytes } => {
+                    let words = [case::READ, 0, 0, bytes.len() as u64, report.len() as u64];
+                    Outcome { bytes, report: report.into_bytes(), ..Outcome::done(&words) }
+                }
+                Salvaged::Refused(refusal) => Outcome::done(&[case::REFUSED, refusal.number.into(), 0, 0, 0]),
+            },
             Call::Narrowest { number } => {
                 Outcome { returned: u64::from(model::narrowest_code(*number)), ..Outcome::default() }
             }

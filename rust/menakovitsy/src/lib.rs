@@ -13,6 +13,7 @@
 //! | a column of flags | [`read_booleans`] |
 //! | a byte value, as a part of the input | [`byte_value`] |
 //! | the name of a row, by a dictionary | [`label`] |
+//! | a damaged column salvaged, by its row groups | [`salvage()`] |
 //! | a run written | [`write_run`], [`write_patched`], [`narrowest_code`] |
 //! | the library that is linked | [`check_version`], [`library_version`] |
 //!
@@ -47,6 +48,7 @@ mod library;
 mod parts;
 mod patched;
 mod refusal;
+mod salvage;
 mod units;
 mod version;
 
@@ -61,6 +63,7 @@ pub use library::{
 pub use parts::{PartReader, PartRun};
 pub use patched::write_patched;
 pub use refusal::Refusal;
+pub use salvage::{salvage, Group, Salvaged, MOST_FILL};
 pub use units::{ByteOffset, RowNumber};
 pub use version::{check_version, OtherVersion};
 

@@ -2,8 +2,8 @@
 use std::error::Error;
 use std::fmt;
 
-/// A refusal, by its number. Readers give 1 to 8 and 12 to 14; 9 to 11 are the run writer's; labels are
-/// refused with 16, 18 and 19.
+/// A refusal, by its number. Readers give 1 to 8 and 12 to 14; 9 to 11 are the run writer's; row groups are
+/// refused with 17; labels with 16, 18 and 19.
 #[derive(Debug, Clone, Copy, PartialEq, Eq, Hash)]
 #[non_exhaustive]
 pub enum Refusal {
@@ -38,6 +38,8 @@ pub enum Refusal {
     ListCut,
     /// 16: there is no such row.
     NoSuchRow,
+    /// 17: the starts of row groups do not begin at 0, do not rise strictly or pass the end.
+    WrongStarts,
     /// 18: a length of the dictionary is below 0, or they do not add up to its block.
     LengthsNotTheBlock,
     /// 19: the row's number is outside the dictionary, or the numbers end before its entry.
@@ -49,7 +51,7 @@ pub enum Refusal {
 
 impl Refusal {
     /// All that have a number of their own, in the order of the numbers.
-    pub const ALL: [Refusal; 17] = [
+    pub const ALL: [Refusal; 18] = [
         Refusal::HeaderCut,
         Refusal::EntryOver64,
         Refusal::PatchTooLarge,
@@ -65,6 +67,7 @@ impl Refusal {
         Refusal::RowsCut,
         Refusal::ListCut,
         Refusal::NoSuchRow,
+        Refusal::WrongStarts,
         Refusal::LengthsNotTheBlock,
         Refusal::NoSuchName,
     ];
@@ -88,6 +91,7 @@ impl Refusal {
             Refusal::RowsCut => 13,
             Refusal::ListCut => 14,
             Refusal::NoSuchRow => 16,
+            Refusal::WrongStarts => 17,
             Refusal::LengthsNotTheBlock => 18,
             Refusal::NoSuchName => 19,
             Refusal::Unknown(number) => number,
@@ -124,6 +128,9 @@ impl Refusal {
             Refusal::RowsCut => "a block of packed rows or of bytes is cut",
             Refusal::ListCut => "a patch list is cut",
             Refusal::NoSuchRow => "there is no such row",
+            Refusal::WrongStarts => {
+                "row groups: the starts do not begin at 0, do not rise strictly or pass the column's end"
+            }
             Refusal::LengthsNotTheBlock => {
                 "dictionary: a length is below 0, or the lengths do not add up to the block"
             }
@@ -181,6 +188,9 @@ impl Refusal {
             Refusal::NotTheForm => "choose another form or width",
             Refusal::TooNarrow => "choose a wider width",
             Refusal::NoSuchRow => "ask for a row below the number of flags",
+            Refusal::WrongStarts => {
+                "give the starts and rows of this column's groups, from 0 on, all of them and in order"
+            }
             Refusal::LengthsNotTheBlock => {
                 "give the lengths and the block of one dictionary, both whole; if they are, the file is damaged"
             }
