@@ -33,7 +33,7 @@ extern "C" {
 
 /* The version of these functions: each change of them makes it one more. A program compares what
  * orc_version answers with the header that it was compiled with. */
-#define ORC_VERSION UINT64_C(8)
+#define ORC_VERSION UINT64_C(9)
 
 uint64_t orc_version(void);
 
@@ -54,6 +54,8 @@ uint64_t orc_version(void);
 #define ORC_INDEX_WORDS 8
 #define ORC_ENTRY_WORDS 6
 #define ORC_ROWS_FROM_WORDS 4
+/* orc_salvage. */
+#define ORC_SALVAGE_WORDS 5
 
 /* What it returns where it was lent fewer: then it has touched nothing, no word, row or byte. */
 #define ORC_TOO_FEW_WORDS UINT64_MAX
@@ -138,6 +140,13 @@ enum orc_rows_from_word {
     ORC_ROWS_FROM_ROWS = 3
 };
 
+/* The words of a salvage behind ORC_CASE, ORC_NUMBER and ORC_PLACE; 0 where refused. */
+enum orc_salvage_word {
+    /* How many bytes the new stream has, and how many the report. */
+    ORC_SALVAGE_BYTES = 3,
+    ORC_SALVAGE_REPORT = 4
+};
+
 enum orc_case {
     /* The input is empty: there is no run. orc_read_run_at only; and of the reader in parts, once it is
      * closed: the column has ended. */
@@ -206,6 +215,9 @@ enum orc_answer {
     /* There is no such row (of a label: it has no flag). Ask for one below the number of rows, or of
      * flags. */
     ORC_NO_SUCH_ROW = 16,
+    /* Row groups: the starts do not begin at 0, do not rise strictly or pass the stream's end, or the two
+     * columns have unequal lengths. Give those of this stream, all of them and in order. */
+    ORC_WRONG_STARTS = 17,
     /* Dictionary: a length is below 0, or they do not add up to the block (as whole numbers, never
      * modulo 2^64). Give the lengths and the block of one dictionary, both whole. */
     ORC_LENGTHS_NOT_THE_BLOCK = 18,
@@ -326,6 +338,18 @@ uint64_t orc_read_from(const uint8_t *input, size_t input_len, const uint64_t *f
                        const uint64_t *at, size_t at_len, const uint64_t *counts, size_t counts_len,
                        uint64_t row, uint64_t flag, int64_t *rows, size_t rows_len, uint64_t *words,
                        size_t words_len);
+/* Salvages a damaged stream by its row groups: the byte that each starts at, and its rows. A group is
+ * kept, byte for byte, exactly if its bytes up to the next start (or the end) read as a whole stream of
+ * exactly its rows; otherwise it is replaced by fixed delta runs of the fill row, 512 rows each and the
+ * rest last (a group of 0 rows by nothing). The new stream stands in the first bytes of out; it reads
+ * whole, with the listed rows. The report stands in the first bytes of report: a line a group, in order,
+ * "kept" or "replaced", the group's number from 0 and its rows, with a space between them. Refused with
+ * nothing written, place 0: ORC_WRONG_STARTS (an empty list only with an empty stream), then
+ * ORC_TOO_FEW_PLACES where either lacks room. */
+uint64_t orc_salvage(const uint8_t *input, size_t input_len, const uint64_t *starts, size_t starts_len,
+                     const uint64_t *counts, size_t counts_len, int64_t fill, uint64_t flag,
+                     uint8_t *out, size_t out_len, uint8_t *report, size_t report_len,
+                     uint64_t *words, size_t words_len);
 
 /* Reads the run at the start of input, and answers by one number: an orc_answer, or, from ORC_RUN on,
  * a run. Rows are laid into out as eight bytes each, lowest first; a trailing part of fewer than eight

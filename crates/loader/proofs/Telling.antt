@@ -20,6 +20,10 @@ use Rattle.format.specs.Loader.{answerWords, streamWords, wordCount, streamWord
 
 -- every answer has as many words, every stream's, every label's and every count's
 -- every answer has as many words, every stream's, every label's and every one of the index's
+use Rattle.salvage.specs.declared.Outcome.{Outcome}
+use Rattle.loader.specs.Salvage.{salvageWords, salvageWordCount, SalvageToldDetermined}
+
+-- every answer has as many words, every stream's, every label's and every salvage's
 pub answer-long : (a : Answer) → length (answerWords a) ≡ wordCount
 unfolding answerWords
 answer-long a = refl
@@ -46,6 +50,9 @@ found-long v = refl
 pub preview-long : (p : Preview) → length (previewWords p) ≡ previewWordCount
 unfolding previewWords
 preview-long p = refl
+pub salvage-long : (m : Outcome) → length (salvageWords m) ≡ salvageWordCount
+unfolding salvageWords
+salvage-long m = refl
 
 -- over any answers whose words are counted
 module _ {B : Type 0} {wordsOf : B → List ℕ} {numberOf : B → ℕ} {n : ℕ} (long : (b : B) → length (wordsOf b) ≡ n) where
@@ -87,3 +94,11 @@ module _ {input first at counts words : List ℕ} where
   pub index-put : {first′ at′ counts′ words′ : List ℕ} {b : Built} {r : ℕ} → BuiltIn input first at counts first′ at′ counts′ b → builtWordCount ≤ length words
       → Put builtWords builtNumber b words words′ r → IndexTold input first at counts first′ at′ counts′ words words′ r
   index-put q h p = record { told = put built-long (q .answer) h p; columns-are = rw (le-leb builtWordCount (length words) h) (q .columns) }
+-- and the salvage's, with both outputs
+pub salvage-told-determined : SalvageToldDetermined
+salvage-told-determined input starts counts fill flag out out′ out″ lines lines′ lines″ words words′ words″ r r′ p q = (
+  p .stream-told .places-are ∙ sym (q .stream-told .places-are),
+  p .report-told .places-are ∙ sym (q .report-told .places-are),
+  p .stream-told .told .words-are ∙ sym (q .stream-told .told .words-are),
+  p .stream-told .told .number-is ∙ sym (q .stream-told .told .number-is),
+)

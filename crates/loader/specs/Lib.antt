@@ -5,3 +5,4 @@ pub mod Patched
 pub mod Parts
 pub mod Counts
 pub mod Index
+pub mod Salvage

@@ -9,6 +9,7 @@ ghost use Rattle.loader.specs.Labels.{LabelTold};
 ghost use Rattle.loader.specs.Patched.{PatchedTold};
 ghost use Rattle.loader.specs.Parts.{StartTold, PartTold, CloseTold};
 ghost use Rattle.loader.specs.Counts.{CountTold};
+ghost use Rattle.loader.specs.Salvage.{SalvageTold};
 use format::ByteOffset;
 use format::RowNumber;
 
@@ -18,6 +19,7 @@ mod forms;
 mod index_words;
 mod label_words;
 mod part_words;
+mod salvage_words;
 mod words;
 
 // The version of these functions: one more with each change of what they take or answer.
@@ -25,7 +27,7 @@ mod words;
 pub extern "C" fn orc_version() -> u64
     ensures { λ r. ⌜ r ≡ faceVersion ⌝ }
 {
-    8
+    9
 }
 
 // One run at the start of the input, its rows as eight bytes each, lowest first. The flag is 0 for unsigned, and any other number for signed.
@@ -323,4 +325,26 @@ pub extern "C" fn orc_read_from(
     let from = RowNumber { rows: row as usize };
     let preview = index::read_from(input, first, at, counts, from, flag != 0, rows);
     index_words::put_preview(preview, words)
+}
+
+// Salvages a stream by its groups, each with a start byte and a row count: the new stream in the first bytes of `out`, and a line for each group in
+// the first of `report`. A refused call leaves both as they were.
+#[no_mangle]
+pub extern "C" fn orc_salvage(
+    input: &[u8],
+    starts: &[u64],
+    counts: &[u64],
+    fill: i64,
+    flag: u64,
+    out: &mut [u8],
+    report: &mut [u8],
+    words: &mut [u64],
+) -> u64
+    ensures { λ r. ⌜ SalvageTold (now (input .entry)) (now (starts .entry)) (now (counts .entry)) fill flag (now (out .entry)) (now (out .exit)) (now (report .entry)) (now (report .exit)) (now (words .entry)) (now (words .exit)) r ⌝ }
+{
+    if words.len() < salvage_words::COUNT {
+        return words::TOO_FEW;
+    }
+    let outcome = salvage::salvage(input, starts, counts, fill, flag != 0, out, report);
+    salvage_words::put_outcome(outcome, words)
 }

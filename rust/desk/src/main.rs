@@ -8,7 +8,9 @@ use std::process::ExitCode;
 mod annotate;
 mod arguments;
 mod ended;
+mod files;
 mod progress;
+mod salvage;
 mod walk;
 
 use ended::{Ended, Failure};
@@ -24,7 +26,7 @@ pub struct Word {
     run: fn(Vec<OsString>) -> Result<Ended, Failure>,
 }
 
-const WORDS: [Word; 1] = [annotate::WORD];
+const WORDS: [Word; 2] = [annotate::WORD, salvage::WORD];
 
 fn help() -> String {
     let words: String = WORDS.iter().map(|word| format!("  {:<10} {}\n", word.name, word.does)).collect();

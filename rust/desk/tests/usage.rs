@@ -33,6 +33,14 @@ fn bad_usage() {
         (&["annotate", "--unsigned", "a"], "--unsigned is no option of it ("),
         (&["annotate", "a", "--svg"], "--svg wants a value ("),
         (&["annotate", "a", "--svg", "b", "--svg", "c"], "--svg is given twice ("),
+        (&["salvage", "a"], "--groups is missing (menakovitsy salvage --help"),
+        (&["salvage", "a", "--groups", "b"], "--out is missing ("),
+        (&["salvage", "a", "--groups", "b", "--out", "c"], "--fill is missing ("),
+        (&["salvage", "--groups", "b", "--out", "c", "--fill", "7"], "STREAM is missing ("),
+        (
+            &["salvage", "a", "--groups", "b", "--out", "c", "--fill", "x"],
+            "--fill wants a row, a whole number of 64 bits, and x is none (",
+        ),
     ] {
         let said = menakovitsy(arguments, &[]);
         assert_eq!((said.status, said.output.as_str()), (2, ""), "{arguments:?}");

@@ -7,6 +7,7 @@ mod lines;
 pub mod parts;
 pub mod patched_runs;
 mod patches;
+pub mod salvage;
 mod varints;
 
 pub use lines::probe_line;

@@ -7,10 +7,12 @@ use differential::stages::count;
 use differential::stages::index;
 use differential::stages::labels::{self, Asked};
 use differential::stages::patched_runs::any_patched_rows;
+use differential::stages::salvage;
 use menakovitsy::exported::{
-    case, kind, COUNT_WORDS, LABEL_WORDS, PART_WORDS, STATE_WORDS, STREAM_WORDS, TOO_FEW_WORDS, WORDS,
+    case, kind, COUNT_WORDS, LABEL_WORDS, PART_WORDS, SALVAGE_WORDS, STATE_WORDS, STREAM_WORDS,
+    TOO_FEW_WORDS, WORDS,
 };
-use model::{Answer, Booleans, Form, Info, Kind, Label, Ones, Refusal, Stream, Value, Written};
+use model::{Answer, Booleans, Form, Info, Kind, Label, Ones, Refusal, Salvaged, Stream, Value, Written};
 
 use crate::parts;
 
@@ -33,6 +35,7 @@ pub enum Call {
     PartStart { state: usize },
     Count { input: Vec<u8>, n: u64 },
     Index(index::Asked),
+    Salvage(salvage::Asked, usize),
 }
 
 /// What a call comes to: what it returns, its words (none where it is lent too few, or takes none),
@@ -44,6 +47,7 @@ pub struct Outcome {
     pub rows: Vec<i64>,
     pub bytes: Vec<u8>,
     pub columns: [Vec<u64>; 3],
+    pub report: Vec<u8>,
 }
 
 /// What a call is lent: what it is given to read, and how many places it may write to.
@@ -60,6 +64,7 @@ pub struct Lending<'a> {
     pub lent_columns: [usize; 3],
     pub rows: usize,
     pub bytes: usize,
+    pub report: usize,
 }
 
 impl Outcome {
@@ -120,7 +125,7 @@ impl Call {
     pub fn any(random: &mut Random) -> Self {
         let flag = if random.once_in(8) { random.any() } else { random.below(2) as u64 };
         let places = random.pick(&[0, 1, 5, 12, 64, 512, 1000]);
-        match random.below(28) {
+        match random.below(30) {
             0..=1 => {
                 let bytes = 8 * places + if random.once_in(2) { random.below(8) } else { 0 };
                 Call::Run { input: frames::any_frame(random), flag, bytes: bytes.min(MOST) }
@@ -156,6 +161,7 @@ impl Call {
                 Call::Count { input, n }
             }
             24..=26 => Call::Index(index::any(random)),
+            27..=28 => Self::any_salvage(flag, random),
             _ => {
                 let shift = random.below(64);
                 Call::Narrowest { number: random.any() >> shift }
@@ -185,6 +191,21 @@ impl Call {
         Call::Patched { rows, base, width, places: random.pick(&[0, 5, 9, 40, MOST]) }
     }
 
+    /// Any salvage: its two columns may have unequal lengths here.
+    fn any_salvage(flag: u64, random: &mut Random) -> Self {
+        let mut asked = salvage::Asked { flag, ..salvage::any(random) };
+        if random.once_in(16) {
+            asked.counts.push(1);
+        }
+        asked.places = asked.places.min(MOST);
+        let report = match asked.answer(usize::MAX) {
+            Salvaged::Written { report, .. } => report.len(),
+            Salvaged::Refused(_) => 100,
+        };
+        let report = random.pick(&[report, report, report, report + 9, report.saturating_sub(1), 0]);
+        Call::Salvage(asked, report)
+    }
+
     /// The function's name.
     pub fn function(&self) -> &'static str {
         match self {
@@ -201,6 +222,7 @@ impl Call {
             Call::PartStart { .. } => "orc_part_start",
             Call::Count { .. } => "orc_count_true",
             Call::Index(asked) => indexed::function(asked).0,
+            Call::Salvage(..) => "orc_salvage",
         }
     }
 
@@ -213,6 +235,7 @@ impl Call {
             Call::Part(_) => PART_WORDS,
             Call::Count { .. } => COUNT_WORDS,
             Call::Index(asked) => indexed::function(asked).1,
+            Call::Salvage(..) => SALVAGE_WORDS,
             _ => WORDS,
         }
     }
@@ -254,6 +277,13 @@ impl Call {
                 Lending { input: block, given: lengths, numbers, flags, fallback, ..none }
             }
             Call::Index(asked) => indexed::lending(asked),
+            Call::Salvage(asked, report) => Lending {
+                input: &asked.input,
+                columns: [&asked.starts, &asked.counts, &[]],
+                bytes: asked.places,
+                report: *report,
+                ..none
+            },
         }
     }
 
@@ -313,6 +343,13 @@ impl Call {
             }
             Call::Count { input, n } => counted(input, *n),
             Call::Index(asked) => indexed::outcome(asked),
+            Call::Salvage(asked, report) => match asked.answer(*report) {
+                Salvaged::Written { report, bytes } => {
+                    let words = [case::READ, 0, 0, bytes.len() as u64, report.len() as u64];
+                    Outcome { bytes, report: report.into_bytes(), ..Outcome::done(&words) }
+                }
+                Salvaged::Refused(refusal) => Outcome::done(&[case::REFUSED, refusal.number.into(), 0, 0, 0]),
+            },
             Call::Narrowest { number } => {
                 Outcome { returned: u64::from(model::narrowest_code(*number)), ..Outcome::default() }
             }

@@ -32,6 +32,8 @@ pub struct Session {
     columns: [Fenced<u64>; 3],
     rows: Fenced<i64>,
     bytes: Fenced<u8>,
+    /// What only a salvage writes.
+    report: Fenced<u8>,
     words: Fenced<u64>,
     /// The words of a reader in parts.
     state: Fenced<u64>,
@@ -51,6 +53,7 @@ impl Default for Session {
             columns: [(); 3].map(|()| Fenced::new(MOST)),
             rows: Fenced::new(MOST),
             bytes: Fenced::new(MOST),
+            report: Fenced::new(MOST),
             words: Fenced::new(STREAM_WORDS + 8),
             state: Fenced::new(STATE_WORDS + 8),
             tally: BTreeMap::new(),
@@ -92,7 +95,7 @@ impl Session {
     /// Lends the slices, each against the fence of a random side, and makes the call.
     fn made(&mut self, call: &Call, words: usize, state: &[u64], random: &mut Random) -> u64 {
         let mut side = || if random.once_in(4) { Side::Before } else { Side::Behind };
-        let Lending { input, given, numbers, flags, fallback, columns, lent_columns, rows, bytes } =
+        let Lending { input, given, numbers, flags, fallback, columns, lent_columns, rows, bytes, report } =
             call.lending();
         self.input.holding(input, side());
         self.given.holding(given, side());
@@ -107,6 +110,7 @@ impl Session {
         }
         self.rows.places(rows, side());
         self.bytes.places(bytes, side());
+        self.report.places(report, side());
         self.words.places(words, side());
         self.state.holding(state, side());
         if let Call::Part(asked) = call {
@@ -120,6 +124,7 @@ impl Session {
         let (o, ol) = lent(&self.fallback, null);
         let (r, rl) = lent(&self.rows, null);
         let (b, bl) = lent(&self.bytes, null);
+        let (t, tl) = lent(&self.report, null);
         let (w, wl) = lent(&self.words, null);
         let (s, sl) = lent(&self.state, null);
         let [(x, xl), (y, yl), (z, zl)] = self.columns.each_ref().map(|column| lent(column, null));
@@ -141,6 +146,9 @@ impl Session {
                         exported::orc_read_from(i, il, x, xl, y, yl, z, zl, row, flag, r, rl, w, wl)
                     }
                 },
+                Call::Salvage(ref asked, _) => {
+                    exported::orc_salvage(i, il, x, xl, y, yl, asked.fill, asked.flag, b, bl, t, tl, w, wl)
+                }
                 Call::Run { flag, .. } => exported::orc_read_run(i, il, b, bl, flag),
                 Call::RunAt { at, flag, .. } => exported::orc_read_run_at(i, il, at, flag, r, rl, w, wl),
                 Call::Stream { at, flag, .. } => exported::orc_read_stream(i, il, at, flag, r, rl, w, wl),
@@ -179,6 +187,7 @@ impl Session {
             (self.bytes.is(&expected.bytes), "its bytes"),
             (self.state.is(state), "its state"),
             (columns, "its columns"),
+            (self.report.is(&expected.report), "its report"),
             (kept, "what it was given to read"),
         ];
         match right.iter().find(|(right, _)| !right) {

@@ -14,7 +14,7 @@
 //! that the caller keeps for it, and the bytes of the unfinished run in the [`MAX_RUN_BYTES`] lent.
 
 /// The version of these functions that this crate is written for.
-pub const VERSION: u64 = 8;
+pub const VERSION: u64 = 9;
 
 /// How many words an answer has; the stream reader's has [`STREAM_WORDS`].
 pub const WORDS: usize = 9;
@@ -39,6 +39,9 @@ pub const INDEX_WORDS: usize = 8;
 pub const ENTRY_WORDS: usize = 6;
 /// See [`INDEX_WORDS`].
 pub const ROWS_FROM_WORDS: usize = 4;
+
+/// How many words an answer of `orc_salvage` has.
+pub const SALVAGE_WORDS: usize = 5;
 
 /// What a function returns that was lent fewer words than its answer has.
 pub const TOO_FEW_WORDS: u64 = u64::MAX;
@@ -133,6 +136,14 @@ pub mod entry_word {
 pub mod rows_from_word {
     /// How many rows there are, in the first places; 0 where refused.
     pub const ROWS: usize = 3;
+}
+
+/// The words of a salvage behind the case, the refusal's number and its place.
+pub mod salvage_word {
+    /// How many bytes the new stream has, 0 where refused.
+    pub const BYTES: usize = 3;
+    /// How many bytes the report has, 0 where refused.
+    pub const REPORT: usize = 4;
 }
 
 /// What the word `CASE` may hold.
@@ -330,6 +341,23 @@ extern "C" {
         flag: u64,
         rows: *mut i64,
         rows_len: usize,
+        words: *mut u64,
+        words_len: usize,
+    ) -> u64;
+
+    pub fn orc_salvage(
+        input: *const u8,
+        input_len: usize,
+        starts: *const u64,
+        starts_len: usize,
+        counts: *const u64,
+        counts_len: usize,
+        fill: i64,
+        flag: u64,
+        out: *mut u8,
+        out_len: usize,
+        report: *mut u8,
+        report_len: usize,
         words: *mut u64,
         words_len: usize,
     ) -> u64;

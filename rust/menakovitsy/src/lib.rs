@@ -15,6 +15,7 @@
 //! | a byte value, as a part of the input | [`byte_value`] |
 //! | an index beside a column, to start at any row | [`Index`]: [`build`](Index::build), [`look_up`](Index::look_up), [`rows_from`](Index::rows_from) |
 //! | the name of a row, by a dictionary | [`label`] |
+//! | a damaged column salvaged, by its row groups | [`salvage()`] |
 //! | a run written | [`write_run`], [`write_patched`], [`narrowest_code`] |
 //! | the library that is linked | [`check_version`], [`library_version`] |
 //!
@@ -51,6 +52,7 @@ mod ones;
 mod parts;
 mod patched;
 mod refusal;
+mod salvage;
 mod units;
 mod version;
 
@@ -67,6 +69,7 @@ pub use ones::count_true;
 pub use parts::{PartReader, PartRun};
 pub use patched::write_patched;
 pub use refusal::Refusal;
+pub use salvage::{salvage, Group, Salvaged, MOST_FILL};
 pub use units::{ByteOffset, RowNumber};
 pub use version::{check_version, OtherVersion};
 

@@ -3,7 +3,7 @@ use std::error::Error;
 use std::fmt;
 
 /// A refusal, by its number. Readers give 1 to 8 and 12 to 14; 9 to 11 are the run writer's; a caller's
-/// index is refused with 15, a row with 16; labels with 16, 18 and 19.
+/// index is refused with 15, a row with 16, row groups with 17; labels with 16, 18 and 19.
 #[derive(Debug, Clone, Copy, PartialEq, Eq, Hash)]
 #[non_exhaustive]
 pub enum Refusal {
@@ -40,6 +40,8 @@ pub enum Refusal {
     WrongIndex,
     /// 16: there is no such row.
     NoSuchRow,
+    /// 17: the starts of row groups do not begin at 0, do not rise strictly or pass the end.
+    WrongStarts,
     /// 18: a length of the dictionary is below 0, or they do not add up to its block.
     LengthsNotTheBlock,
     /// 19: the row's number is outside the dictionary, or the numbers end before its entry.
@@ -51,7 +53,7 @@ pub enum Refusal {
 
 impl Refusal {
     /// All that have a number of their own, in the order of the numbers.
-    pub const ALL: [Refusal; 18] = [
+    pub const ALL: [Refusal; 19] = [
         Refusal::HeaderCut,
         Refusal::EntryOver64,
         Refusal::PatchTooLarge,
@@ -68,6 +70,7 @@ impl Refusal {
         Refusal::ListCut,
         Refusal::WrongIndex,
         Refusal::NoSuchRow,
+        Refusal::WrongStarts,
         Refusal::LengthsNotTheBlock,
         Refusal::NoSuchName,
     ];
@@ -92,6 +95,7 @@ impl Refusal {
             Refusal::ListCut => 14,
             Refusal::WrongIndex => 15,
             Refusal::NoSuchRow => 16,
+            Refusal::WrongStarts => 17,
             Refusal::LengthsNotTheBlock => 18,
             Refusal::NoSuchName => 19,
             Refusal::Unknown(number) => number,
@@ -129,6 +133,9 @@ impl Refusal {
             Refusal::ListCut => "a patch list is cut",
             Refusal::WrongIndex => "the index is not this column's, or its columns have unequal lengths",
             Refusal::NoSuchRow => "there is no such row",
+            Refusal::WrongStarts => {
+                "row groups: the starts do not begin at 0, do not rise strictly or pass the column's end"
+            }
             Refusal::LengthsNotTheBlock => {
                 "dictionary: a length is below 0, or the lengths do not add up to the block"
             }
@@ -187,6 +194,9 @@ impl Refusal {
             Refusal::TooNarrow => "choose a wider width",
             Refusal::WrongIndex => "build the index again; where that is refused, the column is damaged",
             Refusal::NoSuchRow => "ask for a row below the number of rows (of labels: of flags)",
+            Refusal::WrongStarts => {
+                "give the starts and rows of this column's groups, from 0 on, all of them and in order"
+            }
             Refusal::LengthsNotTheBlock => {
                 "give the lengths and the block of one dictionary, both whole; if they are, the file is damaged"
             }

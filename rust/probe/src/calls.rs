@@ -204,6 +204,37 @@ pub fn read_from(
     }
 }
 
+/// What is salvaged: the stream, its groups' starts and rows, and the row that fills the others.
+#[derive(Clone, Copy)]
+pub struct Salvaging<'a> {
+    pub input: &'a [u8],
+    pub groups: [&'a [u64]; 2],
+    pub fill: i64,
+    pub flag: u64,
+}
+
+pub fn salvage(salvaging: Salvaging, out: &mut [u8], report: &mut [u8], words: &mut [u64]) -> u64 {
+    let Salvaging { input, groups: [starts, counts], fill, flag } = salvaging;
+    unsafe {
+        exported::orc_salvage(
+            input.as_ptr(),
+            input.len(),
+            starts.as_ptr(),
+            starts.len(),
+            counts.as_ptr(),
+            counts.len(),
+            fill,
+            flag,
+            out.as_mut_ptr(),
+            out.len(),
+            report.as_mut_ptr(),
+            report.len(),
+            words.as_mut_ptr(),
+            words.len(),
+        )
+    }
+}
+
 pub fn narrowest_code(number: u64) -> u64 {
     unsafe { exported::orc_narrowest_code(number) }
 }

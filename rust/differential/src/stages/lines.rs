@@ -1,5 +1,5 @@
 //! Every public function through the probe program.
-use super::{count, cuts, index, labels, parts, patched_runs, patches, varints, Session};
+use super::{count, cuts, index, labels, parts, patched_runs, patches, salvage, varints, Session};
 use crate::frames;
 use crate::listed::{Call, LIST};
 use crate::probe::Requests;
@@ -39,6 +39,9 @@ impl Session {
         parts::fixed_lines(requests);
         count::fixed_lines(requests);
         index::fixed_lines(requests);
+        salvage::fixed_lines(requests);
+        let (tables, step) = self.size.pick((1, 37), (12, 5), (40, 1));
+        salvage::damaged_tables(requests, tables, step, &mut self.random);
         for _ in 0..self.size.pick(1_000, 100_000, 1_000_000) {
             probe_line(&mut probe.requests, &mut self.random);
             patched_runs::probe_line(&mut probe.requests, &mut self.random);
@@ -46,6 +49,7 @@ impl Session {
             parts::probe_line(&mut probe.requests, &mut self.random);
             count::probe_line(&mut probe.requests, &mut self.random);
             index::probe_line(&mut probe.requests, &mut self.random);
+            salvage::probe_line(&mut probe.requests, &mut self.random);
             probe.batch(&mut self.tally);
         }
         probe.flush(&mut self.tally);

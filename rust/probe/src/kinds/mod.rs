@@ -7,6 +7,7 @@ mod index;
 mod labels;
 mod parts;
 mod runs;
+mod salvage;
 mod value;
 mod write;
 
@@ -15,7 +16,7 @@ use crate::line::Fields;
 /// Takes the fields behind the first byte, and answers the line. Nothing for a bad line.
 type Kind = fn(Fields) -> Option<String>;
 
-const KINDS: [(u64, Kind); 12] = [
+const KINDS: [(u64, Kind); 13] = [
     (0x01, runs::run),
     (0x02, runs::stream),
     (0x03, booleans::booleans),
@@ -26,6 +27,7 @@ const KINDS: [(u64, Kind); 12] = [
     (0x08, index::index),
     (0x09, index::look_up),
     (0x0A, index::read_from),
+    (0x0B, salvage::salvage),
     (0x0F, labels::label),
     (0x10, count::count),
 ];

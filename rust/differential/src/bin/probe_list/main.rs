@@ -17,7 +17,7 @@ use differential::frames;
 use differential::listed::{self, Call, LIST};
 use differential::probe::Requests;
 use differential::random::Random;
-use differential::stages::{count, index, labels, parts, patched_runs, probe_line};
+use differential::stages::{count, index, labels, parts, patched_runs, probe_line, salvage};
 use model::Form;
 
 use by_hand::{DOCUMENT, FRAMES, SPECIFICATION};
@@ -321,6 +321,11 @@ fn list() -> Requests {
     index::fixed_lines(&mut requests);
     for _ in 0..100 {
         index::probe_line(&mut requests, &mut random);
+    }
+    salvage::fixed_lines(&mut requests);
+    salvage::damaged_tables(&mut requests, 1, 85, &mut random);
+    for _ in 0..100 {
+        salvage::probe_line(&mut requests, &mut random);
     }
     requests
 }

@@ -1,0 +1,47 @@
+-- `groups::is_kept` meets its contract. Assumes nothing.
+use mathlib.Core.Path.{sym, _∙_}
+use native.Mathlib.Omega.{arith}
+use borrow.Author.Needs.{needs}
+use Rattle.format.proofs.Fields.{below-all}
+use Rattle.salvage.proofs.Keeping.{kept-empty, kept-whole, kept-refused}
+use Rattle.salvage.proofs.groups.is_kept.Statement.{statement}
+use Rattle.salvage.proofs.groups.is_kept.Tie as tie
+
+returns : tie.Need-returns
+returns c = kept-empty _ _ (c .if1 .taken)
+
+measure-stream-requires : tie.Need-measure-stream-requires
+measure-stream-requires c κs = search needs
+
+enum-known-said : tie.Need-enum-known-said
+enum-known-said c = search needs
+
+enum-told : tie.Need-enum-told
+enum-told c = search needs
+
+returns-2 : tie.Need-returns-2
+returns-2 c =
+    let m = c .before .before .before .before in
+    let k = m .before .before in
+    let a = k .before .args in
+    kept-whole (a .rows) (a .bytes .now) (below-all 256 (a .bytes .now) (λ i. k .shared-slice-known .given i .fits)) (omega arith) _
+    (sym (m .measure-stream .ensures) ∙ c .before .before .said .given .1)
+
+returns-3 : tie.Need-returns-3
+returns-3 c =
+    let m = c .before .before in
+    let k = m .before .before in
+    let a = k .before .args in
+    kept-refused (a .rows) (a .bytes .now) (below-all 256 (a .bytes .now) (λ i. k .shared-slice-known .given i .fits)) (omega arith) _ _
+    (sym (m .measure-stream .ensures) ∙ c .enum-told .given .1)
+
+pub is-kept-spec : {M : Type 1} → statement M
+is-kept-spec =
+    tie.close
+    (tie.spec
+    returns
+    measure-stream-requires
+    enum-known-said
+    enum-told
+    returns-2
+    returns-3)

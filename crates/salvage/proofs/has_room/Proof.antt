@@ -1,0 +1,121 @@
+-- `has_room` meets its contract. The loop's invariant: the bytes measured, and those of the groups that are left, are all. Assumes nothing.
+use Prim.Native.Nat.{_-_}
+use native.Mathlib.Omega.{arith}
+use borrow.Author.Needs.{needs}
+use lib.ListN.{length, getD}
+use mir.Facts.{toZ-ofZ}
+use mir.Syntax.{w64}
+use mir.Val.{toZ, ofZ}
+use Rattle.salvage.proofs.Turning.{Turn, turn, Measured, measured-none, measured-short, measured-few, measured-next, measured-all}
+use Rattle.salvage.proofs.has_room.Statement.{statement}
+use Rattle.salvage.proofs.has_room.Tie as tie
+
+abbrev Inv-loop : tie.InvT-loop
+Inv-loop input starts counts fill signed out report first stream₀ lines₀ i₀ stream lines i =
+    Measured signed (toZ w64 fill) input starts counts (length out) (length report) stream lines i
+
+abbrev μ-loop : tie.MeasureT-loop
+μ-loop input starts counts fill signed out report first stream₀ lines₀ i₀ stream lines i = length starts - i
+
+-- what is known of the group of this turn
+turn-of : (k : tie.After-is-kept Inv-loop μ-loop) → let l = k .before .before .before .before .loop in let s = k .before .before .before .before .before in let a = s .before .before .before .before .before .before .args in Turn (a .signed) (toZ w64 (ofZ w64 (a .fill))) (a .input .now) (a .starts .now) (a .counts .now) (l .i) (k .before .bytes-of .result .now) (getD (a .counts .now) (l .i) 0) (k .is-kept .result) (s .stored .result)
+turn-of k =
+    let l = k .before .before .before .before .loop in
+    let s = k .before .before .before .before .before in
+    let z = s .before .before .before .before .before .before in
+    let a = z .args in
+    turn (a .signed) (toZ w64 (ofZ w64 (a .fill))) (a .input .now) (a .starts .now) (a .counts .now) (rw (toZ-ofZ (z .fits .fill)) (z .fits .fill)) (l .i) (k .before .before .before .loop-test .taken) (z .pre .lengths) _ (k .before .bytes-of .ensures) _ (k .is-kept .ensures) _
+    (s .stored .ensures)
+
+stored-requires : tie.Need-stored-requires Inv-loop μ-loop
+stored-requires c κs = search needs
+
+loop-holds : tie.Need-loop-holds Inv-loop μ-loop
+loop-holds c = let a = c .before .before .before .before .before .before .args in measured-none (a .signed) (toZ w64 (ofZ w64 (a .fill))) (a .input .now) (a .starts .now) (a .counts .now) (length (a .out .now)) (length (a .report .now))
+
+mul-rows : tie.Need-mul-rows Inv-loop μ-loop
+mul-rows c = omega arith
+
+shared-slice-read-rows : tie.Need-shared-slice-read-rows Inv-loop μ-loop
+shared-slice-read-rows c = let s = c .before .before .before .before .before .before .before .before .before in omega (arith, s .pre .lengths)
+
+bytes-of-requires : tie.Need-bytes-of-requires Inv-loop μ-loop
+bytes-of-requires c κs = let s = c .before .before .before .before .before .before .before .before .before in (s .pre .right, omega arith)
+
+is-kept-requires : tie.Need-is-kept-requires Inv-loop μ-loop
+is-kept-requires c κs = search needs
+
+group-size-requires : tie.Need-group-size-requires Inv-loop μ-loop
+group-size-requires c κs = search needs
+
+sub-if1 : tie.Need-sub-if1 Inv-loop μ-loop
+sub-if1 c = c .before .before .before .before .before .loop .inv .stream-fits
+
+returns : tie.Need-returns Inv-loop μ-loop
+returns c =
+    let z = c .before in
+    let k = z .before in
+    let a = k .before .before .before .before .before .before .before .before .before .before .before .args in
+    rw (toZ-ofZ (k .before .before .before .before .before .before .before .before .before .before .before .fits .fill)) at (measured-short (a .signed) (toZ w64 (ofZ w64 (a .fill))) (a .input .now) (a .starts .now) (a .counts .now) (k .before .before .before .before .loop .inv) (turn-of k) (rw (z .group-size .ensures) at (c .if1 .taken)))
+
+size-requires : tie.Need-size-requires Inv-loop μ-loop
+size-requires c κs = search needs
+
+sub-if2 : tie.Need-sub-if2 Inv-loop μ-loop
+sub-if2 c = c .before .before .before .before .before .before .before .loop .inv .lines-fit
+
+returns-2 : tie.Need-returns-2 Inv-loop μ-loop
+returns-2 c =
+    let y = c .before in
+    let k = y .before .before .before in
+    let a = k .before .before .before .before .before .before .before .before .before .before .before .args in
+    rw (toZ-ofZ (k .before .before .before .before .before .before .before .before .before .before .before .fits .fill)) at (measured-few (a .signed) (toZ w64 (ofZ w64 (a .fill))) (a .input .now) (a .starts .now) (a .counts .now) (k .before .before .before .before .loop .inv) (turn-of k) (rw (y .size .ensures) at (c .if2 .taken)))
+
+add-stream : tie.Need-add-stream Inv-loop μ-loop
+add-stream c = let y = c .before in let z = y .before .before in omega (arith, z .before .before .before .before .before .loop .inv .stream-fits, y .before .if1 .left, c .before .before .before .before .before .before .before .before .before .before .before .before .before .before .before .good)
+
+add-lines : tie.Need-add-lines Inv-loop μ-loop
+add-lines c = omega (arith, c .before .before .before .before .before .before .before .before .loop .inv .lines-fit, c .if2 .left)
+
+add-i : tie.Need-add-i Inv-loop μ-loop
+add-i c = omega arith
+
+loop-less : tie.Need-loop-less Inv-loop μ-loop
+loop-less c = omega arith
+
+loop-again : tie.Need-loop-again Inv-loop μ-loop
+loop-again c =
+    let y = c .before in
+    let z = y .before .before in
+    let k = z .before in
+    let a = k .before .before .before .before .before .before .before .before .before .before .before .args in
+    measured-next (a .signed) (toZ w64 (ofZ w64 (a .fill))) (a .input .now) (a .starts .now) (a .counts .now) (k .before .before .before .before .loop .inv) (turn-of k) (omega arith) (z .group-size .result) (y .size .result) (z .group-size .ensures) (y .size .ensures)
+    (y .before .if1 .left) (c .if2 .left)
+
+returns-3 : tie.Need-returns-3 Inv-loop μ-loop
+returns-3 c = let s = c .before .before .before .before .before .before .before .before in let a = s .args in rw (toZ-ofZ (s .fits .fill)) at (measured-all (a .signed) (toZ w64 (ofZ w64 (a .fill))) (a .input .now) (a .starts .now) (a .counts .now) (c .before .loop .inv) (omega arith))
+
+pub has-room-spec : {M : Type 1} → statement M
+has-room-spec =
+    tie.close
+    (tie.spec
+    Inv-loop
+    μ-loop
+    stored-requires
+    loop-holds
+    mul-rows
+    shared-slice-read-rows
+    bytes-of-requires
+    is-kept-requires
+    group-size-requires
+    sub-if1
+    returns
+    size-requires
+    sub-if2
+    returns-2
+    add-stream
+    add-lines
+    add-i
+    loop-less
+    loop-again
+    returns-3)
