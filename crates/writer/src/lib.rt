@@ -1,5 +1,5 @@
 // The run writer: rows, flag, form and width in, a run's bytes out. Every test comes before the first byte that is written.
-ghost use Rattle.format.specs.Fields.{Narrowest};
+ghost use Rattle.format.specs.Kept.{NarrowestKept};
 ghost use Rattle.format.specs.Writing.{Written};
 ghost use Rattle.format.specs.PatchedWriting.{PatchedWritten};
 use format::Answer;
@@ -38,16 +38,18 @@ pub fn write_run(rows: &[i64], signed: bool, form: Form, width: u8, out: &mut [u
 pub fn write_patched(rows: &[i64], base: i64, width: u8, out: &mut [u8]) -> Answer
     ensures { λ r. ⌜ PatchedWritten (now (rows .entry)) base width (now (out .entry)) (now (out .exit)) r ⌝ }
 {
-    if allowed::between(1, Kind::MAX_ROWS, rows.len()) {
-        patched_base::write(rows, base, width, out)
-    } else {
-        Answer::refused(9, 0)
+    if !allowed::between(1, Kind::MAX_ROWS, rows.len()) {
+        return Answer::refused(9, 0);
     }
+    if !patched_base::is_kept(width as usize) {
+        return Answer::refused(10, 0);
+    }
+    patched_base::write(rows, base, width, out)
 }
 
-// The narrowest width code that holds x. 0 needs one bit.
+// The narrowest kept width code that holds x. 0 needs one bit.
 pub fn narrowest_code(x: u64) -> u8
-    ensures { λ r. ⌜ Narrowest x r ⌝ }
+    ensures { λ r. ⌜ NarrowestKept x r ⌝ }
 {
-    util::width::narrowest_code(x)
+    util::width::next_kept(util::width::narrowest_code(x))
 }

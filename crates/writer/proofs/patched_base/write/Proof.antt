@@ -60,7 +60,7 @@ returns c =
     let s = c .before .before .before .before .before .before .before .before .before .before .before .before in
     let a = s .args in
     let e : headerHolds (parts (asU64 (a .base)) (a .width) (map asU64 (now (a .rows)))) ≡ false = rw (c .before .enum-told .given .1, low-is (c .before .before .before .before .before .before .before .before .before .before)) at (c .before .before .before .before .before .header-of .ensures) in
-    bad-form (now (a .rows)) (a .base) (a .width) (now (a .out)) (c .refused .result) (s .pre .0) (s .pre .1) e (c .refused .ensures)
+    bad-form (now (a .rows)) (a .base) (a .width) (now (a .out)) (c .refused .result) (s .pre .0 .0) (s .pre .0 .1) (s .pre .1) e (c .refused .ensures)
 
 same-length : tie.Need-same-length
 same-length c = search needs
@@ -73,7 +73,7 @@ returns-2 c =
     let e : headerHolds (parts (asU64 (a .base)) (a .width) (map asU64 (now (a .rows)))) ≡ true = rw (low-is (c .before .before .before .before .before .before .before .before .before .before .before .before .before .before .before .before)) at (k .holds) in
     let l : Laid (parts (asU64 (a .base)) (a .width) (map asU64 (now (a .rows)))) (now (a .out)) (c .before .before .lay .last .1 .1 .1 .1 .0) (c .before .before .lay .result) =
     rw (k .same, low-is (c .before .before .before .before .before .before .before .before .before .before .before .before .before .before .before .before)) at (c .before .before .lay .ensures) in
-    formed (now (a .rows)) (a .base) (a .width) (now (a .out)) (c .before .before .lay .result) (s .pre .0) (s .pre .1) _ e l
+    formed (now (a .rows)) (a .base) (a .width) (now (a .out)) (c .before .before .lay .result) (s .pre .0 .0) (s .pre .0 .1) _ (s .pre .1) e l
 
 pub write-spec : {M : Type 1} → statement M
 write-spec =
