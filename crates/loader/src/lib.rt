@@ -2,7 +2,7 @@
 // lays its rows out as bytes. The readers after it and the writer tell their answer in words that the caller lends (`format/specs/Loader.antt` says
 // what each word means), and read and write the caller's rows where they stand; the number is then the refusal's.
 ghost use mathlib.Core.Path.{_≡_};
-ghost use Rattle.format.specs.Fields.{Narrowest};
+ghost use Rattle.format.specs.Kept.{NarrowestKept};
 ghost use Rattle.format.specs.Loader.{Loaded, faceVersion, RunTold, StreamTold, BooleansTold, ValueTold, WriteTold};
 ghost use Rattle.loader.specs.Labels.{LabelTold};
 ghost use Rattle.loader.specs.Patched.{PatchedTold};
@@ -151,10 +151,10 @@ pub extern "C" fn orc_write_patched(
     words::put_answer(answer, words)
 }
 
-// The narrowest width code that holds x. 0 needs one bit.
+// The narrowest kept width code that holds x. 0 needs one bit.
 #[no_mangle]
 pub extern "C" fn orc_narrowest_code(x: u64) -> u64
-    ensures { λ r. ⌜ Narrowest x r ⌝ }
+    ensures { λ r. ⌜ NarrowestKept x r ⌝ }
 {
     writer::narrowest_code(x) as u64
 }

@@ -1,0 +1,4 @@
+-- The theorems of specs/Laws.antt, and the laws that the functions cite.
+pub mod Runs
+pub mod Streams
+pub mod Examples

@@ -1,0 +1,2 @@
+-- One run converted. Assumes nothing.
+use mathlib.Core.Path.{_≡_}
