@@ -2,3 +2,4 @@
 pub mod Runs
 pub mod Streams
 pub mod Examples
+pub mod Turns

@@ -49,7 +49,7 @@ direct-valid code k v = record {
 }
 
 module _ (code : ℕ) (first base : List ℕ) (k : Block) where
-  pub rebuilt : Description
+  unfoldable pub rebuilt : Description
   rebuilt = delta (nextKept code) (shortest (varintValue first)) (shortest (varintValue base)) (padded (k .values))
 
   pub delta-valid : Valid (delta code first base k) → Valid rebuilt
@@ -68,6 +68,11 @@ module _ (code : ℕ) (first base : List ℕ) (k : Block) where
 
 short-varint : (x : ℕ) → x < two64 → Shortest (shortest x)
 short-varint x h = shortest-stands x h .least
+
+pub delta-shortest : (code : ℕ) (first base : List ℕ) (k : Block) → Valid (delta code first base k)
+    → Shortest (shortest (varintValue first)) × Shortest (shortest (varintValue base))
+delta-shortest code first base k v =
+    (short-varint (varintValue first) (varint-lt first (v .first-varint)), short-varint (varintValue base) (varint-lt base (v .base-varint)))
 
 -- ---- what a rewritten run is
 

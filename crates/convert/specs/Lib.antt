@@ -2,3 +2,4 @@
 pub mod Convert
 pub mod Laws
 pub mod Turn
+pub mod Walk
