@@ -3,3 +3,5 @@ pub mod Runs
 pub mod Streams
 pub mod Examples
 pub mod Turns
+pub mod Lays
+pub mod Walks

@@ -159,6 +159,7 @@ module _ (signed : Bool) (s : List ℕ) (p : ℕ) where
           which = d;
           valid = o .valid;
           split = o .split;
+          within = o .within;
           taken-is = o .bytes-are;
           odd-is = sym t ∙ is-odd;
           given-is = rw q;
@@ -177,6 +178,7 @@ module _ (signed : Bool) (s : List ℕ) (p : ℕ) where
           which = d;
           valid = o .valid;
           split = o .split;
+          within = o .within;
           taken-is = o .bytes-are;
           odd-is = sym t ∙ is-odd;
           given-is = rw c (o .bytes-are);

@@ -31,6 +31,7 @@ module _ (signed : Bool) (s : List ℕ) (p : ℕ) where
     pub which : Description
     pub valid : Valid which
     pub split : drop p s ≡ layout which ++ drop (p + t .taken) s
+    pub within : p + t .taken ≤ length s
     pub taken-is : t .taken ≡ length (layout which)
     pub odd-is : t .odd ≡ isOdd which
     pub given-is : t .given ≡ length (layout (converted signed which))

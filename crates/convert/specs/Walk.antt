@@ -31,10 +31,12 @@ pub record Filled (l : List ℕ) (room : ℕ) (out₀ out : List ℕ) (at : Laid
   pub laid : length out₀ ≡ room → at .full ≡ false → out ≡ l ++ drop (length l) out₀
 
 -- n bytes more, behind whatever was laid
-abbrev pub Lays : List ℕ → ℕ → Laid → ℕ → List ℕ → List ℕ → Laid → Type 0
-Lays run n at room out out′ r = (l out₀ : List ℕ) → Filled l room out₀ out at → Filled (l ++ take n run) room out₀ out′ r
+pub record Lays (run : List ℕ) (n : ℕ) (at : Laid) (room : ℕ) (out out′ : List ℕ) (r : Laid) : Type 0 where
+  pub long : length out′ ≡ length out
+  pub more : (l out₀ : List ℕ) → Filled l room out₀ out at → Filled (l ++ take n run) room out₀ out′ r
 
 -- the answer in so much room, and what an output of that length holds where nothing is refused
 pub record Walked (signed : Bool) (bs : List ℕ) (room : ℕ) (out out′ : List ℕ) (r : Converted) : Type 0 where
   pub answer : r ≡ toldAs (length bs) (convert signed bs room)
+  pub long : length out′ ≡ length out
   pub places : length out ≡ room → (altered : ℕ) (bytes : List ℕ) → convert signed bs room ≡ result altered bytes → out′ ≡ bytes ++ drop (length bytes) out

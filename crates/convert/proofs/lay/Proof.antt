@@ -1,37 +1,44 @@
+-- `lay` meets its contract. Assumes nothing.
+use native.Mathlib.Omega.{arith}
+use denote.Ref.{now}
 use borrow.Author.Needs.{needs}
+use Rattle.convert.proofs.Lays.{lays-full, lays-over, lays-more}
 use Rattle.convert.proofs.lay.Statement.{statement}
 use Rattle.convert.proofs.lay.Tie as tie
-use Rattle.convert.proofs.lay.Reads as reads
-use Rattle.convert.proofs.lay.Lts as lts
-use Rattle.convert.proofs.put.Reads as put-reads
 
--- src/lib.rt:70:9
 returns : tie.Need-returns
-returns c = ?
+returns c =
+    let s = c .before .before .before in
+    let a = s .args in
+    lays-full (now (a .run)) (a .n) (a .at) (a .room) (now (a .out)) (s .pre .0) (c .if1 .taken)
 
--- src/lib.rt:75:8
 sub-if2 : tie.Need-sub-if2
 sub-if2 c = search needs
 
--- src/lib.rt:76:9
 returns-2 : tie.Need-returns-2
-returns-2 c = ?
+returns-2 c =
+    let e = c .before .before in
+    let s = e .before .before .before in
+    let a = s .args in
+    lays-over (now (a .run)) (a .n) (a .at) (a .room) (now (a .out)) (s .pre .0) (e .if1 .left) (c .if2 .taken)
 
--- src/lib.rt:81:5
 put-requires : tie.Need-put-requires
 put-requires c κs = search needs
 
--- src/lib.rt:83:14
 add-t7 : tie.Need-add-t7
 add-t7 c = search needs
 
--- src/lib.rt:65:1
 same-length : tie.Need-same-length
 same-length c = search needs
 
--- src/lib.rt:65:1
 returns-3 : tie.Need-returns-3
-returns-3 c = ?
+returns-3 c =
+    let p = c .before .before .before in
+    let l = p .before .before in
+    let e = l .before .before in
+    let s = e .before .before .before in
+    let a = s .args in
+    lays-more (now (a .run)) (a .n) (a .at) (a .room) (now (a .out)) (s .pre .0) (e .if1 .left) (l .if2 .left) (s .pre .1) _ (p .put .ensures) (same-length c)
 
 pub lay-spec : {M : Type 1} → statement M
 lay-spec = tie.close (tie.spec returns sub-if2 returns-2 put-requires add-t7 same-length returns-3)

@@ -1,98 +1,106 @@
+-- `turn::convert_run` meets its contract: the run that the reader found is written again, or copied. Assumes nothing.
+use mathlib.Core.Path.{sym, _∙_}
+use native.Mathlib.Omega.{arith}
+use lib.ListN.{length-drop}
+use denote.Ref.{now}
+use Rattle.format.proofs.Fields.{below-all}
+use Rattle.format.proofs.Rows.{byte-bounds}
+use Rattle.format.proofs.Runs.{layout-pos}
+use Rattle.util.proofs.Grow.{rest-is}
 use borrow.Author.Needs.{needs}
+use Rattle.convert.proofs.Turns.{One, Found, found, turned-odd, turned-even}
 use Rattle.convert.proofs.turn.convert_run.Statement.{statement}
 use Rattle.convert.proofs.turn.convert_run.Tie as tie
-use Rattle.convert.proofs.turn.convert_run.Reads as reads
-use Rattle.convert.proofs.turn.convert_run.Lts as lts
-use Rattle.convert.proofs.turn.copy.Reads as copy-reads
-use Rattle.convert.proofs.turn.is_odd.Reads as is-odd-reads
-use Rattle.convert.proofs.turn.rewrite.Reads as rewrite-reads
-use Rattle.convert.proofs.turn.rows_room.Reads as rows-room-reads
-use Rattle.format.proofs.Answer.consumed.Reads as consumed-reads
-use Rattle.rle_v2.proofs.read_run.Reads as read-run-reads
 
--- src/turn.rt:94:20
+-- what the run reader says
+says : (x : tie.After-read-run) → let s = x .before .before .before .before .before in
+    Found (s .args .signed) (now (s .args .input)) (s .args .p) (x .read-run .last .1 .1 .1 .0) (x .read-run .result)
+says x =
+    let s = x .before .before .before .before .before in
+    let i = now (s .args .input) in
+    found (s .args .signed) i (s .args .p) _ _ (x .read-run .result) (below-all 256 i (λ k. x .before .before .before .before .shared-slice-known .given k .fits)) (search needs) (x .read-run .ensures)
+
+ran : (m : tie.After-a) → let x = m .before .before .before in let s = x .before .before .before .before .before in
+    One (s .args .signed) (now (s .args .input)) (s .args .p) (x .read-run .last .1 .1 .1 .0) (m .a .given .0 .0)
+ran m = rw (m .a .given .1) at (says (m .before .before .before))
+
 rows-room-requires : tie.Need-rows-room-requires
 rows-room-requires c κs = search needs
 
--- src/turn.rt:95:70
 slice-aggregate-read-run : tie.Need-slice-aggregate-read-run
 slice-aggregate-read-run c = search needs
 
--- src/turn.rt:95:9
 read-run-requires : tie.Need-read-run-requires
 read-run-requires c κs = search needs
 
--- src/turn.rt:97:21
 enum-known-a : tie.Need-enum-known-a
 enum-known-a c = search needs
 
--- src/turn.rt:100:25
 shared-slice-read-first : tie.Need-shared-slice-read-first
-shared-slice-read-first c = ?
+shared-slice-read-first c =
+    let o = ran (c .before .before .before .before) in
+    omega (arith, o .within, o .bytes-are, layout-pos (o .which))
 
--- src/turn.rt:101:16
 is-odd-requires : tie.Need-is-odd-requires
 is-odd-requires c κs = search needs
 
--- src/turn.rt:102:40
 slice-aggregate-rewrite : tie.Need-slice-aggregate-rewrite
 slice-aggregate-rewrite c = search needs
 
--- src/turn.rt:102:21
 rewrite-requires : tie.Need-rewrite-requires
-rewrite-requires c κs = ?
+rewrite-requires c κs = omega (arith, ran (c .before .before .before .before .before .before .before .before) .rows-few)
 
--- src/turn.rt:105:28
 consumed-requires : tie.Need-consumed-requires
 consumed-requires c κs = search needs
 
--- src/turn.rt:103:17
 same-length : tie.Need-same-length
 same-length c = search needs
 
--- src/turn.rt:103:17
 returns : tie.Need-returns
-returns c = ?
+returns c =
+    let m = c .before .before .before .before .before .before .before .before .before .before .before .before in
+    let a = m .before .before .before .before .before .before .before .before in
+    let i = c .before .before .before .before .before .before .before in
+    rw (c .consumed .ensures)
+    (turned-odd (a .args .signed) (now (a .args .input)) (a .args .p) _ (m .a .given .0 .0) (ran m) (now (a .args .run)) _ (c .before .before .before .rewrite .result) (a .pre) (sym (i .is-odd .ensures) ∙ c .before .before .before .before .before .before .if1 .taken) (c .before .before .before .rewrite .ensures))
 
--- src/turn.rt:109:18
 sub-copy : tie.Need-sub-copy
-sub-copy c = ?
+sub-copy c = omega (arith, ran (c .before .before .before .before .before .before) .within)
 
--- src/turn.rt:109:18
 part-copy-start : tie.Need-part-copy-start
-part-copy-start c = ?
+part-copy-start c = omega (arith, ran (c .before .before .before .before .before .before) .within)
 
--- src/turn.rt:109:18
 part-copy-end : tie.Need-part-copy-end
 part-copy-end c = search needs
 
--- src/turn.rt:109:13
 copy-requires : tie.Need-copy-requires
-copy-requires c κs = ?
+copy-requires c κs =
+    let m = c .before .before .before .before .before .before .before .before in
+    let a = m .before .before .before .before .before .before .before .before in
+    let o = ran m in
+    (rw (rest-is (now (a .args .input)) (a .args .p), length-drop (a .args .p) (now (a .args .input))) (omega (arith, o .within)), omega (arith, o .bytes-are, byte-bounds (o .which) (o .valid), a .pre))
 
--- src/turn.rt:116:25
 enum-known-a-2 : tie.Need-enum-known-a-2
 enum-known-a-2 c = search needs
 
--- src/turn.rt:117:24
 enum-told : tie.Need-enum-told
 enum-told c = search needs
 
--- src/turn.rt:90:1
 same-length-2 : tie.Need-same-length-2
 same-length-2 c = search needs
 
--- src/turn.rt:90:1
 returns-2 : tie.Need-returns-2
-returns-2 c = ?
+returns-2 c =
+    let m = c .before .before .before .before .before .before .before .before .before .before .before in
+    let a = m .before .before .before .before .before .before .before .before in
+    turned-even (a .args .signed) (now (a .args .input)) (a .args .p) _ (m .a .given .0 .0) (ran m) (now (a .args .run)) _ (sym (c .before .before .before .before .before .before .is-odd .ensures) ∙ c .before .before .before .before .before .if1 .left)
+    (rw (rest-is (now (a .args .input)) (a .args .p)) at (c .before .before .copy .ensures))
 
--- src/turn.rt:90:1
 returns-3 : tie.Need-returns-3
-returns-3 c = ?
+returns-3 c = rw (c .before .a2 .given .1) at (says (c .before .before .before .before))
 
--- src/turn.rt:90:1
 returns-4 : tie.Need-returns-4
-returns-4 c = ?
+returns-4 c = rw (c .enum-told .given .1) at (says (c .before .before .before))
 
 pub convert-run-spec : {M : Type 1} → statement M
 convert-run-spec =
