@@ -5,3 +5,4 @@ pub mod Examples
 pub mod Turns
 pub mod Lays
 pub mod Walks
+pub mod Calls
