@@ -9,9 +9,11 @@ use Rattle.format.specs.declared.Stream.{Stream}
 use Rattle.labels.specs.declared.Label.{Label}
 use Rattle.loader.specs.Labels.{labelWords, labelWordCount, LabelToldDetermined}
 use Rattle.loader.specs.Patched.{PatchedToldDetermined}
+use Rattle.convert.specs.declared.Converted.{Converted}
+use Rattle.loader.specs.Converting.{convertWords, convertWordCount, ConvertToldDetermined}
 use Rattle.format.specs.Loader.{answerWords, streamWords, wordCount, streamWordCount, tooFewWords, Put, Told, ToldOf}
 
--- every answer has as many words, every stream's and every label's
+-- every answer has as many words, every stream's, every label's and every conversion's
 pub answer-long : (a : Answer) → length (answerWords a) ≡ wordCount
 unfolding answerWords
 answer-long a = refl
@@ -23,6 +25,10 @@ stream-long s = refl
 pub label-long : (l : Label) → length (labelWords l) ≡ labelWordCount
 unfolding labelWords
 label-long l = refl
+
+pub convert-long : (c : Converted) → length (convertWords c) ≡ convertWordCount
+unfolding convertWords
+convert-long c = refl
 
 -- over any answers whose words are counted
 module _ {B : Type 0} {wordsOf : B → List ℕ} {numberOf : B → ℕ} {n : ℕ} (long : (b : B) → length (wordsOf b) ≡ n) where
@@ -51,4 +57,8 @@ label-told-determined lengths numbers flags block fall row words words′ words�
 -- .. and the patched writer's the bytes too
 pub patched-told-determined : PatchedToldDetermined
 patched-told-determined rows base w out out′ out″ words words′ words″ r r′ p q =
+    (p .places-are ∙ sym (q .places-are), p .told .words-are ∙ sym (q .told .words-are), p .told .number-is ∙ sym (q .told .number-is))
+
+pub convert-told-determined : ConvertToldDetermined
+convert-told-determined input flag out out′ out″ words words′ words″ r r′ p q =
     (p .places-are ∙ sym (q .places-are), p .told .words-are ∙ sym (q .told .words-are), p .told .number-is ∙ sym (q .told .number-is))

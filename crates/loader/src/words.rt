@@ -40,7 +40,7 @@ fn kind(answer: Answer) -> u8
     }
 }
 
-fn cut_case(field: CutField) -> u64
+pub(crate) fn cut_case(field: CutField) -> u64
     ensures { λ r. ⌜ r ≡ cutCase field ⌝ }
 {
     match field {
@@ -49,7 +49,7 @@ fn cut_case(field: CutField) -> u64
     }
 }
 
-fn cut_byte(field: CutField) -> usize
+pub(crate) fn cut_byte(field: CutField) -> usize
     ensures { λ r. ⌜ r ≡ cutByte field ⌝ }
 {
     match field {
