@@ -8,7 +8,7 @@ mod varints;
 
 pub use lines::probe_line;
 
-use model::{Form, Written, WIDTHS};
+use model::{Written, WIDTHS};
 use oracle::Run;
 
 use crate::frames::{self, Patched};
