@@ -5,10 +5,9 @@ ghost use Prim.Native.Nat.{_≤_};
 ghost use lib.ListN.{length};
 ghost use Rattle.format.specs.Loader.{Put};
 ghost use Rattle.loader.specs.Converting.{convertCase, convertNumber, convertPlace, convertAltered, convertBytes, convertCut, convertWords, convertWordCount};
+use crate::words;
 use convert::Converted;
 use format::CutField;
-
-use crate::words;
 
 // How many words it has.
 pub const COUNT: usize = 7;
