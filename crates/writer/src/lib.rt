@@ -38,13 +38,11 @@ pub fn write_run(rows: &[i64], signed: bool, form: Form, width: u8, out: &mut [u
 pub fn write_patched(rows: &[i64], base: i64, width: u8, out: &mut [u8]) -> Answer
     ensures { λ r. ⌜ PatchedWritten (now (rows .entry)) base width (now (out .entry)) (now (out .exit)) r ⌝ }
 {
-    if !allowed::between(1, Kind::MAX_ROWS, rows.len()) {
-        return Answer::refused(9, 0);
+    if allowed::between(1, Kind::MAX_ROWS, rows.len()) {
+        patched_base::write(rows, base, width, out)
+    } else {
+        Answer::refused(9, 0)
     }
-    if !patched_base::is_kept(width as usize) {
-        return Answer::refused(10, 0);
-    }
-    patched_base::write(rows, base, width, out)
 }
 
 // The narrowest kept width code that holds x. 0 needs one bit.

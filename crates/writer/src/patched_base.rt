@@ -51,7 +51,7 @@ fn table_code(bits: usize) -> u8
 }
 
 // Whether a width in bits is kept.
-pub(crate) fn is_kept(bits: usize) -> bool
+fn is_kept(bits: usize) -> bool
     ensures { λ r. ⌜ r ≡ isKeptWidth bits ⌝ }
 {
     width::is_kept(table_code(bits))
@@ -152,7 +152,7 @@ fn lay(h: Header, base: u64, vals: &[u64], list: &[u64], out: &mut [u8]) -> Answ
     Answer::run(Kind::PatchedBase, bits, h.rows, end)
 }
 
-pub(crate) fn write(rows: &[i64], base: i64, width: u8, out: &mut [u8]) -> Answer
+fn write_kept(rows: &[i64], base: i64, width: u8, out: &mut [u8]) -> Answer
     requires { ⌜ (1 ≤ length (now rows)) × (length (now rows) ≤ 512) ⌝ }
     requires { ⌜ isKeptWidth width ≡ true ⌝ }
     ensures { λ r. ⌜ PatchedWritten (now (rows .entry)) base width (now (out .entry)) (now (out .exit)) r ⌝ }
@@ -164,4 +164,15 @@ pub(crate) fn write(rows: &[i64], base: i64, width: u8, out: &mut [u8]) -> Answe
         Found::None => Answer::refused(10, 0),
         Found::Header(h) => lay(h, base_bits, &vals, &list, out),
     }
+}
+
+// A width that is not kept is refused as one that is none of the table.
+pub(crate) fn write(rows: &[i64], base: i64, width: u8, out: &mut [u8]) -> Answer
+    requires { ⌜ (1 ≤ length (now rows)) × (length (now rows) ≤ 512) ⌝ }
+    ensures { λ r. ⌜ PatchedWritten (now (rows .entry)) base width (now (out .entry)) (now (out .exit)) r ⌝ }
+{
+    if !is_kept(width as usize) {
+        return Answer::refused(10, 0);
+    }
+    write_kept(rows, base, width, out)
 }
