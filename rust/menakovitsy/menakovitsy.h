@@ -254,11 +254,12 @@ uint64_t orc_byte_value(const uint8_t *input, size_t input_len, uint64_t at, uin
 enum orc_form {
     /* 3 to 10 equal rows; the width is 1 to 8 bytes. */
     ORC_FORM_SHORT_REPEAT = 0,
-    /* 1 to 512 rows; the width is a code, 0 to 31. */
+    /* 1 to 512 rows; the width is the code of a kept width (1, 2, 4, 8, 16, 24, 32, 40, 48, 56 and 64
+     * bits): 0, 1, 3, 7, 15, 23 and 27 to 31. */
     ORC_FORM_DIRECT = 1,
     /* 1 to 512 rows with one step; the width is the code 0. */
     ORC_FORM_FIXED_DELTA = 2,
-    /* 2 to 512 rows that all rise, or all fall; the width, of the steps, is a code, 1 to 31. */
+    /* 2 to 512 rows that all rise, or all fall; the width, of the steps, is such a code, and not 0. */
     ORC_FORM_PACKED_DELTA = 3
 };
 
@@ -269,13 +270,13 @@ uint64_t orc_write_run(const int64_t *rows, size_t rows_len, uint64_t flag, uint
 
 /* Writes rows, 1 to 512, as one patched run into the first bytes of out: every row as its difference
  * from base, of which the low width bits are packed, and what is above becomes a patch. The width is in
- * bits and must be one of the table's. The run reads back as the rows whatever the flag. Refused in
- * this order: ORC_ROW_COUNT, ORC_NOT_THE_FORM (over 31 list entries, a patch of over 56 bits, a base of
- * -2^63, or such a width), ORC_TOO_FEW_PLACES; the place is 0. */
+ * bits and must be kept. The run reads back as the rows whatever the flag. Refused in this order:
+ * ORC_ROW_COUNT, ORC_NOT_THE_FORM (over 31 list entries, a patch of over 56 bits, a base of -2^63, or
+ * such a width), ORC_TOO_FEW_PLACES; the place is 0. */
 uint64_t orc_write_patched(const int64_t *rows, size_t rows_len, int64_t base, uint64_t width,
                            uint8_t *out, size_t out_len, uint64_t *words, size_t words_len);
 
-/* The narrowest width code that holds x: 0 to 31. */
+/* The narrowest code of a kept width that holds x: 0 to 31. */
 uint64_t orc_narrowest_code(uint64_t x);
 
 /* What a row is called. The dictionary is a block of names, one behind the other, and the length of
