@@ -13,7 +13,7 @@ use model::{Form, Written, WIDTHS};
 use oracle::Run;
 
 use crate::frames::{self, Patched};
-use crate::listed::{self, Call, Difference, Sort, LIST};
+use crate::listed::{self, Call, Sort, LIST};
 #[cfg(feature = "ours")]
 use crate::ours::Ours;
 use crate::probe::Probe;
@@ -308,12 +308,7 @@ impl Session {
             };
             let rust = oracle::read_run(&bytes, signed);
             let same = matches!(&rust, Run::Rows { rows: read, consumed } if *read == rows && *consumed == bytes.len());
-            let unwritten = form != Form::ShortRepeat && (24..=26).contains(&width) && rust == Run::Panic;
-            let sort = match (same, unwritten) {
-                (true, _) => Some(Sort::Same),
-                (_, true) => Some(Sort::Listed(Difference::Code24To26)),
-                _ => None,
-            };
+            let sort = same.then_some(Sort::Same);
             self.tally.record(sort, &bytes, Call::ReadBack { signed }, || {
                 [format!("{rows:?}"), format!("{rust:?}")]
             });

@@ -14,6 +14,7 @@
 
 mod bits;
 mod booleans;
+mod convert;
 mod labels;
 mod parts;
 mod patched_writer;
@@ -23,6 +24,7 @@ mod values;
 mod writer;
 
 pub use bits::{zigzag, WIDTHS};
+pub use convert::{convert, Converted};
 pub use booleans::{first_run, read_booleans, Booleans};
 pub use labels::{label, Dictionary, Label};
 pub use parts::{read_parts, Parts};
@@ -30,7 +32,7 @@ pub use patched_writer::write_patched;
 pub use runs::{list_faults, read_run, Faults};
 pub use streams::{read_stream, Stream};
 pub use values::{read_value, Value};
-pub use writer::{narrowest_code, write_run, Form, Written};
+pub use writer::{narrowest_code, write_run, Form, Written, KEPT};
 
 /// The kind of a run. "Booleans and byte values are kinds of their own."
 #[derive(Debug, Clone, Copy, PartialEq, Eq, Hash, PartialOrd, Ord)]
