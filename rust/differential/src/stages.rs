@@ -1,4 +1,5 @@
 //! What is compared, stage by stage.
+pub mod convert;
 mod cuts;
 pub mod labels;
 mod lines;
@@ -9,7 +10,7 @@ mod varints;
 
 pub use lines::probe_line;
 
-use model::{Form, Written, WIDTHS};
+use model::{Written, WIDTHS};
 use oracle::Run;
 
 use crate::frames::{self, Patched};

@@ -1,12 +1,13 @@
 //! A call, and what the model of documents 01 and 02 answers it.
 use differential::frames;
 use differential::random::Random;
+use differential::stages::convert;
 use differential::stages::labels::{self, Asked};
 use differential::stages::patched_runs::any_patched_rows;
 use menakovitsy::exported::{
-    case, kind, LABEL_WORDS, PART_WORDS, STATE_WORDS, STREAM_WORDS, TOO_FEW_WORDS, WORDS,
+    case, kind, CONVERT_WORDS, LABEL_WORDS, PART_WORDS, STATE_WORDS, STREAM_WORDS, TOO_FEW_WORDS, WORDS,
 };
-use model::{Answer, Booleans, Form, Info, Kind, Label, Refusal, Stream, Value, Written};
+use model::{Answer, Booleans, Converted, Form, Info, Kind, Label, Refusal, Stream, Value, Written};
 
 use crate::parts;
 
@@ -27,6 +28,7 @@ pub enum Call {
     Label(Asked),
     Part(parts::Asked),
     PartStart { state: usize },
+    Convert(convert::Asked),
 }
 
 /// What a call comes to: what it returns, its words (none where it is lent too few, or takes none),
@@ -71,6 +73,11 @@ impl Outcome {
         Self::counted(refusal, 0, 0)
     }
 
+    /// Of words of its own.
+    fn done(words: &[u64]) -> Self {
+        Outcome { returned: words[1], words: words.to_vec(), ..Outcome::default() }
+    }
+
     fn read(run: Info) -> Self {
         let [kind, width, rows, bytes] = named(Some(run));
         Self::of([case::READ, 0, 0, kind, rows, bytes, 0, 0, width])
@@ -109,7 +116,7 @@ impl Call {
     pub fn any(random: &mut Random) -> Self {
         let flag = if random.once_in(8) { random.any() } else { random.below(2) as u64 };
         let places = random.pick(&[0, 1, 5, 12, 64, 512, 1000]);
-        match random.below(23) {
+        match random.below(25) {
             0..=1 => {
                 let bytes = 8 * places + if random.once_in(2) { random.below(8) } else { 0 };
                 Call::Run { input: frames::any_frame(random), flag, bytes: bytes.min(MOST) }
@@ -140,6 +147,7 @@ impl Call {
             17..=18 => Self::any_patched(random),
             19..=20 => Call::Part(parts::any(flag, random)),
             21 => Call::PartStart { state: random.pick(&[0, 6, 7, 8]) },
+            22..=23 => Call::Convert(convert::Asked { flag, ..convert::any(random) }),
             _ => {
                 let shift = random.below(64);
                 Call::Narrowest { number: random.any() >> shift }
@@ -183,6 +191,7 @@ impl Call {
             Call::Label(_) => "orc_label",
             Call::Part(asked) => asked.function(),
             Call::PartStart { .. } => "orc_part_start",
+            Call::Convert(_) => "orc_convert",
         }
     }
 
@@ -193,6 +202,7 @@ impl Call {
             Call::Stream { .. } => STREAM_WORDS,
             Call::Label(_) => LABEL_WORDS,
             Call::Part(_) => PART_WORDS,
+            Call::Convert(_) => CONVERT_WORDS,
             _ => WORDS,
         }
     }
@@ -233,6 +243,7 @@ impl Call {
             Call::Label(Asked { block, lengths, numbers, flags, fallback, .. }) => {
                 Lending { input: block, given: lengths, numbers, flags, fallback, ..none }
             }
+            Call::Convert(asked) => Lending { input: &asked.input, bytes: asked.places.min(MOST), ..none },
         }
     }
 
@@ -290,9 +301,24 @@ impl Call {
                 let returned = if *state < STATE_WORDS { TOO_FEW_WORDS } else { 0 };
                 Outcome { returned, ..Outcome::default() }
             }
+            Call::Convert(asked) => converted(asked),
             Call::Narrowest { number } => {
                 Outcome { returned: u64::from(model::narrowest_code(*number)), ..Outcome::default() }
             }
+        }
+    }
+}
+
+/// The words of a conversion: a cut field's stand behind its own.
+fn converted(asked: &convert::Asked) -> Outcome {
+    match model::convert(&asked.input, asked.flag != 0, asked.places.min(MOST)) {
+        Converted::Written { altered, bytes } => {
+            let words = [case::READ, 0, 0, altered as u64, bytes.len() as u64, 0, 0];
+            Outcome { bytes, ..Outcome::done(&words) }
+        }
+        Converted::Refused(Refusal { number, place, cut }) => {
+            let (has, at) = (u64::from(cut.is_some()), cut.unwrap_or(0) as u64);
+            Outcome::done(&[case::REFUSED, number.into(), place as u64, 0, 0, has, at])
         }
     }
 }

@@ -132,6 +132,7 @@ impl Session {
                 }
                 Call::Part(ref asked) => exported::orc_part_close(s, sl, b, bl, asked.flag, r, rl, w, wl),
                 Call::PartStart { .. } => exported::orc_part_start(s, sl),
+                Call::Convert(ref asked) => exported::orc_convert(i, il, asked.flag, b, bl, w, wl),
                 Call::Run { flag, .. } => exported::orc_read_run(i, il, b, bl, flag),
                 Call::RunAt { at, flag, .. } => exported::orc_read_run_at(i, il, at, flag, r, rl, w, wl),
                 Call::Stream { at, flag, .. } => exported::orc_read_stream(i, il, at, flag, r, rl, w, wl),

@@ -16,7 +16,7 @@ fn a_million_calls(seed: u64) {
     // Each function gave each answer that it can give.
     let readers = [0, 1, 2, 3, 4, 5, 6, 7, 8, 12, 13, 14];
     let too_few = u64::MAX;
-    let answers: [(&str, &[u64]); 12] = [
+    let answers: [(&str, &[u64]); 13] = [
         ("orc_read_run", &readers),
         ("orc_read_run_at", &[&readers[..], &[too_few]].concat()),
         ("orc_read_stream", &[&readers[..], &[too_few]].concat()),
@@ -29,6 +29,7 @@ fn a_million_calls(seed: u64) {
         ("orc_part_start", &[0, too_few]),
         ("orc_part_take", &[&readers[..], &[too_few]].concat()),
         ("orc_part_close", &[&readers[..], &[too_few]].concat()),
+        ("orc_convert", &[&readers[..], &[too_few]].concat()),
     ];
     for (function, numbers) in answers {
         let given: Vec<u64> =

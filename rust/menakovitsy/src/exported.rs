@@ -5,11 +5,10 @@
 //! allowed. Nothing that is written may overlap another argument. Calls share no state.
 //!
 //! A function that takes words writes its whole answer into the first [`WORDS`] of them, the stream
-//! reader into the first [`STREAM_WORDS`], `orc_label` into the first [`LABEL_WORDS`] and the reader in
-//! parts into the first [`PART_WORDS`], leaves the others as they were, and returns the refusal's
-//! number, 0 where nothing is refused; lent fewer, it returns [`TOO_FEW_WORDS`] and touches nothing.
-//! What each word means stands in [`word`], of a label in [`label_word`], and behind them, of the reader
-//! in parts, in [`part_word`].
+//! reader into the first [`STREAM_WORDS`], and those with words of their own into as many as their
+//! constants say ([`LABEL_WORDS`] of `orc_label`, and so on). It leaves the others as they were, and
+//! returns the refusal's number, 0 where nothing is refused; lent fewer, it returns [`TOO_FEW_WORDS`] and
+//! touches nothing. What each word means stands in [`word`], and of those in the modules beside it.
 //!
 //! The reader in parts keeps nothing either: its state stands in the first [`STATE_WORDS`] of the words
 //! that the caller keeps for it, and the bytes of the unfinished run in the [`MAX_RUN_BYTES`] lent.
@@ -31,6 +30,9 @@ pub const PART_WORDS: usize = 11;
 
 /// How many words the state of the reader in parts has: `orc_part_start` makes them.
 pub const STATE_WORDS: usize = 7;
+
+/// How many words an answer of `orc_convert` has.
+pub const CONVERT_WORDS: usize = 7;
 
 /// What a function returns that was lent fewer words than its answer has.
 pub const TOO_FEW_WORDS: u64 = u64::MAX;
@@ -93,12 +95,24 @@ pub mod part_word {
     pub const TAKEN: usize = 10;
 }
 
+/// The words of a conversion behind the case, the refusal's number and its place.
+pub mod convert_word {
+    /// How many runs were altered, 0 where refused.
+    pub const ALTERED: usize = 3;
+    /// How many bytes the new stream has, 0 where refused.
+    pub const BYTES: usize = 4;
+    /// 1 where the refusal has a cut field, otherwise 0.
+    pub const CUT: usize = 5;
+    /// The byte where the cut field begins, 0 where there is none.
+    pub const CUT_AT: usize = 6;
+}
+
 /// What the word `CASE` may hold.
 pub mod case {
     /// The input is empty; of the reader in parts: it is closed, and the column has ended.
     pub const END: u64 = 0;
     /// A run, booleans or a byte value; of the stream reader: the whole stream was read; of a label: a
-    /// name.
+    /// name; of any other: it was done.
     pub const READ: u64 = 1;
     /// A refusal.
     pub const REFUSED: u64 = 2;
@@ -237,6 +251,16 @@ extern "C" {
         flag: u64,
         rows: *mut i64,
         rows_len: usize,
+        words: *mut u64,
+        words_len: usize,
+    ) -> u64;
+
+    pub fn orc_convert(
+        input: *const u8,
+        input_len: usize,
+        flag: u64,
+        out: *mut u8,
+        out_len: usize,
         words: *mut u64,
         words_len: usize,
     ) -> u64;

@@ -13,6 +13,7 @@
 //! | a column of flags | [`read_booleans`] |
 //! | a byte value, as a part of the input | [`byte_value`] |
 //! | the name of a row, by a dictionary | [`label`] |
+//! | a column's odd widths retired | [`convert()`] |
 //! | a run written | [`write_run`], [`write_patched`], [`narrowest_code`] |
 //! | the library that is linked | [`check_version`], [`library_version`] |
 //!
@@ -41,6 +42,7 @@ compile_error!("libloader.a is for a little-endian processor with 64-bit pointer
 
 mod answers;
 mod column;
+mod convert;
 pub mod exported;
 mod labels;
 mod library;
@@ -52,6 +54,7 @@ mod version;
 
 pub use answers::{Kind, Refused, Run, Stream, StreamRefused};
 pub use column::{Column, Rows, RunAt, Runs};
+pub use convert::{convert, Converted};
 pub use exported::{MAX_ROWS, MAX_RUN_BYTES};
 pub use labels::{label, Dictionary, Label};
 pub use library::{

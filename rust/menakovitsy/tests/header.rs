@@ -4,7 +4,7 @@ use std::path::{Path, PathBuf};
 use std::process::Command;
 use std::{env, fs};
 
-use menakovitsy::exported::{self, case, kind, label_word, part_word, word};
+use menakovitsy::exported::{self, case, convert_word, kind, label_word, part_word, word};
 use menakovitsy::Refusal;
 
 const HEADER: &str = include_str!("../menakovitsy.h");
@@ -33,6 +33,7 @@ fn the_header_has_the_same_numbers() {
     has(&format!("#define ORC_LABEL_WORDS {}\n", exported::LABEL_WORDS));
     has(&format!("#define ORC_PART_WORDS {}\n", exported::PART_WORDS));
     has(&format!("#define ORC_STATE_WORDS {}\n", exported::STATE_WORDS));
+    has(&format!("#define ORC_CONVERT_WORDS {}\n", exported::CONVERT_WORDS));
     has("#define ORC_TOO_FEW_WORDS UINT64_MAX\n");
     has(&format!("#define ORC_MAX_ROWS {}\n", exported::MAX_ROWS));
     has(&format!("#define ORC_MAX_RUN_BYTES {}\n", exported::MAX_RUN_BYTES));
@@ -55,6 +56,10 @@ fn the_header_has_the_same_numbers() {
         ("LABEL_SIZE", label_word::SIZE),
         ("PART_START", part_word::START),
         ("PART_TAKEN", part_word::TAKEN),
+        ("CONVERT_ALTERED", convert_word::ALTERED),
+        ("CONVERT_BYTES", convert_word::BYTES),
+        ("CONVERT_CUT", convert_word::CUT),
+        ("CONVERT_CUT_AT", convert_word::CUT_AT),
     ] {
         has(&format!("    ORC_{name} = {place}"));
     }

@@ -59,12 +59,12 @@ fn refusals_leave_every_byte() {
 const EXPECTED: &str = "\
 | 512 rows | direct | patched | W |
 |---|---|---|---|
-| window lengths, 4 pauses | 1538 | 403 | 6 |
-| milliseconds between takes, 2 nights | 1666 | 209 | 3 |
+| window lengths, 4 pauses | 1538 | 530 | 8 |
+| milliseconds between takes, 2 nights | 2050 | 273 | 4 |
 | stem numbers, 1 of another session | 3074 | 279 | 4 |
-| sizes, 30 large | 1090 | 449 | 6 |
-| sizes, 64 large | 1090 | 1093 | 17 |
-| no jump | 386 | 389 | 6 |
+| sizes, 30 large | 1538 | 570 | 8 |
+| sizes, 64 large | 1538 | 1541 | 24 |
+| no jump | 514 | 517 | 8 |
 ";
 
 #[test]

@@ -24,8 +24,8 @@ mod values;
 mod writer;
 
 pub use bits::{zigzag, WIDTHS};
-pub use convert::{convert, Converted};
 pub use booleans::{first_run, read_booleans, Booleans};
+pub use convert::{convert, Converted};
 pub use labels::{label, Dictionary, Label};
 pub use parts::{read_parts, Parts};
 pub use patched_writer::write_patched;

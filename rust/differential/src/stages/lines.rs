@@ -1,5 +1,5 @@
 //! Every public function through the probe program.
-use super::{cuts, labels, parts, patched_runs, patches, varints, Session};
+use super::{convert, cuts, labels, parts, patched_runs, patches, varints, Session};
 use crate::frames;
 use crate::listed::{Call, LIST};
 use crate::probe::Requests;
@@ -37,11 +37,13 @@ impl Session {
         patched_runs::fixed_lines(requests);
         labels::fixed_lines(requests);
         parts::fixed_lines(requests);
+        convert::fixed_lines(requests, &mut self.random);
         for _ in 0..self.size.pick(1_000, 100_000, 1_000_000) {
             probe_line(&mut probe.requests, &mut self.random);
             patched_runs::probe_line(&mut probe.requests, &mut self.random);
             labels::probe_line(&mut probe.requests, &mut self.random);
             parts::probe_line(&mut probe.requests, &mut self.random);
+            convert::probe_line(&mut probe.requests, &mut self.random);
             probe.batch(&mut self.tally);
         }
         probe.flush(&mut self.tally);

@@ -2,6 +2,7 @@
 //!
 //! A further kind is a function and a line of the table.
 mod booleans;
+mod convert;
 mod labels;
 mod parts;
 mod runs;
@@ -13,7 +14,7 @@ use crate::line::Fields;
 /// Takes the fields behind the first byte, and answers the line. Nothing for a bad line.
 type Kind = fn(Fields) -> Option<String>;
 
-const KINDS: [(u64, Kind); 8] = [
+const KINDS: [(u64, Kind); 9] = [
     (0x01, runs::run),
     (0x02, runs::stream),
     (0x03, booleans::booleans),
@@ -21,6 +22,7 @@ const KINDS: [(u64, Kind); 8] = [
     (0x05, write::write),
     (0x06, write::narrowest),
     (0x07, parts::parts),
+    (0x0E, convert::convert),
     (0x0F, labels::label),
 ];
 

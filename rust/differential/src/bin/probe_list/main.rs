@@ -17,7 +17,7 @@ use differential::frames;
 use differential::listed::{self, Call, LIST};
 use differential::probe::Requests;
 use differential::random::Random;
-use differential::stages::{labels, parts, patched_runs, probe_line};
+use differential::stages::{convert, labels, parts, patched_runs, probe_line};
 use model::Form;
 
 use by_hand::{DOCUMENT, FRAMES, SPECIFICATION};
@@ -313,6 +313,10 @@ fn list() -> Requests {
     parts::fixed_lines(&mut requests);
     for _ in 0..100 {
         parts::probe_line(&mut requests, &mut random);
+    }
+    convert::fixed_lines(&mut requests, &mut random);
+    for _ in 0..100 {
+        convert::probe_line(&mut requests, &mut random);
     }
     requests
 }
