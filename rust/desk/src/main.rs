@@ -7,7 +7,9 @@ use std::process::ExitCode;
 
 mod annotate;
 mod arguments;
+mod convert;
 mod ended;
+mod files;
 mod progress;
 mod walk;
 
@@ -24,7 +26,7 @@ pub struct Word {
     run: fn(Vec<OsString>) -> Result<Ended, Failure>,
 }
 
-const WORDS: [Word; 1] = [annotate::WORD];
+const WORDS: [Word; 2] = [annotate::WORD, convert::WORD];
 
 fn help() -> String {
     let words: String = WORDS.iter().map(|word| format!("  {:<10} {}\n", word.name, word.does)).collect();

@@ -33,6 +33,9 @@ fn bad_usage() {
         (&["annotate", "--unsigned", "a"], "--unsigned is no option of it ("),
         (&["annotate", "a", "--svg"], "--svg wants a value ("),
         (&["annotate", "a", "--svg", "b", "--svg", "c"], "--svg is given twice ("),
+        (&["convert", "a"], "--out is missing (menakovitsy convert --help"),
+        (&["convert", "--out", "b"], "IN is missing ("),
+        (&["convert", "a", "c", "--out", "b"], "c is more than IN ("),
     ] {
         let said = menakovitsy(arguments, &[]);
         assert_eq!((said.status, said.output.as_str()), (2, ""), "{arguments:?}");
