@@ -1,4 +1,5 @@
 //! What is compared, stage by stage.
+pub mod convert;
 pub mod count;
 mod cuts;
 pub mod index;

@@ -12,8 +12,8 @@ use crate::{Refused, Run};
 ///
 /// Refusals, in this order: [`RowCount`](crate::Refusal::RowCount);
 /// [`NotTheForm`](crate::Refusal::NotTheForm) where no patched run has those rows with that base and
-/// width (a list of more than 31 entries, a patch of more than 56 bits, a base of -2^63), or where the
-/// width is not kept (1, 2, 4, 8, 16, 24, 32, 40, 48, 56 and 64 are); [`TooFewPlaces`](crate::Refusal::TooFewPlaces). A refused call leaves every
+/// width (a list of more than 31 entries, a patch of more than 56 bits, a base of -2^63, a width that
+/// the specification does not keep); [`TooFewPlaces`](crate::Refusal::TooFewPlaces). A refused call leaves every
 /// byte as it was.
 ///
 /// ```

@@ -14,8 +14,8 @@
 
 mod bits;
 mod booleans;
-mod index;
 mod convert;
+mod index;
 mod labels;
 mod parts;
 mod patched_writer;
@@ -28,8 +28,8 @@ mod writer;
 
 pub use bits::{zigzag, WIDTHS};
 pub use booleans::{first_run, read_booleans, Booleans};
-pub use index::{build_index, look_up, read_from, Columns, Entry, Index, Lookup, Rows};
 pub use convert::{convert, Converted};
+pub use index::{build_index, look_up, read_from, Columns, Entry, Index, Lookup, Rows};
 pub use labels::{label, Dictionary, Label};
 pub use parts::{read_parts, Parts};
 pub use patched_writer::write_patched;
