@@ -33,7 +33,7 @@ extern "C" {
 
 /* The version of these functions: each change of them makes it one more. A program compares what
  * orc_version answers with the header that it was compiled with. */
-#define ORC_VERSION UINT64_C(9)
+#define ORC_VERSION UINT64_C(10)
 
 uint64_t orc_version(void);
 

@@ -14,7 +14,7 @@
 //! that the caller keeps for it, and the bytes of the unfinished run in the [`MAX_RUN_BYTES`] lent.
 
 /// The version of these functions that this crate is written for.
-pub const VERSION: u64 = 9;
+pub const VERSION: u64 = 10;
 
 /// How many words an answer has; the stream reader's has [`STREAM_WORDS`].
 pub const WORDS: usize = 9;
