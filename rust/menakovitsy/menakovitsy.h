@@ -33,7 +33,7 @@ extern "C" {
 
 /* The version of these functions: each change of them makes it one more. A program compares what
  * orc_version answers with the header that it was compiled with. */
-#define ORC_VERSION UINT64_C(9)
+#define ORC_VERSION UINT64_C(10)
 
 uint64_t orc_version(void);
 
@@ -56,6 +56,8 @@ uint64_t orc_version(void);
 #define ORC_ROWS_FROM_WORDS 4
 /* orc_salvage. */
 #define ORC_SALVAGE_WORDS 5
+/* orc_convert. */
+#define ORC_CONVERT_WORDS 7
 
 /* What it returns where it was lent fewer: then it has touched nothing, no word, row or byte. */
 #define ORC_TOO_FEW_WORDS UINT64_MAX
@@ -145,6 +147,16 @@ enum orc_salvage_word {
     /* How many bytes the new stream has, and how many the report. */
     ORC_SALVAGE_BYTES = 3,
     ORC_SALVAGE_REPORT = 4
+};
+
+/* The words of a conversion behind ORC_CASE, ORC_NUMBER and ORC_PLACE. */
+enum orc_convert_word {
+    /* How many runs were altered, and how many bytes the new stream has; 0 where refused. */
+    ORC_CONVERT_ALTERED = 3,
+    ORC_CONVERT_BYTES = 4,
+    /* 1 where the refusal has a cut field, and the byte where it begins; otherwise 0. */
+    ORC_CONVERT_CUT = 5,
+    ORC_CONVERT_CUT_AT = 6
 };
 
 enum orc_case {
@@ -254,11 +266,12 @@ uint64_t orc_byte_value(const uint8_t *input, size_t input_len, uint64_t at, uin
 enum orc_form {
     /* 3 to 10 equal rows; the width is 1 to 8 bytes. */
     ORC_FORM_SHORT_REPEAT = 0,
-    /* 1 to 512 rows; the width is a code, 0 to 31. */
+    /* 1 to 512 rows; the width is a code of a kept width: 0, 1, 3, 7, 15, 23 or 27 to 31 (1, 2, 4, 8, 16,
+     * 24, 32, 40, 48, 56 or 64 bits). */
     ORC_FORM_DIRECT = 1,
     /* 1 to 512 rows with one step; the width is the code 0. */
     ORC_FORM_FIXED_DELTA = 2,
-    /* 2 to 512 rows that all rise, or all fall; the width, of the steps, is a code, 1 to 31. */
+    /* 2 to 512 rows that all rise, or all fall; the width, of the steps, is such a code, but not 0. */
     ORC_FORM_PACKED_DELTA = 3
 };
 
@@ -269,13 +282,13 @@ uint64_t orc_write_run(const int64_t *rows, size_t rows_len, uint64_t flag, uint
 
 /* Writes rows, 1 to 512, as one patched run into the first bytes of out: every row as its difference
  * from base, of which the low width bits are packed, and what is above becomes a patch. The width is in
- * bits and must be one of the table's. The run reads back as the rows whatever the flag. Refused in
+ * bits and must be a kept one. The run reads back as the rows whatever the flag. Refused in
  * this order: ORC_ROW_COUNT, ORC_NOT_THE_FORM (over 31 list entries, a patch of over 56 bits, a base of
  * -2^63, or such a width), ORC_TOO_FEW_PLACES; the place is 0. */
 uint64_t orc_write_patched(const int64_t *rows, size_t rows_len, int64_t base, uint64_t width,
                            uint8_t *out, size_t out_len, uint64_t *words, size_t words_len);
 
-/* The narrowest width code that holds x: 0 to 31. */
+/* The code of the narrowest kept width that holds x. */
 uint64_t orc_narrowest_code(uint64_t x);
 
 /* What a row is called. The dictionary is a block of names, one behind the other, and the length of
@@ -349,6 +362,13 @@ uint64_t orc_read_from(const uint8_t *input, size_t input_len, const uint64_t *f
 uint64_t orc_salvage(const uint8_t *input, size_t input_len, const uint64_t *starts, size_t starts_len,
                      const uint64_t *counts, size_t counts_len, int64_t fill, uint64_t flag,
                      uint8_t *out, size_t out_len, uint8_t *report, size_t report_len,
+                     uint64_t *words, size_t words_len);
+
+/* Converts a stream: each direct or packed delta run of an odd width (all but 1, 2, 4, 8, 16, 24, 32, 40,
+ * 48, 56 and 64 bits) becomes the writer's run of the same rows at the next kept width, and every other
+ * run is copied. The new stream stands in the first bytes of out (twice input_len hold any). Refused with
+ * nothing written: the stream's own, then ORC_TOO_FEW_PLACES, at place 0. */
+uint64_t orc_convert(const uint8_t *input, size_t input_len, uint64_t flag, uint8_t *out, size_t out_len,
                      uint64_t *words, size_t words_len);
 
 /* Reads the run at the start of input, and answers by one number: an orc_answer, or, from ORC_RUN on,

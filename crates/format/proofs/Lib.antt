@@ -4,6 +4,7 @@ pub mod Fields
 pub mod Runs
 pub mod Streams
 pub mod Widths
+pub mod Kept
 pub mod Patterns
 pub mod Varints
 pub mod Examples

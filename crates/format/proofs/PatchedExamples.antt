@@ -13,13 +13,14 @@ use Rattle.format.specs.Writing
 use Rattle.format.specs.Parse.{refused}
 use Rattle.format.specs.Answers.{answerNumber}
 use Rattle.format.specs.Promises.{answerOf}
+use Rattle.format.specs.Kept
 use Rattle.format.specs.PatchedWriting
 use Rattle.format.specs.PatchedWriting.{Entry, skip, entriesFrom, baseBytes, parts, writingPatched}
 
 -- (the `unfolding` line opens all that computes: whoever says `unfolding told` computes with it)
 -- the refusal's number, or else the bytes
 unfoldable told : ℕ → ℕ → List ℕ → ℕ → ℕ × List ℕ
-unfolding Digits.number Digits.digits Fields.widths Fields.width Fields.leastOf Fields.leastWidth Fields.blockBytes Runs.layout Writing.every
+unfolding Digits.number Digits.digits Fields.widths Fields.width Fields.leastOf Fields.leastWidth Fields.blockBytes Kept.keptWidths Kept.among Kept.isKeptWidth Runs.layout Writing.every
     PatchedWriting.patchesAbove PatchedWriting.entriesFrom PatchedWriting.leastFrom PatchedWriting.codeFor PatchedWriting.patchCode PatchedWriting.gapWidth PatchedWriting.baseSize PatchedWriting.baseBytes PatchedWriting.parts PatchedWriting.writingPatched
 told base w rs places = let m = writingPatched base w rs places in (answerNumber (answerOf 0 0 m), Writing.bytesIn [] m)
 
@@ -86,7 +87,7 @@ patch-56 : told 0 8 (2 ^ 63 ∷ []) 20 ≡ (0, 0x8E ∷ 0x00 ∷ 0x1E ∷ 0x01 �
 unfolding told
 patch-56 = refl
 
-patch-57 : told 0 7 (2 ^ 63 ∷ []) 20 ≡ (10, [])
+patch-57 : told 0 4 (2 ^ 60 ∷ []) 20 ≡ (10, [])
 unfolding told
 patch-57 = refl
 
@@ -113,6 +114,11 @@ lowest-base = refl
 no-width : told 0 25 (7 ∷ []) 0 ≡ (10, [])
 unfolding told
 no-width = refl
+
+-- a width of the table that is not kept
+odd-width : told 0 5 (7 ∷ []) 99 ≡ (10, [])
+unfolding told
+odd-width = refl
 
 no-room : told 100 4 (101 ∷ 102 ∷ 183 ∷ 104 ∷ []) 7 ≡ (8, [])
 unfolding told

@@ -19,6 +19,7 @@ use Rattle.format.specs.declared.Answer.{Answer}
 use Rattle.format.specs.Digits.{AllBelow, number, digits}
 use Rattle.format.specs.Fields.{pick, width, two64, negative, zigzag, zigzagged, row, IsBlock, varintValue, shortest, Shortest}
 use Rattle.format.specs.Runs.{Description, short, direct, fixed, delta, Valid, layout, rowCount}
+use Rattle.format.specs.Kept.{isKept}
 use Rattle.format.specs.Rows
 use Rattle.format.specs.Rows.{rowsOf, i64Rows, asI64, asU64, plus, walk}
 use Rattle.format.specs.Parse.{Parsed, got, refused, unless, parse, into}
@@ -26,6 +27,7 @@ use Rattle.format.specs.Promises.{answerOf, kindOf, widthOf, RunRead}
 use Rattle.format.specs.Answers.{ran, answerNumber}
 use Rattle.format.specs.Writing.{stored, minus, stepTo, stepsOf, baseDelta, falls, valuesOf, padded, firstOf, described, every, between, countAllowed, haveForm, widthAllowed, fitWidth, writing, AllI64, Written, AsWritten, short-repeat, direct-run, fixed-delta, packed-delta}
 use Rattle.format.proofs.Digits.{number-lt, digits-number, length-digits, digits-below, number-digits, pow-pow}
+use Rattle.format.proofs.Kept.{kept-code}
 use Rattle.format.proofs.Patterns.{zigzag-zigzagged, zigzagged-zigzag, zigzagged-lt, zigzag-lt, as-back, as-forth, as-lt}
 use Rattle.format.proofs.Widths.{and-left, and-right}
 use Rattle.format.proofs.Varints.{varint-lt, shortest-varint, shortest-value, shortest-unique}
@@ -41,7 +43,7 @@ and-i false b x y = x
 and-e : (a b : Bool) → T (a && b) → T a × T b
 and-e a b t = (and-left a b t, and-right a b t)
 
-T-true : (a : Bool) → T a → a ≡ true
+pub T-true : (a : Bool) → T a → a ≡ true
 T-true true t = refl
 T-true false t = absurd t
 
@@ -187,7 +189,7 @@ accepted-valid signed ShortRepeat w rs h a =
     record { few = n .0; many = n .1; some-bytes = omega arith; eight = omega arith; bytes = digits-below 256 (zero-lt-suc 255) w (firstOf signed rs) }
 accepted-valid signed Direct w rs h a =
     let n = between-le 1 512 (length rs) (a .count) in
-    let s = between-le 0 31 w (a .size) in
+    let s = kept-code w (T-true (isKept w) (a .size)) in
     let l : length (map (stored signed) rs) ≡ length rs = length-map rs (stored signed) in
     record {
       head = record { code-fits = omega arith; some-rows = omega arith; rows-fit = omega arith };
@@ -202,11 +204,12 @@ accepted-valid signed FixedDelta w rs h a =
     }
 accepted-valid signed PackedDelta w rs h a =
     let n = between-le 2 512 (length rs) (a .count) in
-    let s = between-le 1 31 w (a .size) in
+    let s = and-e (leb 1 w) (isKept w) (a .size) in
+    let k = kept-code w (T-true (isKept w) (s .1)) in
     let l : length (stepsOf (falls (baseDelta rs)) (drop 1 rs)) + 2 ≡ length rs = later-steps _ rs (n .0) in
     record {
       head = record { code-fits = omega arith; some-rows = omega arith; rows-fit = omega arith };
-      not-fixed = s .0;
+      not-fixed = leb→le 1 w (s .0);
       first-varint = shortest-varint _ (stored-lt signed _ (first-lt rs h));
       base-varint = shortest-varint _ (zigzagged-lt _ (base-lt rs));
       block = padded-ok (width w) _ (every-below (2 ^ width w) _ (a .fits));
@@ -279,15 +282,15 @@ short-again signed w count value e v =
       same = rw (n, first, back, ← e, digits-number 256 value (v .bytes));
     }
 
-direct-again : (signed : Bool) (w : ℕ) (vs : List ℕ) → Valid (direct w (padded vs)) → Again signed Direct w (direct w (padded vs))
+direct-again : (signed : Bool) (w : ℕ) (vs : List ℕ) → isKept w ≡ true → Valid (direct w (padded vs)) → Again signed Direct w (direct w (padded vs))
 unfolding described valuesOf fitWidth rowsOf haveForm
-direct-again signed w vs v =
+direct-again signed w vs k v =
     let back : map (stored signed) (map (row signed) vs) ≡ vs = map-back (stored signed) (row signed) two64 (stored-row signed) vs (below-mono _ two64 (pow-mono (width-le w)) vs (v .block .fits)) in
     record {
       accepted = record {
         count = rw (length-map vs (row signed)) (le-between 1 512 (length vs) (v .head .some-rows) (v .head .rows-fit));
         form = tt;
-        size = le-between 0 31 w (omega arith) (omega (arith, v .head .code-fits));
+        size = rw k tt;
         fits = rw back (below-every (2 ^ width w) vs (v .block .fits));
       };
       same = rw back;
@@ -329,10 +332,10 @@ fixed-again signed (suc m) first base p q one v =
       same = rw (l, f, b, stored-row signed (varintValue first) (varint-lt first (v .first-varint)), zigzagged-zigzag (varintValue base) (varint-lt base (v .base-varint)), ← (shortest-unique first (v .first-varint) p), ← (shortest-unique base (v .base-varint) q));
     }
 
-delta-again : (signed : Bool) (w : ℕ) (first base vs : List ℕ) → Shortest first → Shortest base → Valid (delta w first base (padded vs))
+delta-again : (signed : Bool) (w : ℕ) (first base vs : List ℕ) → isKept w ≡ true → Shortest first → Shortest base → Valid (delta w first base (padded vs))
     → Again signed PackedDelta w (delta w first base (padded vs))
 unfolding described valuesOf fitWidth rowsOf haveForm
-delta-again signed w first base vs p q v =
+delta-again signed w first base vs k p q v =
     let x : ℕ = row signed (varintValue first) in
     let s : ℕ = zigzag (varintValue base) in
     let y : ℕ = plus x s in
@@ -345,7 +348,7 @@ delta-again signed w first base vs p q v =
       accepted = record {
         count = rw l (le-between 2 512 (length vs + 2) (omega arith) (v .head .rows-fit));
         form = tt;
-        size = le-between 1 31 w (v .not-fixed) (omega (arith, v .head .code-fits));
+        size = and-i (leb 1 w) (isKept w) (le→leb 1 w (v .not-fixed)) (rw k tt);
         fits = rw (b, e) (below-every (2 ^ width w) vs (v .block .fits));
       };
       same = rw (b, e, stored-row signed (varintValue first) (varint-lt first (v .first-varint)), zigzagged-zigzag (varintValue base) (varint-lt base (v .base-varint)), ← (shortest-unique first (v .first-varint) p), ← (shortest-unique base (v .base-varint) q));
@@ -353,9 +356,9 @@ delta-again signed w first base vs p q v =
 
 again : (signed : Bool) (f : Form) (w : ℕ) (d : Description) → AsWritten f w d → Valid d → Again signed f w d
 again signed f w d (short-repeat {count = count} {value = value} e) v = short-again signed w count value e v
-again signed f w d (direct-run {vs = vs}) v = direct-again signed w vs v
+again signed f w d (direct-run {vs = vs} k) v = direct-again signed w vs k v
 again signed f w d (fixed-delta {n = n} {first = first} {base = base} p q one) v = fixed-again signed n first base p q one v
-again signed f w d (packed-delta {first = first} {base = base} {vs = vs} p q) v = delta-again signed w first base vs p q v
+again signed f w d (packed-delta {first = first} {base = base} {vs = vs} k p q) v = delta-again signed w first base vs k p q v
 
 -- ---- i64 rows
 

@@ -1,6 +1,7 @@
 -- The definitions that the contracts cite. Document 01 is the text that each of them is checked against.
 pub mod Digits
 pub mod Fields
+pub mod Kept
 pub mod Runs
 pub mod Rows
 pub mod Parse

@@ -11,6 +11,7 @@ use lib.IntN.{ℤ}
 use Rattle.format.specs.declared.Answer.{Answer}
 use Rattle.format.specs.Digits.{digits}
 use Rattle.format.specs.Fields.{pick, width, two64, Block}
+use Rattle.format.specs.Kept.{isKeptWidth}
 use Rattle.format.specs.Runs.{Description, patched, Patch, layout}
 use Rattle.format.specs.Rows.{asU64}
 use Rattle.format.specs.Parse.{Parsed, got, unless}
@@ -127,11 +128,11 @@ parts base w rs = record {
 abbrev pub headerHolds : Parts → Bool
 headerHolds d = ltb (d .code) 32 && (leb (length (d .base)) 8 && (leb (width (d .pc) + d .gw) 64 && ltb (length (d .list .values)) 32))
 
--- writing order: 9, 10, 8
+-- writing order: 9, 10, 8; a width that is not kept is refused as one that is no table width
 unfoldable pub writingPatched : ℕ → ℕ → List ℕ → ℕ → Parsed Description
 writingPatched base w rs places =
     unless (not (between 1 512 (length rs))) 9
-    (unless (not (headerHolds (parts base w rs))) 10
+    (unless (not (isKeptWidth w && headerHolds (parts base w rs))) 10
     (unless (ltb places (length (layout (run (parts base w rs))))) 8
     (got (run (parts base w rs)) [])))
 

@@ -15,6 +15,7 @@ use Rattle.format.specs.declared.Form.the-variants.{ShortRepeat, Direct,
 use Rattle.format.specs.declared.Answer.{Answer}
 use Rattle.format.specs.Digits.{digits}
 use Rattle.format.specs.Fields.{pick, width, two64, zigzagged, Block, varintValue, shortest, Shortest}
+use Rattle.format.specs.Kept.{isKept}
 use Rattle.format.specs.Runs.{Description, short, direct, fixed, delta, layout}
 use Rattle.format.specs.Rows.{asU64}
 use Rattle.format.specs.Parse.{Parsed, end, got, refused, unless}
@@ -96,12 +97,12 @@ haveForm Direct rs = true
 haveForm FixedDelta rs = every (λ s. eqb s (baseDelta rs)) (stepsOf false rs)
 haveForm PackedDelta rs = true
 
--- fixed delta takes code 0 only, packed delta 1 to 31, direct 0 to 31, short repeat 1 to 8 bytes
+-- fixed delta takes code 0 only, packed delta the kept codes but 0, direct the kept codes, short repeat 1 to 8 bytes
 abbrev pub widthAllowed : Form → ℕ → Bool
 widthAllowed ShortRepeat w = between 1 8 w
-widthAllowed Direct w = between 0 31 w
+widthAllowed Direct w = isKept w
 widthAllowed FixedDelta w = eqb w 0
-widthAllowed PackedDelta w = between 1 31 w
+widthAllowed PackedDelta w = leb 1 w && isKept w
 
 -- the width in bits
 abbrev pub bitsOf : Form → ℕ → ℕ
@@ -139,10 +140,10 @@ pub record Written (rows : List ℤ) (signed : Bool) (f : Form) (w : ℕ) (out o
   pub answer : r ≡ answerOf 0 0 (writing signed f w (map asU64 rows) (length out))
   pub places : out′ ≡ bytesIn out (writing signed f w (map asU64 rows) (length out))
 
--- ---- A run as the writer lays it down, by its form and width: zero padding, shortest varints, and delta 0 where there is one row.
+-- ---- A run as the writer lays it down, by its form and width: a kept width, zero padding, shortest varints, and delta 0 where there is one row.
 
 pub data AsWritten : Form → ℕ → Description → Type 0 where
   short-repeat : {w count : ℕ} {value : List ℕ} → length value ≡ w → AsWritten ShortRepeat w (short count value)
-  direct-run : {w : ℕ} {vs : List ℕ} → AsWritten Direct w (direct w (padded vs))
+  direct-run : {w : ℕ} {vs : List ℕ} → isKept w ≡ true → AsWritten Direct w (direct w (padded vs))
   fixed-delta : {n : ℕ} {first base : List ℕ} → Shortest first → Shortest base → (n ≡ 1 → varintValue base ≡ 0) → AsWritten FixedDelta 0 (fixed n first base)
-  packed-delta : {w : ℕ} {first base vs : List ℕ} → Shortest first → Shortest base → AsWritten PackedDelta w (delta w first base (padded vs))
+  packed-delta : {w : ℕ} {first base vs : List ℕ} → isKept w ≡ true → Shortest first → Shortest base → AsWritten PackedDelta w (delta w first base (padded vs))

@@ -11,10 +11,8 @@ use Rattle.format.specs.declared.Form.{Form}
 use Rattle.format.specs.declared.Form.the-variants.{ShortRepeat, Direct, FixedDelta, PackedDelta}
 use Rattle.format.specs.Writing.{haveForm, widthAllowed, writing}
 use Rattle.format.specs.Loader.{formOf}
-use Rattle.format.specs.PatchedWriting.{codeFor, parts, headerHolds, writingPatched}
-use Rattle.format.proofs.Rows.{width-le}
-use Rattle.writer.proofs.PatchedLaws.{code-wide}
-use Rattle.writer.proofs.PatchedHeader.{no-code}
+use Rattle.format.specs.PatchedWriting.{writingPatched}
+use Rattle.format.proofs.Kept.{no-code-kept, wide-not-kept}
 
 -- from 3 on the form is the last
 pub form-last : (n : ℕ) → 2 < n → formOf n ≡ PackedDelta
@@ -27,9 +25,9 @@ form-last (suc (suc (suc n))) h = refl
 -- a width above 31 is no form's
 too-wide : (f : Form) (w : ℕ) → 31 < w → widthAllowed f w ≡ false
 too-wide ShortRepeat w h = rw (lt-leb w 8 (omega arith)) (and-false (leb 1 w))
-too-wide Direct w h = rw (lt-leb w 31 h) (and-false (leb 0 w))
+too-wide Direct w h = no-code-kept w h
 too-wide FixedDelta w h = ne-eqb w 0 (λ e. omega arith)
-too-wide PackedDelta w h = rw (lt-leb w 31 h) (and-false (leb 1 w))
+too-wide PackedDelta w h = rw (no-code-kept w h) (and-false (leb 1 w))
 
 -- so all of them are answered alike
 wide-alike : (signed : Bool) (f : Form) (v w : ℕ) (rs : List ℕ) (places : ℕ) → 31 < v → 31 < w → writing signed f v rs places ≡ writing signed f w rs places
@@ -45,14 +43,11 @@ width-least signed f w rs places = by (decLt 255 w)
         let e : min w 255 ≡ w = omega arith in
         rw e
 
--- ---- PATCHED: a width above 64 is none of the table, and all of them are answered alike
-
-no-header : (base w : ℕ) (rs : List ℕ) → 64 < w → headerHolds (parts base w rs) ≡ false
-no-header base w rs h = let e : 32 ≡ codeFor w = code-wide w h width-le in no-code base w rs (omega arith)
+-- ---- PATCHED: a width above 64 is not kept, and all of them are answered alike
 
 no-table-alike : (base v w : ℕ) (rs : List ℕ) (places : ℕ) → 64 < v → 64 < w → writingPatched base v rs places ≡ writingPatched base w rs places
 unfolding writingPatched
-no-table-alike base v w rs places g h = rw (no-header base v rs g, no-header base w rs h)
+no-table-alike base v w rs places g h = rw (wide-not-kept v g, wide-not-kept w h)
 
 pub patched-least : (base w : ℕ) (rs : List ℕ) (places : ℕ) → writingPatched base (min w 255) rs places ≡ writingPatched base w rs places
 patched-least base w rs places = by (decLt 255 w)

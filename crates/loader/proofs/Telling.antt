@@ -14,16 +14,15 @@ use Rattle.index.specs.declared.Preview.{Preview}
 use Rattle.loader.specs.Index.{builtNumber, builtWords, builtWordCount, IndexTold, foundWords, foundWordCount, previewWords, previewWordCount}
 use Rattle.loader.specs.Labels.{labelWords, labelWordCount, LabelToldDetermined}
 use Rattle.loader.specs.Patched.{PatchedToldDetermined}
+use Rattle.convert.specs.declared.Converted.{Converted}
+use Rattle.loader.specs.Converting.{convertWords, convertWordCount, ConvertToldDetermined}
 use Rattle.season.specs.declared.Count.{Count}
 use Rattle.loader.specs.Counts.{countWords, countWordCount, CountToldDetermined}
-use Rattle.format.specs.Loader.{answerWords, streamWords, wordCount, streamWordCount, tooFewWords, Put, Told, ToldOf}
-
--- every answer has as many words, every stream's, every label's and every count's
--- every answer has as many words, every stream's, every label's and every one of the index's
 use Rattle.salvage.specs.declared.Outcome.{Outcome}
 use Rattle.loader.specs.Salvage.{salvageWords, salvageWordCount, SalvageToldDetermined}
+use Rattle.format.specs.Loader.{answerWords, streamWords, wordCount, streamWordCount, tooFewWords, Put, Told, ToldOf}
 
--- every answer has as many words, every stream's, every label's and every salvage's
+-- every answer has as many words as its function says
 pub answer-long : (a : Answer) → length (answerWords a) ≡ wordCount
 unfolding answerWords
 answer-long a = refl
@@ -39,6 +38,7 @@ label-long l = refl
 pub count-long : (c : Count) → length (countWords c) ≡ countWordCount
 unfolding countWords
 count-long c = refl
+
 pub built-long : (b : Built) → length (builtWords b) ≡ builtWordCount
 unfolding builtWords
 built-long b = refl
@@ -50,9 +50,14 @@ found-long v = refl
 pub preview-long : (p : Preview) → length (previewWords p) ≡ previewWordCount
 unfolding previewWords
 preview-long p = refl
+
 pub salvage-long : (m : Outcome) → length (salvageWords m) ≡ salvageWordCount
 unfolding salvageWords
 salvage-long m = refl
+
+pub convert-long : (c : Converted) → length (convertWords c) ≡ convertWordCount
+unfolding convertWords
+convert-long c = refl
 
 -- over any answers whose words are counted
 module _ {B : Type 0} {wordsOf : B → List ℕ} {numberOf : B → ℕ} {n : ℕ} (long : (b : B) → length (wordsOf b) ≡ n) where
@@ -82,6 +87,7 @@ label-told-determined lengths numbers flags block fall row words words′ words�
 pub patched-told-determined : PatchedToldDetermined
 patched-told-determined rows base w out out′ out″ words words′ words″ r r′ p q =
     (p .places-are ∙ sym (q .places-are), p .told .words-are ∙ sym (q .told .words-are), p .told .number-is ∙ sym (q .told .number-is))
+
 -- and so does that of the count
 pub count-told-determined : CountToldDetermined
 count-told-determined packed n words words′ words″ r r′ p q = (p .words-are ∙ sym (q .words-are), p .number-is ∙ sym (q .number-is))
@@ -94,6 +100,7 @@ module _ {input first at counts words : List ℕ} where
   pub index-put : {first′ at′ counts′ words′ : List ℕ} {b : Built} {r : ℕ} → BuiltIn input first at counts first′ at′ counts′ b → builtWordCount ≤ length words
       → Put builtWords builtNumber b words words′ r → IndexTold input first at counts first′ at′ counts′ words words′ r
   index-put q h p = record { told = put built-long (q .answer) h p; columns-are = rw (le-leb builtWordCount (length words) h) (q .columns) }
+
 -- and the salvage's, with both outputs
 pub salvage-told-determined : SalvageToldDetermined
 salvage-told-determined input starts counts fill flag out out′ out″ lines lines′ lines″ words words′ words″ r r′ p q = (
@@ -102,3 +109,7 @@ salvage-told-determined input starts counts fill flag out out′ out″ lines li
   p .stream-told .told .words-are ∙ sym (q .stream-told .told .words-are),
   p .stream-told .told .number-is ∙ sym (q .stream-told .told .number-is),
 )
+
+pub convert-told-determined : ConvertToldDetermined
+convert-told-determined input flag out out′ out″ words words′ words″ r r′ p q =
+    (p .places-are ∙ sym (q .places-are), p .told .words-are ∙ sym (q .told .words-are), p .told .number-is ∙ sym (q .told .number-is))

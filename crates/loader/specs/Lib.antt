@@ -6,3 +6,4 @@ pub mod Parts
 pub mod Counts
 pub mod Index
 pub mod Salvage
+pub mod Converting

@@ -2,9 +2,10 @@
 // lays its rows out as bytes. The readers after it and the writer tell their answer in words that the caller lends (`format/specs/Loader.antt` says
 // what each word means), and read and write the caller's rows where they stand; the number is then the refusal's.
 ghost use mathlib.Core.Path.{_≡_};
-ghost use Rattle.format.specs.Fields.{Narrowest};
+ghost use Rattle.format.specs.Kept.{NarrowestKept};
 ghost use Rattle.format.specs.Loader.{Loaded, faceVersion, RunTold, StreamTold, BooleansTold, ValueTold, WriteTold};
 ghost use Rattle.loader.specs.Index.{IndexTold, LookUpTold, ReadFromTold};
+ghost use Rattle.loader.specs.Converting.{ConvertTold};
 ghost use Rattle.loader.specs.Labels.{LabelTold};
 ghost use Rattle.loader.specs.Patched.{PatchedTold};
 ghost use Rattle.loader.specs.Parts.{StartTold, PartTold, CloseTold};
@@ -14,6 +15,7 @@ use format::ByteOffset;
 use format::RowNumber;
 
 mod bytes;
+mod convert_words;
 mod count_words;
 mod forms;
 mod index_words;
@@ -27,7 +29,7 @@ mod words;
 pub extern "C" fn orc_version() -> u64
     ensures { λ r. ⌜ r ≡ faceVersion ⌝ }
 {
-    9
+    10
 }
 
 // One run at the start of the input, its rows as eight bytes each, lowest first. The flag is 0 for unsigned, and any other number for signed.
@@ -163,12 +165,25 @@ pub extern "C" fn orc_write_patched(
     words::put_answer(answer, words)
 }
 
-// The narrowest width code that holds x. 0 needs one bit.
+// The narrowest kept width code that holds x. 0 needs one bit.
 #[no_mangle]
 pub extern "C" fn orc_narrowest_code(x: u64) -> u64
-    ensures { λ r. ⌜ Narrowest x r ⌝ }
+    ensures { λ r. ⌜ NarrowestKept x r ⌝ }
 {
     writer::narrowest_code(x) as u64
+}
+
+// The stream with each direct or packed delta run of an odd width at the next kept one, in the first bytes lent; every other run is
+// copied. Nothing is written on a refusal: the stream's own, then 8.
+#[no_mangle]
+pub extern "C" fn orc_convert(input: &[u8], flag: u64, out: &mut [u8], words: &mut [u64]) -> u64
+    ensures { λ r. ⌜ ConvertTold (now (input .entry)) flag (now (out .entry)) (now (out .exit)) (now (words .entry)) (now (words .exit)) r ⌝ }
+{
+    if words.len() < convert_words::COUNT {
+        return words::TOO_FEW;
+    }
+    let converted = convert::convert(input, flag != 0, out);
+    convert_words::put_converted(converted, words)
 }
 
 // What a row is called, by a dictionary (its block and the lengths of its names), the named rows' numbers and a flag for each row; or the

@@ -7,7 +7,8 @@ use native.Mathlib.Decide.{decLt}
 use mathlib.Core.List.{List}
 use lib.IntN.{ℤ}
 use Rattle.format.specs.Fields.{width, widths, two64, Narrowest}
-use Rattle.format.proofs.Widths.{narrowest-unique}
+use Rattle.format.specs.Kept.{nextKept}
+use Rattle.format.proofs.Kept.{narrowest-next, narrowest-kept-unique}
 use Rattle.promises.specs.Outcomes.{Determines, RunDetermined, StreamDetermined, BooleansDetermined, ValueDetermined, WriterDetermined, LoaderDetermined, RunToldDetermined, StreamToldDetermined, BooleansToldDetermined, ValueToldDetermined, WriteToldDetermined, VersionDetermined, NarrowestDetermined, PatchedDetermined, PartDetermined, ClosingDetermined}
 
 -- a promise that says what the places and the answer are
@@ -109,7 +110,8 @@ narrowest-from x (suc k) c h e f = by (decLt x (2 ^ width c)) (λ n. narrowest-f
 pub narrowest-determined : NarrowestDetermined
 narrowest-determined x h =
     let n = narrowest-from x 31 0 h refl (λ d l g. omega arith) in
-    determined _ tt (n .0) (n .1) (λ p r a. (refl, narrowest-unique x r (n .0) a (n .1)))
+    let k = narrowest-next x (n .0) (n .1) in
+    determined _ tt (nextKept (n .0)) k (λ p r a. (refl, narrowest-kept-unique x r (nextKept (n .0)) a k))
 
 pub part-determined : PartDetermined
 part-determined s part buffer signed out = determined _ _ _ (record { step = refl; lent = refl; places = refl }) (λ p r a. (pair (a .lent) (a .places), a .step))

@@ -23,8 +23,9 @@ use Rattle.format.proofs.Patterns.{as-lt}
 use Rattle.format.proofs.Rows.{rows-count}
 use Rattle.format.proofs.Streams.{into-got}
 use Rattle.format.proofs.Runs.{parse-complete}
-use Rattle.format.proofs.Writing.{between-le, le-between, and-i, patterns-lt, patterns-back}
+use Rattle.format.proofs.Writing.{between-le, le-between, and-i, T-true, patterns-lt, patterns-back}
 use Rattle.format.proofs.Widths.{and-left, and-right}
+use Rattle.format.specs.Kept.{isKeptWidth}
 use Rattle.format.specs.PatchedWriting.{Parts, run, parts, headerHolds, writingPatched, PatchedWritten}
 use Rattle.promises.specs.Patched.{Describes, PatchedMeaning, Some, written, PatchedTable, PatchedTableHolds, PatchedReadsBack}
 use Rattle.promises.proofs.Patched.{patched-meaning}
@@ -66,6 +67,10 @@ module _ (signed : Bool) (rows : List ℤ) (base : ℤ) (w : ℕ) (h : AllI64 ro
   abbrev counted : Bool
   counted = between 1 512 (length rs)
 
+  -- 10 does not apply
+  abbrev formed : Bool
+  formed = isKeptWidth w && headerHolds p
+
   counts : T counted ↔ ((1 ≤ length rows) × (length rows ≤ 512))
   counts = rw (length-map rows asU64) (λ t. between-le 1 512 (length rows) t, λ n. le-between 1 512 (length rows) (n .0) (n .1))
 
@@ -73,30 +78,38 @@ module _ (signed : Bool) (rows : List ℤ) (base : ℤ) (w : ℕ) (h : AllI64 ro
   means t = patched-meaning signed (asU64 base) w rs (as-lt base hb) (patterns-lt rows h) (between-le 1 512 (length rs) t .0) (between-le 1 512 (length rs) t .1)
 
   some-counted : Some signed base w rows → T counted
-  some-counted (d, e) =
+  some-counted s =
+      let d = s .described in
+      let e = s .describes in
       let n : length rs ≡ length (d .values .values) = ap (λ (l : List ℕ). length l) (sym (e .has-rows)) ∙ rows-count signed (run d) in
       le-between 1 512 (length rs) (omega (arith, e .valid .head .some-rows)) (omega (arith, e .valid .head .rows-fit))
 
-  some-is : T (counted && headerHolds p) ↔ Some signed base w rows
-  some-is = (
-    λ t. means (and-left counted (headerHolds p) t) .exactly-some .0 (and-right counted (headerHolds p) t),
-    λ s. and-i counted (headerHolds p) (some-counted s) (means (some-counted s) .exactly-some .1 s),
-  )
+  -- where the count is allowed: there is a description of a kept width exactly where 10 does not apply
+  is-formed : T counted → Some signed base w rows → T formed
+  is-formed c s = and-i (isKeptWidth w) (headerHolds p) (rw (s .kept) tt) (means c .exactly-some .1 (s .described, s .describes))
 
-  none-is : T (counted && not (headerHolds p)) ↔ ((1 ≤ length rows) × (length rows ≤ 512) × (Some signed base w rows → ⊥))
+  has-some : T counted → T formed → Some signed base w rows
+  has-some c t =
+      let d = means c .exactly-some .0 (and-right (isKeptWidth w) (headerHolds p) t) in
+      record { kept = T-true (isKeptWidth w) (and-left (isKeptWidth w) (headerHolds p) t); described = d .0; describes = d .1 }
+
+  some-is : T (counted && formed) ↔ Some signed base w rows
+  some-is = (λ t. has-some (and-left counted formed t) (and-right counted formed t), λ s. and-i counted formed (some-counted s) (is-formed (some-counted s) s))
+
+  none-is : T (counted && not formed) ↔ ((1 ≤ length rows) × (length rows ≤ 512) × (Some signed base w rows → ⊥))
   none-is = (
     λ t.
-        let c = and-left counted (not (headerHolds p)) t in
-        (counts .0 c .0, counts .0 c .1, λ s. T-not (headerHolds p) (and-right counted (not (headerHolds p)) t) (means c .exactly-some .1 s)),
+        let c = and-left counted (not formed) t in
+        (counts .0 c .0, counts .0 c .1, λ s. T-not formed (and-right counted (not formed) t) (is-formed c s)),
     λ n.
         let c = counts .1 (n .0, n .1) in
-        and-i counted (not (headerHolds p)) c (not-T (headerHolds p) (λ t. n .2 (means c .exactly-some .0 t))),
+        and-i counted (not formed) c (not-T formed (λ t. n .2 (has-some c t))),
   )
 
-  with-room : (few : Bool) (Q : Type 0) → T few ↔ Q → T (counted && headerHolds p && few) ↔ (Some signed base w rows × Q)
+  with-room : (few : Bool) (Q : Type 0) → T few ↔ Q → T (counted && formed && few) ↔ (Some signed base w rows × Q)
   with-room few Q q = (
-    λ t. (some-is .0 (and-left (counted && headerHolds p) few t), q .0 (and-right (counted && headerHolds p) few t)),
-    λ s. and-i (counted && headerHolds p) few (some-is .1 (s .0)) (q .1 (s .1)),
+    λ t. (some-is .0 (and-left (counted && formed) few t), q .0 (and-right (counted && formed) few t)),
+    λ s. and-i (counted && formed) few (some-is .1 (s .0)) (q .1 (s .1)),
   )
 
   not-counted : T (not counted) ↔ ((length rows ≡ 0) ⊎ (512 < length rows))
@@ -119,9 +132,9 @@ module _ (signed : Bool) (rows : List ℤ) (base : ℤ) (w : ℕ) (h : AllI64 ro
     abbrev few : Bool
     few = ltb (length out) (length (layout (run p)))
 
-    fated : Fate (run p) counted (headerHolds p) few (writingPatched (asU64 base) w rs (length out))
+    fated : Fate (run p) counted formed few (writingPatched (asU64 base) w rs (length out))
     unfolding writingPatched
-    fated = fate (run p) counted (headerHolds p) few
+    fated = fate (run p) counted formed few
 
     ok : answerNumber r ≡ 0 → answerNumber (answerOf 0 0 (writingPatched (asU64 base) w rs (length out))) ≡ 0
     ok e = rw (q .answer) at e
@@ -131,12 +144,12 @@ module _ (signed : Bool) (rows : List ℤ) (base : ℤ) (w : ℕ) (h : AllI64 ro
 
     holds : answerNumber r ≡ 0 → T counted × T (headerHolds p)
     holds e =
-        let t = and-left (counted && headerHolds p) (not few) (fated .number .accepted .0 (ok e)) in
-        (and-left counted (headerHolds p) t, and-right counted (headerHolds p) t)
+        let t = and-left (counted && formed) (not few) (fated .number .accepted .0 (ok e)) in
+        (and-left counted formed t, and-right (isKeptWidth w) (headerHolds p) (and-right counted formed t))
 
     its-table : PatchedTable signed rows base w out out′ r
     its-table =
-        let l : Lines (run p) counted (headerHolds p) few (answerNumber r) = rw (q .answer) (fated .number) in
+        let l : Lines (run p) counted formed few (answerNumber r) = rw (q .answer) (fated .number) in
         record {
           nine = onward (l .nine) not-counted;
           ten = onward (l .ten) none-is;

@@ -7,7 +7,8 @@ use mathlib.Core.List.{List}
 use lib.IntN.{ℤ}
 use Rattle.format.specs.declared.Answer.{Answer}
 use Rattle.format.specs.declared.Stream.{Stream}
-use Rattle.format.specs.Fields.{two64, Narrowest}
+use Rattle.format.specs.Fields.{two64}
+use Rattle.format.specs.Kept.{NarrowestKept}
 use Rattle.format.specs.Promises.{RunRead, StreamRead}
 use Rattle.format.specs.Booleans.{BooleansRead}
 use Rattle.format.specs.ByteValues.{ValueRead, ValueGiven}
@@ -83,7 +84,7 @@ abbrev pub VersionDetermined : Type 0
 VersionDetermined = Determines (Unit {0}) ℕ (λ p r. r ≡ faceVersion)
 
 abbrev pub NarrowestDetermined : Type 0
-NarrowestDetermined = (x : ℕ) → x < two64 → Determines (Unit {0}) ℕ (λ p r. Narrowest x r)
+NarrowestDetermined = (x : ℕ) → x < two64 → Determines (Unit {0}) ℕ (λ p r. NarrowestKept x r)
 
 -- the lent bytes and places, and what a call with a part does: for every reader, part, flag and all that is lent; the closing call leaves the lent bytes
 abbrev pub PartDetermined : Type 0

@@ -3,7 +3,7 @@
 use mathlib.Core.Path.{_≡_}
 use mathlib.Core.Logic.{_↔_, _⊎_}
 use Prim.Native.Nat.{ℕ, _^_, _<_, _≤_}
-use mathlib.Core.Bool.{Bool}
+use mathlib.Core.Bool.{Bool, true}
 use mathlib.Core.List.{List, [], _∷_, _++_, map}
 use lib.ListN.{length, drop}
 use lib.Dec.{T}
@@ -14,6 +14,7 @@ use Rattle.format.specs.declared.Kind.the-variants.{PatchedBase}
 use Rattle.format.specs.declared.Answer.{Answer}
 use Rattle.format.specs.Digits.{AllBelow, number}
 use Rattle.format.specs.Fields.{two64, width}
+use Rattle.format.specs.Kept.{isKeptWidth}
 use Rattle.format.specs.Runs.{Valid, gapOf, patchOf, isSkip, patches, layout}
 use Rattle.format.specs.Rows.{baseValue, rowsOf, asU64}
 use Rattle.format.specs.Answers.{ran, answerNumber, answerPlace}
@@ -74,9 +75,11 @@ PatchedMeaningHolds =
 
 -- ---- of the promise
 
--- some description of the rows
-abbrev pub Some : Bool → ℤ → ℕ → List ℤ → Type 0
-Some signed base w rows = (d : Parts) × Describes signed (asU64 base) w (map asU64 rows) d
+-- W is a kept width, and there is some description of the rows
+pub record Some (signed : Bool) (base : ℤ) (w : ℕ) (rows : List ℤ) : Type 0 where
+  pub kept : isKeptWidth w ≡ true
+  pub described : Parts
+  pub describes : Describes signed (asU64 base) w (map asU64 rows) described
 
 abbrev pub written : ℤ → ℕ → List ℤ → List ℕ
 written base w rows = layout (run (parts (asU64 base) w (map asU64 rows)))
@@ -84,7 +87,7 @@ written base w rows = layout (run (parts (asU64 base) w (map asU64 rows)))
 -- Each refusal exactly when its line holds, in the order 9, 10, 8, with place 0 and nothing touched; and else the run's bytes in the first places.
 pub record PatchedTable (signed : Bool) (rows : List ℤ) (base : ℤ) (w : ℕ) (out out′ : List ℕ) (r : Answer) : Type 0 where
   pub nine : (answerNumber r ≡ 9) ↔ ((length rows ≡ 0) ⊎ (512 < length rows))
-  -- rows 1 to 512, and no valid patched description with that base and W, each gap within its gap width, has those rows
+  -- rows 1 to 512, and W is not kept, or no valid patched description with that base and W, each gap within its gap width, has those rows
   pub ten : (answerNumber r ≡ 10) ↔ ((1 ≤ length rows) × (length rows ≤ 512) × (Some signed base w rows → ⊥))
   pub eight : (answerNumber r ≡ 8) ↔ (Some signed base w rows × (length out < length (written base w rows)))
   pub accepted : (answerNumber r ≡ 0) ↔ (Some signed base w rows × (length (written base w rows) ≤ length out))

@@ -24,8 +24,8 @@ ReadsBack =
     → (places places′ : List ℤ) (r′ : Answer) → length rows ≤ length places → RunRead out′ 0 signed places places′ r′
     → (r′ ≡ r) × (places′ ≡ rows ++ drop (length rows) places)
 
--- (b) Writing again the rows of a run that was read, in the same form, flag and width, gives the same bytes, if the run's padding is zero, its varints
--- are shortest (none drops a bit: its number is below 2^64), and a one-row fixed delta is 0 (`AsWritten`).
+-- (b) Writing again the rows of a run that was read, in the same form, flag and width, gives the same bytes, if the run's width is kept, its padding is zero,
+-- its varints are shortest (none drops a bit: its number is below 2^64), and a one-row fixed delta is 0 (`AsWritten`).
 abbrev pub WritesAgain : Type 0
 WritesAgain =
     (signed : Bool) (form : Form) (width : ℕ) (d : Description) → Valid d → AsWritten form width d

@@ -10,6 +10,7 @@ use lib.Dec.{T, leb, ltb, eqb, eqb→eq, ltb→lt, leb→le}
 use lib.Pow.{pow-add, pow-mono}
 use borrow.Author.Tests.{le-leb}
 use Rattle.format.specs.Fields.{pick, widths, width, leastOf, leastWidth, Narrowest}
+use Rattle.format.specs.Kept.{keptCodes, nextKept}
 use Rattle.format.proofs.Widths.{and-left, and-right, allB, all-at, least-holds}
 use Rattle.util.specs.Width.{LeastCode}
 
@@ -49,3 +50,12 @@ narrowest-is x m code l h g k = record {
   holds = lt-of-lt-of-le h (pow-mono {i = m} {j = width code} (omega (arith, k .least, least-holds m l)));
   least = λ c b f. k .lowest c b (bits-le x m (width c) f g);
 }
+
+-- ---- the next kept code
+
+unfoldable pub nextOf : ℕ → ℕ
+nextOf n = pick (ltb n 2) n (pick (ltb n 4) 3 (pick (ltb n 8) 7 (pick (ltb n 16) 15 (pick (ltb n 24) 23 (pick (ltb n 28) 27 n)))))
+
+pub next-is : (n : ℕ) → n < 32 → nextOf n ≡ nextKept n
+unfolding nextOf nextKept leastOf keptCodes
+next-is n h = eqb→eq (nextOf n) (nextKept n) (all-at 32 (λ c. eqb (nextOf c) (nextKept c)) tt n h)

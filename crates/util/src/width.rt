@@ -2,6 +2,7 @@
 ghost use mathlib.Core.Path.{_≡_};
 ghost use Prim.Native.Nat.{_<_, _≤_};
 ghost use Rattle.format.specs.Fields.{width, leastWidth, Narrowest};
+ghost use Rattle.format.specs.Kept.{isKept, nextKept};
 ghost use Rattle.util.specs.Width.{LeastCode};
 
 // The bits that a width code means. Code, and no table: a constant array would be made anew at each call.
@@ -50,4 +51,36 @@ pub fn narrowest_code(x: u64) -> u8
     ensures { λ r. ⌜ Narrowest x r ⌝ }
 {
     code_of((64 - u64::leading_zeros(x)) as usize)
+}
+
+// The next kept code, from this one on: those of 1, 2, 4, 8, 16, 24, 32, 40, 48, 56 and 64 bits are.
+pub fn next_kept(code: u8) -> u8
+    requires { ⌜ code < 32 ⌝ }
+    ensures { λ r. ⌜ r ≡ nextKept code ⌝ }
+{
+    if code < 2 {
+        code
+    } else if code < 4 {
+        3
+    } else if code < 8 {
+        7
+    } else if code < 16 {
+        15
+    } else if code < 24 {
+        23
+    } else if code < 28 {
+        27
+    } else {
+        code
+    }
+}
+
+// Whether a code is kept.
+pub fn is_kept(code: u8) -> bool
+    ensures { λ r. ⌜ r ≡ isKept code ⌝ }
+{
+    if 31 < code {
+        return false;
+    }
+    next_kept(code) == code
 }

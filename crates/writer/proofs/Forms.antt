@@ -17,6 +17,7 @@ use Rattle.format.specs.declared.Answer.{Answer}
 use Rattle.format.specs.Answers.{ran, refusedAt}
 use Rattle.format.specs.Digits.{AllBelow, digits}
 use Rattle.format.specs.Fields.{width, bytesFor, blockBytes, zigzagged, shortest}
+use Rattle.format.specs.Kept.{isKept}
 use Rattle.format.specs.Runs.{Description, layout, rowCount, head}
 use Rattle.format.specs.Rows.{asU64}
 use Rattle.format.specs.Parse.{Parsed, got, refused, plain}
@@ -112,20 +113,16 @@ module _ {rows : List ℤ} {signed : Bool} {f : Form} {kind : Kind} {code : ℕ}
 
 -- ---- direct
 
-allowed-direct : (n w : ℕ) → 1 ≤ n → n ≤ 512 → w ≤ 31 → (countAllowed Direct n ≡ true) × (widthAllowed Direct w ≡ true)
-allowed-direct n w a b c = (simp (le-leb 1 n a, le-leb n 512 b), simp (le-leb 0 w (omega arith), le-leb w 31 c))
-
-pub direct-packed : (rows : List ℤ) (signed : Bool) (code bits : ℕ) (vals rest : List ℕ) (fit : Bool) → 1 ≤ length rows → length rows ≤ 512 → code ≤ 31
+pub direct-packed : (rows : List ℤ) (signed : Bool) (code bits : ℕ) (vals rest : List ℕ) (fit : Bool) → 1 ≤ length rows → length rows ≤ 512 → isKept code ≡ true
     → bits ≡ width code → vals ≡ map (stored signed) (map asU64 rows) ++ rest → fit ≡ every (λ x. ltb x (2 ^ bits)) (take (length rows) vals)
     → Packed rows signed Direct kind.Direct code (head 1 code (length rows)) (length rows) bits vals fit
 unfolding haveForm fitWidth valuesOf described layout
 direct-packed rows signed code bits vals rest fit a b c w e t =
     let n : length (map asU64 rows) ≡ length rows = length-map rows asU64 in
     let m : length (map (stored signed) (map asU64 rows)) ≡ length rows = length-map (map asU64 rows) (stored signed) ∙ n in
-    let ok = allowed-direct (length rows) code a b c in
     record {
-      count = rw n (ok .0);
-      size = ok .1;
+      count = rw n (simp (le-leb 1 (length rows) a, le-leb (length rows) 512 b));
+      size = c;
       form = refl;
       tests = refl;
       lay = rw m;
@@ -146,7 +143,7 @@ map-rest : (rows : List ℤ) → map asU64 (drop 1 rows) ≡ drop 1 (map asU64 r
 map-rest [] = refl
 map-rest (z ∷ rows) = refl
 
-pub delta-packed : (rows : List ℤ) (signed : Bool) (code bits step : ℕ) (vals rest : List ℕ) (fit : Bool) → 2 ≤ length rows → length rows ≤ 512 → 1 ≤ code → code ≤ 31
+pub delta-packed : (rows : List ℤ) (signed : Bool) (code bits step : ℕ) (vals rest : List ℕ) (fit : Bool) → 2 ≤ length rows → length rows ≤ 512 → 1 ≤ code → isKept code ≡ true
     → bits ≡ width code → step ≡ baseDelta (map asU64 rows) → vals ≡ stepsOf (leb (2 ^ 63) step) (map asU64 (drop 1 rows)) ++ rest
     → fit ≡ every (λ x. ltb x (2 ^ bits)) (take (length rows - 2) vals)
     → Packed rows signed PackedDelta kind.Delta code (start code (length rows) (firstOf signed (map asU64 rows)) (zigzagged (baseDelta (map asU64 rows)))) (length rows - 2) bits vals fit
@@ -160,7 +157,7 @@ delta-packed rows signed code bits step vals rest fit a b c c′ w s e t =
     let v : vals ≡ vs ++ rest = e ∙ rw (s, map-rest rows) in
     record {
       count = rw n (simp (le-leb 2 (length rows) a, le-leb (length rows) 512 b));
-      size = simp (le-leb 1 code c, le-leb code 31 c′);
+      size = rw (le-leb 1 code c) c′;
       form = refl;
       tests = refl;
       lay = rw (m, m′) (sym (regroup (head 3 code (length rows)) (shortest (firstOf signed rs)) (shortest (zigzagged (baseDelta rs))) (blockBytes (width code) (length rows - 2) (padded vs))));

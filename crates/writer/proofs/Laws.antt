@@ -8,17 +8,19 @@ use native.Mathlib.Omega.{arith}
 use mathlib.Core.Bool.{Bool, true, false, _&&_}
 use mathlib.Core.List.{List, [], _∷_, _++_, map}
 use mathlib.Core.Logic.{_↔_}
-use lib.Dec.{ltb, eqb}
+use lib.Dec.{leb, ltb, eqb, leb→le}
 use lib.IntN.{ℤ, pos}
 use lib.ListN.{length, getD, drop, take, List·getD-map, drop-of-length-le, set, length-append}
 use lib.Seq.{slice, slice-cons, slice-empty, drop-cons, getD-drop, take-at, drop-append-add, drop-drop}
 use lib.Pow.{pow-pos}
 use borrow.Author.Tests.{lt-ltb, le-ltb, eq-eqb, ne-eqb}
 use Rattle.format.specs.Fields.{width, bytesFor}
+use Rattle.format.specs.Kept.{isKept}
 use Rattle.format.specs.Rows.{asU64}
 use Rattle.format.specs.Writing.{minus, stepTo, stepsOf, baseDelta, every, between}
-use Rattle.format.proofs.Writing.{between-le}
-use Rattle.format.proofs.Widths.{IsWidth, width-is}
+use Rattle.format.proofs.Kept.{kept-code}
+use Rattle.format.proofs.Writing.{between-le, T-true}
+use Rattle.format.proofs.Widths.{and-left, and-right, IsWidth, width-is}
 use Rattle.writer.specs.PatchedBase.{Largest}
 
 pub and-false : (b : Bool) → b && false ≡ false
@@ -193,3 +195,9 @@ block-small n bits a b = omega (arith, mul-le-mul {n₂ = 512} {m₂ = 64} a b)
 
 pub within : (low high n : ℕ) → between low high n ≡ true → (low ≤ n) × (n ≤ high)
 within low high n e = between-le low high n (rw e tt)
+
+-- a packed delta's code
+pub packed-kept : (w : ℕ) → leb 1 w && isKept w ≡ true → (1 ≤ w) × (w ≤ 31) × (isKept w ≡ true)
+packed-kept w e =
+    let k : isKept w ≡ true = T-true (isKept w) (and-right (leb 1 w) (isKept w) (rw e tt)) in
+    (leb→le 1 w (and-left (leb 1 w) (isKept w) (rw e tt)), omega (arith, kept-code w k), k)

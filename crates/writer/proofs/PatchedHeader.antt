@@ -15,6 +15,7 @@ use Rattle.format.specs.Digits.{digits}
 use Rattle.format.specs.Rows.{asU64}
 use Rattle.format.specs.Fields.{width}
 use Rattle.format.specs.Writing.{padded, between}
+use Rattle.format.specs.Kept.{isKeptWidth}
 use Rattle.format.specs.PatchedWriting.{differences, lows, field, codeFor, patchCode, gapWidth, magnitude, baseSize, baseBytes, Parts, patchesIn, entriesOf, parts, headerHolds, writingPatched, PatchedWritten}
 use Rattle.format.proofs.Least.{least-passes}
 use Rattle.format.proofs.Widths.{least-holds}
@@ -121,11 +122,15 @@ module _ (rows : List ℤ) (base : ℤ) (w : ℕ) (out : List ℕ) (r : Answer) 
     counted : between 1 512 (length (map asU64 rows)) ≡ true
     counted = rw (length-map rows asU64) (simp (le-leb 1 (length rows) some, le-leb (length rows) 512 many))
 
-    pub bad-form : headerHolds (parts (asU64 base) w (map asU64 rows)) ≡ false → r ≡ refusedAt 10 0 → PatchedWritten rows base w out out r
+    pub bad-width : isKeptWidth w ≡ false → r ≡ refusedAt 10 0 → PatchedWritten rows base w out out r
     unfolding writingPatched
-    bad-form h e = record { answer = rw (counted, h) e; places = rw (counted, h) }
+    bad-width k e = record { answer = rw (counted, k) e; places = rw (counted, k) }
 
-    pub formed : (out′ : List ℕ) → headerHolds (parts (asU64 base) w (map asU64 rows)) ≡ true → Laid (parts (asU64 base) w (map asU64 rows)) out out′ r
+    pub bad-form : isKeptWidth w ≡ true → headerHolds (parts (asU64 base) w (map asU64 rows)) ≡ false → r ≡ refusedAt 10 0 → PatchedWritten rows base w out out r
+    unfolding writingPatched
+    bad-form k h e = record { answer = rw (counted, k, h) e; places = rw (counted, k, h) }
+
+    pub formed : (out′ : List ℕ) → isKeptWidth w ≡ true → headerHolds (parts (asU64 base) w (map asU64 rows)) ≡ true → Laid (parts (asU64 base) w (map asU64 rows)) out out′ r
         → PatchedWritten rows base w out out′ r
     unfolding writingPatched
-    formed out′ h l = record { answer = rw (counted, h) (l .answer); places = rw (counted, h) (l .places) }
+    formed out′ k h l = record { answer = rw (counted, k, h) (l .answer); places = rw (counted, k, h) (l .places) }

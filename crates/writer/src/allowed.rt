@@ -25,15 +25,25 @@ pub(crate) fn count(form: Form, n: usize) -> bool
     }
 }
 
-// The widths of a form: bytes for a short repeat, a code otherwise. Code 0 is a fixed delta's.
+// A packed delta's codes: the kept ones but 0, which is a fixed delta's.
+fn packed_width(w: u8) -> bool
+    ensures { λ r. ⌜ r ≡ Writing.widthAllowed Form.PackedDelta w ⌝ }
+{
+    if w == 0 {
+        return false;
+    }
+    util::width::is_kept(w)
+}
+
+// The widths of a form: bytes for a short repeat, a kept code otherwise.
 pub(crate) fn width(form: Form, w: u8) -> bool
     ensures { λ r. ⌜ r ≡ Writing.widthAllowed form w ⌝ }
 {
     let n = w as usize;
     match form {
         Form::ShortRepeat => between(1, 8, n),
-        Form::Direct => between(0, 31, n),
+        Form::Direct => util::width::is_kept(w),
         Form::FixedDelta => n == 0,
-        Form::PackedDelta => between(1, 31, n),
+        Form::PackedDelta => packed_width(w),
     }
 }

@@ -1,9 +1,11 @@
 // Delta: the header, the first row and the base delta as varints; a packed delta's magnitudes follow in a packed block.
 ghost use mathlib.Core.Path.{_≡_};
+ghost use mathlib.Core.Bool.{true};
 ghost use mathlib.Core.List.{_++_, map};
 ghost use Prim.Native.Nat.{_+_, _<_, _≤_};
 ghost use lib.ListN.{length, drop};
 ghost use Rattle.format.specs.Fields.{shortest};
+ghost use Rattle.format.specs.Kept.{isKept};
 ghost use Rattle.format.specs.Rows.{asU64};
 ghost use Rattle.format.specs.Writing.{baseDelta, Written};
 ghost use Rattle.writer.specs.Start.{start, Started};
@@ -66,6 +68,7 @@ pub(crate) fn write_fixed(rows: &[i64], signed: bool, code: u8, out: &mut [u8]) 
 
 pub(crate) fn write_packed(rows: &[i64], signed: bool, code: u8, out: &mut [u8]) -> Answer
     requires { ⌜ (2 ≤ length (now rows)) × (length (now rows) ≤ 512) × (1 ≤ code) × (code ≤ 31) ⌝ }
+    requires { ⌜ isKept code ≡ true ⌝ }
     ensures { λ r. ⌜ Written (now (rows .entry)) signed Form.PackedDelta code (now (out .entry)) (now (out .exit)) r ⌝ }
 {
     let n = rows.len();

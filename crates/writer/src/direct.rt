@@ -1,6 +1,9 @@
 // Direct: the header, then every row, zigzagged if signed, in a packed block.
+ghost use mathlib.Core.Path.{_≡_};
+ghost use mathlib.Core.Bool.{true};
 ghost use Prim.Native.Nat.{_≤_};
 ghost use lib.ListN.{length};
+ghost use Rattle.format.specs.Kept.{isKept};
 ghost use Rattle.format.specs.Writing.{Written};
 use crate::head;
 use crate::values;
@@ -12,6 +15,7 @@ use util::width;
 
 pub(crate) fn write(rows: &[i64], signed: bool, code: u8, out: &mut [u8]) -> Answer
     requires { ⌜ (1 ≤ length (now rows)) × (length (now rows) ≤ 512) × (code ≤ 31) ⌝ }
+    requires { ⌜ isKept code ≡ true ⌝ }
     ensures { λ r. ⌜ Written (now (rows .entry)) signed Form.Direct code (now (out .entry)) (now (out .exit)) r ⌝ }
 {
     let n = rows.len();

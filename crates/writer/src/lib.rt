@@ -1,5 +1,5 @@
 // The run writer: rows, flag, form and width in, a run's bytes out. Every test comes before the first byte that is written.
-ghost use Rattle.format.specs.Fields.{Narrowest};
+ghost use Rattle.format.specs.Kept.{NarrowestKept};
 ghost use Rattle.format.specs.Writing.{Written};
 ghost use Rattle.format.specs.PatchedWriting.{PatchedWritten};
 use format::Answer;
@@ -45,9 +45,9 @@ pub fn write_patched(rows: &[i64], base: i64, width: u8, out: &mut [u8]) -> Answ
     }
 }
 
-// The narrowest width code that holds x. 0 needs one bit.
+// The narrowest kept width code that holds x. 0 needs one bit.
 pub fn narrowest_code(x: u64) -> u8
-    ensures { λ r. ⌜ Narrowest x r ⌝ }
+    ensures { λ r. ⌜ NarrowestKept x r ⌝ }
 {
-    util::width::narrowest_code(x)
+    util::width::next_kept(util::width::narrowest_code(x))
 }

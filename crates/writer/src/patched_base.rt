@@ -1,8 +1,10 @@
 // Patched base: four header bytes, the base, packed values, and a list of patches for the values that need more bits.
 ghost use mathlib.Core.Path.{_≡_};
+ghost use mathlib.Core.Bool.{true};
 ghost use mathlib.Core.List.{_++_, map};
 ghost use Prim.Native.Nat.{_-_, _*_, _^_, _<_, _≤_};
 ghost use lib.ListN.{length, drop};
+ghost use Rattle.format.specs.Kept.{isKeptWidth};
 ghost use Rattle.format.specs.Rows.{asU64};
 ghost use Rattle.format.specs.PatchedWriting as PatchedWriting;
 ghost use Rattle.format.specs.PatchedWriting.{codeFor, baseSize, PatchedWritten};
@@ -46,6 +48,13 @@ fn table_code(bits: usize) -> u8
     } else {
         32
     }
+}
+
+// Whether a width in bits is kept.
+fn is_kept(bits: usize) -> bool
+    ensures { λ r. ⌜ r ≡ isKeptWidth bits ⌝ }
+{
+    width::is_kept(table_code(bits))
 }
 
 // The base without its sign.
@@ -143,8 +152,9 @@ fn lay(h: Header, base: u64, vals: &[u64], list: &[u64], out: &mut [u8]) -> Answ
     Answer::run(Kind::PatchedBase, bits, h.rows, end)
 }
 
-pub(crate) fn write(rows: &[i64], base: i64, width: u8, out: &mut [u8]) -> Answer
+fn write_kept(rows: &[i64], base: i64, width: u8, out: &mut [u8]) -> Answer
     requires { ⌜ (1 ≤ length (now rows)) × (length (now rows) ≤ 512) ⌝ }
+    requires { ⌜ isKeptWidth width ≡ true ⌝ }
     ensures { λ r. ⌜ PatchedWritten (now (rows .entry)) base width (now (out .entry)) (now (out .exit)) r ⌝ }
 {
     let base_bits = pattern::to_u64(base);
@@ -154,4 +164,15 @@ pub(crate) fn write(rows: &[i64], base: i64, width: u8, out: &mut [u8]) -> Answe
         Found::None => Answer::refused(10, 0),
         Found::Header(h) => lay(h, base_bits, &vals, &list, out),
     }
+}
+
+// A width that is not kept is refused as one that is none of the table.
+pub(crate) fn write(rows: &[i64], base: i64, width: u8, out: &mut [u8]) -> Answer
+    requires { ⌜ (1 ≤ length (now rows)) × (length (now rows) ≤ 512) ⌝ }
+    ensures { λ r. ⌜ PatchedWritten (now (rows .entry)) base width (now (out .entry)) (now (out .exit)) r ⌝ }
+{
+    if !is_kept(width as usize) {
+        return Answer::refused(10, 0);
+    }
+    write_kept(rows, base, width, out)
 }

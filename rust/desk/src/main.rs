@@ -7,6 +7,7 @@ use std::process::ExitCode;
 
 mod annotate;
 mod arguments;
+mod convert;
 mod ended;
 mod files;
 mod progress;
@@ -26,7 +27,7 @@ pub struct Word {
     run: fn(Vec<OsString>) -> Result<Ended, Failure>,
 }
 
-const WORDS: [Word; 2] = [annotate::WORD, salvage::WORD];
+const WORDS: [Word; 3] = [annotate::WORD, convert::WORD, salvage::WORD];
 
 fn help() -> String {
     let words: String = WORDS.iter().map(|word| format!("  {:<10} {}\n", word.name, word.does)).collect();

@@ -41,6 +41,9 @@ fn bad_usage() {
             &["salvage", "a", "--groups", "b", "--out", "c", "--fill", "x"],
             "--fill wants a row, a whole number of 64 bits, and x is none (",
         ),
+        (&["convert", "a"], "--out is missing (menakovitsy convert --help"),
+        (&["convert", "--out", "b"], "IN is missing ("),
+        (&["convert", "a", "c", "--out", "b"], "c is more than IN ("),
     ] {
         let said = menakovitsy(arguments, &[]);
         assert_eq!((said.status, said.output.as_str()), (2, ""), "{arguments:?}");

@@ -1,5 +1,5 @@
 //! Inputs: laid out field by field, random ones, and what is made of them by cutting and damaging.
-use model::{Answer, Form, WIDTHS};
+use model::{Answer, Form, KEPT, WIDTHS};
 
 use crate::random::Random;
 
@@ -313,7 +313,10 @@ pub fn any_rows(random: &mut Random) -> (Vec<i64>, Form, u8) {
         _ if random.once_in(16) => random.below(40) as u8,
         Form::ShortRepeat => random.from(1, 8) as u8,
         Form::FixedDelta => 0,
-        Form::Direct | Form::PackedDelta => random.below(32) as u8,
+        Form::Direct | Form::PackedDelta => {
+            let kept = random.pick(&KEPT);
+            WIDTHS.iter().position(|width| *width == kept).expect("a width of the table") as u8
+        }
     };
     (rows, form, width)
 }

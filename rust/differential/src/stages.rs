@@ -1,4 +1,5 @@
 //! What is compared, stage by stage.
+pub mod convert;
 pub mod count;
 mod cuts;
 pub mod index;
@@ -12,11 +13,11 @@ mod varints;
 
 pub use lines::probe_line;
 
-use model::{Form, Written, WIDTHS};
+use model::{Written, WIDTHS};
 use oracle::Run;
 
 use crate::frames::{self, Patched};
-use crate::listed::{self, Call, Difference, Sort, LIST};
+use crate::listed::{self, Call, Sort, LIST};
 #[cfg(feature = "ours")]
 use crate::ours::Ours;
 use crate::probe::Probe;
@@ -311,12 +312,7 @@ impl Session {
             };
             let rust = oracle::read_run(&bytes, signed);
             let same = matches!(&rust, Run::Rows { rows: read, consumed } if *read == rows && *consumed == bytes.len());
-            let unwritten = form != Form::ShortRepeat && (24..=26).contains(&width) && rust == Run::Panic;
-            let sort = match (same, unwritten) {
-                (true, _) => Some(Sort::Same),
-                (_, true) => Some(Sort::Listed(Difference::Code24To26)),
-                _ => None,
-            };
+            let sort = same.then_some(Sort::Same);
             self.tally.record(sort, &bytes, Call::ReadBack { signed }, || {
                 [format!("{rows:?}"), format!("{rust:?}")]
             });

@@ -3,16 +3,19 @@ mod indexed;
 
 use differential::frames;
 use differential::random::Random;
+use differential::stages::convert;
 use differential::stages::count;
 use differential::stages::index;
 use differential::stages::labels::{self, Asked};
 use differential::stages::patched_runs::any_patched_rows;
 use differential::stages::salvage;
 use menakovitsy::exported::{
-    case, kind, COUNT_WORDS, LABEL_WORDS, PART_WORDS, SALVAGE_WORDS, STATE_WORDS, STREAM_WORDS,
-    TOO_FEW_WORDS, WORDS,
+    case, kind, CONVERT_WORDS, COUNT_WORDS, LABEL_WORDS, PART_WORDS, SALVAGE_WORDS, STATE_WORDS,
+    STREAM_WORDS, TOO_FEW_WORDS, WORDS,
 };
-use model::{Answer, Booleans, Form, Info, Kind, Label, Ones, Refusal, Salvaged, Stream, Value, Written};
+use model::{
+    Answer, Booleans, Converted, Form, Info, Kind, Label, Ones, Refusal, Salvaged, Stream, Value, Written,
+};
 
 use crate::parts;
 
@@ -36,6 +39,7 @@ pub enum Call {
     Count { input: Vec<u8>, n: u64 },
     Index(index::Asked),
     Salvage(salvage::Asked, usize),
+    Convert(convert::Asked),
 }
 
 /// What a call comes to: what it returns, its words (none where it is lent too few, or takes none),
@@ -125,7 +129,7 @@ impl Call {
     pub fn any(random: &mut Random) -> Self {
         let flag = if random.once_in(8) { random.any() } else { random.below(2) as u64 };
         let places = random.pick(&[0, 1, 5, 12, 64, 512, 1000]);
-        match random.below(30) {
+        match random.below(32) {
             0..=1 => {
                 let bytes = 8 * places + if random.once_in(2) { random.below(8) } else { 0 };
                 Call::Run { input: frames::any_frame(random), flag, bytes: bytes.min(MOST) }
@@ -162,6 +166,7 @@ impl Call {
             }
             24..=26 => Call::Index(index::any(random)),
             27..=28 => Self::any_salvage(flag, random),
+            29..=30 => Call::Convert(convert::Asked { flag, ..convert::any(random) }),
             _ => {
                 let shift = random.below(64);
                 Call::Narrowest { number: random.any() >> shift }
@@ -223,6 +228,7 @@ impl Call {
             Call::Count { .. } => "orc_count_true",
             Call::Index(asked) => indexed::function(asked).0,
             Call::Salvage(..) => "orc_salvage",
+            Call::Convert(_) => "orc_convert",
         }
     }
 
@@ -236,6 +242,7 @@ impl Call {
             Call::Count { .. } => COUNT_WORDS,
             Call::Index(asked) => indexed::function(asked).1,
             Call::Salvage(..) => SALVAGE_WORDS,
+            Call::Convert(_) => CONVERT_WORDS,
             _ => WORDS,
         }
     }
@@ -284,6 +291,7 @@ impl Call {
                 report: *report,
                 ..none
             },
+            Call::Convert(asked) => Lending { input: &asked.input, bytes: asked.places.min(MOST), ..none },
         }
     }
 
@@ -350,9 +358,24 @@ impl Call {
                 }
                 Salvaged::Refused(refusal) => Outcome::done(&[case::REFUSED, refusal.number.into(), 0, 0, 0]),
             },
+            Call::Convert(asked) => converted(asked),
             Call::Narrowest { number } => {
                 Outcome { returned: u64::from(model::narrowest_code(*number)), ..Outcome::default() }
             }
+        }
+    }
+}
+
+/// The words of a conversion: a cut field's stand behind its own.
+fn converted(asked: &convert::Asked) -> Outcome {
+    match model::convert(&asked.input, asked.flag != 0, asked.places.min(MOST)) {
+        Converted::Written { altered, bytes } => {
+            let words = [case::READ, 0, 0, altered as u64, bytes.len() as u64, 0, 0];
+            Outcome { bytes, ..Outcome::done(&words) }
+        }
+        Converted::Refused(Refusal { number, place, cut }) => {
+            let (has, at) = (u64::from(cut.is_some()), cut.unwrap_or(0) as u64);
+            Outcome::done(&[case::REFUSED, number.into(), place as u64, 0, 0, has, at])
         }
     }
 }

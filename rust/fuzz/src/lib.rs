@@ -149,6 +149,7 @@ impl Session {
                 Call::Salvage(ref asked, _) => {
                     exported::orc_salvage(i, il, x, xl, y, yl, asked.fill, asked.flag, b, bl, t, tl, w, wl)
                 }
+                Call::Convert(ref asked) => exported::orc_convert(i, il, asked.flag, b, bl, w, wl),
                 Call::Run { flag, .. } => exported::orc_read_run(i, il, b, bl, flag),
                 Call::RunAt { at, flag, .. } => exported::orc_read_run_at(i, il, at, flag, r, rl, w, wl),
                 Call::Stream { at, flag, .. } => exported::orc_read_stream(i, il, at, flag, r, rl, w, wl),

@@ -16,7 +16,7 @@ fn a_million_calls(seed: u64) {
     // Each function gave each answer that it can give.
     let readers = [0, 1, 2, 3, 4, 5, 6, 7, 8, 12, 13, 14];
     let too_few = u64::MAX;
-    let answers: [(&str, &[u64]); 17] = [
+    let answers: [(&str, &[u64]); 18] = [
         ("orc_read_run", &readers),
         ("orc_read_run_at", &[&readers[..], &[too_few]].concat()),
         ("orc_read_stream", &[&readers[..], &[too_few]].concat()),
@@ -34,6 +34,7 @@ fn a_million_calls(seed: u64) {
         ("orc_look_up", &[0, 15, 16, too_few]),
         ("orc_read_from", &[0, 8, 15, 16, too_few]),
         ("orc_salvage", &[0, 8, 17, too_few]),
+        ("orc_convert", &[&readers[..], &[too_few]].concat()),
     ];
     for (function, numbers) in answers {
         let given: Vec<u64> =

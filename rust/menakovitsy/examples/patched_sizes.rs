@@ -53,7 +53,8 @@ fn direct(rows: &[i64]) -> usize {
         .unwrap_or(0)
 }
 
-/// The fewest bytes of a patched run over the smallest row, and its width, if there is one.
+/// The fewest bytes of a patched run over the smallest row, and its width, if there is one: widths that
+/// are not kept are refused.
 fn patched(rows: &[i64]) -> Option<(usize, u8)> {
     let base = rows.iter().copied().min()?;
     let mut out = [0; MAX_WRITTEN];

@@ -14,7 +14,7 @@
 //! that the caller keeps for it, and the bytes of the unfinished run in the [`MAX_RUN_BYTES`] lent.
 
 /// The version of these functions that this crate is written for.
-pub const VERSION: u64 = 9;
+pub const VERSION: u64 = 10;
 
 /// How many words an answer has; the stream reader's has [`STREAM_WORDS`].
 pub const WORDS: usize = 9;
@@ -42,6 +42,9 @@ pub const ROWS_FROM_WORDS: usize = 4;
 
 /// How many words an answer of `orc_salvage` has.
 pub const SALVAGE_WORDS: usize = 5;
+
+/// How many words an answer of `orc_convert` has.
+pub const CONVERT_WORDS: usize = 7;
 
 /// What a function returns that was lent fewer words than its answer has.
 pub const TOO_FEW_WORDS: u64 = u64::MAX;
@@ -144,6 +147,18 @@ pub mod salvage_word {
     pub const BYTES: usize = 3;
     /// How many bytes the report has, 0 where refused.
     pub const REPORT: usize = 4;
+}
+
+/// The words of a conversion behind the case, the refusal's number and its place.
+pub mod convert_word {
+    /// How many runs were altered, 0 where refused.
+    pub const ALTERED: usize = 3;
+    /// How many bytes the new stream has, 0 where refused.
+    pub const BYTES: usize = 4;
+    /// 1 where the refusal has a cut field, otherwise 0.
+    pub const CUT: usize = 5;
+    /// The byte where the cut field begins, 0 where there is none.
+    pub const CUT_AT: usize = 6;
 }
 
 /// What the word `CASE` may hold.
@@ -358,6 +373,16 @@ extern "C" {
         out_len: usize,
         report: *mut u8,
         report_len: usize,
+        words: *mut u64,
+        words_len: usize,
+    ) -> u64;
+
+    pub fn orc_convert(
+        input: *const u8,
+        input_len: usize,
+        flag: u64,
+        out: *mut u8,
+        out_len: usize,
         words: *mut u64,
         words_len: usize,
     ) -> u64;

@@ -16,6 +16,7 @@
 //! | an index beside a column, to start at any row | [`Index`]: [`build`](Index::build), [`look_up`](Index::look_up), [`rows_from`](Index::rows_from) |
 //! | the name of a row, by a dictionary | [`label`] |
 //! | a damaged column salvaged, by its row groups | [`salvage()`] |
+//! | a column's odd widths retired | [`convert()`] |
 //! | a run written | [`write_run`], [`write_patched`], [`narrowest_code`] |
 //! | the library that is linked | [`check_version`], [`library_version`] |
 //!
@@ -44,6 +45,7 @@ compile_error!("libloader.a is for a little-endian processor with 64-bit pointer
 
 mod answers;
 mod column;
+mod convert;
 pub mod exported;
 mod index;
 mod labels;
@@ -58,6 +60,7 @@ mod version;
 
 pub use answers::{Kind, Refused, Run, Stream, StreamRefused};
 pub use column::{Column, Rows, RunAt, Runs};
+pub use convert::{convert, Converted};
 pub use exported::{MAX_ROWS, MAX_RUN_BYTES};
 pub use index::{Entry, Index};
 pub use labels::{label, Dictionary, Label};

@@ -128,7 +128,8 @@ pub fn byte_value(input: &[u8], at: ByteOffset, n: usize) -> Result<&[u8], Refus
 
 /// Writes `rows` as one run of a form into the first bytes of `out`. The width is in bytes for a
 /// short repeat, 1 to 8, and otherwise a width code, 0 to 31 (see [`narrowest_code`]); a fixed delta
-/// has the code 0 only, a packed delta 1 to 31.
+/// has the code 0 only, a packed delta 1 to 31. Direct and packed delta runs are written at the widths that
+/// the specification keeps alone: the codes 0, 1, 3, 7, 15, 23 and 27 to 31.
 ///
 /// A refused call leaves every byte as it was.
 ///
@@ -159,7 +160,8 @@ pub fn write_run(rows: &[i64], sign: Sign, form: Form, width: u8, out: &mut [u8]
     words.one_run()
 }
 
-/// The narrowest width code that holds a number: 0 to 31.
+/// The code of the narrowest width that holds a number, of those that the specification keeps: 0, 1, 3, 7, 15,
+/// 23 or 27 to 31.
 #[must_use]
 pub fn narrowest_code(number: u64) -> u8 {
     // SAFETY: it takes a number.

@@ -13,7 +13,7 @@ use crate::{Refused, Run};
 /// Refusals, in this order: [`RowCount`](crate::Refusal::RowCount);
 /// [`NotTheForm`](crate::Refusal::NotTheForm) where no patched run has those rows with that base and
 /// width (a list of more than 31 entries, a patch of more than 56 bits, a base of -2^63, a width that
-/// is none of the table); [`TooFewPlaces`](crate::Refusal::TooFewPlaces). A refused call leaves every
+/// the specification does not keep); [`TooFewPlaces`](crate::Refusal::TooFewPlaces). A refused call leaves every
 /// byte as it was.
 ///
 /// ```

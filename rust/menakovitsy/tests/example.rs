@@ -3,12 +3,12 @@
 mod chunk_table;
 
 /// Window 24 begins 24 times 22,050 samples on, and 150 late: 529,350. The offsets: two bytes of
-/// header, one of the first row, three of the first step, and 30 steps of 15 bits, in 57 bytes: so
+/// header, one of the first row, three of the first step, and 30 steps of 16 bits, in 60 bytes: so
 /// these begin at byte 6. The flag byte that is lost is the one behind the control byte at byte 2. The
-/// numbers: two bytes of header and 28 of 2 bits; the lengths: 4 of 3 bits. Window 28 begins 28 times
+/// numbers: two bytes of header and 28 of 2 bits; the lengths: 4 of 4 bits. Window 28 begins 28 times
 /// 22,050 samples on, and 150 late.
 const EXPECTED: &str = "\
-written: offsets 63 bytes, flags 4, named 4, numbers 9, lengths 4, names 20
+written: offsets 66 bytes, flags 4, named 4, numbers 9, lengths 4, names 20
 window 23 (vocals) is already normalised, and begins at sample 507300
 window 24 (other) is not normalised yet, and begins at sample 529350
 window 28 (unnamed) is not normalised yet, and begins at sample 617550

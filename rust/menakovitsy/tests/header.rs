@@ -5,8 +5,8 @@ use std::process::Command;
 use std::{env, fs};
 
 use menakovitsy::exported::{
-    self, case, count_word, entry_word, index_word, kind, label_word, part_word, rows_from_word,
-    salvage_word, word,
+    self, case, convert_word, count_word, entry_word, index_word, kind, label_word, part_word,
+    rows_from_word, salvage_word, word,
 };
 use menakovitsy::Refusal;
 
@@ -41,6 +41,7 @@ fn the_header_has_the_same_numbers() {
     has(&format!("#define ORC_ENTRY_WORDS {}\n", exported::ENTRY_WORDS));
     has(&format!("#define ORC_ROWS_FROM_WORDS {}\n", exported::ROWS_FROM_WORDS));
     has(&format!("#define ORC_SALVAGE_WORDS {}\n", exported::SALVAGE_WORDS));
+    has(&format!("#define ORC_CONVERT_WORDS {}\n", exported::CONVERT_WORDS));
     has("#define ORC_TOO_FEW_WORDS UINT64_MAX\n");
     has(&format!("#define ORC_MAX_ROWS {}\n", exported::MAX_ROWS));
     has(&format!("#define ORC_MAX_RUN_BYTES {}\n", exported::MAX_RUN_BYTES));
@@ -73,6 +74,10 @@ fn the_header_has_the_same_numbers() {
         ("ROWS_FROM_ROWS", rows_from_word::ROWS),
         ("SALVAGE_BYTES", salvage_word::BYTES),
         ("SALVAGE_REPORT", salvage_word::REPORT),
+        ("CONVERT_ALTERED", convert_word::ALTERED),
+        ("CONVERT_BYTES", convert_word::BYTES),
+        ("CONVERT_CUT", convert_word::CUT),
+        ("CONVERT_CUT_AT", convert_word::CUT_AT),
     ] {
         has(&format!("    ORC_{name} = {place}"));
     }

@@ -278,7 +278,8 @@ fn what_is_written_reads_back() {
     // The longest run.
     let longest: Vec<i64> = (0..512).map(|k| if k % 2 == 0 { i64::MIN } else { 0 }).collect();
     assert_eq!(written(&longest, Signed, PackedDelta, 31).map(|(_, _, bytes)| bytes.len()), Ok(4102));
-    for (number, code) in [(0, 0), (1, 0), (2, 1), (255, 7), (1 << 24, 24), (u64::MAX, 31)] {
+    for (number, code) in [(0, 0), (1, 0), (2, 1), (4, 3), (255, 7), (256, 15), (1 << 24, 27), (u64::MAX, 31)]
+    {
         assert_eq!(narrowest_code(number), code);
     }
 }

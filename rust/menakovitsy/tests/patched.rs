@@ -42,6 +42,7 @@ fn refusals_leave_every_byte() {
         (&[5; 513], 5, 4, 9000, Refusal::RowCount),
         (&[5], i64::MIN, 4, 0, Refusal::NotTheForm),
         (&[5], 5, 25, 100, Refusal::NotTheForm),
+        (&[5], 5, 5, 100, Refusal::NotTheForm),
         (&[5], 5, 255, 100, Refusal::NotTheForm),
         (&[i64::MAX], 0, 1, 100, Refusal::NotTheForm),
         (&many, 5, 1, 9000, Refusal::NotTheForm),
@@ -59,12 +60,12 @@ fn refusals_leave_every_byte() {
 const EXPECTED: &str = "\
 | 512 rows | direct | patched | W |
 |---|---|---|---|
-| window lengths, 4 pauses | 1538 | 403 | 6 |
-| milliseconds between takes, 2 nights | 1666 | 209 | 3 |
+| window lengths, 4 pauses | 1538 | 530 | 8 |
+| milliseconds between takes, 2 nights | 2050 | 273 | 4 |
 | stem numbers, 1 of another session | 3074 | 279 | 4 |
-| sizes, 30 large | 1090 | 449 | 6 |
-| sizes, 64 large | 1090 | 1093 | 17 |
-| no jump | 386 | 389 | 6 |
+| sizes, 30 large | 1538 | 570 | 8 |
+| sizes, 64 large | 1538 | 1541 | 24 |
+| no jump | 514 | 517 | 8 |
 ";
 
 #[test]

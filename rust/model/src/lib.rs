@@ -14,6 +14,7 @@
 
 mod bits;
 mod booleans;
+mod convert;
 mod index;
 mod labels;
 mod parts;
@@ -27,6 +28,7 @@ mod writer;
 
 pub use bits::{zigzag, WIDTHS};
 pub use booleans::{first_run, read_booleans, Booleans};
+pub use convert::{convert, Converted};
 pub use index::{build_index, look_up, read_from, Columns, Entry, Index, Lookup, Rows};
 pub use labels::{label, Dictionary, Label};
 pub use parts::{read_parts, Parts};
@@ -36,7 +38,7 @@ pub use salvage::{salvage, Groups, Salvaged};
 pub use streams::{read_stream, Stream};
 pub use totals::{count_true, Ones, Totals, MOST};
 pub use values::{read_value, Value};
-pub use writer::{narrowest_code, write_run, Form, Written};
+pub use writer::{narrowest_code, write_run, Form, Written, KEPT};
 
 /// The kind of a run. "Booleans and byte values are kinds of their own."
 #[derive(Debug, Clone, Copy, PartialEq, Eq, Hash, PartialOrd, Ord)]

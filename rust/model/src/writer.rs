@@ -11,6 +11,9 @@ pub enum Form {
     PackedDelta,
 }
 
+/// "The specification keeps widths 1, 2, 4, 8, 16, 24, 32, 40, 48, 56 and 64."
+pub const KEPT: [usize; 11] = [1, 2, 4, 8, 16, 24, 32, 40, 48, 56, 64];
+
 /// What the writer answers, with the bytes that it writes.
 #[derive(Debug, Clone, PartialEq, Eq)]
 pub enum Written {
@@ -91,6 +94,10 @@ fn allowed(rows: &[i64], form: Form, width: usize) -> Result<(), u8> {
     if !has_form || !widths.contains(&width) {
         return Err(10);
     }
+    // "Direct and packed delta refuse such a code": one of a width that is not kept.
+    if matches!(form, Form::Direct | Form::PackedDelta) && !KEPT.contains(&WIDTHS[width]) {
+        return Err(10);
+    }
     Ok(())
 }
 
@@ -135,8 +142,14 @@ fn needs(number: u64) -> usize {
     bits
 }
 
-/// The narrowest width code that holds a number.
+/// The code and the bits of the narrowest kept width that has so many bits.
+pub fn next_kept_code(bits: usize) -> (usize, usize) {
+    let width = *KEPT.iter().find(|width| **width >= bits).expect("64 bits hold it");
+    (WIDTHS.iter().position(|other| *other == width).expect("a width of the table"), width)
+}
+
+/// The narrowest width code that holds a number: "the narrowest-width helper answers the next kept
+/// width".
 pub fn narrowest_code(number: u64) -> u8 {
-    let holds = |width: &usize| *width >= needs(number);
-    WIDTHS.iter().position(holds).expect("64 bits hold it") as u8
+    next_kept_code(needs(number)).0 as u8
 }

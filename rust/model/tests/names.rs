@@ -128,7 +128,7 @@ fn writer() {
         (&[300; 5], ShortRepeat, 2, Kind::ShortRepeat, 16, 3),
         (&[300; 5], ShortRepeat, 8, Kind::ShortRepeat, 64, 9),
         (&[1, 2, 3], Direct, 3, Kind::Direct, 4, 4),
-        (&[1], Direct, 24, Kind::Direct, 26, 6),
+        (&[1], Direct, 27, Kind::Direct, 32, 6),
         (&[10, 12, 14, 16, 18], FixedDelta, 0, Kind::Delta, 0, 4),
         (&[100, 97, 96, 92], PackedDelta, 3, Kind::Delta, 4, 5),
     ];
@@ -136,5 +136,5 @@ fn writer() {
         let written = write_run(rows, false, form, code, 9);
         assert_eq!(written.info(), Some(Info { kind, width, rows: rows.len(), bytes }));
     }
-    assert_eq!(write_run(&[1], false, Direct, 24, 5).info(), None);
+    assert_eq!(write_run(&[1], false, Direct, 27, 5).info(), None);
 }

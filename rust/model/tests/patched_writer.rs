@@ -85,12 +85,12 @@ fn patch_widths() {
         let row = patch << 8 | 3;
         writes(&[row], 0, 8, &format!("8E00 {code} 01 00 03 {entry}"));
     }
-    // All 56 bits above the eighth; at 7 bits of value 57 are left, which no field has.
+    // All 56 bits above the eighth; at 4 bits of value 60 are left, which no field has.
     writes(&[-1], 0, 8, "8E00 1E 01 00 FF 00FFFFFFFFFFFFFF");
-    assert_eq!(write(&[-1], 0, 7), Err(10));
+    assert_eq!(write(&[-1], 0, 4), Err(10));
     assert_eq!(write(&[(1 << 62) + 1], 0, 4), Err(10));
     // The difference counts, and not the row: over the base -2 the row -1 is 1.
-    writes(&[-1], -2, 7, "8C00 00 00 82 02");
+    writes(&[-1], -2, 8, "8E00 00 00 82 01");
     // At 64 bits there is nothing above.
     writes(&[-1, i64::MIN], 5, 64, "BE01 00 00 05 FFFFFFFFFFFFFFFA 7FFFFFFFFFFFFFFB");
 }
@@ -154,12 +154,13 @@ fn refusals_in_their_order() {
     let refused = |number| Written::Refused(Refusal::whole(number, 0));
     assert_eq!(write_patched(&[], i64::MIN, 0, 0), refused(9));
     assert_eq!(write_patched(&[5; 513], 5, 4, 9000), refused(9));
-    // Widths that are none of the table's.
+    // Widths that are none of the table's; then (item 11) those that are not kept.
     for width in [0, 25, 27, 29, 31, 33, 63, 65, 255] {
         assert_eq!(write_patched(&[5], 5, width, 0), refused(10), "{width}");
     }
     for width in WIDTHS {
-        assert!(write(&[5], 5, width).is_ok(), "{width}");
+        let kept = [1, 2, 4, 8, 16, 24, 32, 40, 48, 56, 64].contains(&width);
+        assert_eq!(write(&[5], 5, width).is_ok(), kept, "{width}");
     }
     assert_eq!(write_patched(&[101, 102, 183, 104], 100, 4, 7), refused(8));
     let written = write_patched(&[101, 102, 183, 104], 100, 4, 8);

@@ -235,6 +235,12 @@ pub fn salvage(salvaging: Salvaging, out: &mut [u8], report: &mut [u8], words: &
     }
 }
 
+pub fn convert(input: &[u8], flag: u64, out: &mut [u8], words: &mut [u64]) -> u64 {
+    let (out_len, words_len) = (out.len(), words.len());
+    let (out, words) = (out.as_mut_ptr(), words.as_mut_ptr());
+    unsafe { exported::orc_convert(input.as_ptr(), input.len(), flag, out, out_len, words, words_len) }
+}
+
 pub fn narrowest_code(number: u64) -> u64 {
     unsafe { exported::orc_narrowest_code(number) }
 }

@@ -1,10 +1,12 @@
 -- `write_run` meets its contract. Assumes nothing.
 use mathlib.Core.Path.{sym, _∙_}
+use native.Mathlib.Omega.{arith}
 use lib.ListN.{length, length-map}
 use borrow.Author.Tests.{not-true, not-false, eqb-true}
 use denote.Ref.{now}
 use Rattle.format.specs.Rows.{asU64}
-use Rattle.writer.proofs.Laws.{within}
+use Rattle.format.proofs.Kept.{kept-code}
+use Rattle.writer.proofs.Laws.{within, packed-kept}
 use Rattle.writer.proofs.Forms.{bad-count, bad-width}
 use borrow.Author.Needs.{needs}
 use Rattle.writer.proofs.write_run.Statement.{statement}
@@ -56,8 +58,9 @@ write-requires-2 c κs =
     let a = c .before .before .before .before .before .before .before .before .args in
     let e = c .before .enum-told2 .given .1 in
     let n = within 1 512 (length (now (a .rows))) (rw e at (sym (c .before .before .before .before .before .before .count .ensures) ∙ not-false _ (c .before .before .before .before .before .if1 .left))) in
-    let w = within 0 31 (a .width) (rw e at (sym (c .before .before .before .before .width .ensures) ∙ not-false _ (c .before .before .before .if2 .left))) in
-    (n .0, n .1, w .1)
+    let w = rw e at (sym (c .before .before .before .before .width .ensures) ∙ not-false _ (c .before .before .before .if2 .left)) in
+    let k = kept-code (a .width) w in
+    ((n .0, n .1, omega arith), w)
 
 enum-told-3 : tie.Need-enum-told-3
 enum-told-3 c = search needs
@@ -77,8 +80,8 @@ write-packed-requires c κs =
     let a = c .before .before .before .before .before .before .before .before .args in
     let e = c .before .enum-told4 .given .1 in
     let n = within 2 512 (length (now (a .rows))) (rw e at (sym (c .before .before .before .before .before .before .count .ensures) ∙ not-false _ (c .before .before .before .before .before .if1 .left))) in
-    let w = within 1 31 (a .width) (rw e at (sym (c .before .before .before .before .width .ensures) ∙ not-false _ (c .before .before .before .if2 .left))) in
-    (n .0, n .1, w .0, w .1)
+    let w = packed-kept (a .width) (rw e at (sym (c .before .before .before .before .width .ensures) ∙ not-false _ (c .before .before .before .if2 .left))) in
+    ((n .0, n .1, w .0, w .1), w .2)
 
 same-length : tie.Need-same-length
 same-length c = search needs

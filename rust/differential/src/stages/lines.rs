@@ -1,5 +1,5 @@
 //! Every public function through the probe program.
-use super::{count, cuts, index, labels, parts, patched_runs, patches, salvage, varints, Session};
+use super::{convert, count, cuts, index, labels, parts, patched_runs, patches, salvage, varints, Session};
 use crate::frames;
 use crate::listed::{Call, LIST};
 use crate::probe::Requests;
@@ -42,6 +42,7 @@ impl Session {
         salvage::fixed_lines(requests);
         let (tables, step) = self.size.pick((1, 37), (12, 5), (40, 1));
         salvage::damaged_tables(requests, tables, step, &mut self.random);
+        convert::fixed_lines(requests, &mut self.random);
         for _ in 0..self.size.pick(1_000, 100_000, 1_000_000) {
             probe_line(&mut probe.requests, &mut self.random);
             patched_runs::probe_line(&mut probe.requests, &mut self.random);
@@ -50,6 +51,7 @@ impl Session {
             count::probe_line(&mut probe.requests, &mut self.random);
             index::probe_line(&mut probe.requests, &mut self.random);
             salvage::probe_line(&mut probe.requests, &mut self.random);
+            convert::probe_line(&mut probe.requests, &mut self.random);
             probe.batch(&mut self.tally);
         }
         probe.flush(&mut self.tally);

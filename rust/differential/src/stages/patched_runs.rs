@@ -1,5 +1,5 @@
 //! Document 02, item 9: patched runs, written by the model and by ours, and read back by the Rust.
-use model::{Written, WIDTHS};
+use model::{Written, KEPT};
 use oracle::Run;
 
 use super::Session;
@@ -10,7 +10,7 @@ use crate::random::Random;
 
 /// Rows, a base and a value width: mostly ones that the writer takes, a few rows with a patch.
 pub fn any_patched_rows(random: &mut Random) -> (Vec<i64>, i64, usize) {
-    let width = if random.once_in(32) { random.below(70) } else { random.pick(&WIDTHS) };
+    let width = if random.once_in(32) { random.below(70) } else { random.pick(&KEPT) };
     let base = random.any() as i64 >> random.below(64);
     let count = match random.below(16) {
         0 => random.from(250, 513),

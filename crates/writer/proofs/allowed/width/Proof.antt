@@ -12,8 +12,8 @@ between-requires c κs = search needs
 enum-told-2 : tie.Need-enum-told-2
 enum-told-2 c = search needs
 
-between-requires-2 : tie.Need-between-requires-2
-between-requires-2 c κs = search needs
+is-kept-requires : tie.Need-is-kept-requires
+is-kept-requires c κs = search needs
 
 enum-told-3 : tie.Need-enum-told-3
 enum-told-3 c = search needs
@@ -21,20 +21,20 @@ enum-told-3 c = search needs
 enum-told-4 : tie.Need-enum-told-4
 enum-told-4 c = search needs
 
-between-requires-3 : tie.Need-between-requires-3
-between-requires-3 c κs = search needs
+packed-width-requires : tie.Need-packed-width-requires
+packed-width-requires c κs = search needs
 
 returns : tie.Need-returns
 returns c = rw (c .before .enum-told .given .1) (c .between .ensures)
 
 returns-2 : tie.Need-returns-2
-returns-2 c = rw (c .before .enum-told2 .given .1) (c .between2 .ensures)
+returns-2 c = rw (c .before .enum-told2 .given .1) (c .is-kept .ensures)
 
 returns-3 : tie.Need-returns-3
 returns-3 c = rw (c .enum-told3 .given .1)
 
 returns-4 : tie.Need-returns-4
-returns-4 c = rw (c .before .enum-told4 .given .1) (c .between3 .ensures)
+returns-4 c = rw (c .before .enum-told4 .given .1) (c .packed-width .ensures)
 
 pub width-spec : {M : Type 1} → statement M
 width-spec =
@@ -43,10 +43,10 @@ width-spec =
     enum-told
     between-requires
     enum-told-2
-    between-requires-2
+    is-kept-requires
     enum-told-3
     enum-told-4
-    between-requires-3
+    packed-width-requires
     returns
     returns-2
     returns-3

@@ -63,10 +63,11 @@ returns c =
     let bits = kept .before .before .before .before .before .bits-of in
     let step = kept .before .before .before .before .base-delta in
     let a = kept .before .before .before .before .before .before .before .args in
+    let given = kept .before .before .before .before .before .before .before .pre in
     let rs : List ℕ = map asU64 (now (a .rows)) in
     let k : Packed (now (a .rows)) (a .signed) PackedDelta kind.Delta (a .code) (start (a .code) (length (now (a .rows))) (firstOf (a .signed) rs) (zigzagged (baseDelta rs))) (length (now (a .rows)) - 2) (bits .result) (kept .steps .last .1 .1 .0) (tested .all-fit .result) =
     delta-packed (now (a .rows)) (a .signed) (a .code) (bits .result) (step .result) (kept .steps .last .1 .1 .0) (drop (length (drop 1 (now (a .rows))) - 1) (kept .before .before .before .scratch .result)) (tested .all-fit .result)
-    (omega arith) (omega arith) (omega arith) (omega arith) (bits .ensures) (step .ensures) (rw (rest-is (now (a .rows)) 1) at (kept .steps .ensures)) (tested .all-fit .ensures) in
+    (given .0 .0) (given .0 .1) (given .0 .2) (given .1) (bits .ensures) (step .ensures) (rw (rest-is (now (a .rows)) 1) at (kept .steps .ensures)) (tested .all-fit .ensures) in
     too-wide k (now (a .out)) (c .refused .result) (c .before .if1 .taken) (c .refused .ensures)
 
 pattern-of-requires : tie.Need-pattern-of-requires
@@ -108,10 +109,11 @@ returns-2 c =
     let bits = kept .before .before .before .before .before .bits-of in
     let step = kept .before .before .before .before .base-delta in
     let a = kept .before .before .before .before .before .before .before .args in
+    let given = kept .before .before .before .before .before .before .before .pre in
     let rs : List ℕ = map asU64 (now (a .rows)) in
     let k : Packed (now (a .rows)) (a .signed) PackedDelta kind.Delta (a .code) (start (a .code) (length (now (a .rows))) (firstOf (a .signed) rs) (zigzagged (baseDelta rs))) (length (now (a .rows)) - 2) (bits .result) (kept .steps .last .1 .1 .0) (tested .all-fit .result) =
     delta-packed (now (a .rows)) (a .signed) (a .code) (bits .result) (step .result) (kept .steps .last .1 .1 .0) (drop (length (drop 1 (now (a .rows))) - 1) (kept .before .before .before .scratch .result)) (tested .all-fit .result)
-    (omega arith) (omega arith) (omega arith) (omega arith) (bits .ensures) (step .ensures) (rw (rest-is (now (a .rows)) 1) at (kept .steps .ensures)) (tested .all-fit .ensures) in
+    (given .0 .0) (given .0 .1) (given .0 .2) (given .1) (bits .ensures) (step .ensures) (rw (rest-is (now (a .rows)) 1) at (kept .steps .ensures)) (tested .all-fit .ensures) in
     let p : c .before .before .before .before .before .stored .result ≡ firstOf (a .signed) (map asU64 (now (a .rows))) = c .before .before .before .before .before .stored .ensures ∙ ap (λ (x : ℕ). Writing.stored (a .signed) x) (c .before .before .before .before .before .before .pattern-of .ensures) in
     let q : c .before .before .before .before .zigzag-of .result ≡ zigzagged (baseDelta (map asU64 (now (a .rows)))) = c .before .before .before .before .zigzag-of .ensures ∙ ap zigzagged (step .ensures) in
     let z = start-sized (a .code) (length (now (a .rows))) p q (c .before .before .before .start-size .ensures) in
@@ -133,10 +135,11 @@ pack-requires c κs =
     let bits = kept .before .before .before .before .before .bits-of in
     let step = kept .before .before .before .before .base-delta in
     let a = kept .before .before .before .before .before .before .before .args in
+    let given = kept .before .before .before .before .before .before .before .pre in
     let rs : List ℕ = map asU64 (now (a .rows)) in
     let k : Packed (now (a .rows)) (a .signed) PackedDelta kind.Delta (a .code) (start (a .code) (length (now (a .rows))) (firstOf (a .signed) rs) (zigzagged (baseDelta rs))) (length (now (a .rows)) - 2) (bits .result) (kept .steps .last .1 .1 .0) (tested .all-fit .result) =
     delta-packed (now (a .rows)) (a .signed) (a .code) (bits .result) (step .result) (kept .steps .last .1 .1 .0) (drop (length (drop 1 (now (a .rows))) - 1) (kept .before .before .before .scratch .result)) (tested .all-fit .result)
-    (omega arith) (omega arith) (omega arith) (omega arith) (bits .ensures) (step .ensures) (rw (rest-is (now (a .rows)) 1) at (kept .steps .ensures)) (tested .all-fit .ensures) in
+    (given .0 .0) (given .0 .1) (given .0 .2) (given .1) (bits .ensures) (step .ensures) (rw (rest-is (now (a .rows)) 1) at (kept .steps .ensures)) (tested .all-fit .ensures) in
     let w = width-known (a .code) (bits .ensures) in
     let p : c .before .before .before .before .before .before .before .before .before .before .stored .result ≡ firstOf (a .signed) (map asU64 (now (a .rows))) = c .before .before .before .before .before .before .before .before .before .before .stored .ensures ∙ ap (λ (x : ℕ). Writing.stored (a .signed) x) (c .before .before .before .before .before .before .before .before .before .before .before .pattern-of .ensures) in
     let q : c .before .before .before .before .before .before .before .before .before .zigzag-of .result ≡ zigzagged (baseDelta (map asU64 (now (a .rows)))) = c .before .before .before .before .before .before .before .before .before .zigzag-of .ensures ∙ ap zigzagged (step .ensures) in
@@ -157,10 +160,11 @@ returns-3 c =
     let bits = kept .before .before .before .before .before .bits-of in
     let step = kept .before .before .before .before .base-delta in
     let a = kept .before .before .before .before .before .before .before .args in
+    let given = kept .before .before .before .before .before .before .before .pre in
     let rs : List ℕ = map asU64 (now (a .rows)) in
     let k : Packed (now (a .rows)) (a .signed) PackedDelta kind.Delta (a .code) (start (a .code) (length (now (a .rows))) (firstOf (a .signed) rs) (zigzagged (baseDelta rs))) (length (now (a .rows)) - 2) (bits .result) (kept .steps .last .1 .1 .0) (tested .all-fit .result) =
     delta-packed (now (a .rows)) (a .signed) (a .code) (bits .result) (step .result) (kept .steps .last .1 .1 .0) (drop (length (drop 1 (now (a .rows))) - 1) (kept .before .before .before .scratch .result)) (tested .all-fit .result)
-    (omega arith) (omega arith) (omega arith) (omega arith) (bits .ensures) (step .ensures) (rw (rest-is (now (a .rows)) 1) at (kept .steps .ensures)) (tested .all-fit .ensures) in
+    (given .0 .0) (given .0 .1) (given .0 .2) (given .1) (bits .ensures) (step .ensures) (rw (rest-is (now (a .rows)) 1) at (kept .steps .ensures)) (tested .all-fit .ensures) in
     let p : c .before .before .before .before .before .before .before .before .before .before .before .before .before .before .stored .result ≡ firstOf (a .signed) (map asU64 (now (a .rows))) = c .before .before .before .before .before .before .before .before .before .before .before .before .before .before .stored .ensures ∙ ap (λ (x : ℕ). Writing.stored (a .signed) x) (c .before .before .before .before .before .before .before .before .before .before .before .before .before .before .before .pattern-of .ensures) in
     let q : c .before .before .before .before .before .before .before .before .before .before .before .before .before .zigzag-of .result ≡ zigzagged (baseDelta (map asU64 (now (a .rows)))) = c .before .before .before .before .before .before .before .before .before .before .before .before .before .zigzag-of .ensures ∙ ap zigzagged (step .ensures) in
     let z = start-sized (a .code) (length (now (a .rows))) p q (c .before .before .before .before .before .before .before .before .before .before .before .before .start-size .ensures) in

@@ -41,7 +41,7 @@ returns c =
     let a = kept .before .before .before .before .before .args in
     let k : Packed (now (a .rows)) (a .signed) Direct kind.Direct (a .code) (head 1 (a .code) (length (now (a .rows)))) (length (now (a .rows))) (bits .result) (kept .store .last .1 .1 .0) (tested .all-fit .result) =
     direct-packed (now (a .rows)) (a .signed) (a .code) (bits .result) (kept .store .last .1 .1 .0) (drop (length (now (a .rows))) (kept .before .before .scratch .result)) (tested .all-fit .result)
-    (omega arith) (omega arith) (omega arith) (bits .ensures) (kept .store .ensures) (tested .all-fit .ensures) in
+    (omega arith) (omega arith) (kept .before .before .before .before .before .pre .1) (bits .ensures) (kept .store .ensures) (tested .all-fit .ensures) in
     too-wide k (now (a .out)) (c .refused .result) (c .before .if1 .taken) (c .refused .ensures)
 
 block-size-requires : tie.Need-block-size-requires
@@ -62,7 +62,7 @@ returns-2 c =
     let a = kept .before .before .before .before .before .args in
     let k : Packed (now (a .rows)) (a .signed) Direct kind.Direct (a .code) (head 1 (a .code) (length (now (a .rows)))) (length (now (a .rows))) (bits .result) (kept .store .last .1 .1 .0) (tested .all-fit .result) =
     direct-packed (now (a .rows)) (a .signed) (a .code) (bits .result) (kept .store .last .1 .1 .0) (drop (length (now (a .rows))) (kept .before .before .scratch .result)) (tested .all-fit .result)
-    (omega arith) (omega arith) (omega arith) (bits .ensures) (kept .store .ensures) (tested .all-fit .ensures) in
+    (omega arith) (omega arith) (kept .before .before .before .before .before .pre .1) (bits .ensures) (kept .store .ensures) (tested .all-fit .ensures) in
     too-few k (now (a .out)) (c .refused2 .result) (c .before .before .before .if1 .left) (rw (← (c .before .before .block-size .ensures)) (c .before .if2 .taken)) (c .refused2 .ensures)
 
 write-requires : tie.Need-write-requires
@@ -79,7 +79,7 @@ pack-requires c κs =
     let a = kept .before .before .before .before .before .args in
     let k : Packed (now (a .rows)) (a .signed) Direct kind.Direct (a .code) (head 1 (a .code) (length (now (a .rows)))) (length (now (a .rows))) (bits .result) (kept .store .last .1 .1 .0) (tested .all-fit .result) =
     direct-packed (now (a .rows)) (a .signed) (a .code) (bits .result) (kept .store .last .1 .1 .0) (drop (length (now (a .rows))) (kept .before .before .scratch .result)) (tested .all-fit .result)
-    (omega arith) (omega arith) (omega arith) (bits .ensures) (kept .store .ensures) (tested .all-fit .ensures) in
+    (omega arith) (omega arith) (kept .before .before .before .before .before .pre .1) (bits .ensures) (kept .store .ensures) (tested .all-fit .ensures) in
     let w = width-known (a .code) (bits .ensures) in
     ((w .pos, w .le, w .window), (search needs, values-below k (c .before .before .before .before .before .before .before .before .if1 .left)))
 
@@ -97,7 +97,7 @@ returns-3 c =
     let a = kept .before .before .before .before .before .args in
     let k : Packed (now (a .rows)) (a .signed) Direct kind.Direct (a .code) (head 1 (a .code) (length (now (a .rows)))) (length (now (a .rows))) (bits .result) (kept .store .last .1 .1 .0) (tested .all-fit .result) =
     direct-packed (now (a .rows)) (a .signed) (a .code) (bits .result) (kept .store .last .1 .1 .0) (drop (length (now (a .rows))) (kept .before .before .scratch .result)) (tested .all-fit .result)
-    (omega arith) (omega arith) (omega arith) (bits .ensures) (kept .store .ensures) (tested .all-fit .ensures) in
+    (omega arith) (omega arith) (kept .before .before .before .before .before .pre .1) (bits .ensures) (kept .store .ensures) (tested .all-fit .ensures) in
     let e = c .before .before .before .before .before .before .before .before .before .before .before .block-size .ensures in
     packed k (now (a .out)) (c .before .before .before .before .before .before .before .before .write .last .1 .1 .1 .0) (c .before .before .before .pack .last .1 .1 .1 .0) 2 (c .run .result) (c .before .before .before .before .before .before .before .before .before .before .before .before .if1 .left) (rw (← e) (c .before .before .before .before .before .before .before .before .before .before .if2 .left))
     (rw (← e) (c .run .ensures)) refl (c .before .before .before .before .before .before .before .before .write .ensures) (c .before .before .before .pack .ensures)

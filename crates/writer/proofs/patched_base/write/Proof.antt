@@ -1,96 +1,37 @@
 -- `patched_base::write` meets its contract. Assumes nothing.
-use mathlib.Core.Path.{_≡_}
-use mathlib.Core.Bool.{true, false}
-use mathlib.Core.List.{map}
+use mathlib.Core.Path.{sym, _∙_}
 use mir.Facts.{toZ-ofZ}
+use borrow.Author.Tests.{not-true, not-false}
 use denote.Ref.{now}
-use Rattle.format.specs.Rows.{asU64}
-use Rattle.format.specs.PatchedWriting.{parts, headerHolds}
-use Rattle.writer.specs.PatchedBase.{Headed, Laid}
-use Rattle.writer.proofs.PatchedHeader.{bad-form, formed}
+use Rattle.writer.proofs.PatchedHeader.{bad-width}
 use borrow.Author.Needs.{needs}
 use Rattle.writer.proofs.patched_base.write.Statement.{statement}
 use Rattle.writer.proofs.patched_base.write.Tie as tie
 
-low-is : (c : tie.After-to-u64) → c .to-u64 .result ≡ asU64 (c .before .before .args .base)
-low-is c = rw (toZ-ofZ (c .before .before .fits .base)) at (c .to-u64 .ensures)
-
--- the header that was found
-header : (c : tie.After-h) → Headed (c .before .before .before .before .before .before .before .before .before .to-u64 .result) (c .before .before .before .before .before .before .before .before .before .before .before .args .width) (map asU64 (now (c .before .before .before .before .before .before .before .before .before .before .before .args .rows))) (c .before .before .before .before .header-of .last .1 .1 .1 .0) (c .before .before .before .before .header-of .last .1 .1 .1 .1 .0) (c .h .given .0 .0)
-header c = rw (c .h .given .1) at (c .before .before .before .before .header-of .ensures)
-
-to-u64-requires : tie.Need-to-u64-requires
-to-u64-requires c κs = search needs
-
-scratch-requires : tie.Need-scratch-requires
-scratch-requires c κs = search needs
-
-scratch-requires-2 : tie.Need-scratch-requires-2
-scratch-requires-2 c κs = search needs
-
-slice-aggregate-header-of : tie.Need-slice-aggregate-header-of
-slice-aggregate-header-of c = search needs
-
-slice-aggregate-header-of-2 : tie.Need-slice-aggregate-header-of-2
-slice-aggregate-header-of-2 c = search needs
-
-header-of-requires : tie.Need-header-of-requires
-header-of-requires c κs = search needs
-
-enum-told : tie.Need-enum-told
-enum-told c = search needs
+is-kept-requires : tie.Need-is-kept-requires
+is-kept-requires c κs = search needs
 
 refused-requires : tie.Need-refused-requires
 refused-requires c κs = search needs
 
-enum-known-h : tie.Need-enum-known-h
-enum-known-h c = search needs
-
-slice-aggregate-lay : tie.Need-slice-aggregate-lay
-slice-aggregate-lay c = search needs
-
-slice-aggregate-lay-2 : tie.Need-slice-aggregate-lay-2
-slice-aggregate-lay-2 c = search needs
-
-lay-requires : tie.Need-lay-requires
-lay-requires c κs = header (c .before .before .before .before) .ready
-
 returns : tie.Need-returns
 returns c =
-    let s = c .before .before .before .before .before .before .before .before .before .before .before .before in
+    let k = c .before .before in
+    let s = k .before .before in
     let a = s .args in
-    let e : headerHolds (parts (asU64 (a .base)) (a .width) (map asU64 (now (a .rows)))) ≡ false = rw (c .before .enum-told .given .1, low-is (c .before .before .before .before .before .before .before .before .before .before)) at (c .before .before .before .before .before .header-of .ensures) in
-    bad-form (now (a .rows)) (a .base) (a .width) (now (a .out)) (c .refused .result) (s .pre .0) (s .pre .1) e (c .refused .ensures)
+    bad-width (now (a .rows)) (a .base) (a .width) (now (a .out)) (c .refused .result) (s .pre .0) (s .pre .1) (sym (k .is-kept .ensures) ∙ not-true _ (c .before .if1 .taken)) (c .refused .ensures)
+
+write-kept-requires : tie.Need-write-kept-requires
+write-kept-requires c κs =
+    let k = c .before .before in
+    let s = k .before .before in
+    ((s .pre .0, s .pre .1), sym (k .is-kept .ensures) ∙ not-false _ (c .before .if1 .left))
 
 same-length : tie.Need-same-length
 same-length c = search needs
 
 returns-2 : tie.Need-returns-2
-returns-2 c =
-    let s = c .before .before .before .before .before .before .before .before .before .before .before .before .before .before .before .before .before .before in
-    let a = s .args in
-    let k = header (c .before .before .before .before .before .before .before) in
-    let e : headerHolds (parts (asU64 (a .base)) (a .width) (map asU64 (now (a .rows)))) ≡ true = rw (low-is (c .before .before .before .before .before .before .before .before .before .before .before .before .before .before .before .before)) at (k .holds) in
-    let l : Laid (parts (asU64 (a .base)) (a .width) (map asU64 (now (a .rows)))) (now (a .out)) (c .before .before .lay .last .1 .1 .1 .1 .0) (c .before .before .lay .result) =
-    rw (k .same, low-is (c .before .before .before .before .before .before .before .before .before .before .before .before .before .before .before .before)) at (c .before .before .lay .ensures) in
-    formed (now (a .rows)) (a .base) (a .width) (now (a .out)) (c .before .before .lay .result) (s .pre .0) (s .pre .1) _ e l
+returns-2 c = rw (toZ-ofZ (c .before .before .before .before .before .before .before .fits .base)) at (c .before .before .write-kept .ensures)
 
 pub write-spec : {M : Type 1} → statement M
-write-spec =
-    tie.close
-    (tie.spec
-    to-u64-requires
-    scratch-requires
-    scratch-requires-2
-    slice-aggregate-header-of
-    slice-aggregate-header-of-2
-    header-of-requires
-    enum-told
-    refused-requires
-    enum-known-h
-    slice-aggregate-lay
-    slice-aggregate-lay-2
-    lay-requires
-    returns
-    same-length
-    returns-2)
+write-spec = tie.close (tie.spec is-kept-requires refused-requires returns write-kept-requires same-length returns-2)

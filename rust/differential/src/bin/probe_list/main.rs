@@ -17,7 +17,7 @@ use differential::frames;
 use differential::listed::{self, Call, LIST};
 use differential::probe::Requests;
 use differential::random::Random;
-use differential::stages::{count, index, labels, parts, patched_runs, probe_line, salvage};
+use differential::stages::{convert, count, index, labels, parts, patched_runs, probe_line, salvage};
 use model::Form;
 
 use by_hand::{DOCUMENT, FRAMES, SPECIFICATION};
@@ -326,6 +326,10 @@ fn list() -> Requests {
     salvage::damaged_tables(&mut requests, 1, 85, &mut random);
     for _ in 0..100 {
         salvage::probe_line(&mut requests, &mut random);
+    }
+    convert::fixed_lines(&mut requests, &mut random);
+    for _ in 0..100 {
+        convert::probe_line(&mut requests, &mut random);
     }
     requests
 }

@@ -1,0 +1,8 @@
+-- The theorems of specs/Laws.antt, and the laws that the functions cite.
+pub mod Runs
+pub mod Streams
+pub mod Examples
+pub mod Turns
+pub mod Lays
+pub mod Walks
+pub mod Calls

@@ -1,0 +1,129 @@
+-- `turn::convert_run` meets its contract: the run that the reader found is written again, or copied. Assumes nothing.
+use mathlib.Core.Path.{sym, _∙_}
+use native.Mathlib.Omega.{arith}
+use lib.ListN.{length-drop}
+use denote.Ref.{now}
+use Rattle.format.proofs.Fields.{below-all}
+use Rattle.format.proofs.Rows.{byte-bounds}
+use Rattle.format.proofs.Runs.{layout-pos}
+use Rattle.util.proofs.Grow.{rest-is}
+use borrow.Author.Needs.{needs}
+use Rattle.convert.proofs.Turns.{One, Found, found, turned-odd, turned-even}
+use Rattle.convert.proofs.turn.convert_run.Statement.{statement}
+use Rattle.convert.proofs.turn.convert_run.Tie as tie
+
+-- what the run reader says
+says : (x : tie.After-read-run) → let s = x .before .before .before .before .before in
+    Found (s .args .signed) (now (s .args .input)) (s .args .p) (x .read-run .last .1 .1 .1 .0) (x .read-run .result)
+says x =
+    let s = x .before .before .before .before .before in
+    let i = now (s .args .input) in
+    found (s .args .signed) i (s .args .p) _ _ (x .read-run .result) (below-all 256 i (λ k. x .before .before .before .before .shared-slice-known .given k .fits)) (search needs) (x .read-run .ensures)
+
+ran : (m : tie.After-a) → let x = m .before .before .before in let s = x .before .before .before .before .before in
+    One (s .args .signed) (now (s .args .input)) (s .args .p) (x .read-run .last .1 .1 .1 .0) (m .a .given .0 .0)
+ran m = rw (m .a .given .1) at (says (m .before .before .before))
+
+rows-room-requires : tie.Need-rows-room-requires
+rows-room-requires c κs = search needs
+
+slice-aggregate-read-run : tie.Need-slice-aggregate-read-run
+slice-aggregate-read-run c = search needs
+
+read-run-requires : tie.Need-read-run-requires
+read-run-requires c κs = search needs
+
+enum-known-a : tie.Need-enum-known-a
+enum-known-a c = search needs
+
+shared-slice-read-first : tie.Need-shared-slice-read-first
+shared-slice-read-first c =
+    let o = ran (c .before .before .before .before) in
+    omega (arith, o .within, o .bytes-are, layout-pos (o .which))
+
+is-odd-requires : tie.Need-is-odd-requires
+is-odd-requires c κs = search needs
+
+slice-aggregate-rewrite : tie.Need-slice-aggregate-rewrite
+slice-aggregate-rewrite c = search needs
+
+rewrite-requires : tie.Need-rewrite-requires
+rewrite-requires c κs = omega (arith, ran (c .before .before .before .before .before .before .before .before) .rows-few)
+
+consumed-requires : tie.Need-consumed-requires
+consumed-requires c κs = search needs
+
+same-length : tie.Need-same-length
+same-length c = search needs
+
+returns : tie.Need-returns
+returns c =
+    let m = c .before .before .before .before .before .before .before .before .before .before .before .before in
+    let a = m .before .before .before .before .before .before .before .before in
+    let i = c .before .before .before .before .before .before .before in
+    rw (c .consumed .ensures)
+    (turned-odd (a .args .signed) (now (a .args .input)) (a .args .p) _ (m .a .given .0 .0) (ran m) (now (a .args .run)) _ (c .before .before .before .rewrite .result) (a .pre) (sym (i .is-odd .ensures) ∙ c .before .before .before .before .before .before .if1 .taken) (c .before .before .before .rewrite .ensures))
+
+sub-copy : tie.Need-sub-copy
+sub-copy c = omega (arith, ran (c .before .before .before .before .before .before) .within)
+
+part-copy-start : tie.Need-part-copy-start
+part-copy-start c = omega (arith, ran (c .before .before .before .before .before .before) .within)
+
+part-copy-end : tie.Need-part-copy-end
+part-copy-end c = search needs
+
+copy-requires : tie.Need-copy-requires
+copy-requires c κs =
+    let m = c .before .before .before .before .before .before .before .before in
+    let a = m .before .before .before .before .before .before .before .before in
+    let o = ran m in
+    (rw (rest-is (now (a .args .input)) (a .args .p), length-drop (a .args .p) (now (a .args .input))) (omega (arith, o .within)), omega (arith, o .bytes-are, byte-bounds (o .which) (o .valid), a .pre))
+
+enum-known-a-2 : tie.Need-enum-known-a-2
+enum-known-a-2 c = search needs
+
+enum-told : tie.Need-enum-told
+enum-told c = search needs
+
+same-length-2 : tie.Need-same-length-2
+same-length-2 c = search needs
+
+returns-2 : tie.Need-returns-2
+returns-2 c =
+    let m = c .before .before .before .before .before .before .before .before .before .before .before in
+    let a = m .before .before .before .before .before .before .before .before in
+    turned-even (a .args .signed) (now (a .args .input)) (a .args .p) _ (m .a .given .0 .0) (ran m) (now (a .args .run)) _ (sym (c .before .before .before .before .before .before .is-odd .ensures) ∙ c .before .before .before .before .before .if1 .left)
+    (rw (rest-is (now (a .args .input)) (a .args .p)) at (c .before .before .copy .ensures))
+
+returns-3 : tie.Need-returns-3
+returns-3 c = rw (c .before .a2 .given .1) at (says (c .before .before .before .before))
+
+returns-4 : tie.Need-returns-4
+returns-4 c = rw (c .enum-told .given .1) at (says (c .before .before .before))
+
+pub convert-run-spec : {M : Type 1} → statement M
+convert-run-spec =
+    tie.close
+    (tie.spec
+    rows-room-requires
+    slice-aggregate-read-run
+    read-run-requires
+    enum-known-a
+    shared-slice-read-first
+    is-odd-requires
+    slice-aggregate-rewrite
+    rewrite-requires
+    consumed-requires
+    same-length
+    returns
+    sub-copy
+    part-copy-start
+    part-copy-end
+    copy-requires
+    enum-known-a-2
+    enum-told
+    same-length-2
+    returns-2
+    returns-3
+    returns-4)

@@ -1,0 +1,20 @@
+-- `turn::is_odd` meets its contract. Assumes nothing.
+use borrow.Author.Tests.{ne-eqb}
+use borrow.Author.Needs.{needs}
+use Rattle.convert.specs.Turn.{oddFirst}
+use Rattle.convert.proofs.turn.is_odd.Statement.{statement}
+use Rattle.convert.proofs.turn.is_odd.Tie as tie
+
+returns : tie.Need-returns
+unfolding oddFirst
+returns c = rw (c .if1 .taken)
+
+is-kept-requires : tie.Need-is-kept-requires
+is-kept-requires c κs = search needs
+
+returns-2 : tie.Need-returns-2
+unfolding oddFirst
+returns-2 c = rw (ne-eqb _ 0 (c .before .if1 .left), c .is-kept .ensures)
+
+pub is-odd-spec : {M : Type 1} → statement M
+is-odd-spec = tie.close (tie.spec returns is-kept-requires returns-2)

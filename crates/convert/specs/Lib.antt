@@ -1,0 +1,5 @@
+-- The converter to kept widths (document 02, item 11): its meaning, its theorems, and what its inner functions are stated with.
+pub mod Convert
+pub mod Laws
+pub mod Turn
+pub mod Walk

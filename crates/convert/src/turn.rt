@@ -1,0 +1,119 @@
+// One run converted: read, and written again where its width is odd, or copied.
+ghost use mathlib.Core.Path.{_≡_};
+ghost use Prim.Native.Nat.{_+_, _/_, _%_, _≤_};
+ghost use lib.ListN.{length, take};
+ghost use lib.Seq.{paste};
+ghost use Rattle.format.specs.Kept.{nextKept};
+ghost use Rattle.format.specs.Writing.{Written};
+ghost use Rattle.convert.specs.Turn.{oddFirst, formFirst, StepIs};
+use format::Answer;
+use format::ByteOffset;
+use format::Form;
+use format::Kind;
+use format::Refusal;
+use util::width;
+
+// The most bytes of a run.
+pub const MAX_BYTES: usize = 4356;
+
+// A run: the bytes that it takes up, those of the run that it is converted to, and whether its width is odd.
+pub(crate) struct Turn {
+    pub taken: usize,
+    pub given: usize,
+    pub odd: bool,
+}
+
+// What stands at a place of the stream.
+pub(crate) enum Step {
+    End,
+    Run(Turn),
+    Refused(Refusal),
+}
+
+// Room for the rows of a run, and for its bytes.
+fn rows_room() -> [i64; Kind::MAX_ROWS] {
+    [0i64; Kind::MAX_ROWS]
+}
+
+pub(crate) fn bytes_room() -> [u8; MAX_BYTES] {
+    [0u8; MAX_BYTES]
+}
+
+// By a run's first byte: 2 bits kind, 5 bits width code. Kinds 1 and 3 are direct and delta; the code 0 of a fixed delta is kept.
+fn is_odd(first: u8) -> bool
+    ensures { λ r. ⌜ r ≡ oddFirst first ⌝ }
+{
+    if first / 64 % 2 == 0 {
+        return false;
+    }
+    !width::is_kept(first / 2 % 32)
+}
+
+fn form_of(first: u8) -> Form
+    ensures { λ r. ⌜ r ≡ formFirst first ⌝ }
+{
+    if first < 128 {
+        Form::Direct
+    } else {
+        Form::PackedDelta
+    }
+}
+
+// The first n rows, at the next kept width after that of the run that begins with this byte.
+fn rewrite(first: u8, rows: &[i64], n: usize, signed: bool, out: &mut [u8]) -> Answer
+    requires { ⌜ n ≤ length (now rows) ⌝ }
+    ensures { λ r. ⌜ Written (take n (now (rows .entry))) signed (formFirst first) (nextKept (first / 2 % 32)) (now (out .entry)) (now (out .exit)) r ⌝ }
+{
+    writer::write_run(
+        &rows[..n],
+        signed,
+        form_of(first),
+        width::next_kept(first / 2 % 32),
+        out,
+    )
+}
+
+// The first k bytes of a part, into the lent bytes from place h on.
+pub(crate) fn copy(part: &[u8], k: usize, buffer: &mut [u8], h: usize)
+    requires { ⌜ k ≤ length (now part) ⌝ }
+    requires { ⌜ h + k ≤ length (now buffer) ⌝ }
+    ensures { λ _. ⌜ now (buffer .exit) ≡ paste (now (buffer .entry)) h (now (part .entry)) k ⌝ }
+{
+    let mut i = 0;
+    while i < k {
+        buffer[h + i] = part[i];
+        i += 1;
+    }
+}
+
+// The run at a place, converted, in the first bytes of `run`.
+pub(crate) fn convert_run(input: &[u8], p: usize, signed: bool, run: &mut [u8]) -> Step
+    requires { ⌜ length (now run) ≡ 4356 ⌝ }
+    ensures { λ r. ⌜ StepIs signed (now (input .entry)) p (now (run .exit)) r ⌝ }
+{
+    let mut rows = rows_room();
+    let a = rle_v2::read_run(input, ByteOffset { bytes: p }, signed, &mut rows);
+    match a {
+        Answer::Run(r) => {
+            let count = r.rows;
+            let taken = r.consumed;
+            let first = input[p];
+            if is_odd(first) {
+                let w = rewrite(first, &rows, count.rows, signed, run);
+                return Step::Run(Turn {
+                    taken: taken.bytes,
+                    given: w.consumed(),
+                    odd: true,
+                });
+            }
+            copy(&input[p..], taken.bytes, run, 0);
+            Step::Run(Turn {
+                taken: taken.bytes,
+                given: taken.bytes,
+                odd: false,
+            })
+        }
+        Answer::Refused(f) => Step::Refused(f),
+        Answer::End => Step::End,
+    }
+}

@@ -1,0 +1,18 @@
+-- `allowed::packed_width` meets its contract. Assumes nothing.
+use native.Mathlib.Omega.{arith}
+use borrow.Author.Tests.{le-leb, lt-leb}
+use borrow.Author.Needs.{needs}
+use Rattle.writer.proofs.allowed.packed_width.Statement.{statement}
+use Rattle.writer.proofs.allowed.packed_width.Tie as tie
+
+returns : tie.Need-returns
+returns c = rw (lt-leb 1 (c .before .args .w) (omega arith))
+
+is-kept-requires : tie.Need-is-kept-requires
+is-kept-requires c κs = search needs
+
+returns-2 : tie.Need-returns-2
+returns-2 c = rw (le-leb 1 (c .before .before .args .w) (omega arith)) (c .is-kept .ensures)
+
+pub packed-width-spec : {M : Type 1} → statement M
+packed-width-spec = tie.close (tie.spec returns is-kept-requires returns-2)
