@@ -3,8 +3,9 @@ use crate::answers::Words;
 use crate::exported::{self, entry_word, index_word, rows_from_word, word};
 use crate::{ByteOffset, Refusal, Refused, RowNumber, Sign, MAX_ROWS};
 
-/// So many bytes a run are reckoned with at first: a direct run of 512 rows of 8 bits has a few more.
-const LIKELY_BYTES: usize = 512;
+/// How many bytes a run is first taken to have, for the places that are reserved: a run of 512 rows of one
+/// bit has 66. Where that is too few, a stream of short runs, a sixteenth of it is next.
+const LIKELY_BYTES: usize = 64;
 
 /// The fewest bytes that a run has: a short repeat of one byte.
 const LEAST_BYTES: usize = 2;
@@ -64,7 +65,7 @@ impl Index {
         loop {
             match Self::built(input, places) {
                 Err(refused) if refused.refusal == Refusal::TooFewPlaces && places < most => {
-                    places = places.saturating_mul(4).min(most);
+                    places = places.saturating_mul(16).min(most);
                 }
                 answer => return answer,
             }

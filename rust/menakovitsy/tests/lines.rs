@@ -310,7 +310,7 @@ fn the_one_number() {
     }
     let counts = unpack(65_536 * 4098 + 512).unwrap().unwrap();
     assert_eq!((counts.rows, counts.bytes), (RowNumber(512), ByteOffset(4098)));
-    for none in [17, 65_535, 65_536, 65_536 + 513] {
+    for none in [20, 65_535, 65_536, 65_536 + 513] {
         assert_eq!(unpack(none), Err(Refusal::Unknown(none)));
     }
 }
