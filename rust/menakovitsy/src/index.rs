@@ -3,9 +3,11 @@ use crate::answers::Words;
 use crate::exported::{self, entry_word, index_word, rows_from_word, word};
 use crate::{ByteOffset, Refusal, Refused, RowNumber, Sign, MAX_ROWS};
 
-/// How many bytes a run is first taken to have, for the places that are reserved: a run of 512 rows of one
-/// bit has 66. Where that is too few, a stream of short runs, a sixteenth of it is next.
-const LIKELY_BYTES: usize = 64;
+/// So many bytes a run are reckoned with at first: a direct run of 512 rows of 8 bits has a few more. A
+/// short column pays little for as many places as runs of one bit need, which have 66.
+const LIKELY_BYTES: usize = 512;
+const FEW_BYTES: usize = 64;
+const FEW_PLACES: usize = 256;
 
 /// The fewest bytes that a run has: a short repeat of one byte.
 const LEAST_BYTES: usize = 2;
@@ -61,7 +63,8 @@ impl Index {
     /// A column that cannot be read whole has none: its own refusal, as the stream reader gives it.
     pub fn build(input: &[u8]) -> Result<Self, Refused> {
         let most = input.len() / LEAST_BYTES;
-        let mut places = (input.len() / LIKELY_BYTES).saturating_add(16).min(most);
+        let few = (input.len() / FEW_BYTES).min(FEW_PLACES);
+        let mut places = (input.len() / LIKELY_BYTES + few).saturating_add(16).min(most);
         loop {
             match Self::built(input, places) {
                 Err(refused) if refused.refusal == Refusal::TooFewPlaces && places < most => {
