@@ -19,6 +19,7 @@ mod index;
 mod labels;
 mod parts;
 mod patched_writer;
+mod planner;
 mod runs;
 mod salvage;
 mod streams;
@@ -33,6 +34,7 @@ pub use index::{build_index, look_up, read_from, Columns, Entry, Index, Lookup, 
 pub use labels::{label, Dictionary, Label};
 pub use parts::{read_parts, Parts};
 pub use patched_writer::write_patched;
+pub use planner::{check_proposal, write_column, Column, Segment};
 pub use runs::{list_faults, read_run, Faults};
 pub use salvage::{salvage, Groups, Salvaged};
 pub use streams::{read_stream, Stream};
