@@ -10,6 +10,7 @@ pub mod patched_runs;
 mod patches;
 pub mod salvage;
 mod varints;
+mod written_streams;
 
 pub use lines::probe_line;
 
@@ -76,6 +77,7 @@ impl Session {
         self.values();
         self.written();
         self.patched_runs();
+        self.written_streams();
         self.probe_lines();
     }
 
