@@ -1,7 +1,15 @@
-//! The column planner (document 02, item 10): the yardsticks that it is held to.
+//! The column planner (document 02, item 10): its algorithm as a prototype that allocates nothing, and
+//! the yardsticks that it is held to. The proved planner is written from it.
 #![forbid(unsafe_code)]
+// Loops by row number, as the proved planner has them.
+#![allow(clippy::needless_range_loop)]
 
 pub mod apache;
 pub mod bits;
 pub mod columns;
+pub mod frames;
+pub mod menu;
+pub mod patched;
+pub mod planner;
 pub mod runs;
+pub mod walk;
