@@ -37,7 +37,7 @@ pub use labels::{label, Dictionary, Label};
 pub use optimum::{optimum, Lists};
 pub use parts::{read_parts, Parts};
 pub use patched_writer::write_patched;
-pub use planner::{check_proposal, write_column, Column, Segment};
+pub use planner::{check_proposal, proposal_of, write_column, write_direct, Column, Segment};
 pub use runs::{list_faults, read_run, Faults};
 pub use salvage::{salvage, Groups, Salvaged};
 pub use sizes::{direct_size, fixed_delta_size, packed_delta_size, patched_size, short_repeat_size};

@@ -25,6 +25,23 @@ pub enum Column {
     Refused(Refusal),
 }
 
+/// The proposal that stands in five lent columns: first rows, rows, forms, widths, bases. Unequal columns
+/// are none.
+pub fn proposal_of(columns: [&[u64]; 5]) -> Option<Vec<Segment>> {
+    let [firsts, counts, forms, widths, bases] = columns;
+    if columns.iter().any(|column| column.len() != firsts.len()) {
+        return None;
+    }
+    let segment = |k: usize| Segment {
+        first: firsts[k],
+        rows: counts[k],
+        form: forms[k],
+        width: widths[k],
+        base: bases[k],
+    };
+    Some((0..firsts.len()).map(segment).collect())
+}
+
 /// The bytes of a proposed run, if its writer accepts it.
 fn run(rows: &[i64], signed: bool, segment: &Segment) -> Option<Vec<u8>> {
     let form = match segment.form {
@@ -65,9 +82,14 @@ pub fn check_proposal(rows: &[i64], signed: bool, proposal: &[Segment], lent: us
 /// bits, 512 rows each and the rest last, are written instead"; "8 if the direct runs don't fit
 /// either".
 pub fn write_column(rows: &[i64], signed: bool, proposal: &[Segment], lent: usize) -> Column {
-    if let Some(bytes) = check_proposal(rows, signed, proposal, lent) {
-        return Column::Planned(bytes);
+    match check_proposal(rows, signed, proposal, lent) {
+        Some(bytes) => Column::Planned(bytes),
+        None => write_direct(rows, signed, lent),
     }
+}
+
+/// Without a proposal that is accepted.
+pub fn write_direct(rows: &[i64], signed: bool, lent: usize) -> Column {
     let mut bytes = Vec::new();
     for some in rows.chunks(512) {
         match write_run(some, signed, Form::Direct, 31, usize::MAX) {

@@ -113,6 +113,30 @@ fn no_rows() {
 }
 
 #[test]
+fn five_columns() {
+    let columns = |of: fn(&Segment) -> u64| proposal().iter().map(of).collect::<Vec<u64>>();
+    let whole: [Vec<u64>; 5] = [
+        columns(|segment| segment.first),
+        columns(|segment| segment.rows),
+        columns(|segment| segment.form),
+        columns(|segment| segment.width),
+        columns(|segment| segment.base),
+    ];
+    assert_eq!(proposal_of(whole.each_ref().map(Vec::as_slice)), Some(proposal()));
+    assert_eq!(proposal_of([&[]; 5]), Some(vec![]));
+    // Unequal columns are no proposal.
+    for which in 0..5 {
+        let mut unequal = whole.clone();
+        unequal[which].push(0);
+        assert_eq!(proposal_of(unequal.each_ref().map(Vec::as_slice)), None);
+        unequal[which].truncate(4);
+        assert_eq!(proposal_of(unequal.each_ref().map(Vec::as_slice)), None);
+    }
+    assert_eq!(write_direct(&ROWS, false, 170), Column::Direct(direct()));
+    assert_eq!(write_direct(&ROWS, false, 169), Column::Refused(Refusal::whole(8, 0)));
+}
+
+#[test]
 fn direct_runs_of_512_rows() {
     let rows: Vec<i64> = (0..1030).map(|row| row - 500).collect();
     for signed in [false, true] {

@@ -163,3 +163,27 @@ fn random(size: Size) -> Vec<Named> {
         }),
     ]
 }
+
+/// A column of stretches, each of its own kind: any rows for tests, and no named column.
+pub fn stretches(dice: &mut Dice, most: i64) -> Vec<i64> {
+    let mut rows = Vec::new();
+    let count = 1 + dice.below(most);
+    while (rows.len() as i64) < count {
+        let (kind, length, bits) = (dice.below(6), 1 + dice.below(most / 2 + 1), dice.below(64));
+        let about = (dice.roll() >> dice.below(64)) as i64;
+        let step = dice.below(1000) - 500;
+        for at in 0..length {
+            let small = (dice.roll() & ((1 << bits) - 1)) as i64;
+            rows.push(match kind {
+                0 => about,
+                1 => about.wrapping_add(at * step),
+                2 => about.wrapping_add(small),
+                3 if dice.once_in(20) => dice.roll() as i64,
+                3 => about.wrapping_add(small & 255),
+                4 => about.wrapping_add(at * step).wrapping_add(small & 63),
+                _ => [i64::MIN, i64::MAX, 0, -1, i64::MIN + 1][dice.below(5) as usize],
+            });
+        }
+    }
+    rows
+}

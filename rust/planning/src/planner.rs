@@ -52,6 +52,14 @@ pub fn plan(rows: &[i64], signed: bool, segments: &mut [Segment]) -> usize {
     count
 }
 
+/// The same as a list of its own.
+pub fn proposed(rows: &[i64], signed: bool) -> Vec<Segment> {
+    let mut segments = vec![Run::WIDEST.segment(0, 0); rows.len()];
+    let count = plan(rows, signed, &mut segments);
+    segments.truncate(count);
+    segments
+}
+
 /// How many rows the first so many, in equal steps, go on with: a fixed delta takes them at no cost,
 /// behind the window too.
 fn stretch(rows: &[i64], count: usize) -> usize {

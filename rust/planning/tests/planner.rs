@@ -1,38 +1,13 @@
 //! What the planner proposes is accepted as long as it says, and never above the direct runs of 64
 //! bits; and the bars of request 10 on the named columns.
 use model::{check_proposal, optimum, Lists, Segment};
-use planning::{apache::apache, columns::*, patched, planner::plan, runs::*};
-
-fn planned(rows: &[i64], signed: bool) -> Vec<Segment> {
-    let mut segments = vec![Run::WIDEST.segment(0, 0); rows.len()];
-    let count = plan(rows, signed, &mut segments);
-    segments.truncate(count);
-    segments
-}
-
-/// A column of stretches, each of its own kind.
-fn stretches(dice: &mut Dice, most: i64) -> Vec<i64> {
-    let mut rows = Vec::new();
-    let count = 1 + dice.below(most);
-    while (rows.len() as i64) < count {
-        let (kind, length, bits) = (dice.below(6), 1 + dice.below(most / 2 + 1), dice.below(64));
-        let about = (dice.roll() >> dice.below(64)) as i64;
-        let step = dice.below(1000) - 500;
-        for at in 0..length {
-            let small = (dice.roll() & ((1 << bits) - 1)) as i64;
-            rows.push(match kind {
-                0 => about,
-                1 => about.wrapping_add(at * step),
-                2 => about.wrapping_add(small),
-                3 if dice.once_in(20) => dice.roll() as i64,
-                3 => about.wrapping_add(small & 255),
-                4 => about.wrapping_add(at * step).wrapping_add(small & 63),
-                _ => [i64::MIN, i64::MAX, 0, -1, i64::MIN + 1][dice.below(5) as usize],
-            });
-        }
-    }
-    rows
-}
+use planning::{
+    apache::apache,
+    columns::*,
+    patched,
+    planner::{plan, proposed},
+    runs::*,
+};
 
 #[test]
 fn accepted_and_never_above() {
@@ -40,7 +15,7 @@ fn accepted_and_never_above() {
     for turn in 0..20_000 {
         let rows = stretches(&mut dice, if turn % 20 == 0 { 1500 } else { 40 });
         for signed in [false, true] {
-            let bytes = bytes(&rows, signed, &planned(&rows, signed)).expect("accepted");
+            let bytes = bytes(&rows, signed, &proposed(&rows, signed)).expect("accepted");
             assert!(bytes <= 8 * rows.len() + 2 * rows.len().div_ceil(512), "{rows:?}");
         }
     }
@@ -52,7 +27,7 @@ fn accepted_by_the_model_that_writes() {
     for _ in 0..150 {
         let rows = stretches(&mut dice, 90);
         for signed in [false, true] {
-            for proposal in [planned(&rows, signed), apache(&rows, signed)] {
+            for proposal in [proposed(&rows, signed), apache(&rows, signed)] {
                 let size = bytes(&rows, signed, &proposal);
                 let written = check_proposal(&rows, signed, &proposal, usize::MAX);
                 assert_eq!(written.map(|bytes| bytes.len()), size);
@@ -67,7 +42,7 @@ fn no_patched_run_that_other_readers_lack() {
     let mut dice = Dice(3);
     for _ in 0..3000 {
         let rows = stretches(&mut dice, 300);
-        for segment in planned(&rows, true).iter().filter(|segment| segment.form == 4) {
+        for segment in proposed(&rows, true).iter().filter(|segment| segment.form == 4) {
             let rows = &rows[segment.first as usize..(segment.first + segment.rows) as usize];
             let (base, width) = (segment.base as i64, segment.width as usize);
             let (entries, size) = model::patched_size(rows, base, width).expect("accepted");
@@ -79,7 +54,7 @@ fn no_patched_run_that_other_readers_lack() {
 #[test]
 fn the_segments_that_are_lent() {
     let column = &columns(3000)[22];
-    let whole = planned(&column.rows, column.signed);
+    let whole = proposed(&column.rows, column.signed);
     for lent in 0..whole.len() + 5 {
         let mut segments = vec![Run::WIDEST.segment(0, 0); lent];
         let count = plan(&column.rows, column.signed, &mut segments);
@@ -96,7 +71,7 @@ fn at_most_what_apache_takes() {
         let both = |column: Named| [false, true].map(|signed| (column.name, signed, column.rows.clone()));
         for (name, signed, rows) in other_columns(count, seed).into_iter().flat_map(both) {
             let size = |proposal: Vec<Segment>| bytes(&rows, signed, &proposal).expect("accepted");
-            let (planned, apache) = (size(planned(&rows, signed)), size(apache(&rows, signed)));
+            let (planned, apache) = (size(proposed(&rows, signed)), size(apache(&rows, signed)));
             let narrowest = size(narrowest_direct(&rows, signed));
             assert!(planned <= apache, "{name} of {count}: {planned}, {apache}");
             assert!(planned <= narrowest, "{name} of {count}: {planned}, {narrowest}");
@@ -110,7 +85,7 @@ fn at_most_what_apache_takes() {
 fn near_the_optimum_on_60_rows() {
     let (mut ours, mut least) = (0, 0);
     for column in columns(60) {
-        ours += bytes(&column.rows, column.signed, &planned(&column.rows, column.signed)).expect("accepted");
+        ours += bytes(&column.rows, column.signed, &proposed(&column.rows, column.signed)).expect("accepted");
         least += optimum(&column.rows, column.signed, Lists::Any).0;
     }
     assert!(100 * ours <= 115 * least, "{ours}, {least}");
