@@ -4,7 +4,7 @@ use crate::exported::{self, case, check_word, column_word, word};
 use crate::{ByteOffset, Refused, RowNumber, Sign, MAX_ROWS};
 
 /// So many rows a run are reckoned with at first, and a few runs more.
-const LIKELY_ROWS: usize = 4;
+const LIKELY_ROWS: usize = 2;
 const FEW_RUNS: usize = 64;
 
 /// A run that is proposed for some rows of a column.
