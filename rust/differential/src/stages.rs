@@ -1,4 +1,6 @@
 //! What is compared, stage by stage.
+pub mod column_lines;
+pub mod columns;
 pub mod convert;
 pub mod count;
 mod cuts;
@@ -8,6 +10,7 @@ mod lines;
 pub mod parts;
 pub mod patched_runs;
 mod patches;
+pub mod plans;
 pub mod salvage;
 mod varints;
 mod written_streams;
@@ -78,6 +81,8 @@ impl Session {
         self.written();
         self.patched_runs();
         self.written_streams();
+        self.columns();
+        self.plans();
         self.probe_lines();
     }
 

@@ -91,7 +91,7 @@ impl Session {
     }
 
     /// The Rust's iterator gives the rows and takes all the bytes, or meets a run that it does not read.
-    fn read_back(&mut self, bytes: &[u8], signed: bool, rows: &[i64]) {
+    pub(super) fn read_back(&mut self, bytes: &[u8], signed: bool, rows: &[i64]) {
         let rust = oracle::read_stream(bytes, signed, 100_000);
         let given = rust.items.iter().map(|item| item.as_ref().ok().copied());
         let same = given.eq(rows.iter().map(|row| Some(*row)))
