@@ -117,32 +117,33 @@ pub fn column_room(rows: usize) -> usize {
 /// # Ok::<(), menakovitsy::Refused>(())
 /// ```
 pub fn write_column(rows: &[i64], sign: Sign, out: &mut [u8]) -> Result<WrittenColumn, Refused> {
-    write_proposed(rows, sign, &plan(rows, sign), out)
+    with_plan(rows, sign, |columns| write_by(rows, sign, columns, out))
 }
 
 /// What the planner proposes for a column: its segments cover the rows in order, and are accepted wherever
 /// the output has room. Of no rows there are none.
 #[must_use]
 pub fn plan(rows: &[i64], sign: Sign) -> Proposal {
-    // A run has a row at least. Most have many: so fewer are lent first, and all where they are too few.
-    let most = rows.len();
-    let likely = (most / LIKELY_ROWS).saturating_add(FEW_RUNS).min(most);
-    let proposal = planned(rows, sign, likely);
-    if proposal.columns[0].is_empty() && likely < most {
-        return planned(rows, sign, most);
-    }
-    proposal
+    with_plan(rows, sign, |columns| Proposal { columns: columns.map(<[u64]>::to_vec) })
 }
 
-/// The same with so many segments lent: none where they are too few.
-fn planned(rows: &[i64], sign: Sign, lent: usize) -> Proposal {
-    let mut columns = [(); 5].map(|()| vec![0; lent]);
-    let segments = plan_into(rows, sign, columns.each_mut().map(Vec::as_mut_slice));
-    for column in &mut columns {
-        column.truncate(segments);
-        column.shrink_to_fit();
+/// What is made of the planner's segments, in columns that are exactly theirs.
+fn with_plan<T>(rows: &[i64], sign: Sign, make: impl FnOnce([&[u64]; 5]) -> T) -> T {
+    // A run has a row at least. Most have many: so fewer are lent first, and all where they are too few.
+    let most = rows.len();
+    let mut lent = (most / LIKELY_ROWS).saturating_add(FEW_RUNS).min(most);
+    loop {
+        let mut places = vec![0; 5 * lent];
+        let (first, rest) = places.split_at_mut(lent);
+        let (counts, rest) = rest.split_at_mut(lent);
+        let (forms, rest) = rest.split_at_mut(lent);
+        let (widths, bases) = rest.split_at_mut(lent);
+        let segments = plan_into(rows, sign, [first, counts, forms, widths, bases]);
+        if segments > 0 || lent == most {
+            return make([&*first, counts, forms, widths, bases].map(|column| &column[..segments]));
+        }
+        lent = most;
     }
-    Proposal { columns }
 }
 
 /// The planner's proposal, in the first places of lent columns: first rows, rows, forms, widths, bases. It
@@ -253,7 +254,17 @@ pub fn write_proposed(
     proposal: &Proposal,
     out: &mut [u8],
 ) -> Result<WrittenColumn, Refused> {
-    let [first, counts, forms, widths, bases] = proposal.columns();
+    write_by(rows, sign, proposal.columns(), out)
+}
+
+/// The same by columns.
+fn write_by(
+    rows: &[i64],
+    sign: Sign,
+    columns: [&[u64]; 5],
+    out: &mut [u8],
+) -> Result<WrittenColumn, Refused> {
+    let [first, counts, forms, widths, bases] = columns;
     let mut words = Words::lent(0, 0);
     // SAFETY: as in `plan_into`.
     words.number = unsafe {

@@ -16,9 +16,14 @@ pub const AS_THE_PROTOTYPE: bool = true;
 /// The most segments that a line of the probe can lend.
 const LENT: usize = 8_192;
 
-/// A column of about as many rows as one of these says, and its flag.
-fn any(about: &[i64], random: &mut Random) -> (Vec<i64>, bool) {
-    let most = random.pick(about);
+/// A column, now and then a long one, and its flag.
+fn any(longest: i64, random: &mut Random) -> (Vec<i64>, bool) {
+    let most = match random.below(32) {
+        0 => longest,
+        1..=4 => 120,
+        5..=16 => 40,
+        _ => random.pick(&[2, 12, 12]),
+    };
     (stretches(&mut Dice(random.any()), most), random.once_in(2))
 }
 
@@ -44,7 +49,7 @@ impl Session {
             }
         }
         for _ in 0..self.size.pick(500, 10_000, 1_000_000) {
-            let (rows, signed) = any(&[2, 12, 12, 40, 40, 200, 1500], &mut self.random);
+            let (rows, signed) = any(1500, &mut self.random);
             self.plan(&rows, signed);
         }
     }
@@ -97,7 +102,7 @@ impl Session {
 
 /// Any column to plan, as a line for the probe: with segments enough, or some too few.
 pub fn probe_line(requests: &mut Requests, random: &mut Random) {
-    let (rows, signed) = any(&[2, 12, 12, 40, 40, 120], random);
+    let (rows, signed) = any(600, random);
     let segments = proposed(&rows, signed);
     let most = segments.len();
     let lent = random.pick(&[most, most, most + 1, rows.len(), most.saturating_sub(1), 0]).min(LENT);
