@@ -1,5 +1,6 @@
 //! docs/PLANNER.md: the bytes of all named columns, by the planner and by what it is measured against.
 use std::fmt::Write as _;
+use std::thread;
 
 use model::{optimum, Lists, Segment};
 
@@ -13,7 +14,7 @@ const FEW: usize = 60;
 
 /// The proposals are the linked library's.
 #[cfg(feature = "ours")]
-const PLANNER: &str = "The planner is the proved one, `orc_plan`, as the library has it.";
+const PLANNER: &str = "The planner is the library's, `orc_plan`.";
 
 #[cfg(feature = "ours")]
 fn planned(rows: &[i64], signed: bool) -> Vec<Segment> {
@@ -23,7 +24,7 @@ fn planned(rows: &[i64], signed: bool) -> Vec<Segment> {
 
 /// They are the prototype's: the library is not linked.
 #[cfg(not(feature = "ours"))]
-const PLANNER: &str = "The planner is the prototype in `rust/planning`: the proved one is not linked here.";
+const PLANNER: &str = "The planner is the prototype in `rust/planning`: the library's is not linked.";
 
 #[cfg(not(feature = "ours"))]
 fn planned(rows: &[i64], signed: bool) -> Vec<Segment> {
@@ -41,9 +42,13 @@ pub struct Figures {
     pub few: [usize; 4],
 }
 
-/// The figures of all columns.
+/// The figures of all columns, in their order: a thread for each, since the optimum takes long.
 pub fn figures() -> Vec<Figures> {
-    columns(ROWS).into_iter().map(of_column).collect()
+    thread::scope(|scope| {
+        let started: Vec<_> =
+            columns(ROWS).into_iter().map(|column| scope.spawn(move || of_column(column))).collect();
+        started.into_iter().map(|figures| figures.join().expect("a column's figures")).collect()
+    })
 }
 
 fn of_column(Named { name, signed, rows }: Named) -> Figures {

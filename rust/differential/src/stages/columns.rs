@@ -189,7 +189,7 @@ fn finished(mut asked: Asked, random: &mut Random) -> Asked {
 impl Session {
     pub(super) fn columns(&mut self) {
         self.tally.stage("columns by proposals");
-        for _ in 0..self.size.pick(2_000, 40_000, 600_000) {
+        for _ in 0..self.size.pick(2_000, 20_000, 600_000) {
             let asked = any(&mut self.random);
             #[cfg(feature = "ours")]
             if self.ours.is_some() {

@@ -48,7 +48,7 @@ impl Session {
                 }
             }
         }
-        for _ in 0..self.size.pick(500, 10_000, 1_000_000) {
+        for _ in 0..self.size.pick(500, 5_000, 1_000_000) {
             let (rows, signed) = any(1500, &mut self.random);
             self.plan(&rows, signed);
         }
