@@ -2,11 +2,11 @@
 use std::fmt::Write as _;
 use std::thread;
 
-use model::{optimum, Lists, Segment};
+use model::{check_proposal, optimum, Lists, Segment};
 
 use crate::apache::apache;
 use crate::columns::{columns, Named};
-use crate::runs::{bytes, narrowest_direct, widest_direct};
+use crate::runs::{narrowest_direct, widest_direct};
 
 /// The rows of each column, and the first of them that the optimum is found for.
 const ROWS: i64 = 5_000;
@@ -52,7 +52,9 @@ pub fn figures() -> Vec<Figures> {
 }
 
 fn of_column(Named { name, signed, rows }: Named) -> Figures {
-    let size = |rows: &[i64], plan: &[Segment]| bytes(rows, signed, plan).expect("accepted");
+    let size = |rows: &[i64], plan: &[Segment]| {
+        check_proposal(rows, signed, plan, usize::MAX).expect("it is accepted").len()
+    };
     let (rows, few) = (&rows[..], &rows[..FEW]);
     let all = [
         size(rows, &planned(rows, signed)),
@@ -96,9 +98,8 @@ pub fn text(figures: &[Figures]) -> String {
         "# What the planner makes of {} columns\n\n\
          Document 02, item 10. {PLANNER} `cargo run --release --offline -p planning` in `rust/` writes this \
          page; a test of that crate says when it is stale. The columns are those of \
-         `rust/planning/src/columns.rs`, the same on every machine. Each proposal is held to the model: it \
-         covers the rows in order, and each run's writer accepts it; the bytes are those that the writers \
-         make.\n\n\
+         `rust/planning/src/columns.rs`, the same on every machine. Each proposal is one \
+         that the model of the check accepts, and the bytes are those that the model of the writer makes.\n\n\
          - **Direct 64**: direct runs of 64 bits, 512 rows each, which are written where a proposal is not \
          accepted.\n\
          - **Narrowest direct**: direct runs of 512 rows, each at the narrowest kept width.\n\
