@@ -16,8 +16,9 @@ const FEW: usize = 60;
 #[cfg(feature = "ours")]
 const PLANNER: &str = "The planner is the library's, `orc_plan`.";
 
+/// What the planner that the page shows proposes.
 #[cfg(feature = "ours")]
-fn planned(rows: &[i64], signed: bool) -> Vec<Segment> {
+pub fn planned(rows: &[i64], signed: bool) -> Vec<Segment> {
     let sign = if signed { menakovitsy::Sign::Signed } else { menakovitsy::Sign::Unsigned };
     model::proposal_of(menakovitsy::plan(rows, sign).columns()).expect("columns of one length")
 }
@@ -26,8 +27,9 @@ fn planned(rows: &[i64], signed: bool) -> Vec<Segment> {
 #[cfg(not(feature = "ours"))]
 const PLANNER: &str = "The planner is the prototype in `rust/planning`: the library's is not linked.";
 
+/// What the planner that the page shows proposes.
 #[cfg(not(feature = "ours"))]
-fn planned(rows: &[i64], signed: bool) -> Vec<Segment> {
+pub fn planned(rows: &[i64], signed: bool) -> Vec<Segment> {
     crate::planner::proposed(rows, signed)
 }
 
