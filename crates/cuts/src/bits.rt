@@ -55,7 +55,10 @@ pub(crate) fn varint(number: u64) -> u64 {
 // The class of the narrowest kept width that has so many bits. Sums and no branches, since rows vary.
 pub(crate) fn class(bits: u64) -> u64 {
     let above = pattern::sub(bits, 1) % 64;
-    let small = pattern::add((0 < above) as u64, pattern::add((1 < above) as u64, (3 < above) as u64));
+    let small = pattern::add(
+        (0 < above) as u64,
+        pattern::add((1 < above) as u64, (3 < above) as u64),
+    );
     pattern::add(above >> 3, small)
 }
 

@@ -23,7 +23,11 @@ pub(crate) fn tally(cells: &mut [u64; 16], k: u64, more: u64) {
 
 // Row i of a run: 0 where it has none.
 pub(crate) fn row(rows: &[i64], i: usize) -> u64 {
-    if i < rows.len() { pattern::to_u64(rows[i]) } else { 0 }
+    if i < rows.len() {
+        pattern::to_u64(rows[i])
+    } else {
+        0
+    }
 }
 
 // What is put into a place that is not there is lost.

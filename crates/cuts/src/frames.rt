@@ -28,7 +28,11 @@ pub(crate) struct Frame {
 // Bits of a patched run's header and base.
 pub(crate) fn head(base: u64) -> u64 {
     let bytes = patched::base_bytes(base);
-    if bytes == 9 { FAR } else { pattern::add(32, bytes << 3) }
+    if bytes == 9 {
+        FAR
+    } else {
+        pattern::add(32, bytes << 3)
+    }
 }
 
 impl Frame {
@@ -66,28 +70,34 @@ impl Frame {
         pattern::add(bits::whole_bytes(self.bits), self.list)
     }
 
-    // One row more.
+    // One row more. The rows inside come first and alone: they are the most, and the code for them is small enough to stand where it is used.
     pub(crate) fn take(mut self, width: u64, at: u64, row: u64) -> Frame {
         self.bits = pattern::add(self.bits, width);
-        if pattern::sub(row, self.low) >> (width % 64) == 0 {
-            if bits::is_below(row, self.high) {
-                return self;
-            }
-            return self.raised(row);
+        if pattern::sub(row, self.low) >> (width % 64) != 0 {
+            return self.outside(width, at, row);
         }
-        if bits::is_below(row, self.low) {
-            if pattern::sub(self.high, row) >> (width % 64) == 0 {
-                return self.lowered(row);
-            }
-            if at == pattern::add(self.start, 1) {
-                // the first row was the one that sticks out
-                let mut frame = self.lowered(row);
-                frame.high = row;
-                frame.highs = 1;
-                return frame.patched(width, self.start, self.low);
-            }
+        if bits::is_below(row, self.high) {
+            return self;
         }
-        self.patched(width, at, row)
+        self.raised(row)
+    }
+
+    // A row outside: the frame is lowered to it, or it becomes a patch.
+    fn outside(self, width: u64, at: u64, row: u64) -> Frame {
+        if !bits::is_below(row, self.low) {
+            return self.patched(width, at, row);
+        }
+        if pattern::sub(self.high, row) >> (width % 64) == 0 {
+            return self.lowered(row);
+        }
+        if at != pattern::add(self.start, 1) {
+            return self.patched(width, at, row);
+        }
+        // the first row was the one that sticks out
+        let mut frame = self.lowered(row);
+        frame.high = row;
+        frame.highs = 1;
+        frame.patched(width, self.start, self.low)
     }
 
     fn lowered(mut self, row: u64) -> Frame {
@@ -97,11 +107,19 @@ impl Frame {
     }
 
     fn raised(mut self, row: u64) -> Frame {
-        self.highs = if row == self.high { pattern::add(self.highs, 1) } else { 1 };
+        self.highs = if row == self.high {
+            pattern::add(self.highs, 1)
+        } else {
+            1
+        };
         self.high = row;
         if self.entries == 0 {
             // a list must not be empty: the greatest rows are patched, over a base 2^W below them
-            self.list = if 31 < self.highs { FAR } else { bits::whole_bytes(bits::times(9, self.highs)) };
+            self.list = if 31 < self.highs {
+                FAR
+            } else {
+                bits::whole_bytes(bits::times(9, self.highs))
+            };
         }
         self
     }
@@ -109,11 +127,18 @@ impl Frame {
     fn patched(mut self, width: u64, at: u64, row: u64) -> Frame {
         let distance = pattern::sub(at, self.last);
         self.last = at;
-        self.streak = if distance == 1 { pattern::add(self.streak, 1) } else { 1 };
+        self.streak = if distance == 1 {
+            pattern::add(self.streak, 1)
+        } else {
+            1
+        };
         self.entries = pattern::add(self.entries, patched::entries(distance));
         self.gap = bits::most(self.gap, bits::least(distance, 255));
         self.reach = bits::most(self.reach, bits::needs(pattern::sub(row, self.low)));
-        let patch = patched::table(pattern::sub(bits::most(self.reach, pattern::add(width, 1)), width));
+        let patch = patched::table(pattern::sub(
+            bits::most(self.reach, pattern::add(width, 1)),
+            width,
+        ));
         self.list = if self.entries <= 31 && patched::is_read_everywhere(patch) {
             bits::whole_bytes(bits::times(self.entries, patched::entry(patch, self.gap)))
         } else {

@@ -6,6 +6,7 @@
 // being those of patched runs; the way is turned round, and its runs are proposed, all of them or all but the last.
 ghost use Prim.Native.Nat.{_≤_, _<_};
 ghost use lib.ListN.{length};
+ghost use Rattle.cuts.specs.Proposed.{Proposed};
 use util::pattern;
 
 mod bits;
@@ -52,15 +53,17 @@ fn further(at: usize, rows: u64, end: usize) -> usize
     }
 }
 
+// Whether the step to row i is this one.
+fn is_step(rows: &[i64], i: usize, step: u64) -> bool {
+    0 < i && pattern::sub(cells::row(rows, i), cells::row(rows, i - 1)) == step
+}
+
 // How many rows the first so many, in equal steps, go on with: a fixed delta takes them at no cost, behind the window too.
 fn stretch(rows: &[i64], count: u64) -> u64 {
     let step = pattern::sub(cells::row(rows, 1), cells::row(rows, 0));
     let end = least(rows.len(), WINDOW as usize);
     let mut i = count as usize;
-    while i < end {
-        if pattern::sub(cells::row(rows, i), cells::row(rows, pattern::sub(i as u64, 1) as usize)) != step {
-            return i as u64;
-        }
+    while i < end && is_step(rows, i, step) {
         i += 1;
     }
     i as u64
@@ -91,10 +94,10 @@ fn stop_of(at: usize, last: u64, end: usize, rows: usize) -> usize
 
 // Puts a run into place k of the columns.
 fn put(
+    run: Run,
     k: usize,
     at: usize,
     rows: usize,
-    run: Run,
     first: &mut [u64],
     counts: &mut [u64],
     forms: &mut [u64],
@@ -134,7 +137,17 @@ fn lay_runs(
         let state = way::at(way, from);
         let next = run_end(rows, at, state, from, (end - start) as u64);
         let run = runs::of(&rows[at..next], signed, states::form(state));
-        put(count, at, next - at, run, first, counts, forms, widths, bases);
+        put(
+            run,
+            count,
+            at,
+            next - at,
+            first,
+            counts,
+            forms,
+            widths,
+            bases,
+        );
         bytes = pattern::add(bytes, run.bytes);
         count += 1;
         at = next;
@@ -162,7 +175,19 @@ fn lay_window(
     walk::walk(&rows[at..end], signed, way);
     let last = way::turn(way, (end - at) as u64);
     let stop = stop_of(at, last, end, rows.len());
-    lay_runs(rows, signed, end, stop, way, laid, first, counts, forms, widths, bases)
+    lay_runs(
+        rows,
+        signed,
+        end,
+        stop,
+        way,
+        laid,
+        first,
+        counts,
+        forms,
+        widths,
+        bases,
+    )
 }
 
 // The direct runs of 64 bits.
@@ -178,7 +203,17 @@ fn lay_widest(
     let mut k: usize = 0;
     while at < rows {
         let end = further(at, WINDOW, rows);
-        put(k, at, end - at, runs::widest(), first, counts, forms, widths, bases);
+        put(
+            runs::widest(),
+            k,
+            at,
+            end - at,
+            first,
+            counts,
+            forms,
+            widths,
+            bases,
+        );
         at = end;
         k += 1;
     }
@@ -201,9 +236,23 @@ fn lay_all(
     bases: &mut [u64],
 ) -> Laid {
     let mut way = way::start();
-    let mut laid = Laid { at: 0, count: 0, bytes: 0 };
+    let mut laid = Laid {
+        at: 0,
+        count: 0,
+        bytes: 0,
+    };
     while laid.at < rows.len() {
-        laid = lay_window(rows, signed, &mut way, laid, first, counts, forms, widths, bases);
+        laid = lay_window(
+            rows,
+            signed,
+            &mut way,
+            laid,
+            first,
+            counts,
+            forms,
+            widths,
+            bases,
+        );
     }
     laid
 }
@@ -236,9 +285,15 @@ pub fn propose(
     widths: &mut [u64],
     bases: &mut [u64],
 ) -> usize
-    ensures { λ r. ⌜ (r ≤ length (now (first .entry))) × (r ≤ length (now (counts .entry))) × (r ≤ length (now (forms .entry))) × (r ≤ length (now (widths .entry))) × (r ≤ length (now (bases .entry))) ⌝ }
+    ensures { λ r. ⌜ Proposed (now (first .entry)) (now (counts .entry)) (now (forms .entry)) (now (widths .entry)) (now (bases .entry)) r ⌝ }
 {
-    let room = least(first.len(), least(counts.len(), least(forms.len(), least(widths.len(), bases.len()))));
+    let room = least(
+        first.len(),
+        least(
+            counts.len(),
+            least(forms.len(), least(widths.len(), bases.len())),
+        ),
+    );
     let count = lay(rows, signed, first, counts, forms, widths, bases);
     if count <= room { count } else { 0 }
 }

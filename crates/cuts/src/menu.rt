@@ -39,9 +39,15 @@ impl Chosen {
         let first = self.first | self.count << (class % 16 * 4);
         if take {
             cells::put(widths, self.count, states::more(bits::width(class)));
-            Chosen { count: pattern::add(self.count, 1), first }
+            Chosen {
+                count: pattern::add(self.count, 1),
+                first,
+            }
         } else {
-            Chosen { count: self.count, first }
+            Chosen {
+                count: self.count,
+                first,
+            }
         }
     }
 }
@@ -49,9 +55,17 @@ impl Chosen {
 impl Frames {
     fn with(self, class: u64) -> Frames {
         if self.count == 0 {
-            Frames { count: 1, one: class, two: class }
+            Frames {
+                count: 1,
+                one: class,
+                two: class,
+            }
         } else {
-            Frames { count: 2, one: self.one, two: if self.count == 1 { class } else { self.two } }
+            Frames {
+                count: 2,
+                one: self.one,
+                two: if self.count == 1 { class } else { self.two },
+            }
         }
     }
 }
@@ -62,7 +76,12 @@ pub(crate) fn first(of: u64, class: u64) -> u64 {
 }
 
 // The menu of a window. The widths come as a state counts them.
-pub(crate) fn of(rows: &[i64], signed: bool, direct: &mut [u64; 16], packed: &mut [u64; 16]) -> Menu {
+pub(crate) fn of(
+    rows: &[i64],
+    signed: bool,
+    direct: &mut [u64; 16],
+    packed: &mut [u64; 16],
+) -> Menu {
     let mut numbers = cells::all(0);
     let mut steps = cells::all(0);
     let uneven = count(rows, signed, &mut numbers, &mut steps);
@@ -80,17 +99,39 @@ pub(crate) fn of(rows: &[i64], signed: bool, direct: &mut [u64; 16], packed: &mu
 
 // Counts a row by the class of its number, and its step by that of its size where it differs from the step before: equal steps are a fixed delta's,
 // and say nothing of the others.
-fn tally(seen: Seen, row: u64, signed: bool, numbers: &mut [u64; 16], steps: &mut [u64; 16]) -> Seen {
-    cells::tally(numbers, bits::class(bits::needs(bits::number(row, signed))), 1);
+fn tally(
+    seen: Seen,
+    row: u64,
+    signed: bool,
+    numbers: &mut [u64; 16],
+    steps: &mut [u64; 16],
+) -> Seen {
+    cells::tally(
+        numbers,
+        bits::class(bits::needs(bits::number(row, signed))),
+        1,
+    );
     let step = pattern::sub(row, seen.row);
     let differs = (step != seen.step) as u64;
-    cells::tally(steps, bits::class(bits::needs(bits::magnitude(step))), differs);
-    Seen { row, step, uneven: pattern::add(seen.uneven, differs) }
+    cells::tally(
+        steps,
+        bits::class(bits::needs(bits::magnitude(step))),
+        differs,
+    );
+    Seen {
+        row,
+        step,
+        uneven: pattern::add(seen.uneven, differs),
+    }
 }
 
 // Counts all rows. Answers how many steps differ.
 fn count(rows: &[i64], signed: bool, numbers: &mut [u64; 16], steps: &mut [u64; 16]) -> u64 {
-    let mut seen = Seen { row: cells::row(rows, 0), step: 0, uneven: 0 };
+    let mut seen = Seen {
+        row: cells::row(rows, 0),
+        step: 0,
+        uneven: 0,
+    };
     let mut i: usize = 0;
     while i < rows.len() {
         seen = tally(seen, cells::row(rows, i), signed, numbers, steps);
@@ -127,7 +168,11 @@ fn choose_packed(steps: &[u64; 16], uneven: u64, widths: &mut [u64; 16]) -> Chos
     let mut k = 0;
     while k < 11 {
         let here = cells::at(steps, k);
-        chosen = chosen.offer(k, 0 < k && k < 10 && is_common(pattern::add(here, narrow), uneven), widths);
+        chosen = chosen.offer(
+            k,
+            0 < k && k < 10 && is_common(pattern::add(here, narrow), uneven),
+            widths,
+        );
         narrow = if k == 0 { here } else { 0 };
         k += 1;
     }
@@ -137,7 +182,11 @@ fn choose_packed(steps: &[u64; 16], uneven: u64, widths: &mut [u64; 16]) -> Chos
 // The two narrowest frames that hold every fourth step: a frame of W bits has no wider step between two of its rows. A frame as wide as
 // the widest direct run gains nothing. Up to 40 bits, and not 2, which is near 1 and 4.
 fn choose_frames(steps: &[u64; 16], uneven: u64, widest: u64) -> Frames {
-    let mut frames = Frames { count: 0, one: 0, two: 0 };
+    let mut frames = Frames {
+        count: 0,
+        one: 0,
+        two: 0,
+    };
     let mut held = 0;
     let mut k = 0;
     while k < 8 {

@@ -66,7 +66,12 @@ pub(crate) fn is_read_everywhere(patch: u64) -> bool {
 
 // The list over a base.
 fn list_over(rows: &[i64], base: u64, width: u64) -> List {
-    let mut list = List { entries: 0, last: 0, gap: 1, patches: 0 };
+    let mut list = List {
+        entries: 0,
+        last: 0,
+        gap: 1,
+        patches: 0,
+    };
     let mut i: usize = 0;
     while i < rows.len() {
         let above = pattern::sub(cells::row(rows, i), base) >> (width % 64);
@@ -85,5 +90,8 @@ pub(crate) fn bytes(rows: &[i64], base: u64, width: u64) -> u64 {
     }
     let values = bits::whole_bytes(bits::times(rows.len() as u64, width));
     let list = bits::whole_bytes(bits::times(l.entries, entry(patch, l.gap)));
-    pattern::add(pattern::add(4, base_bytes(base)), pattern::add(values, list) >> 3)
+    pattern::add(
+        pattern::add(4, base_bytes(base)),
+        pattern::add(values, list) >> 3,
+    )
 }

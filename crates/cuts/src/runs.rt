@@ -4,7 +4,11 @@ use crate::cells;
 use crate::frames;
 use crate::frames::Frame;
 use crate::patched;
-use crate::states::{DIRECT, FIXED, PACKED, PATCHED, SHORT};
+use crate::states::DIRECT;
+use crate::states::FIXED;
+use crate::states::PACKED;
+use crate::states::PATCHED;
+use crate::states::SHORT;
 use util::pattern;
 
 pub(crate) struct Run {
@@ -16,7 +20,12 @@ pub(crate) struct Run {
 
 // Direct at 64 bits, which every row has; its bytes are not asked for.
 pub(crate) fn widest() -> Run {
-    Run { form: DIRECT, width: 31, base: 0, bytes: 0 }
+    Run {
+        form: DIRECT,
+        width: 31,
+        base: 0,
+        bytes: 0,
+    }
 }
 
 // Packed values behind a head of so many bytes.
@@ -29,7 +38,12 @@ pub(crate) fn of(rows: &[i64], signed: bool, form: u64) -> Run {
     match form {
         SHORT => short(rows, signed),
         DIRECT => direct(rows, signed),
-        FIXED => Run { form, width: 0, base: 0, bytes: delta_head(rows, signed) },
+        FIXED => Run {
+            form,
+            width: 0,
+            base: 0,
+            bytes: delta_head(rows, signed),
+        },
         PACKED => packed(rows, signed),
         _ => patched(rows, signed, bits::width(pattern::sub(form, PATCHED))),
     }
@@ -37,7 +51,12 @@ pub(crate) fn of(rows: &[i64], signed: bool, form: u64) -> Run {
 
 fn short(rows: &[i64], signed: bool) -> Run {
     let width = bits::whole_bytes(bits::needs(bits::number(cells::row(rows, 0), signed))) >> 3;
-    Run { form: SHORT, width, base: 0, bytes: pattern::add(1, width) }
+    Run {
+        form: SHORT,
+        width,
+        base: 0,
+        bytes: pattern::add(1, width),
+    }
 }
 
 fn direct(rows: &[i64], signed: bool) -> Run {
@@ -56,7 +75,11 @@ fn packed(rows: &[i64], signed: bool) -> Run {
         form: PACKED,
         width: bits::code(class),
         base: 0,
-        bytes: bytes(delta_head(rows, signed), pattern::sub(rows.len() as u64, 2), bits::width(class)),
+        bytes: bytes(
+            delta_head(rows, signed),
+            pattern::sub(rows.len() as u64, 2),
+            bits::width(class),
+        ),
     }
 }
 
@@ -67,7 +90,12 @@ fn patched(rows: &[i64], signed: bool, width: u64) -> Run {
     let bytes = patched::bytes(rows, base, width);
     let direct = direct(rows, signed);
     if bytes < direct.bytes {
-        return Run { form: PATCHED, width, base, bytes };
+        return Run {
+            form: PATCHED,
+            width,
+            base,
+            bytes,
+        };
     }
     direct
 }
@@ -76,7 +104,10 @@ fn patched(rows: &[i64], signed: bool, width: u64) -> Run {
 fn delta_head(rows: &[i64], signed: bool) -> u64 {
     let first = cells::row(rows, 0);
     let step = pattern::sub(cells::row(rows, 1), first);
-    let bits = pattern::add(bits::varint(bits::number(first, signed)), bits::varint(bits::number(step, true)));
+    let bits = pattern::add(
+        bits::varint(bits::number(first, signed)),
+        bits::varint(bits::number(step, true)),
+    );
     pattern::add(2, bits >> 3)
 }
 
@@ -91,16 +122,22 @@ fn numbers(rows: &[i64], signed: bool) -> u64 {
     all
 }
 
+// The step to row i, turned round in a run that falls.
+fn step_to(rows: &[i64], i: usize, falls: bool) -> u64 {
+    if i == 0 {
+        return 0;
+    }
+    let step = pattern::sub(cells::row(rows, i), cells::row(rows, i - 1));
+    if falls { pattern::sub(0, step) } else { step }
+}
+
 // The bits of all magnitudes behind the first step, one over the other.
 fn magnitudes(rows: &[i64]) -> u64 {
-    let mut behind = cells::row(rows, 1);
-    let falls = pattern::sub(behind, cells::row(rows, 0)) >> 63;
+    let falls = 1 == step_to(rows, 1, false) >> 63;
     let mut all = 0;
     let mut i: usize = 2;
     while i < rows.len() {
-        let row = cells::row(rows, i);
-        all |= if falls == 1 { pattern::sub(behind, row) } else { pattern::sub(row, behind) };
-        behind = row;
+        all |= step_to(rows, i, falls);
         i += 1;
     }
     all

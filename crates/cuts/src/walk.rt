@@ -5,9 +5,15 @@ use crate::cells;
 use crate::frames;
 use crate::frames::Frame;
 use crate::menu;
-use crate::menu::{Frames, Menu};
+use crate::menu::Frames;
+use crate::menu::Menu;
 use crate::states;
-use crate::states::{CLOSED, DIRECT, FIXED, PACKED, PATCHED, SHORT};
+use crate::states::CLOSED;
+use crate::states::DIRECT;
+use crate::states::FIXED;
+use crate::states::PACKED;
+use crate::states::PATCHED;
+use crate::states::SHORT;
 use crate::way;
 use util::pattern;
 
@@ -47,9 +53,19 @@ struct Framed {
 
 impl Open {
     fn none() -> Open {
-        let steps = Steps { step: 0, falls: 0, turns: 0, fixed: CLOSED, equal: 0 };
+        let steps = Steps {
+            step: 0,
+            falls: 0,
+            turns: 0,
+            fixed: CLOSED,
+            equal: 0,
+        };
         let frame = Frame::none();
-        Open { steps, one: frame, two: frame }
+        Open {
+            steps,
+            one: frame,
+            two: frame,
+        }
     }
 }
 
@@ -58,13 +74,25 @@ impl Steps {
     fn take(self, step: u64, from: u64, bits: u64) -> Steps {
         let fresh = states::state(bits, from, FIXED);
         // a step of 0 goes on with either direction
-        let turns = if step == 0 { 0 } else { step >> 63 ^ self.falls };
+        let turns = if step == 0 {
+            0
+        } else {
+            step >> 63 ^ self.falls
+        };
         Steps {
             step,
             falls: self.falls ^ turns,
             turns,
-            fixed: if step == self.step { bits::least(self.fixed, fresh) } else { fresh },
-            equal: if step == 0 { pattern::add(self.equal, 1) } else { 0 },
+            fixed: if step == self.step {
+                bits::least(self.fixed, fresh)
+            } else {
+                fresh
+            },
+            equal: if step == 0 {
+                pattern::add(self.equal, 1)
+            } else {
+                0
+            },
         }
     }
 
@@ -82,7 +110,10 @@ impl Steps {
         if self.turns == 1 {
             menu.packeds
         } else {
-            menu::first(menu.packed_of, bits::class(bits::needs(bits::magnitude(self.step))))
+            menu::first(
+                menu.packed_of,
+                bits::class(bits::needs(bits::magnitude(self.step))),
+            )
         }
     }
 }
@@ -156,7 +187,15 @@ fn go_patched(frame: Frame, class: u64, at: u64, row: u64, before: u64, best: u6
 }
 
 // The patched runs.
-fn go_frames(one: Frame, two: Frame, frames: Frames, at: u64, row: u64, before: u64, best: u64) -> Framed {
+fn go_frames(
+    one: Frame,
+    two: Frame,
+    frames: Frames,
+    at: u64,
+    row: u64,
+    before: u64,
+    best: u64,
+) -> Framed {
     if frames.count == 0 {
         return Framed { one, two, best };
     }
@@ -164,11 +203,19 @@ fn go_frames(one: Frame, two: Frame, frames: Frames, at: u64, row: u64, before: 
     let f = go_patched(one, frames.one, at, row, opened, best);
     let one = f.frame;
     if frames.count == 1 {
-        return Framed { one, two, best: f.best };
+        return Framed {
+            one,
+            two,
+            best: f.best,
+        };
     }
     let g = go_patched(two, frames.two, at, row, opened, f.best);
     let two = g.frame;
-    Framed { one, two, best: g.best }
+    Framed {
+        one,
+        two,
+        best: g.best,
+    }
 }
 
 // The runs of equal and of packed steps. From the second row on there is a step; a run that begins with it begins at the row before.
@@ -183,16 +230,31 @@ fn go_steps(
     way: &[u64; 513],
 ) -> Stepped {
     if i == 0 {
-        return Stepped { steps, best: CLOSED };
+        return Stepped {
+            steps,
+            best: CLOSED,
+        };
     }
     let from = i as u64 - 1;
     let behind = cells::row(rows, i - 1);
     let step = pattern::sub(cells::row(rows, i), behind);
-    let head = pattern::add(bits::varint(bits::number(behind, signed)), bits::varint(bits::number(step, true)));
+    let head = pattern::add(
+        bits::varint(bits::number(behind, signed)),
+        bits::varint(bits::number(step, true)),
+    );
     let bits = pattern::add(way::bits_to(way, from), pattern::add(16, head));
     let on = steps.take(step, from, bits);
-    let best = go_packed(packed, widths, menu.packeds, on.first(menu), on.packed(from, bits));
-    Stepped { steps: on, best: bits::least(best, on.fixed) }
+    let best = go_packed(
+        packed,
+        widths,
+        menu.packeds,
+        on.first(menu),
+        on.packed(from, bits),
+    );
+    Stepped {
+        steps: on,
+        best: bits::least(best, on.fixed),
+    }
 }
 
 // Row i of the window: every open run with it, and the cheapest in the way.
@@ -215,9 +277,21 @@ fn go(
     let first = menu::first(menu.direct_of, bits::class(bits));
     let fresh = states::state(pattern::add(before, 16), at, DIRECT);
     let best = go_direct(direct, direct_widths, menu.directs, first, fresh);
-    let stepped = go_steps(open.steps, rows, i, signed, menu, packed, packed_widths, way);
+    let stepped = go_steps(
+        open.steps,
+        rows,
+        i,
+        signed,
+        menu,
+        packed,
+        packed_widths,
+        way,
+    );
     let steps = stepped.steps;
-    let best = bits::least(bits::least(best, stepped.best), go_short(way, at, steps.equal, bits));
+    let best = bits::least(
+        bits::least(best, stepped.best),
+        go_short(way, at, steps.equal, bits),
+    );
     let framed = go_frames(open.one, open.two, menu.frames, at, row, before, best);
     let one = framed.one;
     let two = framed.two;
@@ -239,7 +313,18 @@ fn along(
     let mut open = Open::none();
     let mut i: usize = 0;
     while i < rows.len() {
-        open = go(open, rows, i, signed, menu, &mut direct, &mut packed, direct_widths, packed_widths, way);
+        open = go(
+            open,
+            rows,
+            i,
+            signed,
+            menu,
+            &mut direct,
+            &mut packed,
+            direct_widths,
+            packed_widths,
+            way,
+        );
         i += 1;
     }
 }

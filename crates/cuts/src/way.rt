@@ -34,7 +34,11 @@ pub(crate) fn bits_to(way: &[u64; 513], row: u64) -> u64 {
 
 // The way up to a row ends with this run, whose bytes are whole.
 pub(crate) fn end(way: &mut [u64; 513], row: u64, run: u64) {
-    put(way, row, states::more(bits::whole_bytes(states::bits(run))) | run & 16383);
+    put(
+        way,
+        row,
+        states::more(bits::whole_bytes(states::bits(run))) | run & 16383,
+    );
 }
 
 // Where a run begins that has an end: before it, whatever the state says.

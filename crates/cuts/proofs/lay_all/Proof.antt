@@ -1,13 +1,13 @@
 use borrow.Author.Needs.{needs}
-use mathlib.Core.Path.{_≡_}
 use Prim.Native.Nat.{_≤_, _-_}
 use lib.ListN.{length}
+use Rattle.cuts.proofs.Columns.{Kept}
 use Rattle.cuts.proofs.lay_all.Statement.{statement}
 use Rattle.cuts.proofs.lay_all.Tie as tie
 
 abbrev Inv-loop : tie.InvT-loop
 Inv-loop rows signed first₀ counts₀ forms₀ widths₀ bases₀ way₀ laid₀ first counts forms widths bases way laid =
-    (laid .count ≤ laid .at) × (laid .at ≤ length rows) × (length first ≡ length first₀) × (length counts ≡ length counts₀) × (length forms ≡ length forms₀) × (length widths ≡ length widths₀) × (length bases ≡ length bases₀)
+    (laid .count ≤ laid .at) × (laid .at ≤ length rows) × Kept first₀ counts₀ forms₀ widths₀ bases₀ first counts forms widths bases
 
 abbrev μ-loop : tie.MeasureT-loop
 μ-loop rows signed first₀ counts₀ forms₀ widths₀ bases₀ way₀ laid₀ first counts forms widths bases way laid = length rows - laid .at

@@ -1,13 +1,13 @@
 use borrow.Author.Needs.{needs}
-use mathlib.Core.Path.{_≡_}
 use Prim.Native.Nat.{_≤_, _-_}
 use lib.ListN.{length}
+use Rattle.cuts.proofs.Columns.{Kept}
 use Rattle.cuts.proofs.lay_runs.Statement.{statement}
 use Rattle.cuts.proofs.lay_runs.Tie as tie
 
 abbrev Inv-loop : tie.InvT-loop
 Inv-loop rows signed end stop way first₀ counts₀ forms₀ widths₀ bases₀ start at₀ count₀ bytes₀ first counts forms widths bases at count bytes =
-    (start ≤ at) × (at ≤ length rows) × (count ≤ at) × (length first ≡ length first₀) × (length counts ≡ length counts₀) × (length forms ≡ length forms₀) × (length widths ≡ length widths₀) × (length bases ≡ length bases₀)
+    (start ≤ at) × (at ≤ length rows) × (count ≤ at) × Kept first₀ counts₀ forms₀ widths₀ bases₀ first counts forms widths bases
 
 abbrev μ-loop : tie.MeasureT-loop
 μ-loop rows signed end stop way first₀ counts₀ forms₀ widths₀ bases₀ start at₀ count₀ bytes₀ first counts forms widths bases at count bytes = length rows - at

@@ -1,13 +1,12 @@
 use borrow.Author.Needs.{needs}
-use mathlib.Core.Path.{_≡_}
 use Prim.Native.Nat.{_≤_, _-_}
-use lib.ListN.{length}
+use Rattle.cuts.proofs.Columns.{Kept}
 use Rattle.cuts.proofs.lay_widest.Statement.{statement}
 use Rattle.cuts.proofs.lay_widest.Tie as tie
 
 abbrev Inv-loop : tie.InvT-loop
 Inv-loop rows first₀ counts₀ forms₀ widths₀ bases₀ at₀ k₀ first counts forms widths bases at k =
-    (k ≤ at) × (at ≤ rows) × (length first ≡ length first₀) × (length counts ≡ length counts₀) × (length forms ≡ length forms₀) × (length widths ≡ length widths₀) × (length bases ≡ length bases₀)
+    (k ≤ at) × (at ≤ rows) × Kept first₀ counts₀ forms₀ widths₀ bases₀ first counts forms widths bases
 
 abbrev μ-loop : tie.MeasureT-loop
 μ-loop rows first₀ counts₀ forms₀ widths₀ bases₀ at₀ k₀ first counts forms widths bases at k = rows - at
@@ -18,11 +17,11 @@ loop-holds c = search needs
 further-requires : tie.Need-further-requires Inv-loop μ-loop
 further-requires c κs = search needs
 
-sub-put : tie.Need-sub-put Inv-loop μ-loop
-sub-put c = search needs
-
 widest-requires : tie.Need-widest-requires Inv-loop μ-loop
 widest-requires c κs = search needs
+
+sub-put : tie.Need-sub-put Inv-loop μ-loop
+sub-put c = search needs
 
 put-requires : tie.Need-put-requires Inv-loop μ-loop
 put-requires c κs = search needs
@@ -62,8 +61,8 @@ lay-widest-spec =
     μ-loop
     loop-holds
     further-requires
-    sub-put
     widest-requires
+    sub-put
     put-requires
     add-k
     loop-less

@@ -24,20 +24,8 @@ least-requires c κs = search needs
 loop-holds : tie.Need-loop-holds Inv-loop μ-loop
 loop-holds c = search needs
 
-row-requires-3 : tie.Need-row-requires-3 Inv-loop μ-loop
-row-requires-3 c κs = search needs
-
-sub-requires-2 : tie.Need-sub-requires-2 Inv-loop μ-loop
-sub-requires-2 c κs = search needs
-
-row-requires-4 : tie.Need-row-requires-4 Inv-loop μ-loop
-row-requires-4 c κs = search needs
-
-sub-requires-3 : tie.Need-sub-requires-3 Inv-loop μ-loop
-sub-requires-3 c κs = search needs
-
-returns : tie.Need-returns Inv-loop μ-loop
-returns c = search needs
+is-step-requires : tie.Need-is-step-requires Inv-loop μ-loop
+is-step-requires c κs = search needs
 
 add-i : tie.Need-add-i Inv-loop μ-loop
 add-i c = search needs
@@ -47,6 +35,9 @@ loop-less c = search needs
 
 loop-again : tie.Need-loop-again Inv-loop μ-loop
 loop-again c = search needs
+
+returns : tie.Need-returns Inv-loop μ-loop
+returns c = search needs
 
 returns-2 : tie.Need-returns-2 Inv-loop μ-loop
 returns-2 c = search needs
@@ -62,12 +53,9 @@ stretch-spec =
     sub-requires
     least-requires
     loop-holds
-    row-requires-3
-    sub-requires-2
-    row-requires-4
-    sub-requires-3
-    returns
+    is-step-requires
     add-i
     loop-less
     loop-again
+    returns
     returns-2)

@@ -5,31 +5,19 @@ use Rattle.cuts.proofs.runs.magnitudes.Statement.{statement}
 use Rattle.cuts.proofs.runs.magnitudes.Tie as tie
 
 abbrev Inv-loop : tie.InvT-loop
-Inv-loop rows behind₀ falls all₀ i₀ behind all i = Unit
+Inv-loop rows falls all₀ i₀ all i = Unit
 
 abbrev μ-loop : tie.MeasureT-loop
-μ-loop rows behind₀ falls all₀ i₀ behind all i = length rows - i
+μ-loop rows falls all₀ i₀ all i = length rows - i
 
-row-requires : tie.Need-row-requires Inv-loop μ-loop
-row-requires c κs = search needs
-
-row-requires-2 : tie.Need-row-requires-2 Inv-loop μ-loop
-row-requires-2 c κs = search needs
-
-sub-requires : tie.Need-sub-requires Inv-loop μ-loop
-sub-requires c κs = search needs
+step-to-requires : tie.Need-step-to-requires Inv-loop μ-loop
+step-to-requires c κs = search needs
 
 loop-holds : tie.Need-loop-holds Inv-loop μ-loop
 loop-holds c = search needs
 
-row-requires-3 : tie.Need-row-requires-3 Inv-loop μ-loop
-row-requires-3 c κs = search needs
-
-sub-requires-2 : tie.Need-sub-requires-2 Inv-loop μ-loop
-sub-requires-2 c κs = search needs
-
-sub-requires-3 : tie.Need-sub-requires-3 Inv-loop μ-loop
-sub-requires-3 c κs = search needs
+step-to-requires-2 : tie.Need-step-to-requires-2 Inv-loop μ-loop
+step-to-requires-2 c κs = search needs
 
 add-i : tie.Need-add-i Inv-loop μ-loop
 add-i c = search needs
@@ -49,13 +37,9 @@ magnitudes-spec =
     (tie.spec
     Inv-loop
     μ-loop
-    row-requires
-    row-requires-2
-    sub-requires
+    step-to-requires
     loop-holds
-    row-requires-3
-    sub-requires-2
-    sub-requires-3
+    step-to-requires-2
     add-i
     loop-less
     loop-again
