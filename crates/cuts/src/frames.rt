@@ -1,6 +1,7 @@
 // A patched run while its rows come in: its frame (the least and the greatest of the rows that W bits hold above the least) and what the rows
 // outside cost as patches.
 use crate::bits;
+use crate::cells;
 use crate::patched;
 use crate::states::FAR;
 use util::pattern;
@@ -23,6 +24,20 @@ pub(crate) struct Frame {
     // bits of all before the run, its header, base and values; and of its list
     bits: u64,
     list: u64,
+}
+
+// A state that any run replaces. Frames are kept in cells: handed on by value, their numbers would be copied at each row.
+pub(crate) fn none() -> [u64; 16] {
+    let mut cells = cells::all(0);
+    let mut frame = Frame::of(0, 0, FAR);
+    frame.highs = 0;
+    frame.store(&mut cells);
+    cells
+}
+
+// One row more.
+pub(crate) fn take(cells: &mut [u64; 16], width: u64, at: u64, row: u64) {
+    Frame::load(cells).with(width, at, row).store(cells);
 }
 
 // Bits of a patched run's header and base.
@@ -58,11 +73,35 @@ impl Frame {
         Frame::of(at, row, pattern::add(before, width))
     }
 
-    // A state that any run replaces.
-    pub(crate) fn none() -> Frame {
-        let mut frame = Frame::of(0, 0, FAR);
-        frame.highs = 0;
-        frame
+    // What cells hold.
+    pub(crate) fn load(cells: &[u64; 16]) -> Frame {
+        Frame {
+            start: cells[0],
+            low: cells[1],
+            high: cells[2],
+            highs: cells[3],
+            entries: cells[4],
+            reach: cells[5],
+            last: cells[6],
+            gap: cells[7],
+            streak: cells[8],
+            bits: cells[9],
+            list: cells[10],
+        }
+    }
+
+    pub(crate) fn store(self, cells: &mut [u64; 16]) {
+        cells[0] = self.start;
+        cells[1] = self.low;
+        cells[2] = self.high;
+        cells[3] = self.highs;
+        cells[4] = self.entries;
+        cells[5] = self.reach;
+        cells[6] = self.last;
+        cells[7] = self.gap;
+        cells[8] = self.streak;
+        cells[9] = self.bits;
+        cells[10] = self.list;
     }
 
     // The bits up to here, if the run ends.
@@ -70,8 +109,8 @@ impl Frame {
         pattern::add(bits::whole_bytes(self.bits), self.list)
     }
 
-    // One row more. The rows inside come first and alone: they are the most, and the code for them is small enough to stand where it is used.
-    pub(crate) fn take(mut self, width: u64, at: u64, row: u64) -> Frame {
+    // One row more.
+    fn with(mut self, width: u64, at: u64, row: u64) -> Frame {
         self.bits = pattern::add(self.bits, width);
         if pattern::sub(row, self.low) >> (width % 64) != 0 {
             return self.outside(width, at, row);

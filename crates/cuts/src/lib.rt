@@ -1,9 +1,9 @@
-// Where a column is cut, and each run's form, width and base (document 02, item 10): the planner's heuristic. It is proved safe and ending, and no more:
-// the planner has the room's check over what is proposed here.
+// Where a column is cut, and each run's form, width and base (document 02, item 10): the planner's heuristic. It is proved safe and ending and no more,
+// since whoever takes a proposal up has it checked, and has the direct runs of 64 bits where it is not accepted.
 //
 // Windows of at most 512 rows, the cheapest way through each, and for each run of it the exact width and base. For a window: `menu` counts
 // which widths its rows and steps have; `walk` goes over the rows once with an open run for each of these widths and each form, `frames`
-// being those of patched runs; the way is turned round, and its runs are proposed, all of them or all but the last.
+// being those of patched runs; the `way` is turned round, and its runs are proposed, all of them or all but the last.
 ghost use Prim.Native.Nat.{_≤_, _<_};
 ghost use lib.ListN.{length};
 ghost use Rattle.cuts.specs.Proposed.{Proposed};
@@ -33,6 +33,7 @@ struct Laid {
     bytes: u64,
 }
 
+// The lesser of two lengths.
 fn least(a: usize, b: usize) -> usize
     ensures { λ r. ⌜ (r ≤ a) × (r ≤ b) ⌝ }
 {

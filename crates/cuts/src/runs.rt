@@ -146,11 +146,12 @@ fn magnitudes(rows: &[i64]) -> u64 {
 // The base that the rows' frame comes to.
 fn base(rows: &[i64], width: u64) -> u64 {
     let first = cells::row(rows, 0);
-    let mut frame = Frame::open(width, 0, first, frames::head(first));
+    let mut frame = frames::none();
+    Frame::open(width, 0, first, frames::head(first)).store(&mut frame);
     let mut i: usize = 1;
     while i < rows.len() {
-        frame = frame.take(width, i as u64, cells::row(rows, i));
+        frames::take(&mut frame, width, i as u64, cells::row(rows, i));
         i += 1;
     }
-    frame.base(width)
+    Frame::load(&frame).base(width)
 }

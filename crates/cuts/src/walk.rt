@@ -27,49 +27,23 @@ struct Steps {
     equal: u64,
 }
 
-// What is open at a row beside the direct runs and the packed deltas.
-struct Open {
-    steps: Steps,
-    one: Frame,
-    two: Frame,
-}
-
-// Parts of it, with the cheapest run so far.
+// These with one step more, and the cheapest of the runs that end there.
 struct Stepped {
     steps: Steps,
     best: u64,
 }
 
-struct Followed {
-    frame: Frame,
-    best: u64,
-}
-
-struct Framed {
-    one: Frame,
-    two: Frame,
-    best: u64,
-}
-
-impl Open {
-    fn none() -> Open {
-        let steps = Steps {
+impl Steps {
+    fn none() -> Steps {
+        Steps {
             step: 0,
             falls: 0,
             turns: 0,
             fixed: CLOSED,
             equal: 0,
-        };
-        let frame = Frame::none();
-        Open {
-            steps,
-            one: frame,
-            two: frame,
         }
     }
-}
 
-impl Steps {
     // One step more. A run that begins with it begins at the row before, behind so many bits with its header, first row and this step.
     fn take(self, step: u64, from: u64, bits: u64) -> Steps {
         let fresh = states::state(bits, from, FIXED);
@@ -167,55 +141,40 @@ fn go_short(way: &[u64; 513], at: u64, equal: u64, bits: u64) -> u64 {
 }
 
 // A patched run of this class: on with it, or a new one where that is cheaper, and where five rows in a row have left the frame for another
-// form. `before` has the head in it.
-fn go_patched(frame: Frame, class: u64, at: u64, row: u64, before: u64, best: u64) -> Followed {
+// form. `before` has the head in it. Answers the cheaper of it and the best of the other runs.
+fn go_patched(frame: &mut [u64; 16], class: u64, at: u64, row: u64, before: u64, best: u64) -> u64 {
     let width = bits::width(class);
     let form = pattern::add(PATCHED, class);
-    let on = frame.take(width, at, row);
+    frames::take(frame, width, at, row);
+    let on = Frame::load(frame);
     let cost = on.cost();
     let fresh = pattern::add(pattern::add(before, bits::whole_bytes(width)), 16);
     if fresh < cost || 5 <= on.streak && states::bits(best) < cost {
-        return Followed {
-            frame: Frame::open(width, at, row, before),
-            best: bits::least(best, states::state(fresh, at, form)),
-        };
+        Frame::open(width, at, row, before).store(frame);
+        return bits::least(best, states::state(fresh, at, form));
     }
-    Followed {
-        frame: on,
-        best: bits::least(best, states::state(cost, on.start, form)),
-    }
+    bits::least(best, states::state(cost, on.start, form))
 }
 
-// The patched runs.
+// The patched runs, each with the best of those before it.
 fn go_frames(
-    one: Frame,
-    two: Frame,
+    one: &mut [u64; 16],
+    two: &mut [u64; 16],
     frames: Frames,
     at: u64,
     row: u64,
     before: u64,
     best: u64,
-) -> Framed {
+) -> u64 {
     if frames.count == 0 {
-        return Framed { one, two, best };
+        return best;
     }
     let opened = pattern::add(before, frames::head(row));
-    let f = go_patched(one, frames.one, at, row, opened, best);
-    let one = f.frame;
+    let first = go_patched(one, frames.one, at, row, opened, best);
     if frames.count == 1 {
-        return Framed {
-            one,
-            two,
-            best: f.best,
-        };
+        return first;
     }
-    let g = go_patched(two, frames.two, at, row, opened, f.best);
-    let two = g.frame;
-    Framed {
-        one,
-        two,
-        best: g.best,
-    }
+    go_patched(two, frames.two, at, row, opened, first)
 }
 
 // The runs of equal and of packed steps. From the second row on there is a step; a run that begins with it begins at the row before.
@@ -259,17 +218,19 @@ fn go_steps(
 
 // Row i of the window: every open run with it, and the cheapest in the way.
 fn go(
-    open: Open,
+    steps: Steps,
     rows: &[i64],
     i: usize,
     signed: bool,
     menu: Menu,
     direct: &mut [u64; 16],
     packed: &mut [u64; 16],
+    one: &mut [u64; 16],
+    two: &mut [u64; 16],
     direct_widths: &[u64; 16],
     packed_widths: &[u64; 16],
     way: &mut [u64; 513],
-) -> Open {
+) -> Steps {
     let at = i as u64;
     let row = cells::row(rows, i);
     let bits = bits::needs(bits::number(row, signed));
@@ -277,26 +238,12 @@ fn go(
     let first = menu::first(menu.direct_of, bits::class(bits));
     let fresh = states::state(pattern::add(before, 16), at, DIRECT);
     let best = go_direct(direct, direct_widths, menu.directs, first, fresh);
-    let stepped = go_steps(
-        open.steps,
-        rows,
-        i,
-        signed,
-        menu,
-        packed,
-        packed_widths,
-        way,
-    );
-    let steps = stepped.steps;
-    let best = bits::least(
-        bits::least(best, stepped.best),
-        go_short(way, at, steps.equal, bits),
-    );
-    let framed = go_frames(open.one, open.two, menu.frames, at, row, before, best);
-    let one = framed.one;
-    let two = framed.two;
-    way::end(way, pattern::add(at, 1), framed.best);
-    Open { steps, one, two }
+    let stepped = go_steps(steps, rows, i, signed, menu, packed, packed_widths, way);
+    let best = bits::least(best, stepped.best);
+    let best = bits::least(best, go_short(way, at, stepped.steps.equal, bits));
+    let best = go_frames(one, two, menu.frames, at, row, before, best);
+    way::end(way, pattern::add(at, 1), best);
+    stepped.steps
 }
 
 // Row after row, with the menu's widths.
@@ -310,17 +257,21 @@ fn along(
 ) {
     let mut direct = cells::all(CLOSED);
     let mut packed = cells::all(CLOSED);
-    let mut open = Open::none();
+    let mut one = frames::none();
+    let mut two = frames::none();
+    let mut steps = Steps::none();
     let mut i: usize = 0;
     while i < rows.len() {
-        open = go(
-            open,
+        steps = go(
+            steps,
             rows,
             i,
             signed,
             menu,
             &mut direct,
             &mut packed,
+            &mut one,
+            &mut two,
             direct_widths,
             packed_widths,
             way,

@@ -1,6 +1,7 @@
-use borrow.Author.Needs.{needs}
+-- `cuts::lay_all` is safe and ends: a window moves on by a row at least. Assumes nothing.
 use Prim.Native.Nat.{_≤_, _-_}
 use lib.ListN.{length}
+use borrow.Author.Needs.{needs}
 use Rattle.cuts.proofs.Columns.{Kept}
 use Rattle.cuts.proofs.lay_all.Statement.{statement}
 use Rattle.cuts.proofs.lay_all.Tie as tie

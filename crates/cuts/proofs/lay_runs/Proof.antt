@@ -1,6 +1,7 @@
-use borrow.Author.Needs.{needs}
+-- `cuts::lay_runs` meets its contract: each run has a row at least, so there are no more runs than rows. Assumes nothing.
 use Prim.Native.Nat.{_≤_, _-_}
 use lib.ListN.{length}
+use borrow.Author.Needs.{needs}
 use Rattle.cuts.proofs.Columns.{Kept}
 use Rattle.cuts.proofs.lay_runs.Statement.{statement}
 use Rattle.cuts.proofs.lay_runs.Tie as tie

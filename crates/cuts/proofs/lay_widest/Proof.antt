@@ -1,5 +1,6 @@
-use borrow.Author.Needs.{needs}
+-- `cuts::lay_widest` is safe and ends: each run has a row at least, so there are no more runs than rows. Assumes nothing.
 use Prim.Native.Nat.{_≤_, _-_}
+use borrow.Author.Needs.{needs}
 use Rattle.cuts.proofs.Columns.{Kept}
 use Rattle.cuts.proofs.lay_widest.Statement.{statement}
 use Rattle.cuts.proofs.lay_widest.Tie as tie

@@ -1,3 +1,4 @@
+-- `cuts::stretch` is safe and ends: a turn takes one row. Assumes nothing.
 use Prim.Native.Nat.{_-_}
 use borrow.Author.Needs.{needs}
 use Rattle.cuts.proofs.stretch.Statement.{statement}

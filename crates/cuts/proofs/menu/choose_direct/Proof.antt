@@ -1,3 +1,4 @@
+-- `cuts::menu::choose_direct` is safe and ends: a turn takes one class of eleven. Assumes nothing.
 use Prim.Native.Nat.{_-_}
 use borrow.Author.Needs.{needs}
 use Rattle.cuts.proofs.menu.choose_direct.Statement.{statement}

@@ -1,3 +1,4 @@
+-- `cuts::menu::choose_frames` is safe and ends: a turn takes one class of eight. Assumes nothing.
 use Prim.Native.Nat.{_-_}
 use borrow.Author.Needs.{needs}
 use Rattle.cuts.proofs.menu.choose_frames.Statement.{statement}

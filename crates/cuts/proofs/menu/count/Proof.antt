@@ -1,3 +1,4 @@
+-- `cuts::menu::count` is safe and ends: a turn counts one row. Assumes nothing.
 use Prim.Native.Nat.{_-_}
 use lib.ListN.{length}
 use borrow.Author.Needs.{needs}

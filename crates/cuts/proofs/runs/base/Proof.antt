@@ -1,3 +1,4 @@
+-- `cuts::runs::base` is safe and ends: a turn takes one row. Assumes nothing.
 use Prim.Native.Nat.{_-_}
 use lib.ListN.{length}
 use borrow.Author.Needs.{needs}
@@ -13,11 +14,17 @@ abbrev μ-loop : tie.MeasureT-loop
 row-requires : tie.Need-row-requires Inv-loop μ-loop
 row-requires c κs = search needs
 
+none-requires : tie.Need-none-requires Inv-loop μ-loop
+none-requires c κs = search needs
+
 head-requires : tie.Need-head-requires Inv-loop μ-loop
 head-requires c κs = search needs
 
 open-requires : tie.Need-open-requires Inv-loop μ-loop
 open-requires c κs = search needs
+
+store-requires : tie.Need-store-requires Inv-loop μ-loop
+store-requires c κs = search needs
 
 loop-holds : tie.Need-loop-holds Inv-loop μ-loop
 loop-holds c = search needs
@@ -37,6 +44,9 @@ loop-less c = search needs
 loop-again : tie.Need-loop-again Inv-loop μ-loop
 loop-again c = search needs
 
+load-requires : tie.Need-load-requires Inv-loop μ-loop
+load-requires c κs = search needs
+
 base-requires : tie.Need-base-requires Inv-loop μ-loop
 base-requires c κs = search needs
 
@@ -50,13 +60,16 @@ base-spec =
     Inv-loop
     μ-loop
     row-requires
+    none-requires
     head-requires
     open-requires
+    store-requires
     loop-holds
     row-requires-2
     take-requires
     add-i
     loop-less
     loop-again
+    load-requires
     base-requires
     returns)

@@ -1,3 +1,4 @@
+-- `cuts::runs::numbers` is safe and ends: a turn takes one row. Assumes nothing.
 use Prim.Native.Nat.{_-_}
 use lib.ListN.{length}
 use borrow.Author.Needs.{needs}

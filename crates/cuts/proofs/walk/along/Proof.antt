@@ -1,3 +1,4 @@
+-- `cuts::walk::along` is safe and ends: a turn takes one row. Assumes nothing.
 use Prim.Native.Nat.{_-_}
 use lib.ListN.{length}
 use borrow.Author.Needs.{needs}
@@ -5,10 +6,10 @@ use Rattle.cuts.proofs.walk.along.Statement.{statement}
 use Rattle.cuts.proofs.walk.along.Tie as tie
 
 abbrev Inv-loop : tie.InvT-loop
-Inv-loop rows signed menu direct-widths packed-widths way₀ direct₀ packed₀ open₀ i₀ way direct packed «open» i = Unit
+Inv-loop rows signed menu direct-widths packed-widths way₀ direct₀ packed₀ one₀ two₀ steps₀ i₀ way direct packed one two steps i = Unit
 
 abbrev μ-loop : tie.MeasureT-loop
-μ-loop rows signed menu direct-widths packed-widths way₀ direct₀ packed₀ open₀ i₀ way direct packed «open» i = length rows - i
+μ-loop rows signed menu direct-widths packed-widths way₀ direct₀ packed₀ one₀ two₀ steps₀ i₀ way direct packed one two steps i = length rows - i
 
 all-requires : tie.Need-all-requires Inv-loop μ-loop
 all-requires c κs = search needs
@@ -18,6 +19,12 @@ all-requires-2 c κs = search needs
 
 none-requires : tie.Need-none-requires Inv-loop μ-loop
 none-requires c κs = search needs
+
+none-requires-2 : tie.Need-none-requires-2 Inv-loop μ-loop
+none-requires-2 c κs = search needs
+
+none-requires-3 : tie.Need-none-requires-3 Inv-loop μ-loop
+none-requires-3 c κs = search needs
 
 loop-holds : tie.Need-loop-holds Inv-loop μ-loop
 loop-holds c = search needs
@@ -46,6 +53,8 @@ along-spec =
     all-requires
     all-requires-2
     none-requires
+    none-requires-2
+    none-requires-3
     loop-holds
     go-requires
     add-i

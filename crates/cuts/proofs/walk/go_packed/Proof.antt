@@ -1,3 +1,4 @@
+-- `cuts::walk::go_packed` is safe and ends: k grows up to the count. Assumes nothing.
 use Prim.Native.Nat.{_-_}
 use borrow.Author.Needs.{needs}
 use Rattle.cuts.proofs.walk.go_packed.Statement.{statement}

@@ -1,3 +1,4 @@
+-- `cuts::way::turn` is safe and ends: a run begins before its end. Assumes nothing.
 use borrow.Author.Needs.{needs}
 use Rattle.cuts.proofs.way.turn.Statement.{statement}
 use Rattle.cuts.proofs.way.turn.Tie as tie
