@@ -11,3 +11,4 @@ pub mod Planning
 pub mod Widely
 pub mod Columns
 pub mod Reading
+pub mod Examples

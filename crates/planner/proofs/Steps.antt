@@ -106,7 +106,7 @@ module _ (signed : Bool) (form width base : ℕ) (part : List ℤ) (out out′ :
   unfolding writeIn
   ran-patched e hb w =
       let v : Ran (writingPatched (asU64 (asI64 base)) width (map asU64 part) (length out)) out out′ (answerBytes a) =
-          ran (writingPatched (asU64 (asI64 base)) width (map asU64 part) (length out)) out out′ a (w .answer) (w .places) in
+      ran (writingPatched (asU64 (asI64 base)) width (map asU64 part) (length out)) out out′ a (w .answer) (w .places) in
       rw e (rw (as-back base hb) at v)
 
 -- ---- where it stands

@@ -3,9 +3,9 @@ ghost use mathlib.Core.Path.{_≡_};
 ghost use mathlib.Core.Bool.{true, _&&_};
 ghost use lib.Dec.{eqb};
 ghost use Rattle.planner.specs.Check.{proposal, equalLengths, checkedAs};
-use crate::segment;
 use crate::Checked;
 use crate::Columned;
+use crate::segment;
 use format::ByteOffset;
 use format::Kind;
 use format::RowNumber;
@@ -32,7 +32,16 @@ fn bytes_room() -> [u8; Kind::MAX_BYTES] {
 }
 
 // Every segment begins where the one before it ends and is accepted, the last ends with the last row, and there is so much room.
-pub(crate) fn walk(rows: &[i64], signed: bool, first: &[u64], counts: &[u64], forms: &[u64], widths: &[u64], bases: &[u64], room: usize) -> Checked
+pub(crate) fn walk(
+    rows: &[i64],
+    signed: bool,
+    first: &[u64],
+    counts: &[u64],
+    forms: &[u64],
+    widths: &[u64],
+    bases: &[u64],
+    room: usize,
+) -> Checked
     requires { ⌜ equalLengths (proposal (now first) (now counts) (now forms) (now widths) (now bases)) ≡ true ⌝ }
     ensures { λ r. ⌜ r ≡ checkedAs signed (now (rows .entry)) (proposal (now (first .entry)) (now (counts .entry)) (now (forms .entry)) (now (widths .entry)) (now (bases .entry))) room ⌝ }
 {

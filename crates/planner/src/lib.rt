@@ -32,7 +32,16 @@ pub enum ColumnAnswer {
 
 // Whether a proposal is accepted, in so much room. It is five columns, one entry a segment: first row, rows, form (0 short repeat, 1 direct, 2
 // fixed delta, 3 packed delta, 4 patched), width (bytes, code, code, code, W in bits), and base, which only patched runs have.
-pub fn check(rows: &[i64], signed: bool, first: &[u64], counts: &[u64], forms: &[u64], widths: &[u64], bases: &[u64], room: usize) -> Checked
+pub fn check(
+    rows: &[i64],
+    signed: bool,
+    first: &[u64],
+    counts: &[u64],
+    forms: &[u64],
+    widths: &[u64],
+    bases: &[u64],
+    room: usize,
+) -> Checked
     ensures { λ r. ⌜ r ≡ checkedAs signed (now (rows .entry)) (proposal (now (first .entry)) (now (counts .entry)) (now (forms .entry)) (now (widths .entry)) (now (bases .entry))) room ⌝ }
 {
     let n = first.len();
@@ -43,7 +52,16 @@ pub fn check(rows: &[i64], signed: bool, first: &[u64], counts: &[u64], forms: &
 }
 
 // Writes a column by a proposal, where the check accepts it; else as direct runs of 64 bits, 512 rows each and the rest last; or 8, and nothing.
-pub fn write_column(rows: &[i64], signed: bool, first: &[u64], counts: &[u64], forms: &[u64], widths: &[u64], bases: &[u64], out: &mut [u8]) -> ColumnAnswer
+pub fn write_column(
+    rows: &[i64],
+    signed: bool,
+    first: &[u64],
+    counts: &[u64],
+    forms: &[u64],
+    widths: &[u64],
+    bases: &[u64],
+    out: &mut [u8],
+) -> ColumnAnswer
     ensures { λ r. ⌜ Wrote signed (now (rows .entry)) (proposal (now (first .entry)) (now (counts .entry)) (now (forms .entry)) (now (widths .entry)) (now (bases .entry))) (now (out .entry)) (now (out .exit)) r ⌝ }
 {
     let c = check(rows, signed, first, counts, forms, widths, bases, out.len());

@@ -18,7 +18,14 @@ pub(crate) struct Segment {
 }
 
 // The k-th of each column.
-pub(crate) fn at(first: &[u64], counts: &[u64], forms: &[u64], widths: &[u64], bases: &[u64], k: usize) -> Segment
+pub(crate) fn at(
+    first: &[u64],
+    counts: &[u64],
+    forms: &[u64],
+    widths: &[u64],
+    bases: &[u64],
+    k: usize,
+) -> Segment
     requires { ⌜ (k < length (now first)) × (k < length (now counts)) × (k < length (now forms)) × (k < length (now widths)) × (k < length (now bases)) ⌝ }
     ensures { λ r. ⌜ r ≡ segmentAt (proposal (now (first .entry)) (now (counts .entry)) (now (forms .entry)) (now (widths .entry)) (now (bases .entry))) k ⌝ }
 {

@@ -11,15 +11,24 @@ ghost use Rattle.format.specs.Writing.{writing, AllI64};
 ghost use Rattle.planner.specs.Check as Check;
 ghost use Rattle.planner.specs.Check.{proposal, accepted, segments};
 ghost use Rattle.planner.specs.Walk.{Ran, Laid, WideLaid};
-use crate::segment;
 use crate::Columned;
+use crate::segment;
 use format::ByteOffset;
 use format::Form;
 use format::Kind;
 use format::RowNumber;
 
 // The runs of a proposal, one behind the other.
-pub(crate) fn planned(rows: &[i64], signed: bool, first: &[u64], counts: &[u64], forms: &[u64], widths: &[u64], bases: &[u64], out: &mut [u8])
+pub(crate) fn planned(
+    rows: &[i64],
+    signed: bool,
+    first: &[u64],
+    counts: &[u64],
+    forms: &[u64],
+    widths: &[u64],
+    bases: &[u64],
+    out: &mut [u8],
+)
     requires { ⌜ accepted signed (now rows) (proposal (now first) (now counts) (now forms) (now widths) (now bases)) (length (now out)) ≡ true ⌝ }
     ensures { λ _. ⌜ Laid (Check.runs signed (now (rows .entry)) (segments (proposal (now (first .entry)) (now (counts .entry)) (now (forms .entry)) (now (widths .entry)) (now (bases .entry))))) (now (out .entry)) (now (out .exit)) ⌝ }
 {

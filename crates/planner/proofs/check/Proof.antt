@@ -13,7 +13,8 @@ are-equal-requires c κs = search needs
 
 returns : tie.Need-returns
 returns c =
-    let a = c .before .before .before .before .before .before .before .args in
+    let s = c .before .before .before .before in
+    let a = s .before .before .before .args in
     unequal (a .signed) (now (a .rows)) (proposal (now (a .first)) (now (a .counts)) (now (a .forms)) (now (a .widths)) (now (a .bases))) (a .room)
     (sym (c .before .are-equal .ensures) ∙ not-true _ (c .if1 .taken))
 

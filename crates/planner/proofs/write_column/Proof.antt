@@ -22,7 +22,8 @@ planned-requires : tie.Need-planned-requires
 planned-requires c κs =
     let m = c .before .before in
     let k = m .before .before in
-    let a = k .before .before .before .before .before .before .before .args in
+    let s = k .before .before .before .before in
+    let a = s .before .before .before .args in
     was-accepted (a .signed) (now (a .rows)) (proposal (now (a .first)) (now (a .counts)) (now (a .forms)) (now (a .widths)) (now (a .bases))) (length (now (a .out))) (m .c .given .0 .0) (sym (m .c .given .1) ∙ k .check .ensures) .0
 
 enum-told : tie.Need-enum-told
@@ -38,17 +39,19 @@ returns : tie.Need-returns
 returns c =
     let x = c .before .before in
     let k = x .before .before .before in
-    let a = k .before .before .before .before .before .before .before .args in
+    let s = k .before .before .before .before in
+    let a = s .before .before .before .args in
     rw (c .new .ensures)
     (wrote-eight (a .signed) (now (a .rows)) (proposal (now (a .first)) (now (a .counts)) (now (a .forms)) (now (a .widths)) (now (a .bases))) (now (a .out)) (now (a .out)) (sym (x .before .enum-told .given .1) ∙ k .check .ensures)
     (sym (wide-test (a .signed) (now (a .rows)) (proposal (now (a .first)) (now (a .counts)) (now (a .forms)) (now (a .widths)) (now (a .bases))) (length (now (a .out))) _ (x .wide-fits .ensures)) ∙ not-true _ (c .before .if1 .taken)) refl)
 
 -- the direct runs have room
-fits : (e : tie.Else1) → let k = e .before .before .before .before in let a = k .before .before .before .before .before .before .before .args in leb (length (joined (wide (a .signed) (now (a .rows))))) (length (now (a .out))) ≡ true
+fits : (e : tie.Else1) → let k = e .before .before .before .before in let s = k .before .before .before .before in let a = s .before .before .before .args in leb (length (joined (wide (a .signed) (now (a .rows))))) (length (now (a .out))) ≡ true
 fits e =
     let x = e .before in
     let k = x .before .before .before in
-    let a = k .before .before .before .before .before .before .before .args in
+    let s = k .before .before .before .before in
+    let a = s .before .before .before .args in
     sym (wide-test (a .signed) (now (a .rows)) (proposal (now (a .first)) (now (a .counts)) (now (a .forms)) (now (a .widths)) (now (a .bases))) (length (now (a .out))) _ (x .wide-fits .ensures)) ∙ not-false _ (e .if1 .left)
 
 wide-requires : tie.Need-wide-requires
@@ -62,7 +65,8 @@ returns-2 c =
     let p = c .before .before in
     let m = p .before .before .before in
     let k = m .before .before in
-    let a = k .before .before .before .before .before .before .before .args in
+    let s = k .before .before .before .before in
+    let a = s .before .before .before .args in
     wrote-planned (a .signed) (now (a .rows)) (proposal (now (a .first)) (now (a .counts)) (now (a .forms)) (now (a .widths)) (now (a .bases))) (now (a .out)) _ (m .c .given .0 .0) (sym (m .c .given .1) ∙ k .check .ensures) (p .planned .ensures)
 
 same-length-2 : tie.Need-same-length-2
@@ -73,7 +77,8 @@ returns-3 c =
     let w = c .before .before in
     let e = w .before .before in
     let k = e .before .before .before .before in
-    let a = k .before .before .before .before .before .before .before .args in
+    let s = k .before .before .before .before in
+    let a = s .before .before .before .args in
     wrote-direct (a .signed) (now (a .rows)) (proposal (now (a .first)) (now (a .counts)) (now (a .forms)) (now (a .widths)) (now (a .bases))) (now (a .out)) _ (sym (e .before .before .enum-told .given .1) ∙ k .check .ensures) (fits e) _ (w .wide .ensures)
 
 pub write-column-spec : {M : Type 1} → statement M

@@ -26,7 +26,8 @@ loop-holds c = (search needs, along-first _ _ _ _ (c .before .before .before .be
 
 at-requires : tie.Need-at-requires Inv-loop μ-loop
 at-requires c κs =
-    let s = c .before .before .before .before .before .before .before .before in
+    let l = c .before .before in
+    let s = l .before .before .before .before .before .before in
     let a = s .args in
     let e = are-equal (proposal (now (a .first)) (now (a .counts)) (now (a .forms)) (now (a .widths)) (now (a .bases))) (s .pre) in
     omega (arith, e .counts, e .forms, e .widths, e .bases)
@@ -63,14 +64,16 @@ add-row c =
     let i = x .before .before .before in
     let l = i .before .loop in
     let t = along-taken _ _ _ _ (l .k) (l .row) (l .bytes) (l .inv .1) (i .loop-test .taken) (x .before .before .at .result) (x .before .before .at .ensures) _ _ _ (l .inv .0) (x .step .ensures) (c .before .if1 .left) in
-    omega (arith, t .within, l .inv .1 .row-in, i .before .before .before .before .before .before .before .before .good .0 .0)
+    let r = i .before .before in
+    omega (arith, t .within, l .inv .1 .row-in, r .before .before .before .before .before .before .good .0 .0)
 
 add-bytes : tie.Need-add-bytes Inv-loop μ-loop
 add-bytes c =
     let x = c .before .before .before in
     let i = x .before .before .before in
     let l = i .before .loop in
-    omega (arith, l .inv .1 .bytes-in, c .if2 .left, i .before .before .before .before .before .before .before .before .fits .room)
+    let r = i .before .before in
+    omega (arith, l .inv .1 .bytes-in, c .if2 .left, r .before .before .before .before .before .before .fits .room)
 
 loop-less : tie.Need-loop-less Inv-loop μ-loop
 loop-less c = omega arith

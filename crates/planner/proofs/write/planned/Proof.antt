@@ -23,7 +23,8 @@ loop-holds c = plan-first _ _ _ _ (c .before .before .before .before .before .be
 
 at-requires : tie.Need-at-requires Inv-loop μ-loop
 at-requires c κs =
-    let s = c .before .before .before .before .before .before .before .before in
+    let l = c .before .before in
+    let s = l .before .before .before .before .before .before in
     let a = s .args in
     let e = are-equal (proposal (now (a .first)) (now (a .counts)) (now (a .forms)) (now (a .widths)) (now (a .bases))) (tests (a .signed) (now (a .rows)) (proposal (now (a .first)) (now (a .counts)) (now (a .forms)) (now (a .widths)) (now (a .bases))) (length (now (a .out))) (s .pre) .0) in
     omega (arith, e .counts, e .forms, e .widths, e .bases)
@@ -41,7 +42,7 @@ step-requires : tie.Need-step-requires Inv-loop μ-loop
 step-requires c κs = let l = c .before .before .before .loop in covers-le _ (l .row) _ (l .inv .covering)
 
 -- the plan after a turn
-turn : (c : tie.After-slice-known2 Inv-loop μ-loop) → let x = c .before .before in let l = x .before .before .before .before .loop in let a = x .before .before .before .before .before .before .before .before .before .before .before .args in
+turn : (c : tie.After-slice-known2 Inv-loop μ-loop) → let x = c .before .before in let i = x .before .before .before in let l = i .before .loop in let s = i .before .before in let a = s .before .before .before .before .before .before .args in
     Plan (a .signed) (now (a .rows)) (proposal (now (a .first)) (now (a .counts)) (now (a .forms)) (now (a .widths)) (now (a .bases))) (now (a .out)) (take (l .bytes) (l .out) ++ (x .step .last .1 .1 .1 .1 .0 ++ drop (length (l .out) - l .bytes) (drop (l .bytes) (l .out)))) (l .k + 1) (l .row + x .before .before .at .result .count) (l .bytes + x .step .result)
 turn c =
     let x = c .before .before in
@@ -57,10 +58,14 @@ add-row c =
     let x = c .before .before in
     let i = x .before .before .before in
     let l = i .before .loop in
-    omega (arith, the-next _ _ _ _ (l .out) (l .k) (l .row) (l .bytes) (l .inv) (i .loop-test .taken) (x .before .before .at .result) (x .before .before .at .ensures) .within, i .before .before .before .before .before .before .before .before .good .0 .0)
+    let s = i .before .before in
+    omega (arith, the-next _ _ _ _ (l .out) (l .k) (l .row) (l .bytes) (l .inv) (i .loop-test .taken) (x .before .before .at .result) (x .before .before .at .ensures) .within, s .before .before .before .before .before .before .good .0 .0)
 
 add-bytes : tie.Need-add-bytes Inv-loop μ-loop
-add-bytes c = omega (arith, turn c .grown .inside, turn c .grown .long, c .before .before .before .before .before .before .before .before .before .before .before .before .before .good)
+add-bytes c =
+    let i = c .before .before .before .before .before in
+    let s = i .before .before in
+    omega (arith, turn c .grown .inside, turn c .grown .long, s .before .before .before .before .before .before .good)
 
 loop-less : tie.Need-loop-less Inv-loop μ-loop
 loop-less c = omega arith

@@ -40,7 +40,7 @@ wide-run-requires : tie.Need-wide-run-requires Inv-loop μ-loop
 wide-run-requires c κs = omega (arith, c .before .part-rows .ensures, c .before .before .before .loop .inv .row-in)
 
 -- the direct runs after a turn
-turn : (c : tie.After-slice-known2 Inv-loop μ-loop) → let x = c .before .before in let l = x .before .before .before .before .loop in let a = x .before .before .before .before .before .before .before .args in
+turn : (c : tie.After-slice-known2 Inv-loop μ-loop) → let x = c .before .before in let i = x .before .before .before in let l = i .before .loop in let a = i .before .before .before .before .args in
     Widely (a .signed) (now (a .rows)) (now (a .out)) (take (l .bytes) (l .out) ++ (x .wide-run .last .1 .1 .1 .1 .0 ++ drop (length (l .out) - l .bytes) (drop (l .bytes) (l .out)))) (l .runs + 1) (l .row + x .before .before .part-rows .result) (l .bytes + x .wide-run .result)
 turn c =
     let x = c .before .before in
@@ -49,13 +49,13 @@ turn c =
     wide-next _ _ _ (l .out) (l .runs) (l .row) (l .bytes) (l .inv) (i .before .before .know .ensures) (i .loop-test .taken) _ (x .before .before .part-rows .ensures) _ _ (x .wide-run .ensures)
 
 add-runs : tie.Need-add-runs Inv-loop μ-loop
-add-runs c = omega (arith, turn c .few, turn c .row-in, c .before .before .before .before .before .before .before .before .before .good .0 .0)
+add-runs c = let i = c .before .before .before .before .before in omega (arith, turn c .few, turn c .row-in, i .before .before .before .before .good .0 .0)
 
 add-row : tie.Need-add-row Inv-loop μ-loop
-add-row c = omega (arith, turn c .row-in, c .before .before .before .before .before .before .before .before .before .good .0 .0)
+add-row c = let i = c .before .before .before .before .before in omega (arith, turn c .row-in, i .before .before .before .before .good .0 .0)
 
 add-bytes : tie.Need-add-bytes Inv-loop μ-loop
-add-bytes c = omega (arith, turn c .grown .inside, turn c .grown .long, c .before .before .before .before .before .before .before .before .before .good)
+add-bytes c = let i = c .before .before .before .before .before in omega (arith, turn c .grown .inside, turn c .grown .long, i .before .before .before .before .good)
 
 loop-less : tie.Need-loop-less Inv-loop μ-loop
 loop-less c =
