@@ -1,13 +1,12 @@
 -- The check's walk: the verdict on what is left is the verdict on all. Assumes nothing.
-use mathlib.Core.Path.{_≡_, refl, sym, ap, _∙_}
+use mathlib.Core.Path.{_≡_, sym, _∙_}
 use Prim.Native.Nat.{ℕ, _+_, _-_, _<_, _≤_}
 use native.Mathlib.Omega.{arith}
 use mathlib.Core.Bool.{Bool, true, false}
-use mathlib.Core.List.{List, [], _∷_}
+use mathlib.Core.List.{List, _∷_}
 use lib.ListN.{length, drop}
 use lib.IntN.{ℤ}
 use Rattle.planner.specs.declared.segment.Segment.{Segment}
-use Rattle.planner.specs.declared.Checked.{Checked}
 use Rattle.planner.specs.declared.Checked.the-variants as checked
 use Rattle.planner.specs.Check.{Columns, equalLengths, segments, anyRun, accepted, checkedAs}
 use Rattle.planner.specs.Walk.{segmentAt, stepIn, Ran}

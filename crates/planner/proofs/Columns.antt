@@ -1,18 +1,16 @@
 -- From the check and the two ways of writing to the promise of the call. Assumes nothing.
 use mathlib.Core.Path.{_≡_, refl, sym, ap, _∙_}
-use Prim.Native.Nat.{ℕ, _+_, _*_, _/_, _≤_}
+use Prim.Native.Nat.{ℕ, _+_, _*_, _/_}
 use native.Mathlib.Omega.{arith}
 use mathlib.Core.Bool.{Bool, true, false}
 use mathlib.Core.List.{List}
 use lib.ListN.{length}
 use lib.Dec.{leb}
 use lib.IntN.{ℤ}
-use borrow.Author.Tests.{leb-true}
 use Rattle.format.specs.Fields.{pick}
 use Rattle.format.specs.Runs.{joined}
 use Rattle.format.specs.Answers.{refusing}
 use Rattle.planner.specs.declared.Columned.{Columned}
-use Rattle.planner.specs.declared.Checked.{Checked}
 use Rattle.planner.specs.declared.Checked.the-variants as checked
 use Rattle.planner.specs.declared.ColumnAnswer.the-variants as answer
 use Rattle.planner.specs.Check.{Columns, segments, runs, accepted, wide, column, told, checkedAs, Wrote}

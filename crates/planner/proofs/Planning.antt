@@ -1,9 +1,9 @@
 -- The runs of an accepted proposal, laid one behind the other. Assumes nothing.
-use mathlib.Core.Path.{_≡_, refl, sym, ap, _∙_}
+use mathlib.Core.Path.{_≡_}
 use Prim.Native.Nat.{ℕ, _+_, _-_, _<_, _≤_}
 use native.Mathlib.Omega.{arith}
 use mathlib.Core.Bool.{Bool, true}
-use mathlib.Core.List.{List, [], _∷_, _++_}
+use mathlib.Core.List.{List, _∷_, _++_}
 use lib.ListN.{length, take, drop, length-append, length-drop}
 use lib.IntN.{ℤ}
 use Rattle.format.specs.Runs.{layout, joined}

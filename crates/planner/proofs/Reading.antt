@@ -1,10 +1,10 @@
 -- Whatever the proposal, what is written reads whole as exactly the rows. Assumes nothing.
 use mathlib.Core.Path.{_≡_, refl, sym, ap, subst, _∙_}
-use Prim.Native.Nat.{ℕ, zero, suc, _+_, _<_, _≤_}
+use Prim.Native.Nat.{ℕ, _+_, _<_, _≤_}
 use native.Mathlib.Omega.{arith}
 use mathlib.Core.Bool.{Bool}
 use mathlib.Core.List.{List, [], _∷_, _++_}
-use lib.ListN.{length, take, drop, getD, take-append-drop}
+use lib.ListN.{length, take, drop, take-append-drop}
 use lib.Seq.{drop-length, drop-drop, take-append-seam, drop-append-seam}
 use lib.IntN.{ℤ}
 use Rattle.format.specs.Digits.{AllBelow}
@@ -18,7 +18,7 @@ use Rattle.format.proofs.Streams.{stream-whole}
 use Rattle.planner.specs.declared.segment.Segment.{Segment}
 use Rattle.planner.specs.declared.ColumnAnswer.{ColumnAnswer}
 use Rattle.planner.specs.Check.{Columns, segmentsFrom, segments, anyRun, Column, planned, direct, eight, column, bytesIn, toldAs}
-use Rattle.planner.specs.Laws.{sumRows, Accept, none, more, Accepted, Answers, as-planned, as-direct, as-eight, Reads, WhateverProposed, when-planned, when-direct, when-eight, Whatever, CheckDetermined, ColumnDetermined}
+use Rattle.planner.specs.Laws.{sumRows, Accept, none, more, Accepted, Answers, as-planned, as-direct, Reads, WhateverProposed, when-planned, when-direct, when-eight, Whatever, CheckDetermined, ColumnDetermined}
 use Rattle.planner.proofs.Accepting.{check-exactly}
 use Rattle.planner.proofs.Direct.{fit-take, fit-drop, wide-is}
 use Rattle.planner.proofs.Writers.{stands}

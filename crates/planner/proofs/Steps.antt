@@ -1,30 +1,28 @@
 -- One segment, by its form's writer. Assumes nothing.
-use mathlib.Core.Path.{_≡_, refl, sym, ap, _∙_}
-use Prim.Native.Nat.{ℕ, zero, suc, _+_, _-_, _<_, _≤_}
+use mathlib.Core.Path.{_≡_, refl, ap, _∙_}
+use Prim.Native.Nat.{ℕ, zero, suc, _-_, _<_, _≤_}
 use native.Mathlib.Omega.{arith}
 use mathlib.Core.Bool.{Bool, true, false, not, _&&_}
-use mathlib.Core.List.{List, [], _∷_, map}
+use mathlib.Core.List.{List, map}
 use lib.ListN.{length, take, drop}
-use lib.Dec.{ltb, leb, eqb}
 use lib.IntN.{ℤ}
 use borrow.Author.Tests.{lt-leb, ne-eqb, le-leb, eq-eqb}
 use Rattle.format.specs.declared.Form.{Form}
 use Rattle.format.specs.declared.Form.the-variants.{ShortRepeat, Direct, FixedDelta, PackedDelta}
 use Rattle.format.specs.declared.Answer.{Answer}
 use Rattle.format.specs.Fields.{two64}
-use Rattle.format.specs.Kept.{isKept, isKeptWidth}
-use Rattle.format.specs.Runs.{Description, layout}
+use Rattle.format.specs.Runs.{Description}
 use Rattle.format.specs.Rows.{asI64, asU64}
 use Rattle.format.specs.Parse.{plain, Parsed, end, got, refused, unless}
 use Rattle.format.specs.Answers.{answerBytes}
 use Rattle.format.specs.Promises.{answerOf}
-use Rattle.format.specs.Writing.{between, described, countAllowed, haveForm, widthAllowed, fitWidth, writing, bytesIn, Written}
-use Rattle.format.specs.PatchedWriting.{run, parts, headerHolds, writingPatched, PatchedWritten}
+use Rattle.format.specs.Writing.{between, countAllowed, haveForm, widthAllowed, writing, bytesIn, Written}
+use Rattle.format.specs.PatchedWriting.{writingPatched, PatchedWritten}
 use Rattle.format.proofs.Kept.{no-code-kept, wide-not-kept}
 use Rattle.format.proofs.Patterns.{as-back}
 use Rattle.planner.specs.declared.segment.Segment.{Segment}
-use Rattle.planner.specs.Check.{writeIn, isRun, runIn}
-use Rattle.planner.specs.Walk.{formOf, inPlace, stepIn, sizeOf, Ran}
+use Rattle.planner.specs.Check.{writeIn, isRun}
+use Rattle.planner.specs.Walk.{formOf, stepIn, sizeOf, Ran}
 
 -- ---- nothing accepted: no bytes, and nothing touched
 

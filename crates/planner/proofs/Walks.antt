@@ -1,6 +1,6 @@
 -- The walk over the segments: each turn takes one of them, or ends with what the check says. Assumes nothing.
-use mathlib.Core.Path.{_≡_, refl, sym, ap, _∙_}
-use Prim.Native.Nat.{ℕ, zero, suc, _+_, _-_, _<_, _≤_}
+use mathlib.Core.Path.{_≡_, refl, _∙_}
+use Prim.Native.Nat.{ℕ, suc, _+_, _-_, _<_, _≤_}
 use native.Mathlib.Omega.{arith}
 use native.Mathlib.Nat.{add-zero, zero-add}
 use mathlib.Core.Bool.{Bool, true, false, _&&_}
@@ -8,7 +8,7 @@ use mathlib.Core.List.{List, [], _∷_, _++_}
 use lib.ListN.{length, take, drop, length-append, length-take, length-drop}
 use lib.Dec.{eqb, leb}
 use lib.IntN.{ℤ}
-use borrow.Author.Tests.{eqb-true, eqb-false, eq-eqb, ne-eqb, leb-true, leb-false, le-leb, lt-leb}
+use borrow.Author.Tests.{eqb-true, eq-eqb, ne-eqb, leb-true, leb-false, le-leb, lt-leb}
 use Rattle.format.specs.Fields.{pick}
 use Rattle.format.specs.Runs.{Description, rowCount, layout, joined}
 use Rattle.format.specs.Parse.{plain, Parsed, end, got, refused}
@@ -19,8 +19,8 @@ use Rattle.planner.specs.declared.segment.Segment.{Segment}
 use Rattle.planner.specs.declared.Columned.{Columned}
 use Rattle.planner.specs.declared.Checked.{Checked}
 use Rattle.planner.specs.declared.Checked.the-variants as checked
-use Rattle.planner.specs.Check.{Columns, equalLengths, segments, covers, anyRun, runIn, runOf, isRun, before, allRuns, runs, accepted, told, checkedAs}
-use Rattle.planner.specs.Walk.{inPlace, stepIn, sizeOf, Ran}
+use Rattle.planner.specs.Check.{Columns, equalLengths, segments, covers, anyRun, runIn, runOf, isRun, allRuns, runs, accepted, checkedAs}
+use Rattle.planner.specs.Walk.{stepIn, sizeOf, Ran}
 use Rattle.planner.proofs.Segments.{both, and-false, covers-le, covers-over}
 use Rattle.planner.proofs.Writers.{rows-given, in-room}
 

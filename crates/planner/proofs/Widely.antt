@@ -6,19 +6,18 @@ use native.Mathlib.Nat.{le-refl}
 use native.Mathlib.Decide.{decLe}
 use mathlib.Core.Bool.{Bool}
 use mathlib.Core.List.{List, [], _∷_, _++_, map}
-use lib.ListN.{length, take, drop, length-append, length-take, length-drop, length-map, drop-of-length-le}
+use lib.ListN.{length, take, drop, length-append, length-take, length-drop, drop-of-length-le}
 use lib.Seq.{take-all, drop-drop}
 use lib.IntN.{ℤ}
 use Rattle.format.specs.declared.Form.the-variants.{Direct}
-use Rattle.format.specs.Runs.{Description, rowCount, layout, joined}
+use Rattle.format.specs.Runs.{Description, layout, joined}
 use Rattle.format.specs.Rows.{asU64}
 use Rattle.format.specs.Parse.{got}
 use Rattle.format.specs.Streams.{totalRows}
 use Rattle.format.specs.Writing.{writing, AllI64}
 use Rattle.format.proofs.Writing.{written}
 use Rattle.util.proofs.Grow.{rest-is}
-use Rattle.planner.specs.declared.Columned.{Columned}
-use Rattle.planner.specs.Check.{parts, wide, told}
+use Rattle.planner.specs.Check.{parts, wide}
 use Rattle.planner.specs.Walk.{Ran, WideLaid}
 use Rattle.planner.proofs.Direct.{fit-take, fit-drop, run, run-accepted, run-rows}
 use Rattle.planner.proofs.Growing.{Grown, grown-first, grown-next, grown-sum, grown-end}

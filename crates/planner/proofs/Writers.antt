@@ -3,24 +3,22 @@ use mathlib.Core.Path.{_≡_, refl, sym, ap, subst, _∙_}
 use Prim.Native.Nat.{ℕ, zero, suc, _%_, _^_, _<_, _≤_}
 use native.Mathlib.Omega.{arith}
 use mathlib.Core.Bool.{Bool, true, false, not, _&&_}
-use mathlib.Core.List.{List, [], _∷_, map}
+use mathlib.Core.List.{List, [], map}
 use lib.ListN.{length, length-map}
 use lib.Dec.{T, ltb}
 use lib.IntN.{ℤ}
 use borrow.Author.Tests.{ltb-false, le-ltb}
 use Rattle.format.specs.declared.Form.{Form}
 use Rattle.format.specs.declared.Form.the-variants.{ShortRepeat, Direct, FixedDelta, PackedDelta}
-use Rattle.format.specs.Digits.{AllBelow}
 use Rattle.format.specs.Fields.{two64}
 use Rattle.format.specs.Kept.{isKeptWidth}
 use Rattle.format.specs.Runs.{Description, Valid, rowCount, layout}
-use Rattle.format.specs.Rows.{i64Rows, rowsOf, asI64, asU64}
-use Rattle.format.specs.Parse.{plain, Parsed, end, got, refused, unless}
+use Rattle.format.specs.Rows.{i64Rows, asI64, asU64}
+use Rattle.format.specs.Parse.{Parsed, got, unless}
 use Rattle.format.specs.Writing.{stored, minus, baseDelta, falls, valuesOf, described, between, countAllowed, haveForm, widthAllowed, fitWidth, writing, AllI64}
 use Rattle.format.specs.PatchedWriting.{differences, run, parts, headerHolds, writingPatched}
 use Rattle.format.proofs.Rows.{byte-bounds}
 use Rattle.format.proofs.Runs.{got-inj}
-use Rattle.format.proofs.Widths.{and-left, and-right}
 use Rattle.format.proofs.Writing.{between-le, later-steps, reads-back, patterns-lt, patterns-back}
 use Rattle.promises.proofs.PatchedValid.{header-room, described as patched-described}
 use Rattle.planner.specs.Check.{anyRun, writeIn}

@@ -1,8 +1,8 @@
 -- One segment, and the walks over all of them, as their functions are stated. Assumes nothing.
 use mathlib.Core.Path.{_≡_}
-use Prim.Native.Nat.{ℕ, zero, suc, _+_, _-_}
-use mathlib.Core.Bool.{Bool, true, _&&_}
-use mathlib.Core.List.{List, [], _∷_, _++_}
+use Prim.Native.Nat.{ℕ, zero, suc, _-_}
+use mathlib.Core.Bool.{Bool, _&&_}
+use mathlib.Core.List.{List, _++_}
 use lib.ListN.{length, drop, getD}
 use lib.Dec.{leb, eqb}
 use lib.IntN.{ℤ}

@@ -2,7 +2,6 @@
 ghost use mathlib.Core.Path.{_≡_};
 ghost use Prim.Native.Nat.{_<_, _≤_};
 ghost use lib.ListN.{length};
-ghost use Rattle.format.specs.Writing.{Written};
 ghost use Rattle.planner.specs.Check.{proposal, writeIn};
 ghost use Rattle.planner.specs.Walk.{formOf, segmentAt, stepIn, Ran};
 use format::Form;

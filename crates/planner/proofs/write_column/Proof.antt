@@ -1,6 +1,6 @@
 -- `write_column` meets its contract: by the check's answer, the proposal's runs, the direct runs, or nothing. Assumes nothing.
 use mathlib.Core.Path.{_≡_, refl, sym, _∙_}
-use mathlib.Core.Bool.{Bool, true, false}
+use mathlib.Core.Bool.{true}
 use lib.ListN.{length}
 use lib.Dec.{leb}
 use denote.Ref.{now}

@@ -5,7 +5,7 @@ use native.Mathlib.Numerals.{add-one}
 use lib.ListN.{length, take}
 use lib.Seq.{take-all}
 use denote.Ref.{now}
-use borrow.Author.Needs.{needs, sfits-of}
+use borrow.Author.Needs.{sfits-of}
 use Rattle.format.specs.Writing.{AllI64}
 use Rattle.planner.proofs.Direct.{fit-more}
 use Rattle.planner.proofs.write.know.Statement.{statement}
