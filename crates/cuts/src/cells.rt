@@ -1,4 +1,5 @@
-// Sixteen cells, one for each class of widths and some to spare, so that an index is taken modulo 16 and is never outside.
+// Sixteen cells, one for each class of widths or each number of a frame and some to spare: an index is taken modulo 16, and is never outside. And
+// places of slices, which may not be there.
 use util::pattern;
 
 pub(crate) fn all(x: u64) -> [u64; 16] {

@@ -34,7 +34,7 @@ struct Seen {
 }
 
 impl Chosen {
-    // One class more, of which one number in 64 is, or which has to be there.
+    // One class more: the next width that is chosen has it, its own where it is taken.
     fn offer(self, class: u64, take: bool, widths: &mut [u64; 16]) -> Chosen {
         let first = self.first | self.count << (class % 16 * 4);
         if take {
@@ -53,6 +53,7 @@ impl Chosen {
 }
 
 impl Frames {
+    // One class more, where there are fewer than two.
     fn with(self, class: u64) -> Frames {
         if self.count == 0 {
             Frames {
@@ -70,7 +71,7 @@ impl Frames {
     }
 }
 
-// The first width for a class.
+// The first of the chosen widths that has a class.
 pub(crate) fn first(of: u64, class: u64) -> u64 {
     of >> (class % 16 * 4) & 15
 }

@@ -7,6 +7,7 @@ use util::pattern;
 // Rows of a window: the most that a run has.
 pub(crate) const WINDOW: u64 = 512;
 
+// A place for each row of a window, and one behind the last.
 pub(crate) fn start() -> [u64; 513] {
     [0u64; 513]
 }
