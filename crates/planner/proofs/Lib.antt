@@ -12,3 +12,4 @@ pub mod Widely
 pub mod Columns
 pub mod Reading
 pub mod Examples
+pub mod Proposing

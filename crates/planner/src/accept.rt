@@ -2,10 +2,13 @@
 ghost use mathlib.Core.Path.{_≡_};
 ghost use mathlib.Core.Bool.{true, _&&_};
 ghost use lib.Dec.{eqb};
+ghost use Rattle.cuts.specs.Proposed.{Proposed};
 ghost use Rattle.planner.specs.Check.{proposal, equalLengths, checkedAs};
+ghost use Rattle.planner.specs.Plan.{Proposes};
 use crate::Checked;
 use crate::Columned;
 use crate::segment;
+use crate::write;
 use format::ByteOffset;
 use format::Kind;
 use format::RowNumber;
@@ -70,4 +73,39 @@ pub(crate) fn walk(
         rows: RowNumber { rows: row },
         bytes: ByteOffset { bytes },
     })
+}
+
+// The first k segments, where they are accepted and have no more bytes than the direct runs; else none.
+pub(crate) fn sound(
+    rows: &[i64],
+    signed: bool,
+    first: &[u64],
+    counts: &[u64],
+    forms: &[u64],
+    widths: &[u64],
+    bases: &[u64],
+    k: usize,
+) -> usize
+    requires { ⌜ Proposed (now first) (now counts) (now forms) (now widths) (now bases) k ⌝ }
+    ensures { λ r. ⌜ Proposes signed (now (rows .entry)) (proposal (now (first .entry)) (now (counts .entry)) (now (forms .entry)) (now (widths .entry)) (now (bases .entry))) r ⌝ }
+{
+    let c = walk(
+        rows,
+        signed,
+        &first[..k],
+        &counts[..k],
+        &forms[..k],
+        &widths[..k],
+        &bases[..k],
+        18446744073709551615,
+    );
+    match c {
+        Checked::Accepted(t) => {
+            if write::is_longer(t.bytes.bytes, rows.len()) {
+                return 0;
+            }
+            k
+        }
+        Checked::Rejected => 0,
+    }
 }

@@ -2,6 +2,7 @@
 // stream reads back as the rows: a proposal that is not accepted is not written.
 ghost use mathlib.Core.Path.{_≡_};
 ghost use Rattle.planner.specs.Check.{proposal, checkedAs, Wrote};
+ghost use Rattle.planner.specs.Plan.{Proposes};
 use format::ByteOffset;
 use format::Refusal;
 use format::RowNumber;
@@ -77,4 +78,21 @@ pub fn write_column(
             ColumnAnswer::Direct(write::wide(rows, signed, out))
         }
     }
+}
+
+// Proposes how a column is cut into runs, in the first places of the five columns: how many. None where a column has too few places. What is
+// proposed has passed the check, so it is written wherever there is room, and it has no more bytes than the direct runs of 64 bits.
+pub fn plan(
+    rows: &[i64],
+    signed: bool,
+    first: &mut [u64],
+    counts: &mut [u64],
+    forms: &mut [u64],
+    widths: &mut [u64],
+    bases: &mut [u64],
+) -> usize
+    ensures { λ r. ⌜ Proposes signed (now (rows .entry)) (proposal (now (first .exit)) (now (counts .exit)) (now (forms .exit)) (now (widths .exit)) (now (bases .exit))) r ⌝ }
+{
+    let k = cuts::propose(rows, signed, first, counts, forms, widths, bases);
+    accept::sound(rows, signed, first, counts, forms, widths, bases, k)
 }

@@ -4,7 +4,7 @@ ghost use mathlib.Core.Bool.{true};
 ghost use mathlib.Core.List.{map};
 ghost use Prim.Native.Nat.{_+_, _*_, _/_, _≤_, min};
 ghost use lib.ListN.{length, take, drop};
-ghost use lib.Dec.{leb};
+ghost use lib.Dec.{leb, ltb};
 ghost use Rattle.format.specs.Runs.{joined};
 ghost use Rattle.format.specs.Rows.{asU64};
 ghost use Rattle.format.specs.Writing.{writing, AllI64};
@@ -53,6 +53,16 @@ pub(crate) fn wide_fits(rows: usize, room: usize) -> bool
     }
     let runs = (rows + 511) / Kind::MAX_ROWS;
     2 * runs <= room - 8 * rows
+}
+
+// Whether so many bytes are more than those of the direct runs.
+pub(crate) fn is_longer(bytes: usize, rows: usize) -> bool
+    ensures { λ r. ⌜ r ≡ ltb (2 * ((rows + 511) / 512) + 8 * rows) bytes ⌝ }
+{
+    if bytes == 0 {
+        return false;
+    }
+    wide_fits(rows, bytes - 1)
 }
 
 // Every row is an i64: what is read of the slice is known to be one. Nothing else comes of the loop, and the compiler drops it.
