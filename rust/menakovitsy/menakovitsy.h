@@ -33,7 +33,7 @@ extern "C" {
 
 /* The version of these functions: each change of them makes it one more. A program compares what
  * orc_version answers with the header that it was compiled with. */
-#define ORC_VERSION UINT64_C(10)
+#define ORC_VERSION UINT64_C(11)
 
 uint64_t orc_version(void);
 
@@ -58,6 +58,9 @@ uint64_t orc_version(void);
 #define ORC_SALVAGE_WORDS 5
 /* orc_convert. */
 #define ORC_CONVERT_WORDS 7
+/* orc_check_column, orc_write_column. */
+#define ORC_CHECK_WORDS 4
+#define ORC_COLUMN_WORDS 6
 
 /* What it returns where it was lent fewer: then it has touched nothing, no word, row or byte. */
 #define ORC_TOO_FEW_WORDS UINT64_MAX
@@ -159,10 +162,30 @@ enum orc_convert_word {
     ORC_CONVERT_CUT_AT = 6
 };
 
+/* The words of a check behind ORC_CASE, which is ORC_CASE_READ where the proposal is accepted, otherwise
+ * ORC_CASE_NOT_ACCEPTED; 0 where it is not. */
+enum orc_check_word {
+    /* How many runs the proposal has, how many rows, and how many bytes they take up. */
+    ORC_CHECK_RUNS = 1,
+    ORC_CHECK_ROWS = 2,
+    ORC_CHECK_BYTES = 3
+};
+
+/* The words of a written column behind ORC_CASE (ORC_CASE_READ where the proposal was written,
+ * ORC_CASE_DIRECT where direct runs of 64 bits were), ORC_NUMBER and ORC_PLACE; 0 where refused. */
+enum orc_column_word {
+    /* How many runs were written, how many rows, and how many bytes they take up. */
+    ORC_COLUMN_RUNS = 3,
+    ORC_COLUMN_ROWS = 4,
+    ORC_COLUMN_BYTES = 5
+};
+
 enum orc_case {
     /* The input is empty: there is no run. orc_read_run_at only; and of the reader in parts, once it is
      * closed: the column has ended. */
     ORC_CASE_END = 0,
+    /* Of orc_check_column alone: the proposal is not accepted. */
+    ORC_CASE_NOT_ACCEPTED = 0,
     /* A run, booleans or a byte value; of the stream: it was read whole; of a label: a name; of any
      * other: it was done. */
     ORC_CASE_READ = 1,
@@ -170,7 +193,9 @@ enum orc_case {
     /* Of a label alone: the row has no name, and is called by the fallback. */
     ORC_CASE_FALLBACK = 3,
     /* Of the reader in parts alone: all of the part is taken, and no run has ended. */
-    ORC_CASE_MORE = 3
+    ORC_CASE_MORE = 3,
+    /* Of orc_write_column alone: the proposal is not accepted, and direct runs of 64 bits were written. */
+    ORC_CASE_DIRECT = 3
 };
 
 enum orc_kind {
@@ -370,6 +395,38 @@ uint64_t orc_salvage(const uint8_t *input, size_t input_len, const uint64_t *sta
  * nothing written: the stream's own, then ORC_TOO_FEW_PLACES, at place 0. */
 uint64_t orc_convert(const uint8_t *input, size_t input_len, uint64_t flag, uint8_t *out, size_t out_len,
                      uint64_t *words, size_t words_len);
+
+/* A proposal for a column of rows: five columns, an entry a segment. First rows and row counts; forms, as
+ * an orc_form, and 4 for a patched run; widths, as orc_write_run and orc_write_patched have them; bases,
+ * as the bits of the int64_t (of the other forms than patched they are not looked at).
+ *
+ * The planner: it proposes runs for all rows, in the first places of the five columns, and answers how
+ * many; 0 where the shortest column has too few places, or there are no rows (rows_len places are always
+ * enough). The segments are the same whatever more is lent. The places behind them may have changed, and
+ * none else has. What it proposes is not given: another version may propose other runs. */
+uint64_t orc_plan(const int64_t *rows, size_t rows_len, uint64_t flag, uint64_t *first, size_t first_len,
+                  uint64_t *counts, size_t counts_len, uint64_t *forms, size_t forms_len,
+                  uint64_t *widths, size_t widths_len, uint64_t *bases, size_t bases_len);
+
+/* Whether a proposal, whoever made it, is accepted: exactly if its columns have one length, its segments
+ * cover all rows in order with no overlap and no gap, each run's writer accepts its segment, and so many
+ * bytes of room hold all. A column of no rows is no bytes, by the empty proposal. It returns 0, or
+ * ORC_TOO_FEW_WORDS where words are fewer than ORC_CHECK_WORDS. */
+uint64_t orc_check_column(const int64_t *rows, size_t rows_len, uint64_t flag, const uint64_t *first,
+                          size_t first_len, const uint64_t *counts, size_t counts_len,
+                          const uint64_t *forms, size_t forms_len, const uint64_t *widths,
+                          size_t widths_len, const uint64_t *bases, size_t bases_len, uint64_t room,
+                          uint64_t *words, size_t words_len);
+
+/* Writes a column by a proposal into the first bytes of out; where it is not accepted for this room, as
+ * direct runs of 64 bits, 512 rows each and the rest last. Whatever the proposal, what is written reads
+ * whole as the rows. Refused with nothing written where the direct runs have no room either:
+ * ORC_TOO_FEW_PLACES, at place 0 (8 * rows_len bytes, and 2 for each 512 rows begun, always have it). */
+uint64_t orc_write_column(const int64_t *rows, size_t rows_len, uint64_t flag, const uint64_t *first,
+                          size_t first_len, const uint64_t *counts, size_t counts_len,
+                          const uint64_t *forms, size_t forms_len, const uint64_t *widths,
+                          size_t widths_len, const uint64_t *bases, size_t bases_len, uint8_t *out,
+                          size_t out_len, uint64_t *words, size_t words_len);
 
 /* Reads the run at the start of input, and answers by one number: an orc_answer, or, from ORC_RUN on,
  * a run. Rows are laid into out as eight bytes each, lowest first; a trailing part of fewer than eight

@@ -253,4 +253,4 @@ WriteTold rows flag form w out out′ words words′ r =
 
 -- the version of the exported functions: one more with each change of what they take or answer
 abbrev pub faceVersion : ℕ
-faceVersion = 10
+faceVersion = 11

@@ -20,6 +20,9 @@ use Rattle.season.specs.declared.Count.{Count}
 use Rattle.loader.specs.Counts.{countWords, countWordCount, CountToldDetermined}
 use Rattle.salvage.specs.declared.Outcome.{Outcome}
 use Rattle.loader.specs.Salvage.{salvageWords, salvageWordCount, SalvageToldDetermined}
+use Rattle.planner.specs.declared.Checked.{Checked}
+use Rattle.planner.specs.declared.ColumnAnswer.{ColumnAnswer}
+use Rattle.loader.specs.Columns.{checkWords, checkWordCount, CheckToldDetermined, columnWords, columnWordCount, ColumnToldDetermined}
 use Rattle.format.specs.Loader.{answerWords, streamWords, wordCount, streamWordCount, tooFewWords, Put, Told, ToldOf}
 
 -- every answer has as many words as its function says
@@ -58,6 +61,14 @@ salvage-long m = refl
 pub convert-long : (c : Converted) → length (convertWords c) ≡ convertWordCount
 unfolding convertWords
 convert-long c = refl
+
+pub check-long : (c : Checked) → length (checkWords c) ≡ checkWordCount
+unfolding checkWords
+check-long c = refl
+
+pub column-long : (a : ColumnAnswer) → length (columnWords a) ≡ columnWordCount
+unfolding columnWords
+column-long a = refl
 
 -- over any answers whose words are counted
 module _ {B : Type 0} {wordsOf : B → List ℕ} {numberOf : B → ℕ} {n : ℕ} (long : (b : B) → length (wordsOf b) ≡ n) where
@@ -112,4 +123,11 @@ salvage-told-determined input starts counts fill flag out out′ out″ lines li
 
 pub convert-told-determined : ConvertToldDetermined
 convert-told-determined input flag out out′ out″ words words′ words″ r r′ p q =
+    (p .places-are ∙ sym (q .places-are), p .told .words-are ∙ sym (q .told .words-are), p .told .number-is ∙ sym (q .told .number-is))
+
+pub check-told-determined : CheckToldDetermined
+check-told-determined rows flag c room words words′ words″ r r′ p q = (p .words-are ∙ sym (q .words-are), p .number-is ∙ sym (q .number-is))
+
+pub column-told-determined : ColumnToldDetermined
+column-told-determined rows flag c out out′ out″ words words′ words″ r r′ p q =
     (p .places-are ∙ sym (q .places-are), p .told .words-are ∙ sym (q .told .words-are), p .told .number-is ∙ sym (q .told .number-is))

@@ -7,3 +7,4 @@ pub mod Counts
 pub mod Index
 pub mod Salvage
 pub mod Converting
+pub mod Columns

@@ -5,7 +5,9 @@ ghost use mathlib.Core.Path.{_≡_};
 ghost use Rattle.format.specs.Kept.{NarrowestKept};
 ghost use Rattle.format.specs.Loader.{Loaded, faceVersion, RunTold, StreamTold, BooleansTold, ValueTold, WriteTold};
 ghost use Rattle.loader.specs.Index.{IndexTold, LookUpTold, ReadFromTold};
+ghost use Rattle.loader.specs.Columns.{PlanTold, CheckTold, ColumnTold};
 ghost use Rattle.loader.specs.Converting.{ConvertTold};
+ghost use Rattle.planner.specs.Check.{proposal};
 ghost use Rattle.loader.specs.Labels.{LabelTold};
 ghost use Rattle.loader.specs.Patched.{PatchedTold};
 ghost use Rattle.loader.specs.Parts.{StartTold, PartTold, CloseTold};
@@ -15,6 +17,7 @@ use format::ByteOffset;
 use format::RowNumber;
 
 mod bytes;
+mod column_words;
 mod convert_words;
 mod count_words;
 mod forms;
@@ -29,7 +32,7 @@ mod words;
 pub extern "C" fn orc_version() -> u64
     ensures { λ r. ⌜ r ≡ faceVersion ⌝ }
 {
-    10
+    11
 }
 
 // One run at the start of the input, its rows as eight bytes each, lowest first. The flag is 0 for unsigned, and any other number for signed.
@@ -171,6 +174,78 @@ pub extern "C" fn orc_narrowest_code(x: u64) -> u64
     ensures { λ r. ⌜ NarrowestKept x r ⌝ }
 {
     writer::narrowest_code(x) as u64
+}
+
+// Proposes how a column is cut into runs: how many segments, each an entry in the first places of the five columns (first row, rows, form,
+// width, base). None where a column has too few places. What it proposes is accepted wherever there is room, and has no more bytes than direct
+// runs of 64 bits.
+#[no_mangle]
+pub extern "C" fn orc_plan(
+    rows: &[i64],
+    flag: u64,
+    first: &mut [u64],
+    counts: &mut [u64],
+    forms: &mut [u64],
+    widths: &mut [u64],
+    bases: &mut [u64],
+) -> u64
+    ensures { λ r. ⌜ PlanTold (now (rows .entry)) flag (proposal (now (first .exit)) (now (counts .exit)) (now (forms .exit)) (now (widths .exit)) (now (bases .exit))) r ⌝ }
+{
+    planner::plan(rows, flag != 0, first, counts, forms, widths, bases) as u64
+}
+
+// Whether a proposal is accepted in so much room.
+#[no_mangle]
+pub extern "C" fn orc_check_column(
+    rows: &[i64],
+    flag: u64,
+    first: &[u64],
+    counts: &[u64],
+    forms: &[u64],
+    widths: &[u64],
+    bases: &[u64],
+    room: u64,
+    words: &mut [u64],
+) -> u64
+    ensures { λ r. ⌜ CheckTold (now (rows .entry)) flag (proposal (now (first .entry)) (now (counts .entry)) (now (forms .entry)) (now (widths .entry)) (now (bases .entry))) room (now (words .entry)) (now (words .exit)) r ⌝ }
+{
+    if words.len() < column_words::CHECK_COUNT {
+        return words::TOO_FEW;
+    }
+    let checked = planner::check(
+        rows,
+        flag != 0,
+        first,
+        counts,
+        forms,
+        widths,
+        bases,
+        room as usize,
+    );
+    column_words::put_checked(checked, words)
+}
+
+// A column as a stream of runs: as it is proposed, where that is accepted, else as direct runs of 64 bits, 512 rows each and the rest last.
+// Nothing is written on refusal 8.
+#[no_mangle]
+pub extern "C" fn orc_write_column(
+    rows: &[i64],
+    flag: u64,
+    first: &[u64],
+    counts: &[u64],
+    forms: &[u64],
+    widths: &[u64],
+    bases: &[u64],
+    out: &mut [u8],
+    words: &mut [u64],
+) -> u64
+    ensures { λ r. ⌜ ColumnTold (now (rows .entry)) flag (proposal (now (first .entry)) (now (counts .entry)) (now (forms .entry)) (now (widths .entry)) (now (bases .entry))) (now (out .entry)) (now (out .exit)) (now (words .entry)) (now (words .exit)) r ⌝ }
+{
+    if words.len() < column_words::COUNT {
+        return words::TOO_FEW;
+    }
+    let answer = planner::write_column(rows, flag != 0, first, counts, forms, widths, bases, out);
+    column_words::put_column(answer, words)
 }
 
 // The stream with each direct or packed delta run of an odd width at the next kept one, in the first bytes lent; every other run is

@@ -11,6 +11,8 @@ mod measure;
 #[cfg(feature = "ours")]
 mod ours;
 mod parts;
+#[cfg(feature = "ours")]
+mod planned;
 mod plot;
 mod table;
 
@@ -29,7 +31,9 @@ Nanoseconds a row, the least of 31 samples, the candidates taking turns; less is
 
 - **Ours**: one call of `orc_read_run` a run, through the safe wrapper `menakovitsy`, into bytes; of
   whole streams one call of `orc_read_stream`, and of booleans one of `orc_read_booleans`; of a column in
-  parts the calls of `orc_part_take` that its parts need, the runs used where they are handed out.
+  parts the calls of `orc_part_take` that its parts need, the runs used where they are handed out; of a
+  column that is written one call of `orc_plan` (two where the segments first lent are too few) and one of
+  `orc_write_column`.
 - **Rust**: the decoders of WenyXu/orc-rs at 3a197fa636, unchanged, through their iterators, as a
   loader calls them. They have not written the widths 26, 28 and 30, and of booleans they agree with
   document 01 within the first run only: so that is what is timed of them.
@@ -92,7 +96,9 @@ fn main() -> ExitCode {
     let tables = {
         eprintln!("the index");
         let cases: Vec<_> = rows.iter().map(|row| &row.case).collect();
-        tables + &index::markdown(&index::build(&cases, samples), &index::end(samples))
+        let index = index::markdown(&index::build(&cases, samples), &index::end(samples));
+        eprintln!("columns written");
+        tables + &index + &planned::markdown(&planned::measure(samples))
     };
     println!("{tables}");
     if mode != Mode::Write {

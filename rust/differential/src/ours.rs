@@ -1,4 +1,6 @@
 //! The proved functions, linked: held to the model's answers, every place included.
+mod columns;
+
 use menakovitsy::{
     read_run, read_run_bytes, write_patched, ByteOffset, Column, Refusal, Sign, MAX_ROWS, MAX_WRITTEN,
 };

@@ -252,7 +252,7 @@ fn written(written: &Written) -> String {
 }
 
 /// A line with rows behind it, eight bytes each.
-fn with_numbers(mut line: String, rows: &[i64]) -> String {
+pub(crate) fn with_numbers(mut line: String, rows: &[i64]) -> String {
     for row in rows {
         write!(line, "{row:016x}").expect("a string takes it");
     }

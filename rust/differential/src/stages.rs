@@ -1,4 +1,6 @@
 //! What is compared, stage by stage.
+pub mod column_lines;
+pub mod columns;
 pub mod convert;
 pub mod count;
 mod cuts;
@@ -8,8 +10,10 @@ mod lines;
 pub mod parts;
 pub mod patched_runs;
 mod patches;
+pub mod plans;
 pub mod salvage;
 mod varints;
+mod written_streams;
 
 pub use lines::probe_line;
 
@@ -76,6 +80,9 @@ impl Session {
         self.values();
         self.written();
         self.patched_runs();
+        self.written_streams();
+        self.columns();
+        self.plans();
         self.probe_lines();
     }
 

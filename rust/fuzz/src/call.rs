@@ -1,8 +1,11 @@
 //! A call, and what the model of documents 01 and 02 answers it.
 mod indexed;
+mod outcome;
+mod planned;
 
 use differential::frames;
 use differential::random::Random;
+use differential::stages::columns;
 use differential::stages::convert;
 use differential::stages::count;
 use differential::stages::index;
@@ -10,14 +13,15 @@ use differential::stages::labels::{self, Asked};
 use differential::stages::patched_runs::any_patched_rows;
 use differential::stages::salvage;
 use menakovitsy::exported::{
-    case, kind, CONVERT_WORDS, COUNT_WORDS, LABEL_WORDS, PART_WORDS, SALVAGE_WORDS, STATE_WORDS,
-    STREAM_WORDS, TOO_FEW_WORDS, WORDS,
+    case, CHECK_WORDS, COLUMN_WORDS, CONVERT_WORDS, COUNT_WORDS, LABEL_WORDS, PART_WORDS, SALVAGE_WORDS,
+    STATE_WORDS, STREAM_WORDS, TOO_FEW_WORDS, WORDS,
 };
-use model::{
-    Answer, Booleans, Converted, Form, Info, Kind, Label, Ones, Refusal, Salvaged, Stream, Value, Written,
-};
+use model::{Answer, Booleans, Converted, Form, Label, Ones, Refusal, Salvaged, Stream, Value, Written};
 
 use crate::parts;
+
+pub(crate) use outcome::named;
+pub use outcome::{Lending, Outcome};
 
 /// The most places that are lent for rows, and for bytes.
 pub const MOST: usize = 5000;
@@ -40,88 +44,9 @@ pub enum Call {
     Index(index::Asked),
     Salvage(salvage::Asked, usize),
     Convert(convert::Asked),
-}
-
-/// What a call comes to: what it returns, its words (none where it is lent too few, or takes none),
-/// and what stands in the first places.
-#[derive(Debug, Clone, Default, PartialEq, Eq)]
-pub struct Outcome {
-    pub returned: u64,
-    pub words: Vec<u64>,
-    pub rows: Vec<i64>,
-    pub bytes: Vec<u8>,
-    pub columns: [Vec<u64>; 3],
-    pub report: Vec<u8>,
-}
-
-/// What a call is lent: what it is given to read, and how many places it may write to.
-#[derive(Debug, Clone, Copy, Default)]
-pub struct Lending<'a> {
-    pub input: &'a [u8],
-    pub given: &'a [i64],
-    /// What only a label is asked of, beside the lengths and the block.
-    pub numbers: &'a [i64],
-    pub flags: &'a [u8],
-    pub fallback: &'a [u8],
-    /// Columns that are read; and how many places those have that are written.
-    pub columns: [&'a [u64]; 3],
-    pub lent_columns: [usize; 3],
-    pub rows: usize,
-    pub bytes: usize,
-    pub report: usize,
-}
-
-impl Outcome {
-    fn of(words: [u64; WORDS]) -> Self {
-        Outcome { returned: words[1], words: words.to_vec(), ..Outcome::default() }
-    }
-
-    fn counted(refusal: Refusal, rows: usize, bytes: usize) -> Self {
-        let number = u64::from(refusal.number);
-        let (cut, cut_at) = (u64::from(refusal.cut.is_some()), refusal.cut.unwrap_or(0) as u64);
-        Self::of([case::REFUSED, number, refusal.place as u64, 0, rows as u64, bytes as u64, cut, cut_at, 0])
-    }
-
-    fn refused(refusal: Refusal) -> Self {
-        Self::counted(refusal, 0, 0)
-    }
-
-    /// Of words of its own.
-    fn done(words: &[u64]) -> Self {
-        Outcome { returned: words[1], words: words.to_vec(), ..Outcome::default() }
-    }
-
-    fn read(run: Info) -> Self {
-        let [kind, width, rows, bytes] = named(Some(run));
-        Self::of([case::READ, 0, 0, kind, rows, bytes, 0, 0, width])
-    }
-
-    /// The stream's, with its last run.
-    fn stream(refusal: Option<Refusal>, rows: Vec<i64>, bytes: usize, last: Option<Info>) -> Self {
-        let mut outcome = match refusal {
-            Some(refusal) => Self::counted(refusal, rows.len(), bytes),
-            None => Self::of([case::READ, 0, 0, 0, rows.len() as u64, bytes as u64, 0, 0, 0]),
-        };
-        outcome.words.push(last.is_some().into());
-        outcome.words.extend(named(last));
-        Outcome { rows, ..outcome }
-    }
-}
-
-/// A run's kind, width, rows and bytes; 0 each where there is none.
-pub(crate) fn named(run: Option<Info>) -> [u64; 4] {
-    run.map_or([0; 4], |run| [number(run.kind), run.width as u64, run.rows as u64, run.bytes as u64])
-}
-
-fn number(kind: Kind) -> u64 {
-    match kind {
-        Kind::ShortRepeat => kind::SHORT_REPEAT,
-        Kind::Direct => kind::DIRECT,
-        Kind::PatchedBase => kind::PATCHED_BASE,
-        Kind::Delta => kind::DELTA,
-        Kind::Booleans => kind::BOOLEANS,
-        Kind::ByteValue => kind::BYTE_VALUE,
-    }
+    Column(columns::Asked),
+    CheckColumn(columns::Asked, u64),
+    Plan { rows: Vec<i64>, flag: u64, lent: [usize; 5] },
 }
 
 impl Call {
@@ -129,7 +54,7 @@ impl Call {
     pub fn any(random: &mut Random) -> Self {
         let flag = if random.once_in(8) { random.any() } else { random.below(2) as u64 };
         let places = random.pick(&[0, 1, 5, 12, 64, 512, 1000]);
-        match random.below(32) {
+        match random.below(36) {
             0..=1 => {
                 let bytes = 8 * places + if random.once_in(2) { random.below(8) } else { 0 };
                 Call::Run { input: frames::any_frame(random), flag, bytes: bytes.min(MOST) }
@@ -167,6 +92,7 @@ impl Call {
             24..=26 => Call::Index(index::any(random)),
             27..=28 => Self::any_salvage(flag, random),
             29..=30 => Call::Convert(convert::Asked { flag, ..convert::any(random) }),
+            31..=34 => planned::any(flag, random),
             _ => {
                 let shift = random.below(64);
                 Call::Narrowest { number: random.any() >> shift }
@@ -229,13 +155,16 @@ impl Call {
             Call::Index(asked) => indexed::function(asked).0,
             Call::Salvage(..) => "orc_salvage",
             Call::Convert(_) => "orc_convert",
+            Call::Column(_) => "orc_write_column",
+            Call::CheckColumn(..) => "orc_check_column",
+            Call::Plan { .. } => "orc_plan",
         }
     }
 
     /// How many words its answer has.
     pub fn words(&self) -> usize {
         match self {
-            Call::Run { .. } | Call::Narrowest { .. } | Call::PartStart { .. } => 0,
+            Call::Run { .. } | Call::Narrowest { .. } | Call::PartStart { .. } | Call::Plan { .. } => 0,
             Call::Stream { .. } => STREAM_WORDS,
             Call::Label(_) => LABEL_WORDS,
             Call::Part(_) => PART_WORDS,
@@ -243,6 +172,8 @@ impl Call {
             Call::Index(asked) => indexed::function(asked).1,
             Call::Salvage(..) => SALVAGE_WORDS,
             Call::Convert(_) => CONVERT_WORDS,
+            Call::Column(_) => COLUMN_WORDS,
+            Call::CheckColumn(..) => CHECK_WORDS,
             _ => WORDS,
         }
     }
@@ -286,12 +217,17 @@ impl Call {
             Call::Index(asked) => indexed::lending(asked),
             Call::Salvage(asked, report) => Lending {
                 input: &asked.input,
-                columns: [&asked.starts, &asked.counts, &[]],
+                columns: [&asked.starts, &asked.counts, &[], &[], &[]],
                 bytes: asked.places,
                 report: *report,
                 ..none
             },
             Call::Convert(asked) => Lending { input: &asked.input, bytes: asked.places.min(MOST), ..none },
+            Call::Column(asked) => {
+                Lending { given: &asked.rows, columns: asked.lent(), bytes: asked.places, ..none }
+            }
+            Call::CheckColumn(asked, _) => Lending { given: &asked.rows, columns: asked.lent(), ..none },
+            Call::Plan { rows, lent, .. } => Lending { given: rows, lent_columns: *lent, ..none },
         }
     }
 
@@ -359,6 +295,10 @@ impl Call {
                 Salvaged::Refused(refusal) => Outcome::done(&[case::REFUSED, refusal.number.into(), 0, 0, 0]),
             },
             Call::Convert(asked) => converted(asked),
+            Call::Column(asked) => planned::written(asked),
+            Call::CheckColumn(asked, room) => planned::checked(asked, *room),
+            // What it proposes has no one right value: `Session` holds it to its safety.
+            Call::Plan { .. } => Outcome::default(),
             Call::Narrowest { number } => {
                 Outcome { returned: u64::from(model::narrowest_code(*number)), ..Outcome::default() }
             }

@@ -113,10 +113,14 @@ impl<T: Mark> Fenced<T> {
 
     /// Whether the places are these and then marked ones, and those beside the slice are marked.
     pub fn is(&self, first: &[T]) -> bool {
-        let near = if self.side == Side::Before { self.len } else { self.first() - NEAR };
-        let marked = |places: &[T]| places.iter().all(|place| *place == T::MARK);
         let (given, kept) = self.content().split_at(first.len().min(self.len));
-        given == first && marked(kept) && marked(self.elements(near, NEAR))
+        given == first && kept.iter().all(|place| *place == T::MARK) && self.is_alone()
+    }
+
+    /// Whether those beside the slice are marked, whatever it holds.
+    pub fn is_alone(&self) -> bool {
+        let near = if self.side == Side::Before { self.len } else { self.first() - NEAR };
+        self.elements(near, NEAR).iter().all(|place| *place == T::MARK)
     }
 
     fn first(&self) -> usize {
@@ -154,6 +158,8 @@ mod tests {
                     assert!(fenced.places(len, side).is(&[]));
                     fenced.elements_mut(place, 1)[0] = 1;
                     assert!(!fenced.is(&[]), "{side:?}, {len} lent, place {place}");
+                    let lent = fenced.first()..fenced.first() + len;
+                    assert_eq!(fenced.is_alone(), lent.contains(&place));
                 }
                 let content: Vec<i64> = (0..len as i64).collect();
                 assert!(fenced.holding(&content, side).is(&content));

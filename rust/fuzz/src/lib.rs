@@ -1,5 +1,6 @@
 //! Random calls of the exported functions, as the loader links them, each held to the model of
 //! documents 01 and 02: what is returned, every word, every row and byte, and what must keep its content.
+//! (The planner, whose proposal has no one right value, is held to what it may touch and count.)
 //!
 //! Each slice that a call is lent stands against a page that nobody may touch ([`fence`]), so a call
 //! that reads or writes one element too far ends the process, which says which call it was.
@@ -29,7 +30,7 @@ pub struct Session {
     flags: Fenced<u8>,
     fallback: Fenced<u8>,
     /// Columns of numbers, which are read or written.
-    columns: [Fenced<u64>; 3],
+    columns: [Fenced<u64>; 5],
     rows: Fenced<i64>,
     bytes: Fenced<u8>,
     /// What only a salvage writes.
@@ -50,7 +51,7 @@ impl Default for Session {
             numbers: Fenced::new(MOST),
             flags: Fenced::new(MOST),
             fallback: Fenced::new(MOST),
-            columns: [(); 3].map(|()| Fenced::new(MOST)),
+            columns: [(); 5].map(|()| Fenced::new(MOST)),
             rows: Fenced::new(MOST),
             bytes: Fenced::new(MOST),
             report: Fenced::new(MOST),
@@ -85,7 +86,8 @@ impl Session {
         let returned = self.made(&call, words, &state, &mut random);
         watch::end();
         let tallied = if returned < 65_536 || returned == u64::MAX { returned } else { 0 };
-        let tallied = if call.function() == "orc_narrowest_code" { 0 } else { tallied };
+        let counts = matches!(call.function(), "orc_narrowest_code" | "orc_plan");
+        let tallied = if counts { 0 } else { tallied };
         *self.tally.entry((call.function(), tallied)).or_default() += 1;
         self.held(&call, returned, &expected, &state_after).map_err(|wrong| {
             format!("seed {seed}, call {number}: {wrong}\n  {call:?}, {words} words\n  expected {expected:?}")
@@ -127,7 +129,8 @@ impl Session {
         let (t, tl) = lent(&self.report, null);
         let (w, wl) = lent(&self.words, null);
         let (s, sl) = lent(&self.state, null);
-        let [(x, xl), (y, yl), (z, zl)] = self.columns.each_ref().map(|column| lent(column, null));
+        let [(x, xl), (y, yl), (z, zl), (u, ul), (v, vl)] =
+            self.columns.each_ref().map(|column| lent(column, null));
         // SAFETY: the pointers are of mapped pages, of these lengths, and none is borrowed meanwhile.
         unsafe {
             match *call {
@@ -150,6 +153,13 @@ impl Session {
                     exported::orc_salvage(i, il, x, xl, y, yl, asked.fill, asked.flag, b, bl, t, tl, w, wl)
                 }
                 Call::Convert(ref asked) => exported::orc_convert(i, il, asked.flag, b, bl, w, wl),
+                Call::Column(ref asked) => exported::orc_write_column(
+                    g, gl, asked.flag, x, xl, y, yl, z, zl, u, ul, v, vl, b, bl, w, wl,
+                ),
+                Call::CheckColumn(ref asked, room) => exported::orc_check_column(
+                    g, gl, asked.flag, x, xl, y, yl, z, zl, u, ul, v, vl, room, w, wl,
+                ),
+                Call::Plan { flag, .. } => exported::orc_plan(g, gl, flag, x, xl, y, yl, z, zl, u, ul, v, vl),
                 Call::Run { flag, .. } => exported::orc_read_run(i, il, b, bl, flag),
                 Call::RunAt { at, flag, .. } => exported::orc_read_run_at(i, il, at, flag, r, rl, w, wl),
                 Call::Stream { at, flag, .. } => exported::orc_read_stream(i, il, at, flag, r, rl, w, wl),
@@ -178,11 +188,19 @@ impl Session {
         // A column is what it was given with, or what the call has written into it.
         let mut columns = self.columns.iter().zip(lending.columns).zip(&expected.columns);
         let columns = columns.all(|((fenced, held), written)| match held {
+            _ if matches!(call, Call::Plan { .. }) => fenced.is_alone(),
             [] => fenced.is(written),
             held => fenced.is(held),
         });
+        let number = match call {
+            // How many segments: no more than are lent, and none of no rows.
+            Call::Plan { rows, lent, .. } if !rows.is_empty() => {
+                lent.iter().all(|places| returned <= *places as u64)
+            }
+            _ => returned == expected.returned,
+        };
         let right = [
-            (returned == expected.returned, "what it returned"),
+            (number, "what it returned"),
             (self.words.is(&expected.words), "its words"),
             (self.rows.is(&expected.rows), "its rows"),
             (self.bytes.is(&expected.bytes), "its bytes"),

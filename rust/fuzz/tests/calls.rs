@@ -16,7 +16,7 @@ fn a_million_calls(seed: u64) {
     // Each function gave each answer that it can give.
     let readers = [0, 1, 2, 3, 4, 5, 6, 7, 8, 12, 13, 14];
     let too_few = u64::MAX;
-    let answers: [(&str, &[u64]); 18] = [
+    let answers: [(&str, &[u64]); 21] = [
         ("orc_read_run", &readers),
         ("orc_read_run_at", &[&readers[..], &[too_few]].concat()),
         ("orc_read_stream", &[&readers[..], &[too_few]].concat()),
@@ -35,6 +35,9 @@ fn a_million_calls(seed: u64) {
         ("orc_read_from", &[0, 8, 15, 16, too_few]),
         ("orc_salvage", &[0, 8, 17, too_few]),
         ("orc_convert", &[&readers[..], &[too_few]].concat()),
+        ("orc_write_column", &[0, 8, too_few]),
+        ("orc_check_column", &[0, too_few]),
+        ("orc_plan", &[0]),
     ];
     for (function, numbers) in answers {
         let given: Vec<u64> =

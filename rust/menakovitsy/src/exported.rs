@@ -13,8 +13,14 @@
 //! The reader in parts keeps nothing either: its state stands in the first [`STATE_WORDS`] of the words
 //! that the caller keeps for it, and the bytes of the unfinished run in the [`MAX_RUN_BYTES`] lent.
 
+mod columns;
+
+pub use columns::{
+    check_word, column_word, orc_check_column, orc_plan, orc_write_column, CHECK_WORDS, COLUMN_WORDS,
+};
+
 /// The version of these functions that this crate is written for.
-pub const VERSION: u64 = 10;
+pub const VERSION: u64 = 11;
 
 /// How many words an answer has; the stream reader's has [`STREAM_WORDS`].
 pub const WORDS: usize = 9;
@@ -165,6 +171,8 @@ pub mod convert_word {
 pub mod case {
     /// The input is empty; of the reader in parts: it is closed, and the column has ended.
     pub const END: u64 = 0;
+    /// Of the check of a proposal alone: it is not accepted.
+    pub const NOT_ACCEPTED: u64 = 0;
     /// A run, booleans or a byte value; of the stream reader: the whole stream was read; of a label: a
     /// name; of any other: it was done.
     pub const READ: u64 = 1;
@@ -174,6 +182,8 @@ pub mod case {
     pub const FALLBACK: u64 = 3;
     /// Of the reader in parts alone: all of the part is taken, and no run has ended.
     pub const MORE: u64 = 3;
+    /// Of a written column alone: direct runs of 64 bits, since the proposal is not accepted.
+    pub const DIRECT: u64 = 3;
 }
 
 /// What the word `KIND` may hold.

@@ -17,6 +17,8 @@
 //! | the name of a row, by a dictionary | [`label`] |
 //! | a damaged column salvaged, by its row groups | [`salvage()`] |
 //! | a column's odd widths retired | [`convert()`] |
+//! | a column written, cut into runs by the planner | [`write_column`], [`column_room`] |
+//! | the same by a proposal of one's own | [`Proposal`], [`plan`], [`check_column`], [`write_proposed`] |
 //! | a run written | [`write_run`], [`write_patched`], [`narrowest_code`] |
 //! | the library that is linked | [`check_version`], [`library_version`] |
 //!
@@ -45,6 +47,7 @@ compile_error!("libloader.a is for a little-endian processor with 64-bit pointer
 
 mod answers;
 mod column;
+mod columns;
 mod convert;
 pub mod exported;
 mod index;
@@ -60,6 +63,10 @@ mod version;
 
 pub use answers::{Kind, Refused, Run, Stream, StreamRefused};
 pub use column::{Column, Rows, RunAt, Runs};
+pub use columns::{
+    check_column, column_room, plan, plan_into, write_column, write_proposed, Proposal, Segment,
+    WrittenColumn,
+};
 pub use convert::{convert, Converted};
 pub use exported::{MAX_ROWS, MAX_RUN_BYTES};
 pub use index::{Entry, Index};

@@ -5,8 +5,8 @@ use std::process::Command;
 use std::{env, fs};
 
 use menakovitsy::exported::{
-    self, case, convert_word, count_word, entry_word, index_word, kind, label_word, part_word,
-    rows_from_word, salvage_word, word,
+    self, case, check_word, column_word, convert_word, count_word, entry_word, index_word, kind, label_word,
+    part_word, rows_from_word, salvage_word, word,
 };
 use menakovitsy::Refusal;
 
@@ -42,6 +42,8 @@ fn the_header_has_the_same_numbers() {
     has(&format!("#define ORC_ROWS_FROM_WORDS {}\n", exported::ROWS_FROM_WORDS));
     has(&format!("#define ORC_SALVAGE_WORDS {}\n", exported::SALVAGE_WORDS));
     has(&format!("#define ORC_CONVERT_WORDS {}\n", exported::CONVERT_WORDS));
+    has(&format!("#define ORC_CHECK_WORDS {}\n", exported::CHECK_WORDS));
+    has(&format!("#define ORC_COLUMN_WORDS {}\n", exported::COLUMN_WORDS));
     has("#define ORC_TOO_FEW_WORDS UINT64_MAX\n");
     has(&format!("#define ORC_MAX_ROWS {}\n", exported::MAX_ROWS));
     has(&format!("#define ORC_MAX_RUN_BYTES {}\n", exported::MAX_RUN_BYTES));
@@ -78,6 +80,12 @@ fn the_header_has_the_same_numbers() {
         ("CONVERT_BYTES", convert_word::BYTES),
         ("CONVERT_CUT", convert_word::CUT),
         ("CONVERT_CUT_AT", convert_word::CUT_AT),
+        ("CHECK_RUNS", check_word::RUNS),
+        ("CHECK_ROWS", check_word::ROWS),
+        ("CHECK_BYTES", check_word::BYTES),
+        ("COLUMN_RUNS", column_word::RUNS),
+        ("COLUMN_ROWS", column_word::ROWS),
+        ("COLUMN_BYTES", column_word::BYTES),
     ] {
         has(&format!("    ORC_{name} = {place}"));
     }
@@ -87,6 +95,8 @@ fn the_header_has_the_same_numbers() {
         ("CASE_REFUSED", case::REFUSED),
         ("CASE_FALLBACK", case::FALLBACK),
         ("CASE_MORE", case::MORE),
+        ("CASE_NOT_ACCEPTED", case::NOT_ACCEPTED),
+        ("CASE_DIRECT", case::DIRECT),
     ] {
         has(&format!("    ORC_{name} = {number}"));
     }

@@ -102,12 +102,12 @@ fn allowed(rows: &[i64], form: Form, width: usize) -> Result<(), u8> {
 }
 
 /// From each row to the next, modulo 2^64.
-fn steps(rows: &[i64]) -> Vec<u64> {
+pub(crate) fn steps(rows: &[i64]) -> Vec<u64> {
     rows.windows(2).map(|two| two[1].wrapping_sub(two[0]) as u64).collect()
 }
 
 /// The number that stands for a row: zigzagged if signed.
-fn number(row: i64, signed: bool) -> u64 {
+pub(crate) fn number(row: i64, signed: bool) -> u64 {
     let row = i128::from(row);
     match (signed, row < 0) {
         (true, true) => (-2 * row - 1) as u64,

@@ -177,6 +177,19 @@ impl Answer {
         fits && self.returned == self.word(word::NUMBER) && self.cut_fits()
     }
 
+    /// The same of a written column, which may be direct, too.
+    pub fn column_fits(&self) -> bool {
+        match self.case() {
+            case::DIRECT => self.returns(0) && self.zero(&[word::NUMBER, word::PLACE]),
+            _ => self.own_fits(),
+        }
+    }
+
+    /// Whether this is what the call returned.
+    pub fn returns(&self, number: u64) -> bool {
+        self.returned == number
+    }
+
     /// The part of a block, or of the fallback, that a label names; nothing where it is not within.
     pub fn part_of<'a>(&self, block: &'a [u8]) -> Option<&'a [u8]> {
         let [start, size] =

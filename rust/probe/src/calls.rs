@@ -241,6 +241,76 @@ pub fn convert(input: &[u8], flag: u64, out: &mut [u8], words: &mut [u64]) -> u6
     unsafe { exported::orc_convert(input.as_ptr(), input.len(), flag, out, out_len, words, words_len) }
 }
 
+pub fn plan(rows: &[i64], flag: u64, columns: [&mut [u64]; 5]) -> u64 {
+    let [first, counts, forms, widths, bases] = columns.map(|column| (column.as_mut_ptr(), column.len()));
+    unsafe {
+        exported::orc_plan(
+            rows.as_ptr(),
+            rows.len(),
+            flag,
+            first.0,
+            first.1,
+            counts.0,
+            counts.1,
+            forms.0,
+            forms.1,
+            widths.0,
+            widths.1,
+            bases.0,
+            bases.1,
+        )
+    }
+}
+
+pub fn check_column(rows: &[i64], flag: u64, columns: [&[u64]; 5], room: u64, words: &mut [u64]) -> u64 {
+    let [first, counts, forms, widths, bases] = columns.map(|column| (column.as_ptr(), column.len()));
+    unsafe {
+        exported::orc_check_column(
+            rows.as_ptr(),
+            rows.len(),
+            flag,
+            first.0,
+            first.1,
+            counts.0,
+            counts.1,
+            forms.0,
+            forms.1,
+            widths.0,
+            widths.1,
+            bases.0,
+            bases.1,
+            room,
+            words.as_mut_ptr(),
+            words.len(),
+        )
+    }
+}
+
+pub fn write_column(rows: &[i64], flag: u64, columns: [&[u64]; 5], out: &mut [u8], words: &mut [u64]) -> u64 {
+    let [first, counts, forms, widths, bases] = columns.map(|column| (column.as_ptr(), column.len()));
+    unsafe {
+        exported::orc_write_column(
+            rows.as_ptr(),
+            rows.len(),
+            flag,
+            first.0,
+            first.1,
+            counts.0,
+            counts.1,
+            forms.0,
+            forms.1,
+            widths.0,
+            widths.1,
+            bases.0,
+            bases.1,
+            out.as_mut_ptr(),
+            out.len(),
+            words.as_mut_ptr(),
+            words.len(),
+        )
+    }
+}
+
 pub fn narrowest_code(number: u64) -> u64 {
     unsafe { exported::orc_narrowest_code(number) }
 }

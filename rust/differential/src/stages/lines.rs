@@ -1,5 +1,8 @@
 //! Every public function through the probe program.
-use super::{convert, count, cuts, index, labels, parts, patched_runs, patches, salvage, varints, Session};
+use super::{
+    column_lines, columns, convert, count, cuts, index, labels, parts, patched_runs, patches, plans, salvage,
+    varints, Session,
+};
 use crate::frames;
 use crate::listed::{Call, LIST};
 use crate::probe::Requests;
@@ -43,7 +46,8 @@ impl Session {
         let (tables, step) = self.size.pick((1, 37), (12, 5), (40, 1));
         salvage::damaged_tables(requests, tables, step, &mut self.random);
         convert::fixed_lines(requests, &mut self.random);
-        for _ in 0..self.size.pick(1_000, 100_000, 1_000_000) {
+        column_lines::fixed_lines(requests);
+        for turn in 0..self.size.pick(1_000, 100_000, 1_000_000) {
             probe_line(&mut probe.requests, &mut self.random);
             patched_runs::probe_line(&mut probe.requests, &mut self.random);
             labels::probe_line(&mut probe.requests, &mut self.random);
@@ -52,6 +56,11 @@ impl Session {
             index::probe_line(&mut probe.requests, &mut self.random);
             salvage::probe_line(&mut probe.requests, &mut self.random);
             convert::probe_line(&mut probe.requests, &mut self.random);
+            // Their answers take the model long.
+            if turn % 3 == 0 {
+                columns::probe_line(&mut probe.requests, &mut self.random);
+                plans::probe_line(&mut probe.requests, &mut self.random);
+            }
             probe.batch(&mut self.tally);
         }
         probe.flush(&mut self.tally);

@@ -15,9 +15,11 @@ pub fn function(asked: &Asked) -> (&'static str, usize) {
 }
 
 pub fn lending(asked: &Asked) -> Lending<'_> {
-    let lending = Lending { input: &asked.input, columns: asked.lent(), ..Lending::default() };
+    let [first, at, counts] = asked.lent();
+    let columns = [first, at, counts, &[], &[]];
+    let lending = Lending { input: &asked.input, columns, ..Lending::default() };
     match asked.what {
-        What::Build(lent_columns) => Lending { lent_columns, ..lending },
+        What::Build([first, at, counts]) => Lending { lent_columns: [first, at, counts, 0, 0], ..lending },
         What::LookUp { .. } => lending,
         What::ReadFrom { places, .. } => Lending { rows: places, ..lending },
     }
@@ -37,8 +39,8 @@ pub fn outcome(asked: &Asked) -> Outcome {
             Index::Refused(refusal) => refused(refusal),
             Index::Built { entries, rows, bytes } => {
                 let column = |of: fn(&model::Entry) -> u64| entries.iter().map(of).collect();
-                let columns =
-                    [column(|entry| entry.first), column(|entry| entry.at), column(|entry| entry.rows)];
+                let [first, at] = [column(|entry| entry.first), column(|entry| entry.at)];
+                let columns = [first, at, column(|entry| entry.rows), vec![], vec![]];
                 let words = [case::READ, 0, 0, entries.len() as u64, rows, bytes as u64, 0, 0];
                 Outcome { columns, ..Outcome::done(&words) }
             }

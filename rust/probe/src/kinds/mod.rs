@@ -2,6 +2,7 @@
 //!
 //! A further kind is a function and a line of the table.
 mod booleans;
+mod columns;
 mod convert;
 mod count;
 mod index;
@@ -17,7 +18,7 @@ use crate::line::Fields;
 /// Takes the fields behind the first byte, and answers the line. Nothing for a bad line.
 type Kind = fn(Fields) -> Option<String>;
 
-const KINDS: [(u64, Kind); 14] = [
+const KINDS: [(u64, Kind); 16] = [
     (0x01, runs::run),
     (0x02, runs::stream),
     (0x03, booleans::booleans),
@@ -29,6 +30,8 @@ const KINDS: [(u64, Kind); 14] = [
     (0x09, index::look_up),
     (0x0A, index::read_from),
     (0x0B, salvage::salvage),
+    (0x0C, columns::column),
+    (0x0D, columns::plan),
     (0x0E, convert::convert),
     (0x0F, labels::label),
     (0x10, count::count),

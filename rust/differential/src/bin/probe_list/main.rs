@@ -17,7 +17,9 @@ use differential::frames;
 use differential::listed::{self, Call, LIST};
 use differential::probe::Requests;
 use differential::random::Random;
-use differential::stages::{convert, count, index, labels, parts, patched_runs, probe_line, salvage};
+use differential::stages::{
+    column_lines, columns, convert, count, index, labels, parts, patched_runs, probe_line, salvage,
+};
 use model::Form;
 
 use by_hand::{DOCUMENT, FRAMES, SPECIFICATION};
@@ -330,6 +332,10 @@ fn list() -> Requests {
     convert::fixed_lines(&mut requests, &mut random);
     for _ in 0..100 {
         convert::probe_line(&mut requests, &mut random);
+    }
+    column_lines::fixed_lines(&mut requests);
+    for _ in 0..200 {
+        columns::listed_line(&mut requests, &mut random);
     }
     requests
 }

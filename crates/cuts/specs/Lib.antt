@@ -1,0 +1,2 @@
+-- The planner's heuristic (document 02, item 10): what it promises.
+pub mod Proposed

@@ -1,0 +1,67 @@
+// For each row of a window, the cheapest way up to it: its last run as a state, in whole bytes.
+ghost use Prim.Native.Nat.{_<_};
+use crate::bits;
+use crate::states;
+use util::pattern;
+
+// Rows of a window: the most that a run has.
+pub(crate) const WINDOW: u64 = 512;
+
+// A place for each row of a window, and one behind the last.
+pub(crate) fn start() -> [u64; 513] {
+    [0u64; 513]
+}
+
+pub(crate) fn at(way: &[u64; 513], row: u64) -> u64 {
+    if row < 513 {
+        let i = row as usize;
+        way[i]
+    } else {
+        0
+    }
+}
+
+pub(crate) fn put(way: &mut [u64; 513], row: u64, x: u64) {
+    if row < 513 {
+        let i = row as usize;
+        way[i] = x;
+    }
+}
+
+// The bits of the way up to a row.
+pub(crate) fn bits_to(way: &[u64; 513], row: u64) -> u64 {
+    states::bits(at(way, row))
+}
+
+// The way up to a row ends with this run, whose bytes are whole.
+pub(crate) fn end(way: &mut [u64; 513], row: u64, run: u64) {
+    put(
+        way,
+        row,
+        states::more(bits::whole_bytes(states::bits(run))) | run & 16383,
+    );
+}
+
+// Where a run begins that has an end: before it, whatever the state says.
+fn begin(state: u64, end: u64) -> u64
+    requires { ⌜ 0 < end ⌝ }
+    ensures { λ r. ⌜ r < end ⌝ }
+{
+    let from = states::from(state);
+    if from < end { from } else { end - 1 }
+}
+
+// Turns the way round: from now on each run stands where it begins, its end for the beginning. Answers where the last begins.
+pub(crate) fn turn(way: &mut [u64; 513], rows: u64) -> u64 {
+    let mut end = rows;
+    let mut run = at(way, rows);
+    while 0 < end {
+        let from = begin(run, end);
+        let form = states::form(run);
+        run = at(way, from);
+        put(way, from, states::state(0, end, form));
+        end = from;
+    }
+    // the last run's end is the one place that was not written over
+    states::from(at(way, rows))
+}

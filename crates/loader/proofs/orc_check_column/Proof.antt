@@ -1,0 +1,28 @@
+-- What the check says is put into the words, or there are too few of them. Assumes nothing.
+use native.Mathlib.Omega.{arith}
+use Rattle.loader.proofs.Telling.{check-long, few, put}
+use borrow.Author.Needs.{needs}
+use Rattle.loader.proofs.orc_check_column.Statement.{statement}
+use Rattle.loader.proofs.orc_check_column.Tie as tie
+
+returns : tie.Need-returns
+returns c = few check-long (omega arith)
+
+check-requires : tie.Need-check-requires
+check-requires c κs = search needs
+
+put-checked-requires : tie.Need-put-checked-requires
+put-checked-requires c κs = search needs
+
+same-length : tie.Need-same-length
+same-length c = search needs
+
+returns-2 : tie.Need-returns-2
+returns-2 c =
+    let p = c .before .before in
+    let a = p .before .before in
+    put check-long (a .check .ensures) (a .before .if1 .left) (p .put-checked .ensures)
+
+pub orc-check-column-spec : {M : Type 1} → statement M
+orc-check-column-spec =
+    tie.close (tie.spec returns check-requires put-checked-requires same-length returns-2)

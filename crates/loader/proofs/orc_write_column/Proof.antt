@@ -1,0 +1,38 @@
+-- What the column writer did is put into the words, or there are too few of them. Assumes nothing.
+use native.Mathlib.Omega.{arith}
+use Rattle.loader.proofs.Telling.{column-long, few-of, put-of}
+use borrow.Author.Needs.{needs}
+use Rattle.loader.proofs.orc_write_column.Statement.{statement}
+use Rattle.loader.proofs.orc_write_column.Tie as tie
+
+returns : tie.Need-returns
+returns c = few-of column-long (omega arith)
+
+write-column-requires : tie.Need-write-column-requires
+write-column-requires c κs = search needs
+
+put-column-requires : tie.Need-put-column-requires
+put-column-requires c κs = search needs
+
+same-length : tie.Need-same-length
+same-length c = search needs
+
+same-length-2 : tie.Need-same-length-2
+same-length-2 c = search needs
+
+returns-2 : tie.Need-returns-2
+returns-2 c =
+    let p = c .before .before in
+    let a = p .before .before .before .before in
+    put-of column-long (a .write-column .ensures .answer) (a .before .before .if1 .left) (a .write-column .ensures .places) (p .put-column .ensures)
+
+pub orc-write-column-spec : {M : Type 1} → statement M
+orc-write-column-spec =
+    tie.close
+    (tie.spec
+    returns
+    write-column-requires
+    put-column-requires
+    same-length
+    same-length-2
+    returns-2)

@@ -1,0 +1,118 @@
+-- `accept::walk` meets its contract: each turn takes one segment more, or ends with what the check says. Assumes nothing.
+use mathlib.Core.Path.{_≡_, sym}
+use Prim.Native.Nat.{_-_}
+use native.Mathlib.Omega.{arith}
+use lib.ListN.{length}
+use denote.Ref.{now}
+use borrow.Author.Needs.{needs}
+use Rattle.planner.specs.Check.{proposal, anyRun}
+use Rattle.planner.proofs.Segments.{are-equal}
+use Rattle.planner.proofs.Checking.{Along, along-first, along-short, along-end, along-out, along-taken, along-full, along-next}
+use Rattle.planner.proofs.accept.walk.Statement.{statement}
+use Rattle.planner.proofs.accept.walk.Tie as tie
+
+abbrev Inv-loop : tie.InvT-loop
+Inv-loop rows signed first counts forms widths bases room run₀ k₀ row₀ bytes₀ run k row bytes =
+    (length run ≡ anyRun) × Along signed rows (proposal first counts forms widths bases) room k row bytes
+
+abbrev μ-loop : tie.MeasureT-loop
+μ-loop rows signed first counts forms widths bases room run₀ k₀ row₀ bytes₀ run k row bytes = length first - k
+
+bytes-room-requires : tie.Need-bytes-room-requires Inv-loop μ-loop
+bytes-room-requires c κs = search needs
+
+loop-holds : tie.Need-loop-holds Inv-loop μ-loop
+loop-holds c = (search needs, along-first _ _ _ _ (c .before .before .before .before .before .before .pre))
+
+at-requires : tie.Need-at-requires Inv-loop μ-loop
+at-requires c κs =
+    let l = c .before .before in
+    let s = l .before .before .before .before .before .before in
+    let a = s .args in
+    let e = are-equal (proposal (now (a .first)) (now (a .counts)) (now (a .forms)) (now (a .widths)) (now (a .bases))) (s .pre) in
+    omega (arith, e .counts, e .forms, e .widths, e .bases)
+
+slice-aggregate-step : tie.Need-slice-aggregate-step Inv-loop μ-loop
+slice-aggregate-step c = sym (c .before .before .before .loop .inv .0)
+
+step-requires : tie.Need-step-requires Inv-loop μ-loop
+step-requires c κs = c .before .before .before .loop .inv .1 .row-in
+
+returns : tie.Need-returns Inv-loop μ-loop
+returns c =
+    let x = c .before .before in
+    let i = x .before .before .before in
+    let l = i .before .loop in
+    along-out _ _ _ _ (l .k) (l .row) (l .bytes) (l .inv .1) (i .loop-test .taken) (x .before .before .at .result) (x .before .before .at .ensures) _ _ _ (l .inv .0) (x .step .ensures) (c .if1 .taken)
+
+sub-if2 : tie.Need-sub-if2 Inv-loop μ-loop
+sub-if2 c = c .before .before .before .before .before .before .loop .inv .1 .bytes-in
+
+returns-2 : tie.Need-returns-2 Inv-loop μ-loop
+returns-2 c =
+    let x = c .before .before .before in
+    let i = x .before .before .before in
+    let l = i .before .loop in
+    along-full _ _ _ _ (l .k) (l .row) (l .bytes) (l .inv .1) (i .loop-test .taken) (x .before .before .at .result) (x .before .before .at .ensures) _ _ _ (l .inv .0) (x .step .ensures) (c .before .if1 .left) (c .if2 .taken)
+
+add-k : tie.Need-add-k Inv-loop μ-loop
+add-k c = search needs
+
+add-row : tie.Need-add-row Inv-loop μ-loop
+add-row c =
+    let x = c .before .before .before in
+    let i = x .before .before .before in
+    let l = i .before .loop in
+    let t = along-taken _ _ _ _ (l .k) (l .row) (l .bytes) (l .inv .1) (i .loop-test .taken) (x .before .before .at .result) (x .before .before .at .ensures) _ _ _ (l .inv .0) (x .step .ensures) (c .before .if1 .left) in
+    let r = i .before .before in
+    omega (arith, t .within, l .inv .1 .row-in, r .before .before .before .before .before .before .good .0 .0)
+
+add-bytes : tie.Need-add-bytes Inv-loop μ-loop
+add-bytes c =
+    let x = c .before .before .before in
+    let i = x .before .before .before in
+    let l = i .before .loop in
+    let r = i .before .before in
+    omega (arith, l .inv .1 .bytes-in, c .if2 .left, r .before .before .before .before .before .before .fits .room)
+
+loop-less : tie.Need-loop-less Inv-loop μ-loop
+loop-less c = omega arith
+
+loop-again : tie.Need-loop-again Inv-loop μ-loop
+loop-again c =
+    let x = c .before .before .before in
+    let i = x .before .before .before in
+    let l = i .before .loop in
+    (search needs, along-next _ _ _ _ (l .k) (l .row) (l .bytes) (l .inv .1) (i .loop-test .taken) (x .before .before .at .result) (x .before .before .at .ensures) _ _ _ (l .inv .0) (x .step .ensures) (c .before .if1 .left) (c .if2 .left))
+
+returns-3 : tie.Need-returns-3 Inv-loop μ-loop
+returns-3 c =
+    let l = c .before .before .loop in
+    along-short _ _ _ _ (l .k) (l .row) (l .bytes) (l .inv .1) (c .before .loop-test .left) (c .if3 .taken)
+
+returns-4 : tie.Need-returns-4 Inv-loop μ-loop
+returns-4 c =
+    let l = c .before .before .loop in
+    along-end _ _ _ _ (l .k) (l .row) (l .bytes) (l .inv .1) (c .before .loop-test .left) (c .if3 .left)
+
+pub walk-spec : {M : Type 1} → statement M
+walk-spec =
+    tie.close
+    (tie.spec
+    Inv-loop
+    μ-loop
+    bytes-room-requires
+    loop-holds
+    at-requires
+    slice-aggregate-step
+    step-requires
+    returns
+    sub-if2
+    returns-2
+    add-k
+    add-row
+    add-bytes
+    loop-less
+    loop-again
+    returns-3
+    returns-4)

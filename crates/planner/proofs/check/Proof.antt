@@ -1,0 +1,28 @@
+-- `check` meets its contract. Assumes nothing.
+use mathlib.Core.Path.{sym, _∙_}
+use denote.Ref.{now}
+use borrow.Author.Needs.{needs}
+use borrow.Author.Tests.{not-true, not-false}
+use Rattle.planner.specs.Check.{proposal}
+use Rattle.planner.proofs.Checking.{unequal}
+use Rattle.planner.proofs.check.Statement.{statement}
+use Rattle.planner.proofs.check.Tie as tie
+
+are-equal-requires : tie.Need-are-equal-requires
+are-equal-requires c κs = search needs
+
+returns : tie.Need-returns
+returns c =
+    let s = c .before .before .before .before in
+    let a = s .before .before .before .args in
+    unequal (a .signed) (now (a .rows)) (proposal (now (a .first)) (now (a .counts)) (now (a .forms)) (now (a .widths)) (now (a .bases))) (a .room)
+    (sym (c .before .are-equal .ensures) ∙ not-true _ (c .if1 .taken))
+
+walk-requires : tie.Need-walk-requires
+walk-requires c κs = sym (c .before .are-equal .ensures) ∙ not-false _ (c .if1 .left)
+
+returns-2 : tie.Need-returns-2
+returns-2 c = search needs
+
+pub check-spec : {M : Type 1} → statement M
+check-spec = tie.close (tie.spec are-equal-requires returns walk-requires returns-2)

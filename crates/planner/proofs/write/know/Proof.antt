@@ -1,0 +1,44 @@
+-- `write::know` meets its contract: each turn reads one row more. Assumes nothing.
+use Prim.Native.Nat.{_-_, _≤_}
+use native.Mathlib.Omega.{arith}
+use native.Mathlib.Numerals.{add-one}
+use lib.ListN.{length, take}
+use lib.Seq.{take-all}
+use denote.Ref.{now}
+use borrow.Author.Needs.{sfits-of}
+use Rattle.format.specs.Writing.{AllI64}
+use Rattle.planner.proofs.Direct.{fit-more}
+use Rattle.planner.proofs.write.know.Statement.{statement}
+use Rattle.planner.proofs.write.know.Tie as tie
+
+abbrev Inv-loop : tie.InvT-loop
+Inv-loop rows i₀ i = (i ≤ length rows) × AllI64 (take i rows)
+
+abbrev μ-loop : tie.MeasureT-loop
+μ-loop rows i₀ i = length rows - i
+
+loop-holds : tie.Need-loop-holds Inv-loop μ-loop
+loop-holds c = (omega arith, tt)
+
+mul-z : tie.Need-mul-z Inv-loop μ-loop
+mul-z c = omega arith
+
+shared-slice-copy-out-z : tie.Need-shared-slice-copy-out-z Inv-loop μ-loop
+shared-slice-copy-out-z c = omega arith
+
+add-i : tie.Need-add-i Inv-loop μ-loop
+add-i c = omega arith
+
+loop-less : tie.Need-loop-less Inv-loop μ-loop
+loop-less c = omega arith
+
+loop-again : tie.Need-loop-again Inv-loop μ-loop
+loop-again c =
+    let l = c .before .before .loop in
+    (omega arith, rw add-one (fit-more _ (l .i) (c .before .loop-test .taken) (sfits-of (c .z .given)) (l .inv .1)))
+
+returns : tie.Need-returns Inv-loop μ-loop
+returns c = let l = c .before .loop in rw (take-all (l .i) (now (c .before .before .args .rows)) (c .loop-test .left)) at (l .inv .1)
+
+pub know-spec : {M : Type 1} → statement M
+know-spec = tie.close (tie.spec Inv-loop μ-loop loop-holds mul-z shared-slice-copy-out-z add-i loop-less loop-again returns)

@@ -1,0 +1,31 @@
+-- `write::wide_fits` meets its contract. Assumes nothing.
+use mathlib.Core.Path.{sym}
+use Prim.Native.Nat.{_+_, _*_, _/_}
+use native.Mathlib.Omega.{arith}
+use borrow.Author.Tests.{lt-leb}
+use Rattle.planner.proofs.Direct.{room-left}
+use Rattle.planner.proofs.write.wide_fits.Statement.{statement}
+use Rattle.planner.proofs.write.wide_fits.Tie as tie
+
+returns : tie.Need-returns
+returns c =
+    let a = c .before .args in
+    sym (lt-leb (2 * ((a .rows + 511) / 512) + 8 * a .rows) (a .room) (omega (arith, c .if1 .taken)))
+
+add-runs : tie.Need-add-runs
+add-runs c = omega (arith, c .if1 .left, c .before .fits .room)
+
+mul-result : tie.Need-mul-result
+mul-result c = omega (arith, c .if1 .left, c .before .fits .room)
+
+mul-result-2 : tie.Need-mul-result-2
+mul-result-2 c = omega (arith, c .if1 .left, c .before .fits .room)
+
+sub-result : tie.Need-sub-result
+sub-result c = omega (arith, c .if1 .left)
+
+returns-2 : tie.Need-returns-2
+returns-2 c = room-left _ _ _ (sub-result c)
+
+pub wide-fits-spec : {M : Type 1} → statement M
+wide-fits-spec = tie.close (tie.spec returns add-runs mul-result mul-result-2 sub-result returns-2)

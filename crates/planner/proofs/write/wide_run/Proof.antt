@@ -1,0 +1,60 @@
+-- `write::wide_run` meets its contract. Assumes nothing.
+use mathlib.Core.Path.{_≡_}
+use mathlib.Core.List.{map}
+use Prim.Native.Nat.{_+_, _-_}
+use native.Mathlib.Omega.{arith}
+use lib.ListN.{length, take, drop}
+use denote.Ref.{now}
+use borrow.Author.Needs.{needs}
+use Rattle.format.specs.declared.Form.the-variants.{Direct}
+use Rattle.format.specs.Rows.{asU64}
+use Rattle.format.specs.Writing.{writing}
+use Rattle.planner.proofs.Steps.{ran}
+use Rattle.planner.proofs.write.wide_run.Statement.{statement}
+use Rattle.planner.proofs.write.wide_run.Tie as tie
+
+add-write-run : tie.Need-add-write-run
+add-write-run c = search needs
+
+mul-write-run : tie.Need-mul-write-run
+mul-write-run c = search needs
+
+sub-write-run : tie.Need-sub-write-run
+sub-write-run c = search needs
+
+part-write-run-start : tie.Need-part-write-run-start
+part-write-run-start c = search needs
+
+part-write-run-end : tie.Need-part-write-run-end
+part-write-run-end c = search needs
+
+write-run-requires : tie.Need-write-run-requires
+write-run-requires c κs = search needs
+
+consumed-requires : tie.Need-consumed-requires
+consumed-requires c κs = search needs
+
+same-length : tie.Need-same-length
+same-length c = search needs
+
+returns : tie.Need-returns
+returns c =
+    let w = c .before .before .before in
+    let a = w .before .before .before .before .args in
+    let k : a .at + a .n - a .at ≡ a .n = omega arith in
+    let v = rw k at (w .write-run .ensures) in
+    rw (c .consumed .ensures) (ran (writing (a .signed) Direct 31 (map asU64 (take (a .n) (drop (a .at) (now (a .rows))))) (length (now (a .out)))) (now (a .out)) _ _ (v .answer) (v .places))
+
+pub wide-run-spec : {M : Type 1} → statement M
+wide-run-spec =
+    tie.close
+    (tie.spec
+    add-write-run
+    mul-write-run
+    sub-write-run
+    part-write-run-start
+    part-write-run-end
+    write-run-requires
+    consumed-requires
+    same-length
+    returns)

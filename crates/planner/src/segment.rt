@@ -1,0 +1,88 @@
+// One segment of a proposal, and its writer.
+ghost use mathlib.Core.Path.{_≡_};
+ghost use Prim.Native.Nat.{_<_, _≤_};
+ghost use lib.ListN.{length};
+ghost use Rattle.planner.specs.Check.{proposal, writeIn};
+ghost use Rattle.planner.specs.Walk.{formOf, segmentAt, stepIn, Ran};
+use format::Form;
+use util::pattern;
+
+// As it is proposed: any five numbers.
+pub(crate) struct Segment {
+    pub start: u64,
+    pub count: u64,
+    pub form: u64,
+    pub width: u64,
+    pub base: u64,
+}
+
+// The k-th of each column.
+pub(crate) fn at(
+    first: &[u64],
+    counts: &[u64],
+    forms: &[u64],
+    widths: &[u64],
+    bases: &[u64],
+    k: usize,
+) -> Segment
+    requires { ⌜ (k < length (now first)) × (k < length (now counts)) × (k < length (now forms)) × (k < length (now widths)) × (k < length (now bases)) ⌝ }
+    ensures { λ r. ⌜ r ≡ segmentAt (proposal (now (first .entry)) (now (counts .entry)) (now (forms .entry)) (now (widths .entry)) (now (bases .entry))) k ⌝ }
+{
+    Segment {
+        start: first[k],
+        count: counts[k],
+        form: forms[k],
+        width: widths[k],
+        base: bases[k],
+    }
+}
+
+// The forms that have no base.
+fn form_of(form: u64) -> Form
+    ensures { λ r. ⌜ r ≡ formOf form ⌝ }
+{
+    if form == 0 {
+        return Form::ShortRepeat;
+    }
+    if form == 1 {
+        return Form::Direct;
+    }
+    if form == 2 {
+        return Form::FixedDelta;
+    }
+    Form::PackedDelta
+}
+
+// Some rows as the segment's run: its bytes, or 0 where the writer does not accept them. No form has a width above 255.
+fn write(part: &[i64], signed: bool, s: Segment, out: &mut [u8]) -> usize
+    ensures { λ r. ⌜ Ran (writeIn signed (s .form) (s .width) (s .base) (now (part .entry)) (length (now (out .entry)))) (now (out .entry)) (now (out .exit)) r ⌝ }
+{
+    if 255 < s.width {
+        return 0;
+    }
+    if 4 < s.form {
+        return 0;
+    }
+    let width = s.width as u8;
+    if s.form == 4 {
+        let base = pattern::to_i64(s.base);
+        let a = writer::write_patched(part, base, width, out);
+        return a.consumed();
+    }
+    let a = writer::write_run(part, signed, form_of(s.form), width, out);
+    a.consumed()
+}
+
+// A segment of the rows, where it begins at this row and ends within the column: its bytes, or 0 where it is not accepted.
+pub(crate) fn step(rows: &[i64], signed: bool, at: usize, s: Segment, out: &mut [u8]) -> usize
+    requires { ⌜ at ≤ length (now rows) ⌝ }
+    ensures { λ r. ⌜ Ran (stepIn signed (now (rows .entry)) at s (length (now (out .entry)))) (now (out .entry)) (now (out .exit)) r ⌝ }
+{
+    if s.start != at as u64 {
+        return 0;
+    }
+    if ((rows.len() - at) as u64) < s.count {
+        return 0;
+    }
+    write(&rows[at..at + s.count as usize], signed, s, out)
+}
