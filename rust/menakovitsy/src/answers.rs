@@ -3,8 +3,8 @@
 use std::error::Error;
 use std::fmt;
 
-use crate::exported::{case, kind, label_word, word, TOO_FEW_WORDS};
-use crate::{ByteOffset, Refusal, RowNumber};
+use crate::exported::{case, kind, label_word, part_word, word, TOO_FEW_WORDS};
+use crate::{ByteOffset, Refusal, RowNumber, MAX_ROWS, MAX_RUN_BYTES};
 
 /// The kind of what was read or written.
 #[derive(Debug, Clone, Copy, PartialEq, Eq, Hash)]
@@ -27,6 +27,7 @@ pub enum Kind {
 }
 
 impl Kind {
+    #[inline]
     fn of_number(number: u64) -> Self {
         match number {
             kind::SHORT_REPEAT => Kind::ShortRepeat,
@@ -140,6 +141,7 @@ pub struct StreamRefused {
 
 /// The words that a call lends: more than an answer has now, so that a later library, which appends
 /// some, finds room for them.
+#[derive(Debug, Clone)]
 pub(crate) struct Words {
     pub lent: [u64; 16],
     /// What the call returned.
@@ -161,6 +163,27 @@ impl Words {
             Some(case::READ) => Ok(Some(self.run())),
             _ => Err(self.refused()),
         }
+    }
+
+    /// The case of the reader in parts, where it refuses nothing and counts no more than a run can have.
+    #[inline]
+    pub fn part_case(&self) -> Option<u64> {
+        let counts = self.rows().0 <= MAX_ROWS && self.bytes().0 <= MAX_RUN_BYTES;
+        (self.number == 0 && counts).then_some(self.lent[word::CASE])
+    }
+
+    /// A word of the reader in parts.
+    #[inline]
+    pub fn part_word(&self, place: usize) -> usize {
+        usize::try_from(self.lent[place]).unwrap_or(usize::MAX)
+    }
+
+    /// Its refusal: the words behind an answer's are a part's own, and the others are as in every answer.
+    #[cold]
+    pub fn part_refused(&mut self) -> Refused {
+        self.lent[part_word::START] = 0;
+        self.lent[part_word::TAKEN] = 0;
+        self.refused()
     }
 
     /// The answer of a call that has no end.
@@ -224,7 +247,8 @@ impl Words {
         (self.number != TOO_FEW_WORDS && counts).then_some(self.lent[word::CASE])
     }
 
-    fn run(&self) -> Run {
+    #[inline]
+    pub fn run(&self) -> Run {
         Run {
             kind: Kind::of_number(self.lent[word::KIND]),
             width: self.lent[word::WIDTH],
@@ -244,10 +268,12 @@ impl Words {
         })
     }
 
+    #[inline]
     fn rows(&self) -> RowNumber {
         RowNumber(self.lent[word::ROWS] as usize)
     }
 
+    #[inline]
     fn bytes(&self) -> ByteOffset {
         ByteOffset(self.lent[word::BYTES] as usize)
     }
