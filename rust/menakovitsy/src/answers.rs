@@ -372,6 +372,21 @@ mod tests {
         }
     }
 
+    /// The reader in parts: what refuses, or counts more than a run can have, is no case; its own words are
+    /// not taken for a last run's.
+    #[test]
+    fn a_part() {
+        for case in [case::END, case::READ, case::MORE] {
+            assert_eq!(words(0, &[case, 0, 0, 0, 512, 4356]).part_case(), Some(case));
+        }
+        for (number, rows, bytes) in [(0, 513, 3), (0, 3, 4357), (4, 3, 3), (TOO_FEW_WORDS, 0, 0)] {
+            assert_eq!(words(number, &[case::READ, 0, 0, 0, rows, bytes]).part_case(), None);
+        }
+        let refused = words(13, &[2, 13, 9, 0, 0, 0, 1, 11, 0, 1, 5]).part_refused();
+        assert_eq!((refused.refusal, refused.at), (Refusal::RowsCut, ByteOffset(9)));
+        assert_eq!(refused.cut, Some(ByteOffset(11)));
+    }
+
     /// Counts that pass what was lent are never handed on.
     #[test]
     fn counts_are_within_what_was_lent() {
