@@ -4,7 +4,8 @@ use Prim.Native.Nat.{_+_, _≤_}
 use mathlib.Core.Path.{refl}
 use denote.Ref.{now}
 use Rattle.format.specs.Fields.{width}
-use Rattle.rle_v2.proofs.PatchedRun.{broken-off, gone-body}
+use Rattle.rle_v2.proofs.PatchedRun.{broken-off}
+use Rattle.rle_v2.proofs.PatchedFound.{gone-body}
 use borrow.Author.Needs.{needs}
 use Rattle.rle_v2.proofs.patched_base.body.Statement.{statement}
 use Rattle.rle_v2.proofs.patched_base.body.Tie as tie

@@ -5,7 +5,8 @@ use mathlib.Core.Path.{_≡_, ap, _∙_}
 use denote.Ref.{now}
 use Rattle.format.specs.Fields.{width, leastWidth}
 use Rattle.format.proofs.Rows.{width-le}
-use Rattle.rle_v2.proofs.PatchedRun.{refused-2, gone-plain}
+use Rattle.rle_v2.proofs.PatchedRun.{refused-2}
+use Rattle.rle_v2.proofs.PatchedFound.{gone-plain}
 use borrow.Author.Needs.{needs}
 use Rattle.rle_v2.proofs.patched_base.by_widths.Statement.{statement}
 use Rattle.rle_v2.proofs.patched_base.by_widths.Tie as tie

@@ -2,7 +2,8 @@
 use native.Mathlib.Omega.{arith}
 use Prim.Native.Nat.{_+_}
 use denote.Ref.{now}
-use Rattle.rle_v2.proofs.PatchedRun.{no-header, is-body, gone-plain}
+use Rattle.rle_v2.proofs.PatchedRun.{no-header, is-body}
+use Rattle.rle_v2.proofs.PatchedFound.{gone-plain}
 use borrow.Author.Needs.{needs}
 use Rattle.rle_v2.proofs.patched_base.headed.Statement.{statement}
 use Rattle.rle_v2.proofs.patched_base.headed.Tie as tie

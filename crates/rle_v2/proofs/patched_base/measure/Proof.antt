@@ -8,7 +8,8 @@ use Rattle.format.proofs.Rows.{width-le}
 use Rattle.format.proofs.Widths.{width-pos}
 use Rattle.util.proofs.Grow.{rest-is}
 use Rattle.rle_v2.specs.PatchedHead.{Heads, numberOf}
-use Rattle.rle_v2.proofs.PatchedRun.{run, passed-answer, found-in, found-list, found-3-7, passes}
+use Rattle.rle_v2.proofs.PatchedRun.{run, passed-answer}
+use Rattle.rle_v2.proofs.PatchedFound.{found-in, found-list, found-3-7, passes}
 use borrow.Author.Needs.{needs}
 use Rattle.rle_v2.proofs.patched_base.measure.Statement.{statement}
 use Rattle.rle_v2.proofs.patched_base.measure.Tie as tie

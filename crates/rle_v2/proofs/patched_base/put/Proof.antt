@@ -1,8 +1,6 @@
 -- The values with the base added, and then the patches. Assumes nothing.
-use mathlib.Core.Path.{_∙_, ap}
 use native.Mathlib.Omega.{arith}
 use denote.Ref.{now}
-use lib.ListN.{length-drop}
 use Rattle.util.proofs.Grow.{rest-is}
 use borrow.Author.Needs.{needs}
 use Rattle.rle_v2.proofs.patched_base.put.Statement.{statement}

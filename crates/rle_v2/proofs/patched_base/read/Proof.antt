@@ -10,7 +10,8 @@ use Rattle.format.proofs.Rows.{width-le}
 use Rattle.format.proofs.Widths.{width-pos}
 use Rattle.util.proofs.Grow.{rest-is}
 use Rattle.rle_v2.specs.PatchedHead.{Heads, numberOf, Passed, headOf, widthsOf, partsOf}
-use Rattle.rle_v2.proofs.PatchedRun.{run, found-in, found-list, found-3-7, passes, ready, refused-none, passed-8, passed-read}
+use Rattle.rle_v2.proofs.PatchedRun.{run, passed-8, passed-read}
+use Rattle.rle_v2.proofs.PatchedFound.{found-in, found-list, found-3-7, passes, ready, refused-none}
 use borrow.Author.Needs.{needs}
 use Rattle.rle_v2.proofs.patched_base.read.Statement.{statement}
 use Rattle.rle_v2.proofs.patched_base.read.Tie as tie

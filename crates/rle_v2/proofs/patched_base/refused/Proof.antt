@@ -1,5 +1,5 @@
 -- A field that begins at 0 is none. Assumes nothing.
-use borrow.Author.Tests.{eq-eqb, ne-eqb}
+use borrow.Author.Tests.{ne-eqb}
 use borrow.Author.Needs.{needs}
 use Rattle.rle_v2.proofs.patched_base.refused.Statement.{statement}
 use Rattle.rle_v2.proofs.patched_base.refused.Tie as tie
