@@ -321,7 +321,7 @@ pub extern "C" fn orc_part_take(
     }
     let reader = part_words::reader_of(state);
     let step = parts::take(reader, part, flag != 0, held, rows);
-    part_words::put_step(step, state, words)
+    part_words::put_taken(step, state, words)
 }
 
 // The closing call: the stream's end, or the refusal of the run that is unfinished.

@@ -1,8 +1,8 @@
 // The reader in parts as words: its state, read from the words that the caller keeps and left there, and what a call does.
 ghost use mathlib.Core.Path.{_≡_};
-ghost use mathlib.Core.List.{_++_};
+ghost use mathlib.Core.List.{[], _∷_, _++_};
 ghost use Prim.Native.Nat.{_≤_};
-ghost use lib.ListN.{length, drop};
+ghost use lib.ListN.{length, drop, getD};
 ghost use Rattle.format.specs.Loader.{Put};
 ghost use Rattle.loader.specs.Parts.{repeated, standingCase, standingOf, cutOf, stateWords, stateWordCount, refusalOf, readerOf, plainAnswer, partCase, partStart, partNumber, partWords, partWordCount, PartPut};
 use crate::words;
@@ -31,18 +31,6 @@ fn cut_of(flag: u64, byte: u64) -> CutField
     })
 }
 
-fn standing_of(case: u64, f: Refusal) -> Standing
-    ensures { λ r. ⌜ r ≡ standingOf case f ⌝ }
-{
-    if case == 0 {
-        return Standing::Opened;
-    }
-    if case == 1 {
-        return Standing::Broken(f);
-    }
-    Standing::Closed
-}
-
 // The refusal that the words stand for.
 fn refusal_of(state: &[u64]) -> Refusal
     requires { ⌜ stateWordCount ≤ length (now state) ⌝ }
@@ -56,12 +44,26 @@ fn refusal_of(state: &[u64]) -> Refusal
     Refusal { number, place, cut }
 }
 
+// An open reader's refusal is not read: it has none.
+fn standing_of(state: &[u64]) -> Standing
+    requires { ⌜ stateWordCount ≤ length (now state) ⌝ }
+    ensures { λ r. ⌜ r ≡ standingOf (getD (now (state .entry)) 0 0) (refusalOf (now (state .entry))) ⌝ }
+{
+    if state[0] == 0 {
+        return Standing::Opened;
+    }
+    if state[0] == 1 {
+        return Standing::Broken(refusal_of(state));
+    }
+    Standing::Closed
+}
+
 // The reader that the words stand for.
 pub(crate) fn reader_of(state: &[u64]) -> PartReader
     requires { ⌜ stateWordCount ≤ length (now state) ⌝ }
     ensures { λ r. ⌜ r ≡ readerOf (now (state .entry)) ⌝ }
 {
-    let standing = standing_of(state[0], refusal_of(state));
+    let standing = standing_of(state);
     let at = ByteOffset {
         bytes: state[2] as usize,
     };
@@ -177,4 +179,66 @@ pub(crate) fn put_step(step: PartStep, state: &mut [u64], words: &mut [u64]) -> 
 {
     put_reader(step.reader, state);
     put_part(step, words)
+}
+
+// The words of a call that refuses nothing: of a run, or of none.
+fn lay(
+    case: u64,
+    kind: u64,
+    rows: u64,
+    bytes: u64,
+    width: u64,
+    start: u64,
+    taken: u64,
+    words: &mut [u64],
+)
+    requires { ⌜ partWordCount ≤ length (now words) ⌝ }
+    ensures { λ _. ⌜ now (words .exit) ≡ (case ∷ 0 ∷ 0 ∷ kind ∷ rows ∷ bytes ∷ 0 ∷ 0 ∷ width ∷ start ∷ taken ∷ []) ++ drop partWordCount (now (words .entry)) ⌝ }
+{
+    words[0] = case;
+    words[1] = 0;
+    words[2] = 0;
+    words[3] = kind;
+    words[4] = rows;
+    words[5] = bytes;
+    words[6] = 0;
+    words[7] = 0;
+    words[8] = width;
+    words[9] = start;
+    words[10] = taken;
+}
+
+// The same as `put_step`, for the call that is made most: what a run or a held part is told by is known before a word is stored.
+pub(crate) fn put_taken(step: PartStep, state: &mut [u64], words: &mut [u64]) -> u64
+    requires { ⌜ stateWordCount ≤ length (now state) ⌝ }
+    requires { ⌜ partWordCount ≤ length (now words) ⌝ }
+    ensures { λ r. ⌜ PartPut step (now (state .entry)) (now (state .exit)) (now (words .entry)) (now (words .exit)) r ⌝ }
+{
+    let said = step.answer;
+    match said {
+        PartAnswer::Run(at, r) => {
+            let kind = r.kind;
+            let rows = r.rows;
+            let consumed = r.consumed;
+            put_reader(step.reader, state);
+            lay(
+                1,
+                kind.number() as u64,
+                rows.rows as u64,
+                consumed.bytes as u64,
+                r.width as u64,
+                at.bytes as u64,
+                step.taken.bytes as u64,
+                words,
+            );
+            0
+        }
+        PartAnswer::More => {
+            put_reader(step.reader, state);
+            lay(3, 0, 0, 0, 0, 0, step.taken.bytes as u64, words);
+            0
+        }
+        PartAnswer::Refused(_) => put_step(step, state, words),
+        PartAnswer::End => put_step(step, state, words),
+    }
 }

@@ -210,7 +210,7 @@ fn opened(
     let n = part.len();
     if h == 0 {
         // a run that lies whole in its part is read from there
-        let a = rle_v2::read_run(part, ByteOffset { bytes: 0 }, signed, out);
+        let a = rle_v2::read_first(part, signed, out);
         let step = on_part(reader, 0, n, n, a);
         let kept = step.reader;
         copy(part, kept.held, buffer, 0);
@@ -218,7 +218,7 @@ fn opened(
     }
     let k = least(n, beyond(Kind::MAX_BYTES, h));
     copy(part, k, buffer, h);
-    let a = rle_v2::read_run(&buffer[..h + k], ByteOffset { bytes: 0 }, signed, out);
+    let a = rle_v2::read_gathered(&buffer[..h + k], signed, out);
     on_part(reader, h, h + k, n, a)
 }
 

@@ -62,6 +62,33 @@ pub fn read_run(input: &[u8], at: ByteOffset, signed: bool, out: &mut [i64]) -> 
     delta::read(input, p, signed, out)
 }
 
+// The run that the input begins with, as `read_run` reads it, for a caller that reads one run a call: a short repeat is read here, since its
+// rows, ten at most, are less work than a call.
+pub fn read_first(input: &[u8], signed: bool, out: &mut [i64]) -> Answer
+    ensures { λ r. ⌜ RunRead (now (input .entry)) 0 signed (now (out .entry)) (now (out .exit)) r ⌝ }
+{
+    if 0 < input.len() {
+        if input[0] / 64 == 0 {
+            return short_repeat::read(input, 0, signed, out);
+        }
+    }
+    read_run(input, ByteOffset { bytes: 0 }, signed, out)
+}
+
+// The same for a caller that asks again as bytes come in: a direct run that is still cut is told by its header, here.
+pub fn read_gathered(input: &[u8], signed: bool, out: &mut [i64]) -> Answer
+    ensures { λ r. ⌜ RunRead (now (input .entry)) 0 signed (now (out .entry)) (now (out .exit)) r ⌝ }
+{
+    if 0 < input.len() {
+        if input[0] / 64 == 1 {
+            if let Answer::Refused(f) = direct::measure(input, 0) {
+                return Answer::Refused(f);
+            }
+        }
+    }
+    read_run(input, ByteOffset { bytes: 0 }, signed, out)
+}
+
 // The runs from a position to the end of the input, their rows one after another in the places; the answer names the last of them. At the first
 // refusal it stops: the rows of the runs before it stay, and the places after them keep their content.
 pub fn read_stream(input: &[u8], at: ByteOffset, signed: bool, out: &mut [i64]) -> Stream

@@ -3,8 +3,8 @@
 use std::error::Error;
 use std::fmt;
 
-use crate::exported::{case, kind, label_word, word, TOO_FEW_WORDS};
-use crate::{ByteOffset, Refusal, RowNumber};
+use crate::exported::{case, kind, label_word, part_word, word, TOO_FEW_WORDS};
+use crate::{ByteOffset, Refusal, RowNumber, MAX_ROWS, MAX_RUN_BYTES};
 
 /// The kind of what was read or written.
 #[derive(Debug, Clone, Copy, PartialEq, Eq, Hash)]
@@ -27,6 +27,7 @@ pub enum Kind {
 }
 
 impl Kind {
+    #[inline]
     fn of_number(number: u64) -> Self {
         match number {
             kind::SHORT_REPEAT => Kind::ShortRepeat,
@@ -140,6 +141,7 @@ pub struct StreamRefused {
 
 /// The words that a call lends: more than an answer has now, so that a later library, which appends
 /// some, finds room for them.
+#[derive(Debug, Clone)]
 pub(crate) struct Words {
     pub lent: [u64; 16],
     /// What the call returned.
@@ -161,6 +163,27 @@ impl Words {
             Some(case::READ) => Ok(Some(self.run())),
             _ => Err(self.refused()),
         }
+    }
+
+    /// The case of the reader in parts, where it refuses nothing and counts no more than a run can have.
+    #[inline]
+    pub fn part_case(&self) -> Option<u64> {
+        let counts = self.rows().0 <= MAX_ROWS && self.bytes().0 <= MAX_RUN_BYTES;
+        (self.number == 0 && counts).then_some(self.lent[word::CASE])
+    }
+
+    /// A word of the reader in parts.
+    #[inline]
+    pub fn part_word(&self, place: usize) -> usize {
+        usize::try_from(self.lent[place]).unwrap_or(usize::MAX)
+    }
+
+    /// Its refusal: the words behind an answer's are a part's own, and the others are as in every answer.
+    #[cold]
+    pub fn part_refused(&mut self) -> Refused {
+        self.lent[part_word::START] = 0;
+        self.lent[part_word::TAKEN] = 0;
+        self.refused()
     }
 
     /// The answer of a call that has no end.
@@ -224,7 +247,8 @@ impl Words {
         (self.number != TOO_FEW_WORDS && counts).then_some(self.lent[word::CASE])
     }
 
-    fn run(&self) -> Run {
+    #[inline]
+    pub fn run(&self) -> Run {
         Run {
             kind: Kind::of_number(self.lent[word::KIND]),
             width: self.lent[word::WIDTH],
@@ -244,10 +268,12 @@ impl Words {
         })
     }
 
+    #[inline]
     fn rows(&self) -> RowNumber {
         RowNumber(self.lent[word::ROWS] as usize)
     }
 
+    #[inline]
     fn bytes(&self) -> ByteOffset {
         ByteOffset(self.lent[word::BYTES] as usize)
     }
@@ -344,6 +370,21 @@ mod tests {
             let refusal = words(number, first).accepted(None).unwrap_err().refusal;
             assert_eq!(refusal, Refusal::Unknown(number));
         }
+    }
+
+    /// The reader in parts: what refuses, or counts more than a run can have, is no case; its own words are
+    /// not taken for a last run's.
+    #[test]
+    fn a_part() {
+        for case in [case::END, case::READ, case::MORE] {
+            assert_eq!(words(0, &[case, 0, 0, 0, 512, 4356]).part_case(), Some(case));
+        }
+        for (number, rows, bytes) in [(0, 513, 3), (0, 3, 4357), (4, 3, 3), (TOO_FEW_WORDS, 0, 0)] {
+            assert_eq!(words(number, &[case::READ, 0, 0, 0, rows, bytes]).part_case(), None);
+        }
+        let refused = words(13, &[2, 13, 9, 0, 0, 0, 1, 11, 0, 1, 5]).part_refused();
+        assert_eq!((refused.refusal, refused.at), (Refusal::RowsCut, ByteOffset(9)));
+        assert_eq!(refused.cut, Some(ByteOffset(11)));
     }
 
     /// Counts that pass what was lent are never handed on.

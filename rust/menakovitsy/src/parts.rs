@@ -1,6 +1,6 @@
 //! A column that arrives in parts: chunks of any size, as a network gives them.
 use crate::answers::Words;
-use crate::exported::{self, case, part_word, word, STATE_WORDS};
+use crate::exported::{self, case, part_word, STATE_WORDS};
 use crate::{ByteOffset, Refusal, Refused, Run, Sign, MAX_ROWS, MAX_RUN_BYTES};
 
 /// A reader of one column's integer runs that is given the column's bytes in parts, and hands out one
@@ -31,6 +31,8 @@ use crate::{ByteOffset, Refusal, Refused, Run, Sign, MAX_ROWS, MAX_RUN_BYTES};
 pub struct PartReader {
     sign: Sign,
     state: [u64; STATE_WORDS],
+    /// The last call's words: kept here, so that no call has to clear them first.
+    words: Words,
     held: [u8; MAX_RUN_BYTES],
     places: [i64; MAX_ROWS],
 }
@@ -47,10 +49,6 @@ pub struct PartRun<'r> {
     pub rows: &'r [i64],
 }
 
-/// What a call came to: a run's first byte and the run, where one is handed out, and how many of the
-/// part's bytes were taken.
-type Took = (Option<(ByteOffset, Run)>, usize);
-
 impl PartReader {
     /// A reader that has taken nothing.
     pub fn new(sign: Sign) -> Self {
@@ -58,14 +56,17 @@ impl PartReader {
         // SAFETY: the words are lent exclusively, and the function is proved to stay within them. It
         // answers 0, since they are as many as a state has.
         unsafe { exported::orc_part_start(state.as_mut_ptr(), state.len()) };
-        PartReader { sign, state, held: [0; MAX_RUN_BYTES], places: [0; MAX_ROWS] }
+        let words = Words::lent(MAX_ROWS, MAX_RUN_BYTES);
+        PartReader { sign, state, words, held: [0; MAX_RUN_BYTES], places: [0; MAX_ROWS] }
     }
 
     /// The next run. The part becomes what is left of it: all behind the run's end, or, where no run ends
     /// in it, nothing. So ask again until there is no run, and then give the next part. After
     /// [`close`](Self::close) there is no run, and nothing is taken.
+    // A run can be of three rows: inlined, the answer and what is left of the part stay in registers.
+    #[inline]
     pub fn next_run(&mut self, part: &mut &[u8]) -> Result<Option<PartRun<'_>>, Refused> {
-        let mut words = Words::lent(MAX_ROWS, MAX_RUN_BYTES);
+        let words = &mut self.words;
         // SAFETY: each pointer is of a live slice of this length, those that are written are lent
         // exclusively, and the function is proved to stay within them and to keep none.
         words.number = unsafe {
@@ -83,17 +84,26 @@ impl PartReader {
                 words.lent.len(),
             )
         };
-        let (run, taken) = took(&mut words)?;
         // Whatever library is linked, what is taken is of the part, and the rows are of the places.
-        *part = part.get(taken..).ok_or_else(unknown)?;
-        let Some((at, run)) = run else { return Ok(None) };
-        let rows = self.places.get(..run.rows.0).ok_or_else(unknown)?;
-        Ok(Some(PartRun { at, run, rows }))
+        let Some(left) = part.get(words.part_word(part_word::TAKEN)..) else { return Err(words.unknown()) };
+        match words.part_case() {
+            Some(case::READ) => {
+                let run = words.run();
+                let rows = self.places.get(..run.rows.0).ok_or_else(unknown)?;
+                *part = left;
+                Ok(Some(PartRun { at: ByteOffset(words.part_word(part_word::START)), run, rows }))
+            }
+            Some(case::MORE | case::END) => {
+                *part = left;
+                Ok(None)
+            }
+            _ => Err(words.part_refused()),
+        }
     }
 
     /// There are no more parts: the column has ended, unless a run of it is unfinished, which is refused.
     pub fn close(&mut self) -> Result<(), Refused> {
-        let mut words = Words::lent(MAX_ROWS, MAX_RUN_BYTES);
+        let words = &mut self.words;
         // SAFETY: as above.
         words.number = unsafe {
             exported::orc_part_close(
@@ -108,25 +118,16 @@ impl PartReader {
                 words.lent.len(),
             )
         };
-        match took(&mut words)? {
-            (None, 0) => Ok(()),
-            // A run at the closing call, or "more": not the proved library's.
-            _ => Err(unknown()),
+        match words.part_case() {
+            Some(case::END) => Ok(()),
+            // A run at the closing call, or "more", is not the proved library's.
+            Some(case::READ | case::MORE) => Err(unknown()),
+            _ => Err(words.part_refused()),
         }
     }
 }
 
-/// The words behind an answer's are a part's own; the others are as in every answer.
-fn took(words: &mut Words) -> Result<Took, Refused> {
-    let [start, taken] = [part_word::START, part_word::TAKEN]
-        .map(|place| usize::try_from(std::mem::take(&mut words.lent[place])).unwrap_or(usize::MAX));
-    if words.number == 0 && words.lent[word::CASE] == case::MORE {
-        return Ok((None, taken));
-    }
-    let run = words.run_or_end()?;
-    Ok((run.map(|run| (ByteOffset(start), run)), taken))
-}
-
+#[cold]
 fn unknown() -> Refused {
     Refused::whole(Refusal::Unknown(0), ByteOffset(0))
 }

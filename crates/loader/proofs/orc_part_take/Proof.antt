@@ -21,8 +21,8 @@ reader-of-requires c κs = search needs
 take-requires : tie.Need-take-requires
 take-requires c κs = search needs
 
-put-step-requires : tie.Need-put-step-requires
-put-step-requires c κs = search needs
+put-taken-requires : tie.Need-put-taken-requires
+put-taken-requires c κs = search needs
 
 same-length : tie.Need-same-length
 same-length c = search needs
@@ -43,7 +43,7 @@ returns-3 c =
     let q = k .before .before .before in
     let e = q .before .before in
     let a = e .before .before .before .before .before .before .args in
-    part-done (k .take .result) (is-enough (now (a .state)) (now (a .words)) (e .before .if1 .left) (e .if2 .left)) (p .put-step .ensures) (rw (q .reader-of .ensures) at (k .take .ensures))
+    part-done (k .take .result) (is-enough (now (a .state)) (now (a .words)) (e .before .if1 .left) (e .if2 .left)) (p .put-taken .ensures) (rw (q .reader-of .ensures) at (k .take .ensures))
 
 pub orc-part-take-spec : {M : Type 1} → statement M
 orc-part-take-spec =
@@ -53,7 +53,7 @@ orc-part-take-spec =
     returns-2
     reader-of-requires
     take-requires
-    put-step-requires
+    put-taken-requires
     same-length
     same-length-2
     same-length-3

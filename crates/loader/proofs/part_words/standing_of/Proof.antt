@@ -1,20 +1,36 @@
 -- The first word says how the reader stands. Assumes nothing.
+use lib.ListN.{getD}
+use denote.Ref.{now}
 use borrow.Author.Needs.{needs}
-use Rattle.loader.specs.Parts.{standingOf}
+use Rattle.loader.specs.Parts.{standingOf, refusalOf}
 use Rattle.loader.proofs.PartWords.{stands-closed}
 use Rattle.loader.proofs.part_words.standing_of.Statement.{statement}
 use Rattle.loader.proofs.part_words.standing_of.Tie as tie
 
+shared-slice-read-if1 : tie.Need-shared-slice-read-if1
+shared-slice-read-if1 c = search needs
+
 returns : tie.Need-returns
 unfolding standingOf
-returns c = search needs
+returns c = rw (c .if1 .taken)
+
+shared-slice-read-if2 : tie.Need-shared-slice-read-if2
+shared-slice-read-if2 c = search needs
+
+refusal-of-requires : tie.Need-refusal-of-requires
+refusal-of-requires c κs = search needs
 
 returns-2 : tie.Need-returns-2
 unfolding standingOf
-returns-2 c = rw (c .if2 .taken)
+returns-2 c = rw (c .refusal-of .ensures, c .before .if2 .taken)
 
 returns-3 : tie.Need-returns-3
-returns-3 c = stands-closed (c .before .before .args .case) (c .before .before .args .f) (c .before .if1 .left) (c .if2 .left)
+returns-3 c =
+    let e = c .before .before in
+    let ws = now (e .before .before .before .args .state) in
+    stands-closed (getD ws 0 0) (refusalOf ws) (e .if1 .left) (c .if2 .left)
 
 pub standing-of-spec : {M : Type 1} → statement M
-standing-of-spec = tie.close (tie.spec returns returns-2 returns-3)
+standing-of-spec =
+    tie.close
+    (tie.spec shared-slice-read-if1 returns shared-slice-read-if2 refusal-of-requires returns-2 returns-3)
