@@ -8,5 +8,6 @@ pub mod ShortVarint
 pub mod PatchWalk
 pub mod DeltaRun
 pub mod PatchedRun
+pub mod PatchedFound
 pub mod ByKind
 pub mod StreamWalk

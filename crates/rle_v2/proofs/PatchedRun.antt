@@ -181,35 +181,35 @@ listed-is s at h w q i e f a l =
 
 module _ (s : List ℕ) (at : ℕ) (m : Parsed Description) (h : Header) (w : Widths) (q : Parts) (p : Passed s at m h w q) where
   pub all-in : at + 4 + h .base + valueBytes h + listBytes h ≤ length s
-  all-in = rw (p .parts .end-is) at (p .there)
+  all-in = rw (p .headed .parts .end-is) at (p .headed .there)
 
   pub values-there : bytesFor (h .rows * w .bits) ≤ length s - q .values
-  values-there = rw (p .widths .bits-is, p .parts .values-is) (omega (arith, all-in))
+  values-there = rw (p .headed .widths .bits-is, p .headed .parts .values-is) (omega (arith, all-in))
 
   pub list-there : Listed (w .entry) (w .patch) (h .entries) (drop (q .list) s)
-  list-there = listed-is s at h w q (p .fields-fit) (p .widths) (p .not-2) (p .parts) (p .there)
+  list-there = listed-is s at h w q (p .headed .fields-fit) (p .headed .widths) (p .headed .not-2) (p .headed .parts) (p .headed .there)
 
   fits : width (h .patch) + h .gap ≤ 64
-  fits = rw (p .widths .patch-is) at (p .not-2)
+  fits = rw (p .headed .widths .patch-is) at (p .headed .not-2)
 
   none : listNumber (width (h .code)) (width (h .patch)) (h .rows) (blockAt s (at + 4 + h .base + valueBytes h) (entryWidth (h .patch) (h .gap)) (h .entries) .values) ≡ 0
-  none = rw (p .parts .list-is, p .widths .entry-is, p .widths .patch-is, p .widths .bits-is) at (p .list)
+  none = rw (p .headed .parts .list-is, p .headed .widths .entry-is, p .headed .widths .patch-is, p .headed .widths .bits-is) at (p .list)
 
   pub passed-answer : ran PatchedBase (w .bits) (h .rows) (q .end - at) ≡ answerOf at (length s - at) m
   passed-answer =
-      rw (p .body, p .widths .bits-is, p .parts .end-is)
+      rw (p .headed .body, p .headed .widths .bits-is, p .headed .parts .end-is)
       (run-is s at (h .code) (h .rows) (h .base) (h .patch) (h .gap) (h .entries) fits all-in none)
 
   module _ (signed : Bool) (out : List ℤ) where
     pub passed-8 : length out < h .rows → Gives at (length s - at) signed m out out (refusedAt 8 at)
-    passed-8 l = rw (p .body) (refused-8 s at (h .code) (h .rows) (h .base) (h .patch) (h .gap) (h .entries) fits all-in none signed out l)
+    passed-8 l = rw (p .headed .body) (refused-8 s at (h .code) (h .rows) (h .base) (h .patch) (h .gap) (h .entries) fits all-in none signed out l)
 
     pub passed-read : (one out′ : List ℤ) → h .rows ≤ length out
         → one ≡ based (baseValue (take (h .base) (drop (at + 4) s))) (map asI64 (fields (w .bits) (h .rows) (drop (q .values) s))) ++ drop (h .rows) out
         → out′ ≡ patchAll (w .bits) (w .patch) 0 one (fields (w .entry) (h .entries) (drop (q .list) s))
         → Gives at (length s - at) signed m out out′ (ran PatchedBase (w .bits) (h .rows) (q .end - at))
     passed-read one out′ l e f =
-        rw (p .body, p .widths .bits-is, p .parts .end-is)
+        rw (p .headed .body, p .headed .widths .bits-is, p .headed .parts .end-is)
         (read-is s at (h .code) (h .rows) (h .base) (h .patch) (h .gap) (h .entries) fits all-in none signed out one out′ l
-        (rw (p .parts .values-is, p .widths .bits-is) at e)
-        (rw (p .parts .list-is, p .widths .entry-is, p .widths .patch-is, p .widths .bits-is) at f))
+        (rw (p .headed .parts .values-is, p .headed .widths .bits-is) at e)
+        (rw (p .headed .parts .list-is, p .headed .widths .entry-is, p .headed .widths .patch-is, p .headed .widths .bits-is) at f))

@@ -4,18 +4,20 @@ use mathlib.Core.Path.{_≡_}
 use Prim.Native.Nat.{ℕ, _+_, _-_, _*_, _≤_, _<_}
 use mathlib.Core.List.{List}
 use lib.ListN.{length, drop}
-use lib.Dec.{ltb}
+use mathlib.Core.Bool.{false}
+use lib.Dec.{ltb, eqb}
 use Rattle.format.specs.Fields.{pick, width, bytesFor}
-use Rattle.format.specs.Answers.{cutting}
-use Rattle.format.specs.Runs.{Description, entryWidth}
+use Rattle.format.specs.Answers.{cutting, refusedAt, cutAt}
+use Rattle.format.specs.Runs.{Description, entryWidth, outOfPlace}
 use Rattle.format.specs.Parse.{Parsed, patchedBody}
 use Rattle.format.specs.Promises.{answerOf}
 use Rattle.format.specs.declared.Refusal.{Refusal}
-use Rattle.format.specs.declared.Answer.the-variants as answer
-use Rattle.util.specs.Packed.{fields}
-use Rattle.rle_v2.specs.PatchList.{listNumber}
+use Rattle.format.specs.declared.Answer.{Answer}
+use Rattle.format.specs.declared.CutField.{CutField}
+use Rattle.format.specs.declared.CutField.the-variants as field
+use Rattle.util.specs.Packed.{fields, Width}
+use Rattle.rle_v2.specs.PatchList.{Listed, listNumber}
 use Rattle.rle_v2.specs.declared.patched_base.Found.{Found}
-use Rattle.rle_v2.specs.declared.patched_base.Found.the-variants.{Run, Refused}
 use Rattle.rle_v2.specs.declared.patched_base.Header.{Header}
 use Rattle.rle_v2.specs.declared.patched_base.Widths.{Widths}
 use Rattle.rle_v2.specs.declared.patched_base.Parts.{Parts}
@@ -51,16 +53,78 @@ pub record IsParts (at : ℕ) (h : Header) (q : Parts) : Type 0 where
 unfoldable pub cutBody : ℕ → ℕ → ℕ → ℕ → Refusal
 cutBody len at values list = pick (ltb len values) (cutting 6 at (at + 4)) (pick (ltb len list) (cutting 13 at values) (cutting 14 at list))
 
--- the run at `at` passed its tests, and these are its fields, widths and parts; m is what reading it gives
-pub record Passed (s : List ℕ) (at : ℕ) (m : Parsed Description) (h : Header) (w : Widths) (q : Parts) : Type 0 where
+-- the field of a refusal, by the byte where it begins: 0 where there is none
+abbrev pub fieldOf : CutField → ℕ
+fieldOf field.None = 0
+fieldOf (field.At b) = b .bytes
+
+-- what is found of a run that is refused, and the answer to it
+abbrev pub goneBy : Refusal → Found
+goneBy f = record {
+  number = f .number;
+  field = fieldOf (f .cut);
+  rows = 0;
+  base = 0;
+  entries = 0;
+  bits = 0;
+  patch = 0;
+  entry = 0;
+  values = 0;
+  list = 0;
+  end = 0;
+}
+
+abbrev pub refusedBy : ℕ → Found → Answer
+refusedBy at f = pick (eqb (f .field) 0) (refusedAt (f .number) at) (cutAt (f .number) at (f .field))
+
+-- the widths and parts of what was found, and the header, by its codes and its gap width
+abbrev pub headOf : ℕ → ℕ → ℕ → Found → Header
+headOf code patch gap f = record { code = code; rows = f .rows; base = f .base; patch = patch; gap = gap; entries = f .entries }
+
+abbrev pub widthsOf : Found → Widths
+widthsOf f = record { bits = f .bits; patch = f .patch; entry = f .entry }
+
+abbrev pub partsOf : Found → Parts
+partsOf f = record { values = f .values; list = f .list; end = f .end }
+
+-- the run at `at` is all there, and these are its fields, widths and parts; m is what reading it gives
+pub record Headed (s : List ℕ) (at : ℕ) (m : Parsed Description) (h : Header) (w : Widths) (q : Parts) : Type 0 where
   pub fields-fit : InRange h
   pub widths : IsWidths h w
   pub not-2 : w .patch + h .gap ≤ 64
   pub parts : IsParts at h q
   pub there : q .end ≤ length s
-  pub list : listNumber (w .bits) (w .patch) (h .rows) (fields (w .entry) (h .entries) (drop (q .list) s)) ≡ 0
   pub body : m ≡ patchedBody (h .code) (h .rows) (h .base) (h .patch) (h .gap) (h .entries) (drop (at + 4) s)
 
-abbrev pub IsMeasured : List ℕ → ℕ → Parsed Description → Found → Type 0
-IsMeasured s at m (Run h w q) = Passed s at m h w q
-IsMeasured s at m (Refused f) = answer.Refused f ≡ answerOf at (length s - at) m
+abbrev pub numberOf : List ℕ → Found → ℕ
+numberOf s f = listNumber (f .bits) (f .patch) (f .rows) (fields (f .entry) (f .entries) (drop (f .list) s))
+
+-- it passed the tests of its list too
+pub record Passed (s : List ℕ) (at : ℕ) (m : Parsed Description) (h : Header) (w : Widths) (q : Parts) : Type 0 where
+  pub headed : Headed s at m h w q
+  pub list : listNumber (w .bits) (w .patch) (h .rows) (fields (w .entry) (h .entries) (drop (q .list) s)) ≡ 0
+
+pub record Heads (s : List ℕ) (at : ℕ) (m : Parsed Description) (f : Found) : Type 0 where
+  pub code : ℕ
+  pub patch : ℕ
+  pub gap : ℕ
+  pub headed : Headed s at m (headOf code patch gap f) (widthsOf f) (partsOf f)
+
+-- what was found is so
+pub record IsFound (s : List ℕ) (at : ℕ) (m : Parsed Description) (f : Found) : Type 0 where
+  pub heads : f .number ≡ 0 → Heads s at m f
+  pub refusal : (f .number ≡ 0 → ⊥) → refusedBy at f ≡ answerOf at (length s - at) m
+
+-- what laying its rows down asks for
+pub record Ready (s : List ℕ) (at : ℕ) (f : Found) : Type 0 where
+  pub some-bytes : 1 ≤ f .base
+  pub eight : f .base ≤ 8
+  pub base-there : at + 4 + f .base ≤ length s
+  pub wide : Width (f .bits)
+  pub narrow : f .bits ≤ 64
+  pub rows : f .rows ≤ 512
+  pub values-in : f .values ≤ length s
+  pub values-there : bytesFor (f .rows * f .bits) ≤ length s - f .values
+  pub list-in : f .list ≤ length s
+  pub list-there : Listed (f .entry) (f .patch) (f .entries) (drop (f .list) s)
+  pub in-place : outOfPlace (f .patch) (f .rows) (fields (f .entry) (f .entries) (drop (f .list) s)) ≡ false

@@ -2,18 +2,20 @@
 ghost use mathlib.Core.Path.{_≡_};
 ghost use mathlib.Core.List.{_++_, map};
 ghost use Prim.Native.Nat.{_+_, _-_, _*_, _^_, _≤_, _<_};
-ghost use lib.ListN.{length, getD, drop};
+ghost use lib.ListN.{length, getD, take, drop};
 ghost use Rattle.format.specs.Fields.{bytesFor};
-ghost use Rattle.format.specs.Rows.{asI64};
+ghost use Rattle.format.specs.Rows.{asI64, baseValue};
 ghost use Rattle.format.specs.Parse.{patchedBody, patchedRun};
 ghost use Rattle.format.specs.Promises.{answerOf, Gives};
 ghost use Rattle.util.specs.Packed.{fields, Width};
 ghost use Rattle.rle_v2.specs.Pass.{based};
-ghost use Rattle.rle_v2.specs.PatchedHead.{InRange, IsWidths, IsParts, cutBody, IsMeasured};
+ghost use Rattle.rle_v2.specs.PatchList.{patchAll};
+ghost use Rattle.rle_v2.specs.PatchedHead.{InRange, IsWidths, IsParts, cutBody, fieldOf, goneBy, refusedBy, IsFound, Ready};
 use crate::header;
 use crate::patch_list;
 use crate::rows;
 use format::Answer;
+use format::CutField;
 use format::Kind;
 use format::Refusal;
 use util::big_endian;
@@ -44,10 +46,62 @@ struct Parts {
     end: usize,
 }
 
-// What the tests of a patched base run found: its header's fields, widths and parts, or its refusal.
-enum Found {
-    Run(Header, Widths, Parts),
-    Refused(Refusal),
+// What the header of a patched base run says, and where its body stands: rows, base bytes and list length, the widths in bits, and the parts. Where
+// the number is not 0, the run is refused with it instead, and the input ends in the field that begins at a byte, or, where that is 0, in none. It is
+// no enum: one that a call gives back goes through memory twice.
+struct Found {
+    number: u8,
+    field: usize,
+    rows: usize,
+    base: usize,
+    entries: usize,
+    bits: usize,
+    patch: usize,
+    entry: usize,
+    values: usize,
+    list: usize,
+    end: usize,
+}
+
+// The byte where the field begins that the input ends in; 0 where it ends in none.
+fn field_of(cut: CutField) -> usize
+    ensures { λ r. ⌜ r ≡ fieldOf cut ⌝ }
+{
+    match cut {
+        CutField::None => 0,
+        CutField::At(byte) => byte.bytes,
+    }
+}
+
+// A run that is refused.
+fn gone(f: Refusal) -> Found
+    ensures { λ r. ⌜ r ≡ goneBy f ⌝ }
+{
+    let cut = f.cut;
+    let field = field_of(cut);
+    Found {
+        number: f.number,
+        field,
+        rows: 0,
+        base: 0,
+        entries: 0,
+        bits: 0,
+        patch: 0,
+        entry: 0,
+        values: 0,
+        list: 0,
+        end: 0,
+    }
+}
+
+// The answer to a run that is refused.
+fn refused(f: Found, at: usize) -> Answer
+    ensures { λ r. ⌜ r ≡ refusedBy at f ⌝ }
+{
+    if f.field == 0 {
+        return Answer::refused(f.number, at);
+    }
+    Answer::cut(f.number, at, f.field)
 }
 
 // Where the body's parts begin, and where it ends.
@@ -75,50 +129,50 @@ fn broke_off(len: usize, at: usize, q: Parts) -> Refusal
     Refusal::cut(14, at, q.list)
 }
 
-// The body: that it is there, and its list.
+// The body: that it is there.
 fn body(input: &[u8], at: usize, h: Header, w: Widths) -> Found
     requires { ⌜ (at + 4 ≤ length (now input)) × InRange h × IsWidths h w × (w .patch + h .gap ≤ 64) ⌝ }
-    ensures { λ r. ⌜ IsMeasured (now (input .entry)) at (patchedBody (h .code) (h .rows) (h .base) (h .patch) (h .gap) (h .entries) (drop (at + 4) (now (input .entry)))) r ⌝ }
+    ensures { λ r. ⌜ IsFound (now (input .entry)) at (patchedBody (h .code) (h .rows) (h .base) (h .patch) (h .gap) (h .entries) (drop (at + 4) (now (input .entry)))) r ⌝ }
 {
     let q = parts_of(at, h, w);
-    let list = q.list;
     if input.len() < q.end {
-        return Found::Refused(broke_off(input.len(), at, q));
+        return gone(broke_off(input.len(), at, q));
     }
-    let number = patch_list::refused_with(
-        &input[list..],
-        w.entry,
-        w.patch,
-        h.entries,
-        w.bits,
-        h.rows,
-    );
-    if number != 0 {
-        return Found::Refused(Refusal::new(number, at));
+    Found {
+        number: 0,
+        field: 0,
+        rows: h.rows,
+        base: h.base,
+        entries: h.entries,
+        bits: w.bits,
+        patch: w.patch,
+        entry: w.entry,
+        values: q.values,
+        list: q.list,
+        end: q.end,
     }
-    Found::Run(h, w, q)
 }
 
 // What the header's widths refuse, before the body is read.
 fn by_widths(input: &[u8], at: usize, h: Header) -> Found
     requires { ⌜ (at + 4 ≤ length (now input)) × InRange h ⌝ }
-    ensures { λ r. ⌜ IsMeasured (now (input .entry)) at (patchedBody (h .code) (h .rows) (h .base) (h .patch) (h .gap) (h .entries) (drop (at + 4) (now (input .entry)))) r ⌝ }
+    ensures { λ r. ⌜ IsFound (now (input .entry)) at (patchedBody (h .code) (h .rows) (h .base) (h .patch) (h .gap) (h .entries) (drop (at + 4) (now (input .entry)))) r ⌝ }
 {
     let bits = width::bits_of(h.code);
     let patch = width::bits_of(h.patch);
     if 64 < patch + h.gap {
-        return Found::Refused(Refusal::new(2, at));
+        return gone(Refusal::new(2, at));
     }
     let entry = width::entry_width(patch + h.gap);
     body(input, at, h, Widths { bits, patch, entry })
 }
 
-fn measured(input: &[u8], at: usize) -> Found
+fn headed(input: &[u8], at: usize) -> Found
     requires { ⌜ at < length (now input) ⌝ }
-    ensures { λ r. ⌜ IsMeasured (now (input .entry)) at (patchedRun (getD (now (input .entry)) at 0) (drop (at + 1) (now (input .entry)))) r ⌝ }
+    ensures { λ r. ⌜ IsFound (now (input .entry)) at (patchedRun (getD (now (input .entry)) at 0) (drop (at + 1) (now (input .entry)))) r ⌝ }
 {
     if input.len() - at < 4 {
-        return Found::Refused(Refusal::new(1, at));
+        return gone(Refusal::new(1, at));
     }
     let h = header::two_bytes(input[at], input[at + 1]);
     let third = input[at + 2];
@@ -138,10 +192,23 @@ pub(crate) fn measure(input: &[u8], at: usize) -> Answer
     requires { ⌜ at < length (now input) ⌝ }
     ensures { λ r. ⌜ r ≡ answerOf at (length (now (input .entry)) - at) (patchedRun (getD (now (input .entry)) at 0) (drop (at + 1) (now (input .entry)))) ⌝ }
 {
-    match measured(input, at) {
-        Found::Run(h, w, q) => Answer::run(Kind::PatchedBase, w.bits, h.rows, q.end - at),
-        Found::Refused(f) => Answer::Refused(f),
+    let f = headed(input, at);
+    if f.number != 0 {
+        return refused(f, at);
     }
+    let list = f.list;
+    let number = patch_list::refused_with(
+        &input[list..],
+        f.entry,
+        f.patch,
+        f.entries,
+        f.bits,
+        f.rows,
+    );
+    if number != 0 {
+        return Answer::refused(number, at);
+    }
+    Answer::run(Kind::PatchedBase, f.bits, f.rows, f.end - at)
 }
 
 // The values with the base added, in their places.
@@ -154,31 +221,50 @@ fn lay(block: &[u8], bits: usize, n: usize, base: u64, out: &mut [i64])
     rows::add_base(base, n, out);
 }
 
+// The rows of a run that passed its tests.
+fn put(input: &[u8], at: usize, f: Found, out: &mut [i64])
+    requires { ⌜ Ready (now input) at f × (f .rows ≤ length (now out)) ⌝ }
+    ensures { λ _. ⌜ now (out .exit) ≡ patchAll (f .bits) (f .patch) 0 (based (baseValue (take (f .base) (drop (at + 4) (now (input .entry))))) (map asI64 (fields (f .bits) (f .rows) (drop (f .values) (now (input .entry))))) ++ drop (f .rows) (now (out .entry))) (fields (f .entry) (f .entries) (drop (f .list) (now (input .entry)))) ⌝ }
+{
+    let values = f.values;
+    let list = f.list;
+    let base = big_endian::base_value(input, at + 4, f.base);
+    lay(&input[values..], f.bits, f.rows, base, out);
+    patch_list::put(
+        &input[list..],
+        f.entry,
+        f.patch,
+        f.entries,
+        f.bits,
+        f.rows,
+        out,
+    );
+}
+
 // Patched rows are never zigzag decoded, whatever the flag.
 pub(crate) fn read(input: &[u8], at: usize, signed: bool, out: &mut [i64]) -> Answer
     requires { ⌜ at < length (now input) ⌝ }
     ensures { λ r. ⌜ Gives at (length (now (input .entry)) - at) signed (patchedRun (getD (now (input .entry)) at 0) (drop (at + 1) (now (input .entry)))) (now (out .entry)) (now (out .exit)) r ⌝ }
 {
-    match measured(input, at) {
-        Found::Run(h, w, q) => {
-            if out.len() < h.rows {
-                return Answer::refused(8, at);
-            }
-            let values = q.values;
-            let list = q.list;
-            let base = big_endian::base_value(input, at + 4, h.base);
-            lay(&input[values..], w.bits, h.rows, base, out);
-            patch_list::put(
-                &input[list..],
-                w.entry,
-                w.patch,
-                h.entries,
-                w.bits,
-                h.rows,
-                out,
-            );
-            Answer::run(Kind::PatchedBase, w.bits, h.rows, q.end - at)
-        }
-        Found::Refused(f) => Answer::Refused(f),
+    let f = headed(input, at);
+    if f.number != 0 {
+        return refused(f, at);
     }
+    let list = f.list;
+    let refusal = patch_list::refused_with(
+        &input[list..],
+        f.entry,
+        f.patch,
+        f.entries,
+        f.bits,
+        f.rows,
+    );
+    if refusal != 0 {
+        return Answer::refused(refusal, at);
+    }
+    if out.len() < f.rows {
+        return Answer::refused(8, at);
+    }
+    put(input, at, f, out);
+    Answer::run(Kind::PatchedBase, f.bits, f.rows, f.end - at)
 }

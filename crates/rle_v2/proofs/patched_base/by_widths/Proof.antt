@@ -6,6 +6,7 @@ use denote.Ref.{now}
 use Rattle.format.specs.Fields.{width, leastWidth}
 use Rattle.format.proofs.Rows.{width-le}
 use Rattle.rle_v2.proofs.PatchedRun.{refused-2}
+use Rattle.rle_v2.proofs.PatchedFound.{gone-plain}
 use borrow.Author.Needs.{needs}
 use Rattle.rle_v2.proofs.patched_base.by_widths.Statement.{statement}
 use Rattle.rle_v2.proofs.patched_base.by_widths.Tie as tie
@@ -26,11 +27,14 @@ add-if1 c = let s = c .before .before .before .before in omega (arith, c .before
 new-requires : tie.Need-new-requires
 new-requires c κs = search needs
 
+gone-requires : tie.Need-gone-requires
+gone-requires c κs = search needs
+
 returns : tie.Need-returns
 returns c =
-    let k = c .before .before in
+    let k = c .before .before .before in
     let a = k .before .before .before .before .args in
-    rw (c .new .ensures) (refused-2 (now (a .input)) (a .at) (a .h .code) (a .h .rows) (a .h .base) (a .h .patch) (a .h .gap) (a .h .entries) (rw (sum-2 k) at (c .before .if1 .taken)))
+    rw (c .gone .ensures, c .before .new .ensures) (gone-plain (now (a .input)) (a .at) _ 2 (λ z. omega arith) (refused-2 (now (a .input)) (a .at) (a .h .code) (a .h .rows) (a .h .base) (a .h .patch) (a .h .gap) (a .h .entries) (rw (sum-2 k) at (c .before .before .if1 .taken))))
 
 add-entry-width : tie.Need-add-entry-width
 add-entry-width c = search needs
@@ -59,6 +63,7 @@ by-widths-spec =
     bits-of-requires-2
     add-if1
     new-requires
+    gone-requires
     returns
     add-entry-width
     entry-width-requires

@@ -1,40 +1,97 @@
--- The answer names what the tests found. Assumes nothing.
+-- The answer names what was found, where the list passes. Assumes nothing.
 use native.Mathlib.Omega.{arith}
-use mathlib.Core.Path.{_∙_}
+use Prim.Native.Nat.{_≤_}
+use mathlib.Core.Path.{_≡_, sym, _∙_}
 use denote.Ref.{now}
-use Rattle.rle_v2.specs.PatchedHead.{Passed}
+use lib.ListN.{length}
+use Rattle.format.proofs.Rows.{width-le}
+use Rattle.format.proofs.Widths.{width-pos}
+use Rattle.util.proofs.Grow.{rest-is}
+use Rattle.rle_v2.specs.PatchedHead.{Heads, numberOf}
 use Rattle.rle_v2.proofs.PatchedRun.{run, passed-answer}
+use Rattle.rle_v2.proofs.PatchedFound.{found-in, found-list, found-3-7, passes}
 use borrow.Author.Needs.{needs}
 use Rattle.rle_v2.proofs.patched_base.measure.Statement.{statement}
 use Rattle.rle_v2.proofs.patched_base.measure.Tie as tie
 
--- what the tests found
-passed : (m : tie.After-h) → let a = m .before .before .before .before .args in
-    Passed (now (a .input)) (a .at) (run (now (a .input)) (a .at)) (m .h .given .0 .0) (m .h .given .0 .1 .0) (m .h .given .0 .1 .1 .0)
-passed m = rw (m .h .given .1) at (m .before .before .measured .ensures)
+-- what was found
+heads : (e : tie.Else1) → let a = e .before .before .before .before .args in Heads (now (a .input)) (a .at) (run (now (a .input)) (a .at)) (e .before .before .headed .result)
+heads e = e .before .before .headed .ensures .heads (e .if1 .left)
 
-measured-requires : tie.Need-measured-requires
-measured-requires c κs = search needs
+list-in : (e : tie.Else1) → e .before .before .headed .result .list ≤ length (now (e .before .before .before .before .args .input))
+list-in e =
+    let a = e .before .before .before .before .args in
+    omega (arith, found-in (now (a .input)) (a .at) _ _ (heads e), heads e .headed .parts .list-is)
 
-enum-known-h : tie.Need-enum-known-h
-enum-known-h c = search needs
+-- what the walk over its list found
+number-is : (l : tie.After-refused-with) → let e = l .before .before in
+    l .refused-with .result ≡ numberOf (now (e .before .before .before .before .args .input)) (e .before .before .headed .result)
+number-is l = let e = l .before .before in rw (rest-is (now (e .before .before .before .before .args .input)) (e .before .before .headed .result .list)) at (l .refused-with .ensures)
+
+headed-requires : tie.Need-headed-requires
+headed-requires c κs = search needs
+
+refused-requires : tie.Need-refused-requires
+refused-requires c κs = search needs
+
+returns : tie.Need-returns
+returns c = c .refused .ensures ∙ c .before .before .before .headed .ensures .refusal (c .before .if1 .taken)
+
+sub-refused-with : tie.Need-sub-refused-with
+sub-refused-with c = omega (arith, list-in c)
+
+part-refused-with-start : tie.Need-part-refused-with-start
+part-refused-with-start c = omega (arith, list-in c)
+
+part-refused-with-end : tie.Need-part-refused-with-end
+part-refused-with-end c = search needs
+
+refused-with-requires : tie.Need-refused-with-requires
+refused-with-requires c κs =
+    let e = c .before in
+    let a = e .before .before .before .before .args in
+    let h = heads e in (
+      rw (rest-is (now (a .input)) (e .before .before .headed .result .list)) (found-list (now (a .input)) (a .at) _ _ h),
+      (rw (h .headed .widths .bits-is) (width-pos _), rw (h .headed .widths .bits-is) (width-le _), h .headed .fields-fit .rows),
+    )
+
+refused-requires-2 : tie.Need-refused-requires-2
+refused-requires-2 c κs = search needs
+
+returns-2 : tie.Need-returns-2
+returns-2 c =
+    let l = c .before .before in
+    let e = l .before .before in
+    let a = e .before .before .before .before .args in
+    rw (c .refused2 .ensures, number-is l) (found-3-7 (now (a .input)) (a .at) _ _ (heads e) (λ z. c .before .if2 .taken (number-is l ∙ z)))
 
 sub-run : tie.Need-sub-run
-sub-run c = omega (arith, passed (c .before .before) .parts .end-is)
+sub-run c = omega (arith, heads (c .before .before .before .before) .headed .parts .end-is)
 
 run-requires : tie.Need-run-requires
 run-requires c κs = search needs
 
-enum-known-f : tie.Need-enum-known-f
-enum-known-f c = search needs
-
-returns : tie.Need-returns
-returns c = let a = c .before .before .before .before .before .before .before .args in c .run .ensures ∙ passed-answer (now (a .input)) (a .at) _ _ _ _ (passed (c .before .before .before))
-
-returns-2 : tie.Need-returns-2
-returns-2 c = rw (c .before .f .given .1) at (c .before .before .before .measured .ensures)
+returns-3 : tie.Need-returns-3
+returns-3 c =
+    let t = c .before .before in
+    let l = t .before in
+    let e = l .before .before in
+    let a = e .before .before .before .before .args in
+    c .run .ensures ∙ passed-answer (now (a .input)) (a .at) _ _ _ _ (passes (now (a .input)) (a .at) _ _ (heads e) (sym (number-is l) ∙ t .if2 .left))
 
 pub measure-spec : {M : Type 1} → statement M
 measure-spec =
     tie.close
-    (tie.spec measured-requires enum-known-h sub-run run-requires enum-known-f returns returns-2)
+    (tie.spec
+    headed-requires
+    refused-requires
+    returns
+    sub-refused-with
+    part-refused-with-start
+    part-refused-with-end
+    refused-with-requires
+    refused-requires-2
+    returns-2
+    sub-run
+    run-requires
+    returns-3)

@@ -1,124 +1,137 @@
--- The patched base reader meets its contract: what the tests found is laid down where there is room. Assumes nothing.
+-- The patched base reader meets its contract: what was found is laid down where its list passes and there is room. Assumes nothing.
 use native.Mathlib.Omega.{arith}
+use Prim.Native.Nat.{_≤_}
+use mathlib.Core.Path.{_≡_, refl, sym, _∙_}
 use denote.Ref.{now}
-use lib.ListN.{length-drop}
+use lib.ListN.{length}
 use Rattle.format.specs.declared.Answer.the-variants as answer
 use Rattle.format.proofs.Reading.{gives-none}
 use Rattle.format.proofs.Rows.{width-le}
+use Rattle.format.proofs.Widths.{width-pos}
 use Rattle.util.proofs.Grow.{rest-is}
-use Rattle.rle_v2.specs.PatchedHead.{Passed}
-use Rattle.rle_v2.proofs.Blocks.{code-width}
-use Rattle.rle_v2.proofs.PatchList.{none-refused}
-use Rattle.rle_v2.proofs.PatchedRun.{run, all-in, values-there, list-there, passed-8, passed-read}
+use Rattle.rle_v2.specs.PatchedHead.{Heads, numberOf, Passed, headOf, widthsOf, partsOf}
+use Rattle.rle_v2.proofs.PatchedRun.{run, passed-8, passed-read}
+use Rattle.rle_v2.proofs.PatchedFound.{found-in, found-list, found-3-7, passes, ready, refused-none}
 use borrow.Author.Needs.{needs}
 use Rattle.rle_v2.proofs.patched_base.read.Statement.{statement}
 use Rattle.rle_v2.proofs.patched_base.read.Tie as tie
 
--- what the tests found
-passed : (m : tie.After-h) → let a = m .before .before .before .before .args in
-    Passed (now (a .input)) (a .at) (run (now (a .input)) (a .at)) (m .h .given .0 .0) (m .h .given .0 .1 .0) (m .h .given .0 .1 .1 .0)
-passed m = rw (m .h .given .1) at (m .before .before .measured .ensures)
+-- what was found
+heads : (e : tie.Else1) → let a = e .before .before .before .before .args in Heads (now (a .input)) (a .at) (run (now (a .input)) (a .at)) (e .before .before .headed .result)
+heads e = e .before .before .headed .ensures .heads (e .if1 .left)
 
-measured-requires : tie.Need-measured-requires
-measured-requires c κs = search needs
+list-in : (e : tie.Else1) → e .before .before .headed .result .list ≤ length (now (e .before .before .before .before .args .input))
+list-in e =
+    let a = e .before .before .before .before .args in
+    omega (arith, found-in (now (a .input)) (a .at) _ _ (heads e), heads e .headed .parts .list-is)
 
-enum-known-h : tie.Need-enum-known-h
-enum-known-h c = search needs
+-- what the walk over its list found
+number-is : (l : tie.After-refused-with) → let e = l .before .before in
+    l .refused-with .result ≡ numberOf (now (e .before .before .before .before .args .input)) (e .before .before .headed .result)
+number-is l = let e = l .before .before in rw (rest-is (now (e .before .before .before .before .args .input)) (e .before .before .headed .result .list)) at (l .refused-with .ensures)
+
+-- and it passed
+passed : (t : tie.Else2) → let e = t .before .before .before in let a = e .before .before .before .before .args in let f = e .before .before .headed .result in
+    Passed (now (a .input)) (a .at) (run (now (a .input)) (a .at)) (headOf (heads e .code) (heads e .patch) (heads e .gap) f) (widthsOf f) (partsOf f)
+passed t =
+    let e = t .before .before .before in
+    let a = e .before .before .before .before .args in
+    passes (now (a .input)) (a .at) _ _ (heads e) (sym (number-is (t .before)) ∙ t .if2 .left)
+
+headed-requires : tie.Need-headed-requires
+headed-requires c κs = search needs
 
 refused-requires : tie.Need-refused-requires
 refused-requires c κs = search needs
 
 returns : tie.Need-returns
-returns c = let a = c .before .before .before .before .before .before .before .before .args in rw (c .refused .ensures) (passed-8 (now (c .before .before .before .before .before .before .before .before .args .input)) (c .before .before .before .before .before .before .before .before .args .at) _ _ _ _ (passed (c .before .before .before .before)) (a .signed) (now (a .out)) (c .before .if1 .taken))
+returns c =
+    let h = c .before .before .before in
+    let a = h .before .before .args in
+    rw (c .refused .ensures)
+    (refused-none (now (a .input)) (a .at) (run (now (a .input)) (a .at)) (a .signed) (now (a .out)) (h .headed .result) (h .headed .ensures .refusal (c .before .if1 .taken)))
 
-add-base-value : tie.Need-add-base-value
-add-base-value c = search needs
+sub-refused-with : tie.Need-sub-refused-with
+sub-refused-with c = omega (arith, list-in c)
 
-base-value-requires : tie.Need-base-value-requires
-base-value-requires c κs = let p = passed (c .before .before .before) in (p .fields-fit .some-bytes, p .fields-fit .eight, omega (arith, all-in (now (c .before .before .before .before .before .before .before .args .input)) (c .before .before .before .before .before .before .before .args .at) _ _ _ _ (passed (c .before .before .before))))
+part-refused-with-start : tie.Need-part-refused-with-start
+part-refused-with-start c = omega (arith, list-in c)
 
-sub-lay : tie.Need-sub-lay
-sub-lay c = omega (arith, all-in (now (c .before .before .before .before .before .before .before .before .args .input)) (c .before .before .before .before .before .before .before .before .args .at) _ _ _ _ (passed (c .before .before .before .before)), passed (c .before .before .before .before) .parts .values-is)
+part-refused-with-end : tie.Need-part-refused-with-end
+part-refused-with-end c = search needs
 
-part-lay-start : tie.Need-part-lay-start
-part-lay-start c = omega (arith, all-in (now (c .before .before .before .before .before .before .before .before .args .input)) (c .before .before .before .before .before .before .before .before .args .at) _ _ _ _ (passed (c .before .before .before .before)), passed (c .before .before .before .before) .parts .values-is)
-
-part-lay-end : tie.Need-part-lay-end
-part-lay-end c = search needs
-
-lay-requires : tie.Need-lay-requires
-lay-requires c κs =
-    let p = passed (c .before .before .before .before .before .before) in
-    let a = c .before .before .before .before .before .before .before .before .before .before .args in (
-      rw (p .widths .bits-is) (code-width _),
-      (omega (arith, p .fields-fit .rows), c .before .before .before .if1 .left, rw (rest-is (now (a .input)) _, length-drop) (values-there (now (c .before .before .before .before .before .before .before .before .before .before .args .input)) (c .before .before .before .before .before .before .before .before .before .before .args .at) _ _ _ _ (passed (c .before .before .before .before .before .before)))),
+refused-with-requires : tie.Need-refused-with-requires
+refused-with-requires c κs =
+    let e = c .before in
+    let a = e .before .before .before .before .args in
+    let h = heads e in (
+      rw (rest-is (now (a .input)) (e .before .before .headed .result .list)) (found-list (now (a .input)) (a .at) _ _ h),
+      (rw (h .headed .widths .bits-is) (width-pos _), rw (h .headed .widths .bits-is) (width-le _), h .headed .fields-fit .rows),
     )
 
-sub-put : tie.Need-sub-put
-sub-put c = omega (arith, all-in (now (c .before .before .before .before .before .before .before .before .before .before .before .before .args .input)) (c .before .before .before .before .before .before .before .before .before .before .before .before .args .at) _ _ _ _ (passed (c .before .before .before .before .before .before .before .before)), passed (c .before .before .before .before .before .before .before .before) .parts .list-is)
+refused-requires-2 : tie.Need-refused-requires-2
+refused-requires-2 c κs = search needs
 
-part-put-start : tie.Need-part-put-start
-part-put-start c = omega (arith, all-in (now (c .before .before .before .before .before .before .before .before .before .before .before .before .args .input)) (c .before .before .before .before .before .before .before .before .before .before .before .before .args .at) _ _ _ _ (passed (c .before .before .before .before .before .before .before .before)), passed (c .before .before .before .before .before .before .before .before) .parts .list-is)
+returns-2 : tie.Need-returns-2
+returns-2 c =
+    let l = c .before .before in
+    let e = l .before .before in
+    let a = e .before .before .before .before .args in
+    rw (c .refused2 .ensures)
+    (gives-none (a .at) _ (a .signed) (run (now (a .input)) (a .at)) (now (a .out)) (answer.Refused _) tt
+    (rw (number-is l) (found-3-7 (now (a .input)) (a .at) _ _ (heads e) (λ z. c .before .if2 .taken (number-is l ∙ z)))))
 
-part-put-end : tie.Need-part-put-end
-part-put-end c = search needs
+refused-requires-3 : tie.Need-refused-requires-3
+refused-requires-3 c κs = search needs
+
+returns-3 : tie.Need-returns-3
+returns-3 c =
+    let t = c .before .before .before in
+    let a = t .before .before .before .before .before .before .before .args in
+    rw (c .refused3 .ensures) (passed-8 (now (a .input)) (a .at) _ _ _ _ (passed t) (a .signed) (now (a .out)) (c .before .if3 .taken))
 
 put-requires : tie.Need-put-requires
 put-requires c κs =
-    let p = passed (c .before .before .before .before .before .before .before .before .before .before) in
-    let a = c .before .before .before .before .before .before .before .before .before .before .before .before .before .before .args in
-    rw (rest-is (now (a .input)) (c .before .before .before .before .before .before .before .before .before .before .h .given .0 .1 .1 .0 .list)) (
-      list-there (now (c .before .before .before .before .before .before .before .before .before .before .before .before .before .before .args .input)) (c .before .before .before .before .before .before .before .before .before .before .before .before .before .before .args .at) _ _ _ _ (passed (c .before .before .before .before .before .before .before .before .before .before)),
-      (rw (p .widths .bits-is) (width-le _), p .fields-fit .rows, omega (arith, c .before .before .before .before .before .before .before .if1 .left), none-refused _ _ _ _ (p .list) .1),
-    )
+    let t = c .before .before .before in
+    let e = t .before .before .before in
+    let a = e .before .before .before .before .args in
+    (ready (now (a .input)) (a .at) _ _ (heads e) (sym (number-is (t .before)) ∙ t .if2 .left), c .before .if3 .left)
 
 sub-run : tie.Need-sub-run
-sub-run c = omega (arith, passed (c .before .before .before .before .before .before .before .before .before .before .before .before .before) .parts .end-is)
+sub-run c = omega (arith, heads (c .before .before .before .before .before .before .before .before .before) .headed .parts .end-is)
 
 run-requires : tie.Need-run-requires
 run-requires c κs = search needs
 
-enum-known-f : tie.Need-enum-known-f
-enum-known-f c = search needs
-
 same-length : tie.Need-same-length
 same-length c = search needs
 
-returns-2 : tie.Need-returns-2
-returns-2 c =
-    let q = c .before .before .before .before .before .before .before .before .before .before .before .before .before .before .h .given .0 .1 .1 .0 in
-    let a = c .before .before .before .before .before .before .before .before .before .before .before .before .before .before .before .before .before .before .args in
-    let i = now (a .input) in
+returns-4 : tie.Need-returns-4
+returns-4 c =
+    let p = c .before .before .before in
+    let r = p .before .before in
+    let t = r .before .before in
+    let a = t .before .before .before .before .before .before .before .args in
     rw (c .run .ensures)
-    (passed-read (now (c .before .before .before .before .before .before .before .before .before .before .before .before .before .before .before .before .before .before .args .input)) (c .before .before .before .before .before .before .before .before .before .before .before .before .before .before .before .before .before .before .args .at) _ _ _ _ (passed (c .before .before .before .before .before .before .before .before .before .before .before .before .before .before)) (a .signed) (now (a .out)) (c .before .before .before .before .before .before .before .lay .last .1 .1 .1 .1 .0) (c .before .before .before .put .last .1 .1 .1 .1 .1 .1 .0) (c .before .before .before .before .before .before .before .before .before .before .before .if1 .left)
-    (rw (rest-is i (q .values), c .before .before .before .before .before .before .before .before .before .before .base-value .ensures) at (c .before .before .before .before .before .before .before .lay .ensures)) (rw (rest-is i (q .list)) at (c .before .before .before .put .ensures)))
-
-returns-3 : tie.Need-returns-3
-returns-3 c =
-    let a = c .before .before .before .before .before .args in
-    gives-none (a .at) _ (a .signed) (run (now (a .input)) (a .at)) (now (a .out)) (answer.Refused _) tt (rw (c .before .f .given .1) at (c .before .before .before .measured .ensures))
+    (passed-read (now (a .input)) (a .at) _ _ _ _ (passed t) (a .signed) (now (a .out)) _ _ (r .if3 .left) refl (p .put .ensures))
 
 pub read-spec : {M : Type 1} → statement M
 read-spec =
     tie.close
     (tie.spec
-    measured-requires
-    enum-known-h
+    headed-requires
     refused-requires
     returns
-    add-base-value
-    base-value-requires
-    sub-lay
-    part-lay-start
-    part-lay-end
-    lay-requires
-    sub-put
-    part-put-start
-    part-put-end
+    sub-refused-with
+    part-refused-with-start
+    part-refused-with-end
+    refused-with-requires
+    refused-requires-2
+    returns-2
+    refused-requires-3
+    returns-3
     put-requires
     sub-run
     run-requires
-    enum-known-f
     same-length
-    returns-2
-    returns-3)
+    returns-4)

@@ -3,9 +3,10 @@ use native.Mathlib.Omega.{arith}
 use Prim.Native.Nat.{_+_}
 use denote.Ref.{now}
 use Rattle.rle_v2.proofs.PatchedRun.{no-header, is-body}
+use Rattle.rle_v2.proofs.PatchedFound.{gone-plain}
 use borrow.Author.Needs.{needs}
-use Rattle.rle_v2.proofs.patched_base.measured.Statement.{statement}
-use Rattle.rle_v2.proofs.patched_base.measured.Tie as tie
+use Rattle.rle_v2.proofs.patched_base.headed.Statement.{statement}
+use Rattle.rle_v2.proofs.patched_base.headed.Tie as tie
 
 sub-if1 : tie.Need-sub-if1
 sub-if1 c = search needs
@@ -13,8 +14,14 @@ sub-if1 c = search needs
 new-requires : tie.Need-new-requires
 new-requires c κs = search needs
 
+gone-requires : tie.Need-gone-requires
+gone-requires c κs = search needs
+
 returns : tie.Need-returns
-returns c = let s = c .before .before .before in rw (c .new .ensures) (no-header (now (s .args .input)) (s .args .at) (s .pre) (c .before .if1 .taken))
+returns c =
+    let s = c .before .before .before .before in
+    rw (c .gone .ensures, c .before .new .ensures)
+    (gone-plain (now (s .args .input)) (s .args .at) _ 1 (λ z. omega arith) (no-header (now (s .args .input)) (s .args .at) (s .pre) (c .before .before .if1 .taken)))
 
 shared-slice-read-two-bytes : tie.Need-shared-slice-read-two-bytes
 shared-slice-read-two-bytes c = search needs
@@ -79,12 +86,13 @@ returns-2 c =
     let a = c .before .before .before .before .before .before .before .before .args in
     rw (is-body (now (a .input)) (a .at) (c .before .before .before .before .before .before .if1 .left)) (rw (h .0, h .1) at (c .by-widths .ensures))
 
-pub measured-spec : {M : Type 1} → statement M
-measured-spec =
+pub headed-spec : {M : Type 1} → statement M
+headed-spec =
     tie.close
     (tie.spec
     sub-if1
     new-requires
+    gone-requires
     returns
     shared-slice-read-two-bytes
     add-two-bytes
