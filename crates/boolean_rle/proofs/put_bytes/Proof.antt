@@ -24,21 +24,6 @@ loop-holds c =
 run-byte-requires : tie.Need-run-byte-requires Inv-loop μ-loop
 run-byte-requires c κs = (c .before .before .before .before .pre .0, omega arith)
 
-mul-put-byte : tie.Need-mul-put-byte Inv-loop μ-loop
-mul-put-byte c = omega arith
-
-add-put-byte : tie.Need-add-put-byte Inv-loop μ-loop
-add-put-byte c = omega arith
-
-put-byte-requires : tie.Need-put-byte-requires Inv-loop μ-loop
-put-byte-requires c κs = omega arith
-
-add-i : tie.Need-add-i Inv-loop μ-loop
-add-i c = omega arith
-
-loop-less : tie.Need-loop-less Inv-loop μ-loop
-loop-less c = omega arith
-
 loop-again : tie.Need-loop-again Inv-loop μ-loop
 loop-again c =
     let p = c .before .before in
@@ -54,9 +39,6 @@ loop-again c =
       rw z (byte-more bs (a .k) (l .loop .i) 8 (now (a .out)) (l .loop .out) _ h (l .loop .inv .2) (rw (b .run-byte .ensures) at (p .put-byte .ensures))),
     )
 
-same-length : tie.Need-same-length Inv-loop μ-loop
-same-length c = c .before .loop .inv .1
-
 returns : tie.Need-returns Inv-loop μ-loop
 returns c =
     let e : c .before .loop .i ≡ c .before .before .before .before .args .count = omega arith in
@@ -64,17 +46,5 @@ returns c =
 
 pub put-bytes-spec : {M : Type 1} → statement M
 put-bytes-spec =
-    tie.close
-    (tie.spec
-    Inv-loop
-    μ-loop
-    loop-holds
-    run-byte-requires
-    mul-put-byte
-    add-put-byte
-    put-byte-requires
-    add-i
-    loop-less
-    loop-again
-    same-length
-    returns)
+    tie.close (tie.spec Inv-loop μ-loop loop-holds run-byte-requires (λ c. omega arith) (λ c. omega arith) (λ c κs. omega arith) (λ c. omega arith) (λ c. omega arith)
+    loop-again (λ c. c .before .loop .inv .1) returns)

@@ -15,9 +15,6 @@ byte-is c =
     let (d, h) = here (now (a .input)) (a .at) (a .run) (λ i. c .shared-slice-known .given i .fits) (c .before .pre .0) in
     rw (bytes-are (now (a .input)) (a .at) (a .run) d h) (byte-at (now (a .input)) (a .at) (a .run) d h (a .i) (c .before .pre .1))
 
-shared-slice-read-if1 : tie.Need-shared-slice-read-if1
-shared-slice-read-if1 c = byte-is c .there
-
 add-result : tie.Need-add-result
 add-result c = omega (arith, byte-is (c .before) .there)
 
@@ -40,14 +37,4 @@ returns-2 : tie.Need-returns-2
 returns-2 c = byte-is (c .before .before) .literal (c .before .if1 .left) .1
 
 pub run-byte-spec : {M : Type 1} → statement M
-run-byte-spec =
-    tie.close
-    (tie.spec
-    shared-slice-read-if1
-    add-result
-    shared-slice-read-result
-    returns
-    add-result-2
-    add-result-3
-    shared-slice-read-result-2
-    returns-2)
+run-byte-spec = tie.close (tie.spec (λ c. byte-is c .there) add-result shared-slice-read-result returns add-result-2 add-result-3 shared-slice-read-result-2 returns-2)

@@ -22,31 +22,10 @@ turned : (m : tie.After-step Inv-loop μ-loop) → let x = m .before .before .be
     Turned (a .signed) (now (a .input)) (l .p) (x .convert-run .last .1 .1 .1 .0) (m .step .given .0 .0)
 turned m = rw (m .step .given .1) at (m .before .before .before .convert-run .ensures)
 
-loop-holds : tie.Need-loop-holds Inv-loop μ-loop
-loop-holds c = along-first _ _ _ _
-
-bytes-room-requires : tie.Need-bytes-room-requires Inv-loop μ-loop
-bytes-room-requires c κs = search needs
-
-slice-aggregate-convert-run : tie.Need-slice-aggregate-convert-run Inv-loop μ-loop
-slice-aggregate-convert-run c = search needs
-
-convert-run-requires : tie.Need-convert-run-requires Inv-loop μ-loop
-convert-run-requires c κs = search needs
-
-enum-known-step : tie.Need-enum-known-step Inv-loop μ-loop
-enum-known-step c = search needs
-
-slice-aggregate-lay : tie.Need-slice-aggregate-lay Inv-loop μ-loop
-slice-aggregate-lay c = search needs
-
 lay-requires : tie.Need-lay-requires Inv-loop μ-loop
 lay-requires c κs =
     let m = c .before .before .before in
     (omega (arith, turned m .small), m .before .before .before .before .before .before .before .loop .inv .fill .end-in)
-
-count-requires : tie.Need-count-requires Inv-loop μ-loop
-count-requires c κs = search needs
 
 add-altered : tie.Need-add-altered Inv-loop μ-loop
 add-altered c =
@@ -70,9 +49,6 @@ loop-again c =
     rw (c .before .count .ensures)
     (along-next (a .signed) (now (a .input)) (a .room) (now (a .out)) (l .out) (l .p) (l .altered) (l .at) (l .inv) _ _ _ _ (turned m) (c .before .before .before .before .lay .ensures))
 
-enum-known-step-2 : tie.Need-enum-known-step-2 Inv-loop μ-loop
-enum-known-step-2 c = search needs
-
 same-length : tie.Need-same-length Inv-loop μ-loop
 same-length c = c .before .before .before .before .before .before .before .before .loop .inv .long
 
@@ -83,12 +59,6 @@ returns c =
     let a = x .before .before .before .before .before .before .before .args in
     along-refused (a .signed) (now (a .input)) (a .room) (now (a .out)) (l .out) (l .p) (l .altered) (l .at) (l .inv) _
     (below-all 256 (now (a .input)) (λ i. x .before .before .before .before .before .before .shared-slice-known .given i .fits)) (rw (c .before .step2 .given .1) at (x .convert-run .ensures))
-
-enum-told : tie.Need-enum-told Inv-loop μ-loop
-enum-told c = search needs
-
-finish-requires : tie.Need-finish-requires Inv-loop μ-loop
-finish-requires c κs = search needs
 
 same-length-2 : tie.Need-same-length-2 Inv-loop μ-loop
 same-length-2 c = c .before .before .before .before .before .before .before .before .loop .inv .long
@@ -101,12 +71,6 @@ returns-2 c =
     rw (c .finish .ensures)
     (along-end (a .signed) (now (a .input)) (a .room) (now (a .out)) (l .out) (l .p) (l .altered) (l .at) (l .inv) (rw (c .before .enum-told .given .1) at (x .convert-run .ensures)))
 
-finish-requires-2 : tie.Need-finish-requires-2 Inv-loop μ-loop
-finish-requires-2 c κs = search needs
-
-same-length-3 : tie.Need-same-length-3 Inv-loop μ-loop
-same-length-3 c = c .before .before .loop .inv .long
-
 returns-3 : tie.Need-returns-3 Inv-loop μ-loop
 returns-3 c =
     let l = c .before .before .loop in
@@ -116,29 +80,6 @@ returns-3 c =
 
 pub walk-spec : {M : Type 1} → statement M
 walk-spec =
-    tie.close
-    (tie.spec
-    Inv-loop
-    μ-loop
-    loop-holds
-    bytes-room-requires
-    slice-aggregate-convert-run
-    convert-run-requires
-    enum-known-step
-    slice-aggregate-lay
-    lay-requires
-    count-requires
-    add-altered
-    add-p
-    loop-less
-    loop-again
-    enum-known-step-2
-    same-length
-    returns
-    enum-told
-    finish-requires
-    same-length-2
-    returns-2
-    finish-requires-2
-    same-length-3
-    returns-3)
+    tie.close (tie.spec Inv-loop μ-loop (λ c. along-first _ _ _ _) (λ c κs. search needs) (λ c. search needs) (λ c κs. search needs) (λ c. search needs)
+    (λ c. search needs) lay-requires (λ c κs. search needs) add-altered add-p loop-less loop-again (λ c. search needs) same-length returns (λ c. search needs)
+    (λ c κs. search needs) same-length-2 returns-2 (λ c κs. search needs) (λ c. c .before .before .loop .inv .long) returns-3)

@@ -34,23 +34,8 @@ held x =
     let a = b .args in
     held-is (a .input .now) (a .at) (a .skip) (a .signed) (a .out .now) (b .pre) _ _ _ (x .before .before .scratch .ensures) (x .read-run .ensures)
 
-scratch-requires : tie.Need-scratch-requires
-scratch-requires c κs = search needs
-
-slice-aggregate-read-run : tie.Need-slice-aggregate-read-run
-slice-aggregate-read-run c = search needs
-
-read-run-requires : tie.Need-read-run-requires
-read-run-requires c κs = search needs
-
-enum-known-a : tie.Need-enum-known-a
-enum-known-a c = search needs
-
 sub-n : tie.Need-sub-n
 sub-n c = let m = c .before .before .before .before in let b = m .before .before .before .before .before .before .before in omega (arith, rows m, b .pre .skips)
-
-slice-aggregate-copy : tie.Need-slice-aggregate-copy
-slice-aggregate-copy c = search needs
 
 copy-requires : tie.Need-copy-requires
 copy-requires c κs =
@@ -94,21 +79,6 @@ part-read-stream-start c =
     let a = b .args in
     omega (arith, rows m, rows-within (a .input .now) (a .at) (a .skip) (a .signed) (a .out .now) (b .pre), c .before .before .copy .kept .1 .1 .1 .0)
 
-part-read-stream-end : tie.Need-part-read-stream-end
-part-read-stream-end c = search needs
-
-read-stream-requires : tie.Need-read-stream-requires
-read-stream-requires c κs = search needs
-
-enum-told : tie.Need-enum-told
-enum-told c = search needs
-
-enum-told-2 : tie.Need-enum-told-2
-enum-told-2 c = search needs
-
-same-length : tie.Need-same-length
-same-length c = search needs
-
 returns : tie.Need-returns
 returns c =
     let p = c .before .before .before .before .before in
@@ -137,24 +107,6 @@ returns-3 c =
 
 pub lay-spec : {M : Type 1} → statement M
 lay-spec =
-    tie.close
-    (tie.spec
-    scratch-requires
-    slice-aggregate-read-run
-    read-run-requires
-    enum-known-a
-    sub-n
-    slice-aggregate-copy
-    copy-requires
-    add-read-stream
-    mul-read-stream
-    sub-read-stream
-    part-read-stream-start
-    part-read-stream-end
-    read-stream-requires
-    enum-told
-    enum-told-2
-    same-length
-    returns
-    returns-2
-    returns-3)
+    tie.close (tie.spec (λ c κs. search needs) (λ c. search needs) (λ c κs. search needs) (λ c. search needs) sub-n (λ c. search needs) copy-requires add-read-stream
+    mul-read-stream sub-read-stream part-read-stream-start (λ c. search needs) (λ c κs. search needs) (λ c. search needs) (λ c. search needs) (λ c. search needs) returns
+    returns-2 returns-3)

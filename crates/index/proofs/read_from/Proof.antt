@@ -20,32 +20,17 @@ after x =
 through : (m : tie.After-e) → let a = m .before .before .before .before .before .before .before .args in Through (a .input .now) (a .first .now) (a .at .now) (a .counts .now) (a .row .rows) (m .e .given .0 .0 .first .rows) (m .e .given .0 .0 .at .bytes)
 through m = rw (m .e .given .1) at (after (m .before .before))
 
-look-up-requires : tie.Need-look-up-requires
-look-up-requires c κs = search needs
-
-enum-known-f : tie.Need-enum-known-f
-enum-known-f c = search needs
-
-enum-known-e : tie.Need-enum-known-e
-enum-known-e c = search needs
-
 sub-last : tie.Need-sub-last
 sub-last c =
     let m = c .before .before .before in
     let a = m .before .before .before .before .before .before .before .args in
     some (a .input .now) (a .first .now) (a .at .now) (a .counts .now) (a .row .rows) (m .e .given .0 .0 .first .rows) (m .e .given .0 .0 .at .bytes) (through m)
 
-mul-left-from : tie.Need-mul-left-from
-mul-left-from c = search needs
-
 shared-slice-read-left-from : tie.Need-shared-slice-read-left-from
 shared-slice-read-left-from c =
     let m = c .before .before .before .before in
     let a = m .before .before .before .before .before .before .before .args in
     omega (arith, some (a .input .now) (a .first .now) (a .at .now) (a .counts .now) (a .row .rows) (m .e .given .0 .0 .first .rows) (m .e .given .0 .0 .at .bytes) (through m))
-
-mul-left-from-2 : tie.Need-mul-left-from-2
-mul-left-from-2 c = search needs
 
 shared-slice-read-left-from-2 : tie.Need-shared-slice-read-left-from-2
 shared-slice-read-left-from-2 c =
@@ -59,15 +44,6 @@ left-from-requires c κs =
     let a = m .before .before .before .before .before .before .before .args in
     row-below (a .input .now) (a .first .now) (a .at .now) (a .counts .now) (a .row .rows) (m .e .given .0 .0 .first .rows) (m .e .given .0 .0 .at .bytes) (through m)
 
-enum-told : tie.Need-enum-told
-enum-told c = search needs
-
-refused-requires : tie.Need-refused-requires
-refused-requires c κs = search needs
-
-enum-known-n : tie.Need-enum-known-n
-enum-known-n c = search needs
-
 sub-lay : tie.Need-sub-lay
 sub-lay c = through (c .before .before .before .before .before .before .before .before .before .before) .from
 
@@ -79,9 +55,6 @@ lay-requires c κs =
     let a = m .before .before .before .before .before .before .before .args in
     let (k, q) = left-rows (getD (a .first .now) (length (a .first .now) - 1) 0) (getD (a .counts .now) (length (a .first .now) - 1) 0) (a .row .rows) (length (a .out .now)) (n .n .given .0 .0) (sym (n .n .given .1) ∙ l .left-from .ensures) in
     ready (a .input .now) (a .first .now) (a .at .now) (a .counts .now) (a .row .rows) (m .e .given .0 .0 .first .rows) (m .e .given .0 .0 .at .bytes) (through m) _ (omega (arith, k, q, last-is (a .input .now) (a .first .now) (a .at .now) (a .counts .now) (a .row .rows) (m .e .given .0 .0 .first .rows) (m .e .given .0 .0 .at .bytes) (through m)))
-
-rows-requires : tie.Need-rows-requires
-rows-requires c κs = search needs
 
 returns : tie.Need-returns
 returns c =
@@ -98,9 +71,6 @@ returns-2 c =
     let k = left-many (getD (a .first .now) (length (a .first .now) - 1) 0) (getD (a .counts .now) (length (a .first .now) - 1) 0) (a .row .rows) (length (a .out .now)) (sym (c .before .enum-told .given .1) ∙ l .left-from .ensures) in
     rw (c .refused .ensures) (eight-so (a .input .now) (a .first .now) (a .at .now) (a .counts .now) (a .row .rows) (m .e .given .0 .0 .first .rows) (m .e .given .0 .0 .at .bytes) (through m) (a .signed) (a .out .now) (omega (arith, k, last-is (a .input .now) (a .first .now) (a .at .now) (a .counts .now) (a .row .rows) (m .e .given .0 .0 .first .rows) (m .e .given .0 .0 .at .bytes) (through m))))
 
-same-length : tie.Need-same-length
-same-length c = search needs
-
 returns-3 : tie.Need-returns-3
 returns-3 c =
     let n = c .before .before .before .before .before .before in
@@ -113,24 +83,6 @@ returns-3 c =
 
 pub read-from-spec : {M : Type 1} → statement M
 read-from-spec =
-    tie.close
-    (tie.spec
-    look-up-requires
-    enum-known-f
-    enum-known-e
-    sub-last
-    mul-left-from
-    shared-slice-read-left-from
-    mul-left-from-2
-    shared-slice-read-left-from-2
-    left-from-requires
-    enum-told
-    refused-requires
-    enum-known-n
-    sub-lay
-    lay-requires
-    rows-requires
-    returns
-    returns-2
-    same-length
-    returns-3)
+    tie.close (tie.spec (λ c κs. search needs) (λ c. search needs) (λ c. search needs) sub-last (λ c. search needs) shared-slice-read-left-from (λ c. search needs)
+    shared-slice-read-left-from-2 left-from-requires (λ c. search needs) (λ c κs. search needs) (λ c. search needs) sub-lay lay-requires (λ c κs. search needs) returns
+    returns-2 (λ c. search needs) returns-3)

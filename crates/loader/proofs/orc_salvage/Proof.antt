@@ -9,21 +9,6 @@ use Rattle.loader.proofs.orc_salvage.Tie as tie
 returns : tie.Need-returns
 returns c = record { stream-told = few-of salvage-long (omega arith); report-told = few-of salvage-long (omega arith) }
 
-salvage-requires : tie.Need-salvage-requires
-salvage-requires c κs = search needs
-
-put-outcome-requires : tie.Need-put-outcome-requires
-put-outcome-requires c κs = search needs
-
-same-length : tie.Need-same-length
-same-length c = search needs
-
-same-length-2 : tie.Need-same-length-2
-same-length-2 c = search needs
-
-same-length-3 : tie.Need-same-length-3
-same-length-3 c = search needs
-
 returns-2 : tie.Need-returns-2
 returns-2 c =
     let p = c .before .before in
@@ -37,13 +22,4 @@ returns-2 c =
     }
 
 pub orc-salvage-spec : {M : Type 1} → statement M
-orc-salvage-spec =
-    tie.close
-    (tie.spec
-    returns
-    salvage-requires
-    put-outcome-requires
-    same-length
-    same-length-2
-    same-length-3
-    returns-2)
+orc-salvage-spec = tie.close (tie.spec returns (λ c κs. search needs) (λ c κs. search needs) (λ c. search needs) (λ c. search needs) (λ c. search needs) returns-2)

@@ -6,9 +6,6 @@ use native.Mathlib.Omega.{arith}
 use Rattle.totals_text.proofs.put_count.Statement.{statement}
 use Rattle.totals_text.proofs.put_count.Tie as tie
 
-put-word-requires : tie.Need-put-word-requires
-put-word-requires c κs = search needs
-
 put-decimal-requires : tie.Need-put-decimal-requires
 put-decimal-requires c κs =
     let x1 = c .before .before .before in
@@ -22,9 +19,6 @@ put-requires c κs =
     let s = x1 .before .before .before .before in
     omega (arith, s .pre, x1 .put-word .ensures .next, x1 .put-word .kept .1 .0, x2 .put-decimal .ensures .next, x2 .put-decimal .kept .1 .0, decimal-length (s .args .count))
 
-same-length : tie.Need-same-length
-same-length c = search needs
-
 returns : tie.Need-returns
 unfolding countLine
 returns c =
@@ -35,5 +29,4 @@ returns c =
     then-written (omega arith) (then-written (omega arith) (x1 .put-word .ensures) (x2 .put-decimal .ensures)) (x3 .put .ensures)
 
 pub put-count-spec : {M : Type 1} → statement M
-put-count-spec =
-    tie.close (tie.spec put-word-requires put-decimal-requires put-requires same-length returns)
+put-count-spec = tie.close (tie.spec (λ c κs. search needs) put-decimal-requires put-requires (λ c. search needs) returns)

@@ -12,30 +12,6 @@ use native.Mathlib.Omega.{arith}
 use Rattle.totals_text.proofs.put_extreme.Statement.{statement}
 use Rattle.totals_text.proofs.put_extreme.Tie as tie
 
-put-word-requires : tie.Need-put-word-requires
-put-word-requires c κs = search needs
-
-enum-told : tie.Need-enum-told
-enum-told c = search needs
-
-slice-aggregate-put-word : tie.Need-slice-aggregate-put-word
-slice-aggregate-put-word c = search needs
-
-put-word-requires-2 : tie.Need-put-word-requires-2
-put-word-requires-2 c κs = search needs
-
-put-requires : tie.Need-put-requires
-put-requires c κs = search needs
-
-enum-known-extreme : tie.Need-enum-known-extreme
-enum-known-extreme c = search needs
-
-slice-aggregate-put-rows : tie.Need-slice-aggregate-put-rows
-slice-aggregate-put-rows c = search needs
-
-put-rows-requires : tie.Need-put-rows-requires
-put-rows-requires c κs = search needs
-
 put-requires-2 : tie.Need-put-requires-2
 put-requires-2 c κs =
     let r = c .before .before .before in
@@ -43,9 +19,6 @@ put-requires-2 c κs =
     let w = x .before .before .before .before in
     let s = w .before .before .before .before in
     omega (arith, s .pre, w .put-word .ensures .next, w .put-word .kept .1 .0, r .put-rows .ensures .next, r .put-rows .kept .1 .1 .0, row-line (toZ w64 (ofZ w64 (x .extreme .given .0 .0))))
-
-same-length : tie.Need-same-length
-same-length c = search needs
 
 returns : tie.Need-returns
 unfolding extremeLine extremeText
@@ -57,9 +30,6 @@ returns c =
     let s = w .before .before .before .before in
     rw (e .enum-told .given .1)
     (then-written (omega arith) (then-written (omega arith) (w .put-word .ensures) (n .put-word2 .ensures)) (p .put .ensures))
-
-same-length-2 : tie.Need-same-length-2
-same-length-2 c = search needs
 
 returns-2 : tie.Need-returns-2
 unfolding extremeLine extremeText
@@ -77,18 +47,5 @@ returns-2 c =
 
 pub put-extreme-spec : {M : Type 1} → statement M
 put-extreme-spec =
-    tie.close
-    (tie.spec
-    put-word-requires
-    enum-told
-    slice-aggregate-put-word
-    put-word-requires-2
-    put-requires
-    enum-known-extreme
-    slice-aggregate-put-rows
-    put-rows-requires
-    put-requires-2
-    same-length
-    returns
-    same-length-2
-    returns-2)
+    tie.close (tie.spec (λ c κs. search needs) (λ c. search needs) (λ c. search needs) (λ c κs. search needs) (λ c κs. search needs) (λ c. search needs)
+    (λ c. search needs) (λ c κs. search needs) put-requires-2 (λ c. search needs) returns (λ c. search needs) returns-2)

@@ -9,23 +9,11 @@ use native.Mathlib.Omega.{arith}
 use Rattle.totals_text.proofs.put_refusals.Statement.{statement}
 use Rattle.totals_text.proofs.put_refusals.Tie as tie
 
-array-read-put-refusal : tie.Need-array-read-put-refusal
-array-read-put-refusal c = search needs
-
-put-refusal-requires : tie.Need-put-refusal-requires
-put-refusal-requires c κs = search needs
-
-array-read-put-refusal-2 : tie.Need-array-read-put-refusal-2
-array-read-put-refusal-2 c = search needs
-
 put-refusal-requires-2 : tie.Need-put-refusal-requires-2
 put-refusal-requires-2 c κs =
     let x1 = c .before .before .before in
     let s = x1 .before .before .before in
     omega (arith, s .pre, x1 .put-refusal .ensures .next, x1 .put-refusal .kept .1 .1 .0, refusal-length 1 (getD (s .args .t1) 1 0))
-
-array-read-put-refusal-3 : tie.Need-array-read-put-refusal-3
-array-read-put-refusal-3 c = search needs
 
 put-refusal-requires-3 : tie.Need-put-refusal-requires-3
 put-refusal-requires-3 c κs =
@@ -33,9 +21,6 @@ put-refusal-requires-3 c κs =
     let x1 = x2 .before .before .before .before in
     let s = x1 .before .before .before in
     omega (arith, s .pre, x1 .put-refusal .ensures .next, x1 .put-refusal .kept .1 .1 .0, refusal-length 1 (getD (s .args .t1) 1 0), x2 .put-refusal2 .ensures .next, x2 .put-refusal2 .kept .1 .1 .0, refusal-length 2 (getD (s .args .t1) 2 0))
-
-array-read-put-refusal-4 : tie.Need-array-read-put-refusal-4
-array-read-put-refusal-4 c = search needs
 
 put-refusal-requires-4 : tie.Need-put-refusal-requires-4
 put-refusal-requires-4 c κs =
@@ -45,9 +30,6 @@ put-refusal-requires-4 c κs =
     let s = x1 .before .before .before in
     omega (arith, s .pre, x1 .put-refusal .ensures .next, x1 .put-refusal .kept .1 .1 .0, refusal-length 1 (getD (s .args .t1) 1 0), x2 .put-refusal2 .ensures .next, x2 .put-refusal2 .kept .1 .1 .0, refusal-length 2 (getD (s .args .t1) 2 0), x3 .put-refusal3 .ensures .next, x3 .put-refusal3 .kept .1 .1 .0, refusal-length 3 (getD (s .args .t1) 3 0))
 
-array-read-put-refusal-5 : tie.Need-array-read-put-refusal-5
-array-read-put-refusal-5 c = search needs
-
 put-refusal-requires-5 : tie.Need-put-refusal-requires-5
 put-refusal-requires-5 c κs =
     let x4 = c .before .before .before in
@@ -56,9 +38,6 @@ put-refusal-requires-5 c κs =
     let x1 = x2 .before .before .before .before in
     let s = x1 .before .before .before in
     omega (arith, s .pre, x1 .put-refusal .ensures .next, x1 .put-refusal .kept .1 .1 .0, refusal-length 1 (getD (s .args .t1) 1 0), x2 .put-refusal2 .ensures .next, x2 .put-refusal2 .kept .1 .1 .0, refusal-length 2 (getD (s .args .t1) 2 0), x3 .put-refusal3 .ensures .next, x3 .put-refusal3 .kept .1 .1 .0, refusal-length 3 (getD (s .args .t1) 3 0), x4 .put-refusal4 .ensures .next, x4 .put-refusal4 .kept .1 .1 .0, refusal-length 4 (getD (s .args .t1) 4 0))
-
-array-read-put-refusal-6 : tie.Need-array-read-put-refusal-6
-array-read-put-refusal-6 c = search needs
 
 put-refusal-requires-6 : tie.Need-put-refusal-requires-6
 put-refusal-requires-6 c κs =
@@ -70,9 +49,6 @@ put-refusal-requires-6 c κs =
     let s = x1 .before .before .before in
     omega (arith, s .pre, x1 .put-refusal .ensures .next, x1 .put-refusal .kept .1 .1 .0, refusal-length 1 (getD (s .args .t1) 1 0), x2 .put-refusal2 .ensures .next, x2 .put-refusal2 .kept .1 .1 .0, refusal-length 2 (getD (s .args .t1) 2 0), x3 .put-refusal3 .ensures .next, x3 .put-refusal3 .kept .1 .1 .0, refusal-length 3 (getD (s .args .t1) 3 0), x4 .put-refusal4 .ensures .next, x4 .put-refusal4 .kept .1 .1 .0, refusal-length 4 (getD (s .args .t1) 4 0), x5 .put-refusal5 .ensures .next, x5 .put-refusal5 .kept .1 .1 .0, refusal-length 5 (getD (s .args .t1) 5 0))
 
-array-read-put-refusal-7 : tie.Need-array-read-put-refusal-7
-array-read-put-refusal-7 c = search needs
-
 put-refusal-requires-7 : tie.Need-put-refusal-requires-7
 put-refusal-requires-7 c κs =
     let x6 = c .before .before .before in
@@ -83,9 +59,6 @@ put-refusal-requires-7 c κs =
     let x1 = x2 .before .before .before .before in
     let s = x1 .before .before .before in
     omega (arith, s .pre, x1 .put-refusal .ensures .next, x1 .put-refusal .kept .1 .1 .0, refusal-length 1 (getD (s .args .t1) 1 0), x2 .put-refusal2 .ensures .next, x2 .put-refusal2 .kept .1 .1 .0, refusal-length 2 (getD (s .args .t1) 2 0), x3 .put-refusal3 .ensures .next, x3 .put-refusal3 .kept .1 .1 .0, refusal-length 3 (getD (s .args .t1) 3 0), x4 .put-refusal4 .ensures .next, x4 .put-refusal4 .kept .1 .1 .0, refusal-length 4 (getD (s .args .t1) 4 0), x5 .put-refusal5 .ensures .next, x5 .put-refusal5 .kept .1 .1 .0, refusal-length 5 (getD (s .args .t1) 5 0), x6 .put-refusal6 .ensures .next, x6 .put-refusal6 .kept .1 .1 .0, refusal-length 6 (getD (s .args .t1) 6 0))
-
-array-read-put-refusal-8 : tie.Need-array-read-put-refusal-8
-array-read-put-refusal-8 c = search needs
 
 put-refusal-requires-8 : tie.Need-put-refusal-requires-8
 put-refusal-requires-8 c κs =
@@ -99,9 +72,6 @@ put-refusal-requires-8 c κs =
     let s = x1 .before .before .before in
     omega (arith, s .pre, x1 .put-refusal .ensures .next, x1 .put-refusal .kept .1 .1 .0, refusal-length 1 (getD (s .args .t1) 1 0), x2 .put-refusal2 .ensures .next, x2 .put-refusal2 .kept .1 .1 .0, refusal-length 2 (getD (s .args .t1) 2 0), x3 .put-refusal3 .ensures .next, x3 .put-refusal3 .kept .1 .1 .0, refusal-length 3 (getD (s .args .t1) 3 0), x4 .put-refusal4 .ensures .next, x4 .put-refusal4 .kept .1 .1 .0, refusal-length 4 (getD (s .args .t1) 4 0), x5 .put-refusal5 .ensures .next, x5 .put-refusal5 .kept .1 .1 .0, refusal-length 5 (getD (s .args .t1) 5 0), x6 .put-refusal6 .ensures .next, x6 .put-refusal6 .kept .1 .1 .0, refusal-length 6 (getD (s .args .t1) 6 0), x7 .put-refusal7 .ensures .next, x7 .put-refusal7 .kept .1 .1 .0, refusal-length 7 (getD (s .args .t1) 7 0))
 
-array-read-put-refusal-9 : tie.Need-array-read-put-refusal-9
-array-read-put-refusal-9 c = search needs
-
 put-refusal-requires-9 : tie.Need-put-refusal-requires-9
 put-refusal-requires-9 c κs =
     let x8 = c .before .before .before in
@@ -114,9 +84,6 @@ put-refusal-requires-9 c κs =
     let x1 = x2 .before .before .before .before in
     let s = x1 .before .before .before in
     omega (arith, s .pre, x1 .put-refusal .ensures .next, x1 .put-refusal .kept .1 .1 .0, refusal-length 1 (getD (s .args .t1) 1 0), x2 .put-refusal2 .ensures .next, x2 .put-refusal2 .kept .1 .1 .0, refusal-length 2 (getD (s .args .t1) 2 0), x3 .put-refusal3 .ensures .next, x3 .put-refusal3 .kept .1 .1 .0, refusal-length 3 (getD (s .args .t1) 3 0), x4 .put-refusal4 .ensures .next, x4 .put-refusal4 .kept .1 .1 .0, refusal-length 4 (getD (s .args .t1) 4 0), x5 .put-refusal5 .ensures .next, x5 .put-refusal5 .kept .1 .1 .0, refusal-length 5 (getD (s .args .t1) 5 0), x6 .put-refusal6 .ensures .next, x6 .put-refusal6 .kept .1 .1 .0, refusal-length 6 (getD (s .args .t1) 6 0), x7 .put-refusal7 .ensures .next, x7 .put-refusal7 .kept .1 .1 .0, refusal-length 7 (getD (s .args .t1) 7 0), x8 .put-refusal8 .ensures .next, x8 .put-refusal8 .kept .1 .1 .0, refusal-length 12 (getD (s .args .t1) 12 0))
-
-array-read-put-refusal-10 : tie.Need-array-read-put-refusal-10
-array-read-put-refusal-10 c = search needs
 
 put-refusal-requires-10 : tie.Need-put-refusal-requires-10
 put-refusal-requires-10 c κs =
@@ -164,27 +131,7 @@ returns c =
 
 pub put-refusals-spec : {M : Type 1} → statement M
 put-refusals-spec =
-    tie.close
-    (tie.spec
-    array-read-put-refusal
-    put-refusal-requires
-    array-read-put-refusal-2
-    put-refusal-requires-2
-    array-read-put-refusal-3
-    put-refusal-requires-3
-    array-read-put-refusal-4
-    put-refusal-requires-4
-    array-read-put-refusal-5
-    put-refusal-requires-5
-    array-read-put-refusal-6
-    put-refusal-requires-6
-    array-read-put-refusal-7
-    put-refusal-requires-7
-    array-read-put-refusal-8
-    put-refusal-requires-8
-    array-read-put-refusal-9
-    put-refusal-requires-9
-    array-read-put-refusal-10
-    put-refusal-requires-10
-    same-length
+    tie.close (tie.spec (λ c. search needs) (λ c κs. search needs) (λ c. search needs) put-refusal-requires-2 (λ c. search needs) put-refusal-requires-3
+    (λ c. search needs) put-refusal-requires-4 (λ c. search needs) put-refusal-requires-5 (λ c. search needs) put-refusal-requires-6 (λ c. search needs)
+    put-refusal-requires-7 (λ c. search needs) put-refusal-requires-8 (λ c. search needs) put-refusal-requires-9 (λ c. search needs) put-refusal-requires-10 same-length
     returns)

@@ -10,32 +10,11 @@ use native.Mathlib.Omega.{arith}
 use Rattle.totals_text.proofs.put_runs.Statement.{statement}
 use Rattle.totals_text.proofs.put_runs.Tie as tie
 
-slice-aggregate-put-count : tie.Need-slice-aggregate-put-count
-slice-aggregate-put-count c = search needs
-
-array-read-put-count : tie.Need-array-read-put-count
-array-read-put-count c = search needs
-
-put-count-requires : tie.Need-put-count-requires
-put-count-requires c κs = search needs
-
-slice-aggregate-put-count-2 : tie.Need-slice-aggregate-put-count-2
-slice-aggregate-put-count-2 c = search needs
-
-array-read-put-count-2 : tie.Need-array-read-put-count-2
-array-read-put-count-2 c = search needs
-
 put-count-requires-2 : tie.Need-put-count-requires-2
 put-count-requires-2 c κs =
     let x1 = c .before .before .before .before in
     let s = x1 .before .before .before .before in
     omega (arith, s .pre, x1 .put-count .ensures .next, x1 .put-count .kept .1 .1 .0, count-length (ascii "short ") (getD (s .args .t1) 0 0), count-length (ascii "direct ") (getD (s .args .t1) 1 0))
-
-slice-aggregate-put-count-3 : tie.Need-slice-aggregate-put-count-3
-slice-aggregate-put-count-3 c = search needs
-
-array-read-put-count-3 : tie.Need-array-read-put-count-3
-array-read-put-count-3 c = search needs
 
 put-count-requires-3 : tie.Need-put-count-requires-3
 put-count-requires-3 c κs =
@@ -44,12 +23,6 @@ put-count-requires-3 c κs =
     let s = x1 .before .before .before .before in
     omega (arith, s .pre, x1 .put-count .ensures .next, x1 .put-count .kept .1 .1 .0, count-length (ascii "short ") (getD (s .args .t1) 0 0), x2 .put-count2 .ensures .next, x2 .put-count2 .kept .1 .1 .0, count-length (ascii "direct ") (getD (s .args .t1) 1 0), count-length (ascii "patched ") (getD (s .args .t1) 2 0))
 
-slice-aggregate-put-count-4 : tie.Need-slice-aggregate-put-count-4
-slice-aggregate-put-count-4 c = search needs
-
-array-read-put-count-4 : tie.Need-array-read-put-count-4
-array-read-put-count-4 c = search needs
-
 put-count-requires-4 : tie.Need-put-count-requires-4
 put-count-requires-4 c κs =
     let x3 = c .before .before .before .before in
@@ -57,9 +30,6 @@ put-count-requires-4 c κs =
     let x1 = x2 .before .before .before .before .before in
     let s = x1 .before .before .before .before in
     omega (arith, s .pre, x1 .put-count .ensures .next, x1 .put-count .kept .1 .1 .0, count-length (ascii "short ") (getD (s .args .t1) 0 0), x2 .put-count2 .ensures .next, x2 .put-count2 .kept .1 .1 .0, count-length (ascii "direct ") (getD (s .args .t1) 1 0), x3 .put-count3 .ensures .next, x3 .put-count3 .kept .1 .1 .0, count-length (ascii "patched ") (getD (s .args .t1) 2 0), count-length (ascii "delta ") (getD (s .args .t1) 3 0))
-
-slice-aggregate-put-count-5 : tie.Need-slice-aggregate-put-count-5
-slice-aggregate-put-count-5 c = search needs
 
 put-count-requires-5 : tie.Need-put-count-requires-5
 put-count-requires-5 c κs =
@@ -92,21 +62,5 @@ returns c =
 
 pub put-runs-spec : {M : Type 1} → statement M
 put-runs-spec =
-    tie.close
-    (tie.spec
-    slice-aggregate-put-count
-    array-read-put-count
-    put-count-requires
-    slice-aggregate-put-count-2
-    array-read-put-count-2
-    put-count-requires-2
-    slice-aggregate-put-count-3
-    array-read-put-count-3
-    put-count-requires-3
-    slice-aggregate-put-count-4
-    array-read-put-count-4
-    put-count-requires-4
-    slice-aggregate-put-count-5
-    put-count-requires-5
-    same-length
-    returns)
+    tie.close (tie.spec (λ c. search needs) (λ c. search needs) (λ c κs. search needs) (λ c. search needs) (λ c. search needs) put-count-requires-2 (λ c. search needs)
+    (λ c. search needs) put-count-requires-3 (λ c. search needs) (λ c. search needs) put-count-requires-4 (λ c. search needs) put-count-requires-5 same-length returns)

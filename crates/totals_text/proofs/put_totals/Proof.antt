@@ -9,23 +9,11 @@ use native.Mathlib.Omega.{arith}
 use Rattle.totals_text.proofs.put_totals.Statement.{statement}
 use Rattle.totals_text.proofs.put_totals.Tie as tie
 
-slice-aggregate-put-count : tie.Need-slice-aggregate-put-count
-slice-aggregate-put-count c = search needs
-
-put-count-requires : tie.Need-put-count-requires
-put-count-requires c κs = search needs
-
-slice-aggregate-put-count-2 : tie.Need-slice-aggregate-put-count-2
-slice-aggregate-put-count-2 c = search needs
-
 put-count-requires-2 : tie.Need-put-count-requires-2
 put-count-requires-2 c κs =
     let x1 = c .before .before .before .before in
     let s = x1 .before .before .before .before .before .before .before in
     omega (arith, s .pre, x1 .put-count .ensures .next, x1 .put-count .kept .1 .1 .0, count-length (ascii "lines ") (s .args .totals .lines), count-length (ascii "bad ") (s .args .totals .bads))
-
-slice-aggregate-put-count-3 : tie.Need-slice-aggregate-put-count-3
-slice-aggregate-put-count-3 c = search needs
 
 put-count-requires-3 : tie.Need-put-count-requires-3
 put-count-requires-3 c κs =
@@ -51,9 +39,6 @@ put-runs-requires c κs =
     let s = x1 .before .before .before .before .before .before .before in
     omega (arith, s .pre, x1 .put-count .ensures .next, x1 .put-count .kept .1 .1 .0, count-length (ascii "lines ") (s .args .totals .lines), x2 .put-count2 .ensures .next, x2 .put-count2 .kept .1 .1 .0, count-length (ascii "bad ") (s .args .totals .bads), x3 .put-count3 .ensures .next, x3 .put-count3 .kept .1 .1 .0, count-length (ascii "end ") (s .args .totals .ends), x4 .put-refusals .ensures .next, x4 .put-refusals .kept .1 .0, refusals-length (s .args .totals .refusals), runs-length (s .args .totals .runs) (s .args .totals .rows))
 
-slice-aggregate-put-extreme : tie.Need-slice-aggregate-put-extreme
-slice-aggregate-put-extreme c = search needs
-
 put-extreme-requires : tie.Need-put-extreme-requires
 put-extreme-requires c κs =
     let x5 = c .before .before .before .before in
@@ -63,9 +48,6 @@ put-extreme-requires c κs =
     let x1 = x2 .before .before .before .before .before in
     let s = x1 .before .before .before .before .before .before .before in
     omega (arith, s .pre, x1 .put-count .ensures .next, x1 .put-count .kept .1 .1 .0, count-length (ascii "lines ") (s .args .totals .lines), x2 .put-count2 .ensures .next, x2 .put-count2 .kept .1 .1 .0, count-length (ascii "bad ") (s .args .totals .bads), x3 .put-count3 .ensures .next, x3 .put-count3 .kept .1 .1 .0, count-length (ascii "end ") (s .args .totals .ends), x4 .put-refusals .ensures .next, x4 .put-refusals .kept .1 .0, refusals-length (s .args .totals .refusals), x5 .put-runs .ensures .next, x5 .put-runs .kept .1 .1 .0, runs-length (s .args .totals .runs) (s .args .totals .rows), extreme-length (ascii "smallest") (s .args .totals .smallest))
-
-slice-aggregate-put-extreme-2 : tie.Need-slice-aggregate-put-extreme-2
-slice-aggregate-put-extreme-2 c = search needs
 
 put-extreme-requires-2 : tie.Need-put-extreme-requires-2
 put-extreme-requires-2 c κs =
@@ -118,20 +100,5 @@ returns c =
 
 pub put-totals-spec : {M : Type 1} → statement M
 put-totals-spec =
-    tie.close
-    (tie.spec
-    slice-aggregate-put-count
-    put-count-requires
-    slice-aggregate-put-count-2
-    put-count-requires-2
-    slice-aggregate-put-count-3
-    put-count-requires-3
-    put-refusals-requires
-    put-runs-requires
-    slice-aggregate-put-extreme
-    put-extreme-requires
-    slice-aggregate-put-extreme-2
-    put-extreme-requires-2
-    put-sum-requires
-    same-length
-    returns)
+    tie.close (tie.spec (λ c. search needs) (λ c κs. search needs) (λ c. search needs) put-count-requires-2 (λ c. search needs) put-count-requires-3 put-refusals-requires
+    put-runs-requires (λ c. search needs) put-extreme-requires (λ c. search needs) put-extreme-requires-2 put-sum-requires same-length returns)

@@ -14,12 +14,6 @@ returns c =
     let e = lt-ltb (length (now (c .before .before .args .out))) 1024 (c .if1 .taken) in
     record { count = rw e; places = rw e }
 
-put-totals-requires : tie.Need-put-totals-requires
-put-totals-requires c κs = search needs
-
-same-length : tie.Need-same-length
-same-length c = search needs
-
 returns-2 : tie.Need-returns-2
 unfolding shownIn
 returns-2 c =
@@ -29,4 +23,4 @@ returns-2 c =
     record { count = rw e (at-first (p .put-totals .ensures) .0); places = rw e (at-first (p .put-totals .ensures) .1) }
 
 pub show-spec : {M : Type 1} → statement M
-show-spec = tie.close (tie.spec returns put-totals-requires same-length returns-2)
+show-spec = tie.close (tie.spec returns (λ c κs. search needs) (λ c. search needs) returns-2)

@@ -9,17 +9,8 @@ use borrow.Author.Needs.{needs}
 use Rattle.writer.proofs.write_patched.Statement.{statement}
 use Rattle.writer.proofs.write_patched.Tie as tie
 
-between-requires : tie.Need-between-requires
-between-requires c κs = search needs
-
 write-requires : tie.Need-write-requires
 write-requires c κs = within 1 512 (length (now (c .before .before .before .before .args .rows))) (sym (c .before .before .between .ensures) ∙ c .before .if1 .taken)
-
-refused-requires : tie.Need-refused-requires
-refused-requires c κs = search needs
-
-same-length : tie.Need-same-length
-same-length c = search needs
 
 returns : tie.Need-returns
 returns c = rw (toZ-ofZ (c .before .before .before .before .before .before .before .fits .base)) at (c .before .before .write .ensures)
@@ -30,6 +21,4 @@ returns-2 c =
     bad-count (now (a .rows)) (a .base) (a .width) (now (a .out)) (c .refused .result) (sym (c .before .before .between .ensures) ∙ c .before .if1 .left) (c .refused .ensures)
 
 pub write-patched-spec : {M : Type 1} → statement M
-write-patched-spec =
-    tie.close
-    (tie.spec between-requires write-requires refused-requires same-length returns returns-2)
+write-patched-spec = tie.close (tie.spec (λ c κs. search needs) write-requires (λ c κs. search needs) (λ c. search needs) returns returns-2)

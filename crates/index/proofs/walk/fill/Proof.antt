@@ -34,12 +34,6 @@ roomy m = has-room _ _ _ _ _ _ _ _ _ _ _ _ _
 loop-holds : tie.Need-loop-holds Inv-loop μ-loop
 loop-holds c = filling-first _ _ _ _ (c .before .before .before .before .pre)
 
-measure-requires : tie.Need-measure-requires Inv-loop μ-loop
-measure-requires c κs = search needs
-
-enum-known-a : tie.Need-enum-known-a Inv-loop μ-loop
-enum-known-a c = search needs
-
 mul-first : tie.Need-mul-first Inv-loop μ-loop
 mul-first c = let y = roomy (c .before .before .before) in omega (arith, y .in-first₀)
 
@@ -48,9 +42,6 @@ slice-write-first c = roomy (c .before .before .before) .in-first
 
 mul-at : tie.Need-mul-at Inv-loop μ-loop
 mul-at c = let y = roomy (c .before .before .before) in omega (arith, y .in-at₀)
-
-slice-write-at : tie.Need-slice-write-at Inv-loop μ-loop
-slice-write-at c = roomy (c .before .before .before) .in-at
 
 mul-counts : tie.Need-mul-counts Inv-loop μ-loop
 mul-counts c = let y = roomy (c .before .before .before) in omega (arith, y .in-counts₀)
@@ -79,9 +70,6 @@ loop-again c =
     let a = m .before .before .before .before .before .before .before .before .before .args in
     filling-run (a .input .now) (a .first .now) (a .at .now) (a .counts .now) (l .first) (l .at) (l .counts) (l .place) (l .row) (l .i) (l .inv) (m .a .given .0 .0) (ran-is m)
 
-enum-told : tie.Need-enum-told Inv-loop μ-loop
-enum-told c = search needs
-
 same-length : tie.Need-same-length Inv-loop μ-loop
 same-length c = c .before .before .before .before .loop .inv .long-first
 
@@ -98,9 +86,6 @@ returns c =
     let a = x .before .before .before .before .before .before .before .args in
     let q : NoRun (a .input .now) (l .place) (c .enum-told .given .0 .0) = rw (c .enum-told .given .1) at (step x) in
     absurd (filling-refused (a .input .now) (a .first .now) (a .at .now) (a .counts .now) (l .first) (l .at) (l .counts) (l .place) (l .row) (l .i) (l .inv) _ q)
-
-enum-told-2 : tie.Need-enum-told-2 Inv-loop μ-loop
-enum-told-2 c = search needs
 
 same-length-4 : tie.Need-same-length-4 Inv-loop μ-loop
 same-length-4 c = c .before .before .before .before .loop .inv .long-first
@@ -119,15 +104,6 @@ returns-2 c =
     let z : drop (l .place) (a .input .now) ≡ [] = rw (c .enum-told2 .given .1) at (step x) in
     filling-end (a .input .now) (a .first .now) (a .at .now) (a .counts .now) (l .first) (l .at) (l .counts) (l .place) (l .row) (l .i) (l .inv) z
 
-same-length-7 : tie.Need-same-length-7 Inv-loop μ-loop
-same-length-7 c = c .before .loop .inv .long-first
-
-same-length-8 : tie.Need-same-length-8 Inv-loop μ-loop
-same-length-8 c = c .before .loop .inv .long-at
-
-same-length-9 : tie.Need-same-length-9 Inv-loop μ-loop
-same-length-9 c = c .before .loop .inv .long-counts
-
 returns-3 : tie.Need-returns-3 Inv-loop μ-loop
 returns-3 c =
     let l = c .before .loop in
@@ -137,35 +113,7 @@ returns-3 c =
 
 pub fill-spec : {M : Type 1} → statement M
 fill-spec =
-    tie.close
-    (tie.spec
-    Inv-loop
-    μ-loop
-    loop-holds
-    measure-requires
-    enum-known-a
-    mul-first
-    slice-write-first
-    mul-at
-    slice-write-at
-    mul-counts
-    slice-write-counts
-    add-row
-    add-place
-    add-i
-    loop-less
-    loop-again
-    enum-told
-    same-length
-    same-length-2
-    same-length-3
-    returns
-    enum-told-2
-    same-length-4
-    same-length-5
-    same-length-6
-    returns-2
-    same-length-7
-    same-length-8
-    same-length-9
-    returns-3)
+    tie.close (tie.spec Inv-loop μ-loop loop-holds (λ c κs. search needs) (λ c. search needs) mul-first slice-write-first mul-at
+    (λ c. roomy (c .before .before .before) .in-at) mul-counts slice-write-counts add-row add-place add-i loop-less loop-again (λ c. search needs) same-length
+    same-length-2 same-length-3 returns (λ c. search needs) same-length-4 same-length-5 same-length-6 returns-2 (λ c. c .before .loop .inv .long-first)
+    (λ c. c .before .loop .inv .long-at) (λ c. c .before .loop .inv .long-counts) returns-3)

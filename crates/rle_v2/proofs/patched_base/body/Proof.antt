@@ -35,12 +35,6 @@ number-is y =
     let s = x .before .before in
     rw (rest-is (now (s .args .input)) (x .parts-of .result .list), x .parts-of .ensures .list-is, s .pre .2 .entry-is, s .pre .2 .patch-is, s .pre .2 .bits-is) at (y .refused-with .ensures)
 
-parts-of-requires : tie.Need-parts-of-requires
-parts-of-requires c κs = search needs
-
-broke-off-requires : tie.Need-broke-off-requires
-broke-off-requires c κs = search needs
-
 returns : tie.Need-returns
 returns c =
     let x = c .before .before .before in
@@ -49,15 +43,6 @@ returns c =
     let q = x .parts-of .ensures in
     rw (c .broke-off .ensures, q .values-is, q .list-is)
     (broken-off (now (a .input)) (a .at) (a .h .code) (a .h .rows) (a .h .base) (a .h .patch) (a .h .gap) (a .h .entries) (not-2 s) (s .pre .0) (rw (q .end-is) at (c .before .if1 .taken)))
-
-sub-refused-with : tie.Need-sub-refused-with
-sub-refused-with c = search needs
-
-part-refused-with-start : tie.Need-part-refused-with-start
-part-refused-with-start c = search needs
-
-part-refused-with-end : tie.Need-part-refused-with-end
-part-refused-with-end c = search needs
 
 refused-with-requires : tie.Need-refused-with-requires
 refused-with-requires c κs =
@@ -68,9 +53,6 @@ refused-with-requires c κs =
           (listed-is (now (a .input)) (a .at) (a .h) (a .w) (x .parts-of .result) (s .pre .1) (s .pre .2) (s .pre .3) (x .parts-of .ensures) (c .before .if1 .left)),
       (rw (s .pre .2 .bits-is) (width-pos _), rw (s .pre .2 .bits-is) (width-le _), s .pre .1 .rows),
     )
-
-new-requires : tie.Need-new-requires
-new-requires c κs = search needs
 
 returns-2 : tie.Need-returns-2
 returns-2 c =
@@ -98,15 +80,5 @@ returns-3 c =
 
 pub body-spec : {M : Type 1} → statement M
 body-spec =
-    tie.close
-    (tie.spec
-    parts-of-requires
-    broke-off-requires
-    returns
-    sub-refused-with
-    part-refused-with-start
-    part-refused-with-end
-    refused-with-requires
-    new-requires
-    returns-2
-    returns-3)
+    tie.close (tie.spec (λ c κs. search needs) (λ c κs. search needs) returns (λ c. search needs) (λ c. search needs) (λ c. search needs) refused-with-requires
+    (λ c κs. search needs) returns-2 returns-3)

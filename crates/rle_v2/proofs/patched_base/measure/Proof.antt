@@ -13,20 +13,8 @@ passed : (m : tie.After-h) → let a = m .before .before .before .before .args i
     Passed (now (a .input)) (a .at) (run (now (a .input)) (a .at)) (m .h .given .0 .0) (m .h .given .0 .1 .0) (m .h .given .0 .1 .1 .0)
 passed m = rw (m .h .given .1) at (m .before .before .measured .ensures)
 
-measured-requires : tie.Need-measured-requires
-measured-requires c κs = search needs
-
-enum-known-h : tie.Need-enum-known-h
-enum-known-h c = search needs
-
 sub-run : tie.Need-sub-run
 sub-run c = omega (arith, passed (c .before .before) .parts .end-is)
-
-run-requires : tie.Need-run-requires
-run-requires c κs = search needs
-
-enum-known-f : tie.Need-enum-known-f
-enum-known-f c = search needs
 
 returns : tie.Need-returns
 returns c = let a = c .before .before .before .before .before .before .before .args in c .run .ensures ∙ passed-answer (now (a .input)) (a .at) _ _ _ _ (passed (c .before .before .before))
@@ -35,6 +23,4 @@ returns-2 : tie.Need-returns-2
 returns-2 c = rw (c .before .f .given .1) at (c .before .before .before .measured .ensures)
 
 pub measure-spec : {M : Type 1} → statement M
-measure-spec =
-    tie.close
-    (tie.spec measured-requires enum-known-h sub-run run-requires enum-known-f returns returns-2)
+measure-spec = tie.close (tie.spec (λ c κs. search needs) (λ c. search needs) sub-run (λ c κs. search needs) (λ c. search needs) returns returns-2)

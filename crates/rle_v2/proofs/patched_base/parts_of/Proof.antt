@@ -18,12 +18,6 @@ values-are z = z .block-size .ensures ∙ rw (z .before .before .pre .2 .bits-is
 list-is : (z : tie.After-block-size2) → z .block-size2 .result ≡ listBytes (z .before .before .before .args .h)
 list-is z = z .block-size2 .ensures ∙ rw (z .before .before .before .pre .2 .entry-is)
 
-add-values : tie.Need-add-values
-add-values c = search needs
-
-add-values-2 : tie.Need-add-values-2
-add-values-2 c = search needs
-
 block-size-requires : tie.Need-block-size-requires
 block-size-requires c κs = (rw (c .before .pre .2 .bits-is) (width-le _), omega (arith, c .before .pre .1 .rows))
 
@@ -52,4 +46,4 @@ returns : tie.Need-returns
 returns c = record { values-is = refl; list-is = rw (values-are (c .before)); end-is = rw (values-are (c .before), list-is c) }
 
 pub parts-of-spec : {M : Type 1} → statement M
-parts-of-spec = tie.close (tie.spec add-values add-values-2 block-size-requires add-list block-size-requires-2 add-end returns)
+parts-of-spec = tie.close (tie.spec (λ c. search needs) (λ c. search needs) block-size-requires add-list block-size-requires-2 add-end returns)

@@ -19,20 +19,8 @@ passed : (m : tie.After-h) → let a = m .before .before .before .before .args i
     Passed (now (a .input)) (a .at) (run (now (a .input)) (a .at)) (m .h .given .0 .0) (m .h .given .0 .1 .0) (m .h .given .0 .1 .1 .0)
 passed m = rw (m .h .given .1) at (m .before .before .measured .ensures)
 
-measured-requires : tie.Need-measured-requires
-measured-requires c κs = search needs
-
-enum-known-h : tie.Need-enum-known-h
-enum-known-h c = search needs
-
-refused-requires : tie.Need-refused-requires
-refused-requires c κs = search needs
-
 returns : tie.Need-returns
 returns c = let a = c .before .before .before .before .before .before .before .before .args in rw (c .refused .ensures) (passed-8 (now (c .before .before .before .before .before .before .before .before .args .input)) (c .before .before .before .before .before .before .before .before .args .at) _ _ _ _ (passed (c .before .before .before .before)) (a .signed) (now (a .out)) (c .before .if1 .taken))
-
-add-base-value : tie.Need-add-base-value
-add-base-value c = search needs
 
 base-value-requires : tie.Need-base-value-requires
 base-value-requires c κs = let p = passed (c .before .before .before) in (p .fields-fit .some-bytes, p .fields-fit .eight, omega (arith, all-in (now (c .before .before .before .before .before .before .before .args .input)) (c .before .before .before .before .before .before .before .args .at) _ _ _ _ (passed (c .before .before .before))))
@@ -42,9 +30,6 @@ sub-lay c = omega (arith, all-in (now (c .before .before .before .before .before
 
 part-lay-start : tie.Need-part-lay-start
 part-lay-start c = omega (arith, all-in (now (c .before .before .before .before .before .before .before .before .args .input)) (c .before .before .before .before .before .before .before .before .args .at) _ _ _ _ (passed (c .before .before .before .before)), passed (c .before .before .before .before) .parts .values-is)
-
-part-lay-end : tie.Need-part-lay-end
-part-lay-end c = search needs
 
 lay-requires : tie.Need-lay-requires
 lay-requires c κs =
@@ -60,9 +45,6 @@ sub-put c = omega (arith, all-in (now (c .before .before .before .before .before
 part-put-start : tie.Need-part-put-start
 part-put-start c = omega (arith, all-in (now (c .before .before .before .before .before .before .before .before .before .before .before .before .args .input)) (c .before .before .before .before .before .before .before .before .before .before .before .before .args .at) _ _ _ _ (passed (c .before .before .before .before .before .before .before .before)), passed (c .before .before .before .before .before .before .before .before) .parts .list-is)
 
-part-put-end : tie.Need-part-put-end
-part-put-end c = search needs
-
 put-requires : tie.Need-put-requires
 put-requires c κs =
     let p = passed (c .before .before .before .before .before .before .before .before .before .before) in
@@ -74,15 +56,6 @@ put-requires c κs =
 
 sub-run : tie.Need-sub-run
 sub-run c = omega (arith, passed (c .before .before .before .before .before .before .before .before .before .before .before .before .before) .parts .end-is)
-
-run-requires : tie.Need-run-requires
-run-requires c κs = search needs
-
-enum-known-f : tie.Need-enum-known-f
-enum-known-f c = search needs
-
-same-length : tie.Need-same-length
-same-length c = search needs
 
 returns-2 : tie.Need-returns-2
 returns-2 c =
@@ -100,25 +73,6 @@ returns-3 c =
 
 pub read-spec : {M : Type 1} → statement M
 read-spec =
-    tie.close
-    (tie.spec
-    measured-requires
-    enum-known-h
-    refused-requires
-    returns
-    add-base-value
-    base-value-requires
-    sub-lay
-    part-lay-start
-    part-lay-end
-    lay-requires
-    sub-put
-    part-put-start
-    part-put-end
-    put-requires
-    sub-run
-    run-requires
-    enum-known-f
-    same-length
-    returns-2
-    returns-3)
+    tie.close (tie.spec (λ c κs. search needs) (λ c. search needs) (λ c κs. search needs) returns (λ c. search needs) base-value-requires sub-lay part-lay-start
+    (λ c. search needs) lay-requires sub-put part-put-start (λ c. search needs) put-requires sub-run (λ c κs. search needs) (λ c. search needs) (λ c. search needs)
+    returns-2 returns-3)

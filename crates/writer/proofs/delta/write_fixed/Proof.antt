@@ -14,30 +14,6 @@ use borrow.Author.Needs.{needs}
 use Rattle.writer.proofs.delta.write_fixed.Statement.{statement}
 use Rattle.writer.proofs.delta.write_fixed.Tie as tie
 
-base-delta-requires : tie.Need-base-delta-requires
-base-delta-requires c κs = search needs
-
-scratch-requires : tie.Need-scratch-requires
-scratch-requires c κs = search needs
-
-slice-aggregate-steps : tie.Need-slice-aggregate-steps
-slice-aggregate-steps c = search needs
-
-steps-requires : tie.Need-steps-requires
-steps-requires c κs = search needs
-
-slice-aggregate-all-are : tie.Need-slice-aggregate-all-are
-slice-aggregate-all-are c = search needs
-
-sub-all-are : tie.Need-sub-all-are
-sub-all-are c = search needs
-
-all-are-requires : tie.Need-all-are-requires
-all-are-requires c κs = search needs
-
-refused-requires : tie.Need-refused-requires
-refused-requires c κs = search needs
-
 returns : tie.Need-returns
 returns c =
     let tested = c .before .before in
@@ -48,21 +24,6 @@ returns c =
     fixed-known (now (a .rows)) (a .signed) (a .code) (step .result) (kept .steps2 .last .1 .1 .0) (drop (length (now (a .rows)) - 1) (kept .before .before .scratch .result)) (tested .all-are .result)
     (omega arith) (omega arith) (omega arith) (step .ensures) (kept .steps2 .ensures) (tested .all-are .ensures) in
     uneven k (now (a .out)) (c .refused .result) (c .before .if1 .taken) (c .refused .ensures)
-
-pattern-of-requires : tie.Need-pattern-of-requires
-pattern-of-requires c κs = search needs
-
-stored-requires : tie.Need-stored-requires
-stored-requires c κs = search needs
-
-zigzag-of-requires : tie.Need-zigzag-of-requires
-zigzag-of-requires c κs = search needs
-
-start-size-requires : tie.Need-start-size-requires
-start-size-requires c κs = search needs
-
-refused-requires-2 : tie.Need-refused-requires-2
-refused-requires-2 c κs = search needs
 
 returns-2 : tie.Need-returns-2
 returns-2 c =
@@ -77,15 +38,6 @@ returns-2 c =
     let q : c .before .before .before .zigzag-of .result ≡ zigzagged (baseDelta (map asU64 (now (a .rows)))) = c .before .before .before .zigzag-of .ensures ∙ ap zigzagged (step .ensures) in
     let z = start-sized 0 (length (now (a .rows))) p q (c .before .before .start-size .ensures) in
     too-short k (now (a .out)) (c .refused2 .result) (c .before .before .before .before .before .before .if1 .left) (rw (← z) (c .before .if2 .taken)) (c .refused2 .ensures)
-
-write-start-requires : tie.Need-write-start-requires
-write-start-requires c κs = search needs
-
-run-requires : tie.Need-run-requires
-run-requires c κs = search needs
-
-same-length : tie.Need-same-length
-same-length c = search needs
 
 returns-3 : tie.Need-returns-3
 returns-3 c =
@@ -104,24 +56,6 @@ returns-3 c =
 
 pub write-fixed-spec : {M : Type 1} → statement M
 write-fixed-spec =
-    tie.close
-    (tie.spec
-    base-delta-requires
-    scratch-requires
-    slice-aggregate-steps
-    steps-requires
-    slice-aggregate-all-are
-    sub-all-are
-    all-are-requires
-    refused-requires
-    returns
-    pattern-of-requires
-    stored-requires
-    zigzag-of-requires
-    start-size-requires
-    refused-requires-2
-    returns-2
-    write-start-requires
-    run-requires
-    same-length
-    returns-3)
+    tie.close (tie.spec (λ c κs. search needs) (λ c κs. search needs) (λ c. search needs) (λ c κs. search needs) (λ c. search needs) (λ c. search needs)
+    (λ c κs. search needs) (λ c κs. search needs) returns (λ c κs. search needs) (λ c κs. search needs) (λ c κs. search needs) (λ c κs. search needs)
+    (λ c κs. search needs) returns-2 (λ c κs. search needs) (λ c κs. search needs) (λ c. search needs) returns-3)

@@ -20,41 +20,8 @@ use borrow.Author.Needs.{needs}
 use Rattle.writer.proofs.delta.write_packed.Statement.{statement}
 use Rattle.writer.proofs.delta.write_packed.Tie as tie
 
-bits-of-requires : tie.Need-bits-of-requires
-bits-of-requires c κs = search needs
-
-base-delta-requires : tie.Need-base-delta-requires
-base-delta-requires c κs = search needs
-
-scratch-requires : tie.Need-scratch-requires
-scratch-requires c κs = search needs
-
-sub-steps : tie.Need-sub-steps
-sub-steps c = search needs
-
-part-steps-start : tie.Need-part-steps-start
-part-steps-start c = search needs
-
-part-steps-end : tie.Need-part-steps-end
-part-steps-end c = search needs
-
-slice-aggregate-steps : tie.Need-slice-aggregate-steps
-slice-aggregate-steps c = search needs
-
-steps-requires : tie.Need-steps-requires
-steps-requires c κs = search needs
-
-slice-aggregate-all-fit : tie.Need-slice-aggregate-all-fit
-slice-aggregate-all-fit c = search needs
-
-sub-all-fit : tie.Need-sub-all-fit
-sub-all-fit c = search needs
-
 all-fit-requires : tie.Need-all-fit-requires
 all-fit-requires c κs = (search needs, width-known (c .before .before .before .before .before .before .before .before .before .args .code) (c .before .before .before .before .before .before .before .bits-of .ensures) .le)
-
-refused-requires : tie.Need-refused-requires
-refused-requires c κs = search needs
 
 returns : tie.Need-returns
 returns c =
@@ -70,21 +37,6 @@ returns c =
     (given .0 .0) (given .0 .1) (given .0 .2) (given .1) (bits .ensures) (step .ensures) (rw (rest-is (now (a .rows)) 1) at (kept .steps .ensures)) (tested .all-fit .ensures) in
     too-wide k (now (a .out)) (c .refused .result) (c .before .if1 .taken) (c .refused .ensures)
 
-pattern-of-requires : tie.Need-pattern-of-requires
-pattern-of-requires c κs = search needs
-
-stored-requires : tie.Need-stored-requires
-stored-requires c κs = search needs
-
-zigzag-of-requires : tie.Need-zigzag-of-requires
-zigzag-of-requires c κs = search needs
-
-start-size-requires : tie.Need-start-size-requires
-start-size-requires c κs = search needs
-
-sub-block-size : tie.Need-sub-block-size
-sub-block-size c = search needs
-
 block-size-requires : tie.Need-block-size-requires
 block-size-requires c κs = (width-known (c .before .before .before .before .before .before .before .before .before .before .before .before .before .before .before .args .code) (c .before .before .before .before .before .before .before .before .before .before .before .before .before .bits-of .ensures) .le, omega arith)
 
@@ -98,9 +50,6 @@ add-size c =
       shortest-length (c .before .before .zigzag-of .result) (omega (arith, c .before .before .zigzag-of .ok)),
       block-small (length (now (c .before .before .before .before .before .before .before .before .before .before .before .before .before .before .before .before .args .rows)) - 2) (c .before .before .before .before .before .before .before .before .before .before .before .before .before .before .bits-of .result) (omega arith) (width-known (c .before .before .before .before .before .before .before .before .before .before .before .before .before .before .before .before .args .code) (c .before .before .before .before .before .before .before .before .before .before .before .before .before .before .bits-of .ensures) .le),
     )
-
-refused-requires-2 : tie.Need-refused-requires-2
-refused-requires-2 c κs = search needs
 
 returns-2 : tie.Need-returns-2
 returns-2 c =
@@ -118,15 +67,6 @@ returns-2 c =
     let q : c .before .before .before .before .zigzag-of .result ≡ zigzagged (baseDelta (map asU64 (now (a .rows)))) = c .before .before .before .before .zigzag-of .ensures ∙ ap zigzagged (step .ensures) in
     let z = start-sized (a .code) (length (now (a .rows))) p q (c .before .before .before .start-size .ensures) in
     too-few k (now (a .out)) (c .refused2 .result) (c .before .before .before .before .before .before .before .if1 .left) (rw (← z, ← (c .before .before .block-size .ensures)) (c .before .if2 .taken)) (c .refused2 .ensures)
-
-write-start-requires : tie.Need-write-start-requires
-write-start-requires c κs = search needs
-
-slice-aggregate-pack : tie.Need-slice-aggregate-pack
-slice-aggregate-pack c = search needs
-
-sub-pack : tie.Need-sub-pack
-sub-pack c = search needs
 
 pack-requires : tie.Need-pack-requires
 pack-requires c κs =
@@ -146,12 +86,6 @@ pack-requires c κs =
     let z = start-sized (a .code) (length (now (a .rows))) p q (c .before .before .before .before .before .before .before .before .start-size .ensures) in
     let b = started (a .code) (length (now (a .rows))) p q (c .before .before .before .before .write-start .ensures) in
     ((w .pos, w .le, w .window), (omega (arith, z, b .next, c .before .before .before .before .before .before .before .block-size .ensures), values-below k (c .before .before .before .before .before .before .before .before .before .before .before .before .if1 .left)))
-
-run-requires : tie.Need-run-requires
-run-requires c κs = search needs
-
-same-length : tie.Need-same-length
-same-length c = search needs
 
 returns-3 : tie.Need-returns-3
 returns-3 c =
@@ -175,34 +109,7 @@ returns-3 c =
 
 pub write-packed-spec : {M : Type 1} → statement M
 write-packed-spec =
-    tie.close
-    (tie.spec
-    bits-of-requires
-    base-delta-requires
-    scratch-requires
-    sub-steps
-    part-steps-start
-    part-steps-end
-    slice-aggregate-steps
-    steps-requires
-    slice-aggregate-all-fit
-    sub-all-fit
-    all-fit-requires
-    refused-requires
-    returns
-    pattern-of-requires
-    stored-requires
-    zigzag-of-requires
-    start-size-requires
-    sub-block-size
-    block-size-requires
-    add-size
-    refused-requires-2
-    returns-2
-    write-start-requires
-    slice-aggregate-pack
-    sub-pack
-    pack-requires
-    run-requires
-    same-length
-    returns-3)
+    tie.close (tie.spec (λ c κs. search needs) (λ c κs. search needs) (λ c κs. search needs) (λ c. search needs) (λ c. search needs) (λ c. search needs)
+    (λ c. search needs) (λ c κs. search needs) (λ c. search needs) (λ c. search needs) all-fit-requires (λ c κs. search needs) returns (λ c κs. search needs)
+    (λ c κs. search needs) (λ c κs. search needs) (λ c κs. search needs) (λ c. search needs) block-size-requires add-size (λ c κs. search needs) returns-2
+    (λ c κs. search needs) (λ c. search needs) (λ c. search needs) pack-requires (λ c κs. search needs) (λ c. search needs) returns-3)

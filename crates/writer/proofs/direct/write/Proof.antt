@@ -12,26 +12,8 @@ use borrow.Author.Needs.{needs}
 use Rattle.writer.proofs.direct.write.Statement.{statement}
 use Rattle.writer.proofs.direct.write.Tie as tie
 
-bits-of-requires : tie.Need-bits-of-requires
-bits-of-requires c κs = search needs
-
-scratch-requires : tie.Need-scratch-requires
-scratch-requires c κs = search needs
-
-slice-aggregate-store : tie.Need-slice-aggregate-store
-slice-aggregate-store c = search needs
-
-store-requires : tie.Need-store-requires
-store-requires c κs = search needs
-
-slice-aggregate-all-fit : tie.Need-slice-aggregate-all-fit
-slice-aggregate-all-fit c = search needs
-
 all-fit-requires : tie.Need-all-fit-requires
 all-fit-requires c κs = (search needs, width-known (c .before .before .before .before .before .before .before .args .code) (c .before .before .before .before .before .bits-of .ensures) .le)
-
-refused-requires : tie.Need-refused-requires
-refused-requires c κs = search needs
 
 returns : tie.Need-returns
 returns c =
@@ -51,9 +33,6 @@ add-size : tie.Need-add-size
 add-size c =
     omega (arith, c .block-size .ensures, block-small (length (now (c .before .before .before .before .before .before .before .before .before .before .args .rows))) (c .before .before .before .before .before .before .before .before .bits-of .result) (omega arith) (width-known (c .before .before .before .before .before .before .before .before .before .before .args .code) (c .before .before .before .before .before .before .before .before .bits-of .ensures) .le))
 
-refused-requires-2 : tie.Need-refused-requires-2
-refused-requires-2 c κs = search needs
-
 returns-2 : tie.Need-returns-2
 returns-2 c =
     let tested = c .before .before .before .before in
@@ -64,12 +43,6 @@ returns-2 c =
     direct-packed (now (a .rows)) (a .signed) (a .code) (bits .result) (kept .store .last .1 .1 .0) (drop (length (now (a .rows))) (kept .before .before .scratch .result)) (tested .all-fit .result)
     (omega arith) (omega arith) (kept .before .before .before .before .before .pre .1) (bits .ensures) (kept .store .ensures) (tested .all-fit .ensures) in
     too-few k (now (a .out)) (c .refused2 .result) (c .before .before .before .if1 .left) (rw (← (c .before .before .block-size .ensures)) (c .before .if2 .taken)) (c .refused2 .ensures)
-
-write-requires : tie.Need-write-requires
-write-requires c κs = search needs
-
-slice-aggregate-pack : tie.Need-slice-aggregate-pack
-slice-aggregate-pack c = search needs
 
 pack-requires : tie.Need-pack-requires
 pack-requires c κs =
@@ -82,12 +55,6 @@ pack-requires c κs =
     (omega arith) (omega arith) (kept .before .before .before .before .before .pre .1) (bits .ensures) (kept .store .ensures) (tested .all-fit .ensures) in
     let w = width-known (a .code) (bits .ensures) in
     ((w .pos, w .le, w .window), (search needs, values-below k (c .before .before .before .before .before .before .before .before .if1 .left)))
-
-run-requires : tie.Need-run-requires
-run-requires c κs = search needs
-
-same-length : tie.Need-same-length
-same-length c = search needs
 
 returns-3 : tie.Need-returns-3
 returns-3 c =
@@ -104,23 +71,6 @@ returns-3 c =
 
 pub write-spec : {M : Type 1} → statement M
 write-spec =
-    tie.close
-    (tie.spec
-    bits-of-requires
-    scratch-requires
-    slice-aggregate-store
-    store-requires
-    slice-aggregate-all-fit
-    all-fit-requires
-    refused-requires
-    returns
-    block-size-requires
-    add-size
-    refused-requires-2
-    returns-2
-    write-requires
-    slice-aggregate-pack
-    pack-requires
-    run-requires
-    same-length
-    returns-3)
+    tie.close (tie.spec (λ c κs. search needs) (λ c κs. search needs) (λ c. search needs) (λ c κs. search needs) (λ c. search needs) all-fit-requires
+    (λ c κs. search needs) returns block-size-requires add-size (λ c κs. search needs) returns-2 (λ c κs. search needs) (λ c. search needs) pack-requires
+    (λ c κs. search needs) (λ c. search needs) returns-3)

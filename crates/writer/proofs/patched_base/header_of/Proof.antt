@@ -113,35 +113,14 @@ module _ (c : tie.After-largest2) where
   patches-fit : AllBelow (2 ^ pw₂) (map (λ e. e .patch) (entriesFrom 0 (qs f)))
   patches-fit = subst (λ (x : ℕ). AllBelow (2 ^ x) (map (λ e. e .patch) (entriesFrom 0 (qs f)))) (sym (pw-is (c .before .before .before .before .before .before .before .before))) (es-below (c .before .before .before .before .before .before .before .before .before .before .before .before .before .before .before .before .before .before .before .before .before .before .before .before .args .base) (c .before .before .before .before .before .before .before .before .before .before .before .before .before .before .before .before .before .before .before .before .before .before .before .before .args .bits) (map asU64 (c .before .before .before .before .before .before .before .before .before .before .before .before .before .before .before .before .before .before .before .before .before .before .before .before .args .rows .now)))
 
-table-code-requires : tie.Need-table-code-requires
-table-code-requires c κs = search needs
-
-base-size-requires : tie.Need-base-size-requires
-base-size-requires c κs = search needs
-
 returns : tie.Need-returns
 returns c = no-code _ _ _ (omega (arith, c .before .before .table-code .ensures))
 
 returns-2 : tie.Need-returns-2
 returns-2 c = no-base _ _ _ (omega (arith, c .before .before .base-size .ensures))
 
-differences-requires : tie.Need-differences-requires
-differences-requires c κs = search needs
-
-largest-requires : tie.Need-largest-requires
-largest-requires c κs = search needs
-
 above-requires : tie.Need-above-requires
 above-requires c κs = bits-le (c .before .before .before .before .before .before .before)
-
-narrowest-code-requires : tie.Need-narrowest-code-requires
-narrowest-code-requires c κs = search needs
-
-bits-of-requires : tie.Need-bits-of-requires
-bits-of-requires c κs = search needs
-
-same-length : tie.Need-same-length
-same-length c = search needs
 
 returns-3 : tie.Need-returns-3
 returns-3 c = no-gap _ _ _ (sym (c .before .bits-of .ensures ∙ ap (λ (n : ℕ). width n) (patch-is (c .before .before))) ∙ c .if3 .taken)
@@ -160,17 +139,8 @@ fill-requires c κs =
     let l : length (now (a .list)) ≤ 31 = omega (arith, c .before .before .before .before .before .before .before .before .before .before .before .before .before .before .before .before .before .before .pre .3) in
     ((r, t, bits-le (c .before .before .before .before .before .before .before .before .before .before .before .before .before), pw-le e, l), v)
 
-same-length-2 : tie.Need-same-length-2
-same-length-2 c = search needs
-
-same-length-3 : tie.Need-same-length-3
-same-length-3 c = search needs
-
 returns-4 : tie.Need-returns-4
 returns-4 c = no-list _ _ _ (omega (arith, listed (c .before .before .before) .over (c .if4 .taken), long-list (c .before .before .before)))
-
-largest-requires-2 : tie.Need-largest-requires-2
-largest-requires-2 c κs = search needs
 
 shr-gap-width : tie.Need-shr-gap-width
 shr-gap-width c = omega (arith, pw-le (c .before .before .before .before .before .before .before .before))
@@ -180,12 +150,6 @@ gap-width-requires c κs = gap-small (pw₂ c) (c .largest2 .result) (entriesFro
 
 keep-low-requires : tie.Need-keep-low-requires
 keep-low-requires c κs = (omega (arith, long-vals (c .before .before .before .before .before .before .before .before .before .before .before .before .before .before .before .before .before .before)), bits-pos (c .before .before .before .before .before .before .before .before .before .before .before .before .before .before .before .before .before .before .before .before .before), bits-le (c .before .before .before .before .before .before .before .before .before .before .before .before .before .before .before .before .before .before .before .before .before))
-
-same-length-4 : tie.Need-same-length-4
-same-length-4 c = search needs
-
-same-length-5 : tie.Need-same-length-5
-same-length-5 c = search needs
 
 returns-5 : tie.Need-returns-5
 returns-5 c =
@@ -223,27 +187,6 @@ returns-5 c =
 
 pub header-of-spec : {M : Type 1} → statement M
 header-of-spec =
-    tie.close
-    (tie.spec
-    table-code-requires
-    base-size-requires
-    returns
-    returns-2
-    differences-requires
-    largest-requires
-    above-requires
-    narrowest-code-requires
-    bits-of-requires
-    same-length
-    returns-3
-    fill-requires
-    same-length-2
-    same-length-3
-    returns-4
-    largest-requires-2
-    shr-gap-width
-    gap-width-requires
-    keep-low-requires
-    same-length-4
-    same-length-5
-    returns-5)
+    tie.close (tie.spec (λ c κs. search needs) (λ c κs. search needs) returns returns-2 (λ c κs. search needs) (λ c κs. search needs) above-requires
+    (λ c κs. search needs) (λ c κs. search needs) (λ c. search needs) returns-3 fill-requires (λ c. search needs) (λ c. search needs) returns-4 (λ c κs. search needs)
+    shr-gap-width gap-width-requires keep-low-requires (λ c. search needs) (λ c. search needs) returns-5)

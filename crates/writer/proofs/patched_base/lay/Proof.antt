@@ -21,21 +21,6 @@ sized c = record {
   list-is = c .block-size2 .ensures;
 }
 
-bits-of-requires : tie.Need-bits-of-requires
-bits-of-requires c κs = search needs
-
-bits-of-requires-2 : tie.Need-bits-of-requires-2
-bits-of-requires-2 c κs = search needs
-
-add-entry-width : tie.Need-add-entry-width
-add-entry-width c = search needs
-
-entry-width-requires : tie.Need-entry-width-requires
-entry-width-requires c κs = search needs
-
-add-values : tie.Need-add-values
-add-values c = search needs
-
 block-size-requires : tie.Need-block-size-requires
 block-size-requires c κs = (width-known _ (c .before .before .before .before .bits-of .ensures) .le, omega arith)
 
@@ -57,23 +42,11 @@ add-end c =
       block-small (a .h .entries) (c .before .before .before .entry-width .result) (omega arith) (rw (c .before .before .before .entry-width .ensures) (least-is _ .le)),
     )
 
-refused-requires : tie.Need-refused-requires
-refused-requires c κs = search needs
-
 returns : tie.Need-returns
 returns c =
     let b = c .before .before in
     let a = b .before .before .before .before .before .before .before .before .before .before in
     no-room (a .pre) (sized b) (now (a .args .out)) (c .refused .result) (c .before .if1 .taken) (c .refused .ensures)
-
-write-head-requires : tie.Need-write-head-requires
-write-head-requires c κs = search needs
-
-sign-magnitude-requires : tie.Need-sign-magnitude-requires
-sign-magnitude-requires c κs = search needs
-
-write-requires : tie.Need-write-requires
-write-requires c κs = search needs
 
 pack-requires : tie.Need-pack-requires
 pack-requires c κs =
@@ -93,12 +66,6 @@ pack-requires-2 c κs =
     omega (arith, sized b .list-is, c .before .before .before .before .before .before .before .before .before .before .before .before .before .before .if1 .left, c .before .before .before .pack .kept .1 .1 .1 .0, c .before .before .before .before .before .before .before .write .kept .1 .1 .0, c .before .before .before .before .before .before .before .before .before .before .before .before .write-head .kept .1 .0) in
     ((w .pos, w .le, w .window), ((omega (arith, a .pre .entries), a .pre .entries-there, room), rw (sized b .entry-is) (a .pre .list-fits)))
 
-run-requires : tie.Need-run-requires
-run-requires c κs = search needs
-
-same-length : tie.Need-same-length
-same-length c = search needs
-
 returns-2 : tie.Need-returns-2
 returns-2 c =
     let b = c .before .before .before .before .before .before .before .before .before .before .before .before .before .before .before .before .before .before .before in
@@ -108,24 +75,6 @@ returns-2 c =
 
 pub lay-spec : {M : Type 1} → statement M
 lay-spec =
-    tie.close
-    (tie.spec
-    bits-of-requires
-    bits-of-requires-2
-    add-entry-width
-    entry-width-requires
-    add-values
-    block-size-requires
-    add-patches
-    block-size-requires-2
-    add-end
-    refused-requires
-    returns
-    write-head-requires
-    sign-magnitude-requires
-    write-requires
-    pack-requires
-    pack-requires-2
-    run-requires
-    same-length
-    returns-2)
+    tie.close (tie.spec (λ c κs. search needs) (λ c κs. search needs) (λ c. search needs) (λ c κs. search needs) (λ c. search needs) block-size-requires add-patches
+    block-size-requires-2 add-end (λ c κs. search needs) returns (λ c κs. search needs) (λ c κs. search needs) (λ c κs. search needs) pack-requires pack-requires-2
+    (λ c κs. search needs) (λ c. search needs) returns-2)

@@ -14,27 +14,6 @@ use borrow.Author.Needs.{needs}
 use Rattle.writer.proofs.short_repeat.write.Statement.{statement}
 use Rattle.writer.proofs.short_repeat.write.Tie as tie
 
-pattern-of-requires : tie.Need-pattern-of-requires
-pattern-of-requires c κs = search needs
-
-scratch-requires : tie.Need-scratch-requires
-scratch-requires c κs = search needs
-
-slice-aggregate-store : tie.Need-slice-aggregate-store
-slice-aggregate-store c = search needs
-
-store-requires : tie.Need-store-requires
-store-requires c κs = search needs
-
-slice-aggregate-all-are : tie.Need-slice-aggregate-all-are
-slice-aggregate-all-are c = search needs
-
-all-are-requires : tie.Need-all-are-requires
-all-are-requires c κs = search needs
-
-refused-requires : tie.Need-refused-requires
-refused-requires c κs = search needs
-
 returns : tie.Need-returns
 returns c =
     let tested = c .before .before in
@@ -45,18 +24,6 @@ returns c =
     short-known (now (a .rows)) (a .signed) (a .size) (first .result) (kept .store .last .1 .1 .0) (drop (length (now (a .rows))) (kept .before .before .scratch .result)) (tested .all-are .result)
     (omega arith) (omega arith) (omega arith) (omega arith) (first .ensures) (kept .store .ensures) (tested .all-are .ensures) in
     unlike k (now (a .out)) (c .refused .result) (c .before .if1 .taken) (c .refused .ensures)
-
-stored-requires : tie.Need-stored-requires
-stored-requires c κs = search needs
-
-mul-bits : tie.Need-mul-bits
-mul-bits c = search needs
-
-fits-requires : tie.Need-fits-requires
-fits-requires c κs = search needs
-
-refused-requires-2 : tie.Need-refused-requires-2
-refused-requires-2 c κs = search needs
 
 returns-2 : tie.Need-returns-2
 returns-2 c =
@@ -71,12 +38,6 @@ returns-2 c =
     let g : c .before .before .fits2 .result ≡ ltb (firstOf (a .signed) (map asU64 (now (a .rows)))) (2 ^ (8 * a .size)) = c .before .before .fits2 .ensures ∙ ap (λ (x : ℕ). ltb x (2 ^ (8 * a .size))) v in
     too-large k (c .before .before .before .before .if1 .left) _ g (now (a .out)) (c .refused2 .result) (c .before .if2 .taken) (c .refused2 .ensures)
 
-add-if3 : tie.Need-add-if3
-add-if3 c = search needs
-
-refused-requires-3 : tie.Need-refused-requires-3
-refused-requires-3 c κs = search needs
-
 returns-3 : tie.Need-returns-3
 returns-3 c =
     let tested = c .before .before .before .before .before .before in
@@ -89,21 +50,6 @@ returns-3 c =
     let v : c .before .before .before .before .stored .result ≡ firstOf (a .signed) (map asU64 (now (a .rows))) = c .before .before .before .before .stored .ensures ∙ ap (λ (x : ℕ). Writing.stored (a .signed) x) (first .ensures) in
     let g : c .before .before .before .fits2 .result ≡ ltb (firstOf (a .signed) (map asU64 (now (a .rows)))) (2 ^ (8 * a .size)) = c .before .before .before .fits2 .ensures ∙ ap (λ (x : ℕ). ltb x (2 ^ (8 * a .size))) v in
     too-little k (c .before .before .before .before .before .if1 .left) _ g (now (a .out)) (c .refused3 .result) (c .before .before .if2 .left) (c .before .if3 .taken) (c .refused3 .ensures)
-
-write-head-requires : tie.Need-write-head-requires
-write-head-requires c κs = search needs
-
-write-requires : tie.Need-write-requires
-write-requires c κs = search needs
-
-add-run : tie.Need-add-run
-add-run c = search needs
-
-run-requires : tie.Need-run-requires
-run-requires c κs = search needs
-
-same-length : tie.Need-same-length
-same-length c = search needs
 
 returns-4 : tie.Need-returns-4
 returns-4 c =
@@ -121,27 +67,6 @@ returns-4 c =
 
 pub write-spec : {M : Type 1} → statement M
 write-spec =
-    tie.close
-    (tie.spec
-    pattern-of-requires
-    scratch-requires
-    slice-aggregate-store
-    store-requires
-    slice-aggregate-all-are
-    all-are-requires
-    refused-requires
-    returns
-    mul-bits
-    stored-requires
-    fits-requires
-    refused-requires-2
-    returns-2
-    add-if3
-    refused-requires-3
-    returns-3
-    write-head-requires
-    write-requires
-    add-run
-    run-requires
-    same-length
-    returns-4)
+    tie.close (tie.spec (λ c κs. search needs) (λ c κs. search needs) (λ c. search needs) (λ c κs. search needs) (λ c. search needs) (λ c κs. search needs)
+    (λ c κs. search needs) returns (λ c. search needs) (λ c κs. search needs) (λ c κs. search needs) (λ c κs. search needs) returns-2 (λ c. search needs)
+    (λ c κs. search needs) returns-3 (λ c κs. search needs) (λ c κs. search needs) (λ c. search needs) (λ c κs. search needs) (λ c. search needs) returns-4)
