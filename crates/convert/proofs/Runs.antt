@@ -21,7 +21,9 @@ use Rattle.format.proofs.Patterns.{as-back}
 use Rattle.format.proofs.Varints.{varint-lt, shortest-stands, shortest-varint, shortest-value}
 use Rattle.format.proofs.Rows.{rows-below}
 use Rattle.format.proofs.Runs.{got-inj}
-use Rattle.format.proofs.Writing.{below-mono, map-back, accepted, written, writes-back}
+use Rattle.format.proofs.Again.{below-mono}
+use Rattle.format.proofs.Steps.{map-back}
+use Rattle.format.proofs.Writing.{accepted, written, writes-back}
 use Rattle.format.specs.Kept.{nextKept}
 use Rattle.format.proofs.Kept.{next-kept, next-code, next-wider}
 use Rattle.convert.specs.Convert.{isOdd, rewritten, converted}

@@ -15,7 +15,7 @@ use Rattle.format.specs.Runs.{Description, AllValid, layout, joined}
 use Rattle.format.specs.Rows.{i64Rows}
 use Rattle.format.specs.Parse.{Reason, Parsed, refused, parse, into}
 use Rattle.format.specs.Streams.{Reading, whole, readAll, totalRows, joinedRows}
-use Rattle.format.proofs.Fields.{below-append, below-drop}
+use Rattle.format.proofs.Below.{below-append, below-drop}
 use Rattle.format.proofs.Rows.{row-bounds, joined-count}
 use Rattle.format.proofs.Runs.{layout-pos, layout-below, Outcome, nothing, run, refusal, outcome}
 use Rattle.format.proofs.Streams.{into-got, into-refused, into-end, Reads, reads-whole, reads-broken, stream-post, stream-whole, stream-broken}

@@ -22,7 +22,7 @@ use Rattle.format.specs.Parse.{Reason, Parsed, end, got, refused, parse, into}
 use Rattle.format.specs.Promises.{answerOf, placesOf, runOf, RunRead}
 use Rattle.format.specs.Answers.{answerBytes}
 use Rattle.format.specs.Writing.{padded, writing, bytesIn, Written, direct-run, packed-delta}
-use Rattle.format.proofs.Fields.{below-drop}
+use Rattle.format.proofs.Below.{below-drop}
 use Rattle.format.proofs.Kept.{next-kept}
 use Rattle.format.proofs.Rows.{row-bounds, byte-bounds, i64-count}
 use Rattle.format.proofs.Streams.{Into, into-nothing, into-run, into-refusal, into-outcome}

@@ -14,7 +14,7 @@ use Rattle.format.specs.Fields.{pick}
 use Rattle.format.specs.Runs.{Description, AllValid, Valid, layout, joined}
 use Rattle.format.specs.Parse.{Reason, Parsed, refused, parse, into}
 use Rattle.format.specs.Streams.{whole, broken, totalRows}
-use Rattle.format.proofs.Fields.{below-drop}
+use Rattle.format.proofs.Below.{below-drop}
 use Rattle.format.proofs.Rows.{row-bounds}
 use Rattle.format.proofs.Runs.{layout-pos, Outcome, nothing, run, refusal, outcome}
 use Rattle.format.proofs.Streams.{into-got, into-refused, into-end, stream-broken}

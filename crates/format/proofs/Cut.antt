@@ -14,7 +14,8 @@ use Rattle.format.specs.Fields.{pick, width, bytesFor, lastBelow}
 use Rattle.format.specs.Runs.{Description, Valid, layout, patches, tooLarge, outOfPlace, entryWidth}
 use Rattle.format.specs.Parse
 use Rattle.format.specs.Parse.{Reason, cutIn, unfinished, Parsed, got, refused, then, unless, bytes, block, varint, codeOf, rowsLess, parse}
-use Rattle.format.proofs.Runs.{parse-empty, parse-complete, cut-refused}
+use Rattle.format.proofs.Runs.{parse-empty, cut-refused}
+use Rattle.format.proofs.RunComplete.{parse-complete}
 
 -- what reading gives with the bytes q behind the input, by what it gave without them
 pub data Extends {A : Type 0} (q : List ℕ) : Parsed A → Parsed A → Type 0 where

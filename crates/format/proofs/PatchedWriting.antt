@@ -18,7 +18,7 @@ use Rattle.format.proofs.Widths.{allB, all-at, width-window}
 use Rattle.format.specs.PatchedWriting.{lows, patchesAbove, Entry, skip, skipsIn, entriesFrom, field, differences, allFit, codeFor, patchCode, gapWidth, baseSize, baseBytes, run, patchesIn}
 use Rattle.format.specs.Writing.{minus}
 use Rattle.format.proofs.Digits.{length-digits}
-use Rattle.format.proofs.Writing.{every-below, below-every}
+use Rattle.format.proofs.Tests.{every-below, below-every}
 use Rattle.format.proofs.Least.{least-low, least-passes, least-least}
 
 pub below-mods : (f : ℕ → ℕ) (b : ℕ) → 0 < b → (l : List ℕ) → AllBelow b (map (λ x. f x % b) l)

@@ -9,7 +9,7 @@ use lib.ListN.{length, length-append}
 use lib.Dec.{T, eqb, eqb→eq, eqb-refl}
 use Rattle.format.specs.Runs.{Description, rowCount, layout, joined}
 use Rattle.format.specs.Streams.{totalRows}
-use Rattle.format.proofs.Streams.{total-append, joined-append}
+use Rattle.format.proofs.Joined.{total-append, joined-append}
 use Rattle.index.specs.Entries.{Entry, entriesFrom, entries, same, sameEntry}
 use Rattle.index.specs.Theorems.{EntriesHold}
 

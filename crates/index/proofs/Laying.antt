@@ -18,7 +18,7 @@ use Rattle.format.specs.declared.Answer.{Answer}
 use Rattle.format.specs.declared.Answer.the-variants as answer
 use Rattle.format.specs.declared.Stream.{Stream}
 use Rattle.format.proofs.Reading.{run-inj, run-not-refused}
-use Rattle.format.proofs.Runs.{parse-complete}
+use Rattle.format.proofs.RunComplete.{parse-complete}
 use Rattle.format.proofs.Rows.{row-bounds, i64-count}
 use Rattle.format.proofs.Streams.{into-got, stream-whole, joined-unique}
 use Rattle.util.proofs.Grow.{back-is}

@@ -14,10 +14,11 @@ use Rattle.format.specs.Runs.{Description, layout, AllValid, patches, tooLarge,
 use Rattle.format.specs.Parse
 use Rattle.format.specs.Parse.{Reason, plain, cut, cutIn, Parsed, end, got, refused, then, unless, bytes, block, varint, codeOf, rowsLess, parse, into}
 use Rattle.format.specs.Streams.{Reading, whole, broken, stream, totalRows}
-use Rattle.format.proofs.Fields.{behind-below}
+use Rattle.format.proofs.Below.{behind-below}
 use Rattle.format.proofs.Rows.{row-bounds}
 use Rattle.format.proofs.Runs.{layout-pos, Outcome, nothing, run, refusal, outcome}
-use Rattle.format.proofs.Streams.{Reads, reads-broken, into-got, into-end, into-refused, rows-le}
+use Rattle.format.proofs.Streams.{Reads, reads-broken, into-got, into-end, into-refused}
+use Rattle.format.proofs.Joined.{rows-le}
 use Rattle.index.specs.Entries as Entries
 use Rattle.index.specs.Entries.{Result, gives, refuses, numberOf, buildingOf, building}
 use Rattle.index.proofs.Checked.{stream-reads, exactly-whole}

@@ -16,10 +16,12 @@ use Rattle.format.specs.declared.Refusal.{Refusal}
 use Rattle.format.specs.declared.Run.{Run}
 use Rattle.format.specs.declared.Answer.{Answer}
 use Rattle.format.specs.declared.Answer.the-variants as answer
-use Rattle.format.proofs.Fields.{below-drop, behind-below}
+use Rattle.format.proofs.Below.{below-drop, behind-below}
 use Rattle.format.proofs.Runs.{layout-pos, Outcome, nothing, run, refusal, outcome}
 use Rattle.format.proofs.Rows.{row-bounds}
-use Rattle.format.proofs.Streams.{Reads, reads-whole, reads-broken, stream-broken, stream-is, more-room, rows-le, into-refused}
+use Rattle.format.proofs.Streams.{Reads, reads-whole, reads-broken, stream-broken, into-refused}
+use Rattle.format.proofs.StreamRoom.{stream-is, more-room}
+use Rattle.format.proofs.Joined.{rows-le}
 use Rattle.index.proofs.Checked.{stream-reads}
 
 -- ---- the stream, run by run

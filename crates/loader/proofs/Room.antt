@@ -13,7 +13,7 @@ use Rattle.format.specs.Parse.{Parsed, end, got, refused, into}
 use Rattle.format.proofs.Rows.{row-bounds}
 use Rattle.format.proofs.Runs.{Outcome, nothing, run, refusal, outcome}
 use Rattle.format.proofs.Streams.{into-end, into-refused, into-got}
-use Rattle.format.proofs.Fields.{Took}
+use Rattle.format.proofs.Posts.{Took}
 use Rattle.loader.specs.Room.{Enough}
 
 -- the two bytes that a run other than a short repeat begins with: nine bits of them are rows-1

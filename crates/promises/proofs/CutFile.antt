@@ -17,7 +17,7 @@ use Rattle.format.specs.Runs.{Description, Valid, AllValid, layout, joined}
 use Rattle.format.specs.Parse.{Reason, unfinished, into}
 use Rattle.format.specs.Streams.{whole, broken, readAll, totalRows}
 use Rattle.format.specs.Promises.{StreamRead}
-use Rattle.format.proofs.Fields.{append-below}
+use Rattle.format.proofs.Below.{append-below}
 use Rattle.format.proofs.Runs.{layout-below}
 use Rattle.format.proofs.Cut.{cut-number}
 use Rattle.format.proofs.Streams.{into-refused, stream-whole, stream-broken}

@@ -11,8 +11,9 @@ use Rattle.format.specs.declared.Answer.the-variants.{End}
 use Rattle.format.specs.Runs.{Description, rowCount, Valid, layout}
 use Rattle.format.specs.Parse.{Parsed, got, parse, into}
 use Rattle.format.specs.Promises.{answerOf}
-use Rattle.format.proofs.Fields.{below-drop}
-use Rattle.format.proofs.Runs.{parse-complete, parse-empty, layout-unique}
+use Rattle.format.proofs.Below.{below-drop}
+use Rattle.format.proofs.RunComplete.{parse-complete}
+use Rattle.format.proofs.Runs.{parse-empty, layout-unique}
 use Rattle.format.proofs.Streams.{Into, into-nothing, into-run, into-refusal, into-outcome, into-got, into-end}
 use Rattle.promises.specs.Demand2.{Begins, IsRun, Demand2, Demand2Holds}
 

@@ -12,7 +12,7 @@ use Rattle.format.specs.Digits.{AllBelow}
 use Rattle.format.specs.Runs.{Description, AllValid, joined}
 use Rattle.format.specs.Streams.{Reading, whole, broken, readAll, runsOf, totalRows, joinedRows}
 use Rattle.format.specs.Promises.{StreamRead, streamAnswer}
-use Rattle.format.proofs.Fields.{below-drop}
+use Rattle.format.proofs.Below.{below-drop}
 use Rattle.format.proofs.Streams.{Reads, reads-whole, reads-broken, stream-post, stream-whole, joined-unique, last-snoc}
 use Rattle.promises.specs.Demand3.{LaidOut, IsWhole, Demand3, Demand3Holds}
 

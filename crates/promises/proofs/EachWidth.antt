@@ -9,7 +9,7 @@ use lib.IntN.{ℤ}
 use Rattle.format.specs.Fields.{row}
 use Rattle.format.specs.Runs.{Description, Valid}
 use Rattle.format.specs.Rows.{rowsOf, asI64, i64Rows}
-use Rattle.format.proofs.Runs.{parse-complete}
+use Rattle.format.proofs.RunComplete.{parse-complete}
 use Rattle.format.proofs.Streams.{into-got}
 use Rattle.promises.specs.EachWidth.{ReadBack, EachWidth}
 

@@ -14,7 +14,10 @@ use Rattle.format.specs.Fields.{Block, IsBlock, blockBytes, bytesFor}
 use Rattle.format.specs.Runs.{Description, Valid, ValidHead, layout, head₀, head₁}
 use Rattle.format.specs.Parse.{got, parse}
 use Rattle.format.proofs.Digits.{length-digits, number-digits}
-use Rattle.format.proofs.Fields.{Took, below-getD, block-field, length-block}
+use Rattle.format.proofs.Posts.{Took}
+use Rattle.format.proofs.Below.{below-getD}
+use Rattle.format.proofs.FieldBits.{block-field}
+use Rattle.format.proofs.Fields.{length-block}
 use Rattle.format.proofs.Runs.{Outcome, run, outcome}
 use Rattle.promises.specs.FlippedByte.{Outside}
 

@@ -14,7 +14,8 @@ use Rattle.format.specs.Runs.{Patch, Valid, gapOf, patchOf, isSkip, patches, pa
 use Rattle.format.specs.Rows.{baseValue, rowsOf, plus}
 use Rattle.format.specs.Writing.{minus}
 use Rattle.format.proofs.Rows.{width-le}
-use Rattle.format.proofs.Writing.{map-back, below-mono}
+use Rattle.format.proofs.Steps.{map-back}
+use Rattle.format.proofs.Again.{below-mono}
 use Rattle.format.specs.PatchedWriting.{differences, lows, patchesAbove, field, Parts, run, patchesIn, entriesOf, parts}
 use Rattle.promises.specs.Patched.{Describes, OnlySkips}
 use Rattle.promises.proofs.PatchedBase.{base-least}

@@ -15,7 +15,7 @@ use Rattle.format.specs.Digits.{AllBelow}
 use Rattle.format.specs.Fields.{pick, two64}
 use Rattle.format.specs.Runs.{Patch, patchOf, gapOf, isSkip, patchesFrom, taken, shared, outside, tooLarge}
 use Rattle.format.specs.Rows.{patchAt, patchedRows, plus}
-use Rattle.format.proofs.Runs.{limit-is}
+use Rattle.format.proofs.RunComplete.{limit-is}
 use Rattle.format.specs.PatchedWriting.{lows, patchesAbove}
 
 -- ---- tests

@@ -17,7 +17,8 @@ use Rattle.format.specs.Writing.{minus}
 use Rattle.format.proofs.Digits.{length-digits, digits-below}
 use Rattle.format.proofs.Widths.{and-left, and-right, least-holds}
 use Rattle.format.proofs.Rows.{width-le}
-use Rattle.format.proofs.Writing.{map-back, and-i}
+use Rattle.format.proofs.Steps.{map-back}
+use Rattle.format.proofs.Tests.{and-i}
 use Rattle.format.specs.PatchedWriting.{differences, lows, entriesFrom, field, codeFor, patchCode, gapWidth, baseSize, baseBytes, Parts, run, patchesIn, parts, headerHolds}
 use Rattle.promises.specs.Patched.{Describes}
 use Rattle.promises.proofs.PatchedBase.{base-value}

@@ -1,4 +1,5 @@
-pub mod PatchList
+pub mod PatchRefusals
+pub mod PatchRows
 pub mod Pass
 pub mod Blocks
 pub mod DeltaStart
@@ -8,5 +9,8 @@ pub mod ShortVarint
 pub mod PatchWalk
 pub mod DeltaRun
 pub mod PatchedRun
+pub mod PatchedFound
 pub mod ByKind
+pub mod OneRun
 pub mod StreamWalk
+pub mod StreamPlaces

@@ -17,7 +17,9 @@ use Rattle.format.specs.Runs.{Description, AllValid, layout, joined}
 use Rattle.format.specs.Streams.{Reading, whole, readAll, stream, totalRows, joinedRows}
 use Rattle.format.proofs.Rows.{row-bounds, joined-count}
 use Rattle.format.proofs.Runs.{layout-pos}
-use Rattle.format.proofs.Streams.{Reads, reads-whole, reads-broken, stream-post, stream-whole, stream-is, rows-le, total-append, joined-append, rows-append}
+use Rattle.format.proofs.Streams.{Reads, reads-whole, reads-broken, stream-post, stream-whole}
+use Rattle.format.proofs.StreamRoom.{stream-is}
+use Rattle.format.proofs.Joined.{rows-le, total-append, joined-append, rows-append}
 use Rattle.salvage.specs.Salvage.{Group, keptOf, kept, fillRuns, mended, salvaged}
 use Rattle.salvage.specs.Laws.{AllBytes, AllKept, counts, sum, together, groupRows, renewed, SalvagedHolds}
 use Rattle.salvage.proofs.Tests.{T-true, same-test}

@@ -18,7 +18,7 @@ use Rattle.format.specs.Answers.{cutting}
 use Rattle.season.specs.declared.Count.the-variants.{True, Refused}
 use Rattle.format.specs.Booleans.{ByteRun, repeat, literals, AllValidRuns, runBytes, bits, joinedBytes, booleansOf}
 use Rattle.format.proofs.Digits.{digits-snoc, digits-add, length-digits}
-use Rattle.format.proofs.Fields.{below-append}
+use Rattle.format.proofs.Below.{below-append}
 use Rattle.format.proofs.Rows.{below-replicate}
 use Rattle.format.proofs.Booleans.{needed-enough}
 use Rattle.season.specs.Ones.{trues, onesIn, countTrue}

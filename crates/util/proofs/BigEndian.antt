@@ -15,7 +15,7 @@ use Rattle.format.specs.Digits.{AllBelow, number, digits}
 use Rattle.format.specs.Fields.{pick, two64, negative}
 use Rattle.format.specs.Rows.{baseValue}
 use Rattle.format.proofs.Digits.{number-lt, number-take-suc, pow-pow}
-use Rattle.format.proofs.Fields.{below-all, below-take, below-drop}
+use Rattle.format.proofs.Below.{below-all, below-take, below-drop}
 
 -- a power of 256 as one of 2
 pub pow-256 : (k : ℕ) → 256 ^ k ≡ 2 ^ (8 * k)

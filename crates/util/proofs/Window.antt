@@ -15,7 +15,7 @@ use Rattle.format.specs.Digits.{AllBelow, number, digits, spread}
 use Rattle.format.specs.Fields.{bytesFor, padBits}
 use Rattle.format.specs.Rows.{asI64}
 use Rattle.format.proofs.Digits.{spread-number, digits-add, length-digits, number-low, digits-number, getD-digits, pow-pow}
-use Rattle.format.proofs.Fields.{below-all, below-take, below-drop}
+use Rattle.format.proofs.Below.{below-all, below-take, below-drop}
 use Rattle.format.proofs.Widths.{IsWidth}
 use Rattle.util.proofs.BigEndian.{number-bits}
 use Rattle.util.specs.Packed.{fields, bits, fieldAt, Width, Laid, lowFirst, swap}

@@ -5,7 +5,7 @@ use native.Mathlib.Omega.{arith}
 use lib.ListN.{length, length-set}
 use Rattle.format.specs.Digits.{digits}
 use Rattle.boolean_rle.specs.Found.{Wrote}
-use Rattle.boolean_rle.proofs.Laws.{wrote-none, bit-more}
+use Rattle.boolean_rle.proofs.RunBytes.{wrote-none, bit-more}
 use Rattle.boolean_rle.proofs.put_bits.Statement.{statement}
 use Rattle.boolean_rle.proofs.put_bits.Tie as tie
 

@@ -9,7 +9,9 @@ use denote.Ref.{now}
 use lib.ListN.{length, drop}
 use Rattle.format.specs.Parse.{got}
 use Rattle.format.specs.Booleans.{ByteRun, booleans}
-use Rattle.boolean_rle.proofs.Laws.{Here, here, bytes-are, Going, going-from, going-on, going-whole, going-done}
+use Rattle.boolean_rle.proofs.FirstPass.{Here, here}
+use Rattle.boolean_rle.proofs.RunBytes.{bytes-are}
+use Rattle.boolean_rle.proofs.SecondPass.{Going, going-from, going-on, going-whole, going-done}
 use Rattle.boolean_rle.proofs.put_booleans.Statement.{statement}
 use Rattle.boolean_rle.proofs.put_booleans.Tie as tie
 

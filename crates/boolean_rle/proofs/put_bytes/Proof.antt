@@ -6,7 +6,7 @@ use denote.Ref.{now}
 use lib.ListN.{length, drop}
 use Rattle.format.specs.Booleans.{byteRun, bits}
 use Rattle.boolean_rle.specs.Found.{bytesIn, Wrote}
-use Rattle.boolean_rle.proofs.Laws.{length-bytes, wrote-none, byte-more}
+use Rattle.boolean_rle.proofs.RunBytes.{length-bytes, wrote-none, byte-more}
 use Rattle.boolean_rle.proofs.put_bytes.Statement.{statement}
 use Rattle.boolean_rle.proofs.put_bytes.Tie as tie
 

@@ -6,7 +6,7 @@ use denote.Ref.{now}
 use lib.ListN.{length, drop}
 use Rattle.format.specs.Booleans.{byteRun}
 use Rattle.boolean_rle.specs.Found.{bytesIn}
-use Rattle.boolean_rle.proofs.Laws.{length-bytes, byte-more}
+use Rattle.boolean_rle.proofs.RunBytes.{length-bytes, byte-more}
 use borrow.Author.Needs.{needs}
 use Rattle.boolean_rle.proofs.put_run.Statement.{statement}
 use Rattle.boolean_rle.proofs.put_run.Tie as tie

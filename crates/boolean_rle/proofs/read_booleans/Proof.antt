@@ -1,7 +1,7 @@
 -- `boolean_rle::read_booleans` meets its promise, for refused inputs too: by what the first pass finds. Assumes nothing.
 use mathlib.Core.Path.{sym, _∙_}
 use denote.Ref.{now}
-use Rattle.boolean_rle.proofs.Laws.{reads-cut, reads-8, reads-all}
+use Rattle.boolean_rle.proofs.SecondPass.{reads-cut, reads-8, reads-all}
 use borrow.Author.Needs.{needs}
 use Rattle.boolean_rle.proofs.read_booleans.Statement.{statement}
 use Rattle.boolean_rle.proofs.read_booleans.Tie as tie

@@ -4,7 +4,7 @@ use lib.Seq.{length-take-le}
 use lib.ListN.{drop, getD, length-drop}
 use native.Mathlib.Numerals.{add-one}
 use native.Mathlib.Nat.{sub-zero}
-use Rattle.boolean_rle.proofs.Laws.{field-is, none-here, repeat-cut, repeat-here, literals-cut, literals-here}
+use Rattle.boolean_rle.proofs.FirstPass.{field-is, none-here, repeat-cut, repeat-here, literals-cut, literals-here}
 use Rattle.format.specs.Booleans.{runLayout, byteCount}
 use native.Mathlib.Omega.{arith}
 use denote.Ref.{now}

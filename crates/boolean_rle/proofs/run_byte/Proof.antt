@@ -4,7 +4,8 @@ use denote.Ref.{now}
 use lib.ListN.{drop}
 use Rattle.format.specs.Booleans.{byteRun}
 use Rattle.boolean_rle.specs.Found.{bytesIn}
-use Rattle.boolean_rle.proofs.Laws.{here, bytes-are, ByteAt, byte-at}
+use Rattle.boolean_rle.proofs.FirstPass.{here}
+use Rattle.boolean_rle.proofs.RunBytes.{bytes-are, ByteAt, byte-at}
 use Rattle.boolean_rle.proofs.run_byte.Statement.{statement}
 use Rattle.boolean_rle.proofs.run_byte.Tie as tie
 

@@ -6,9 +6,9 @@ use borrow.Author.Needs.{needs}
 use denote.Ref.{now}
 use lib.ListN.{length, drop, length-drop}
 use Rattle.format.specs.Booleans.{ByteRun, joinedRuns, booleans}
-use Rattle.format.proofs.Booleans.{runs-none}
+use Rattle.format.proofs.ByteRuns.{runs-none}
 use Rattle.boolean_rle.specs.Found.{spanOf}
-use Rattle.boolean_rle.proofs.Laws.{Here, here, further-zero, span-cut, Passed, pass}
+use Rattle.boolean_rle.proofs.FirstPass.{Here, here, further-zero, span-cut, Passed, pass}
 use Rattle.boolean_rle.proofs.span_from.Statement.{statement}
 use Rattle.boolean_rle.proofs.span_from.Tie as tie
 

@@ -3,7 +3,7 @@ use Prim.Native.Nat.{_-_}
 use native.Mathlib.Omega.{arith}
 use lib.ListN.{length, drop-of-length-le}
 use denote.Ref.{now}
-use Rattle.format.proofs.Fields.{below-all}
+use Rattle.format.proofs.Below.{below-all}
 use Rattle.format.proofs.Runs.{layout-pos}
 use borrow.Author.Needs.{needs}
 use Rattle.convert.specs.Turn.{Turned}

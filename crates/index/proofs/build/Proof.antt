@@ -1,7 +1,7 @@
 -- What the walk found is answered, and the columns are filled where there is room for all of it. Assumes nothing.
 use mathlib.Core.Path.{_≡_, sym, _∙_}
 use borrow.Author.Needs.{needs}
-use Rattle.format.proofs.Fields.{below-all}
+use Rattle.format.proofs.Below.{below-all}
 use Rattle.index.proofs.Builds.{Found, what-found, Whole, unequal-offsets, unequal-counts, own-so, past-so, few-so, roomy-so, built-so}
 use Rattle.index.proofs.build.Statement.{statement}
 use Rattle.index.proofs.build.Tie as tie

@@ -4,7 +4,7 @@ use Prim.Native.Nat.{_-_}
 use native.Mathlib.Omega.{arith}
 use lib.ListN.{length, getD}
 use borrow.Author.Needs.{needs}
-use Rattle.format.proofs.Fields.{below-all}
+use Rattle.format.proofs.Below.{below-all}
 use Rattle.index.specs.declared.Found.the-variants as found
 use Rattle.index.proofs.Looked.{Through, After, what-looked}
 use Rattle.index.proofs.Previews.{left-many, left-rows, some, n-long, last-is, row-below, ready, eight-so, rows-so}

@@ -4,7 +4,7 @@ use native.Mathlib.Omega.{arith}
 use lib.ListN.{length}
 use denote.Ref.{now}
 use borrow.Author.Needs.{needs}
-use Rattle.format.proofs.Fields.{below-all}
+use Rattle.format.proofs.Below.{below-all}
 use Rattle.loader.proofs.Room.{enough-all}
 use Rattle.loader.proofs.Reading.{loaded-end}
 use Rattle.loader.proofs.orc_read_run.Statement.{statement}

@@ -6,9 +6,10 @@ use mathlib.Core.List.{[]}
 use lib.ListN.{length, drop, drop-of-length-le}
 use borrow.Author.Needs.{needs}
 use Rattle.format.specs.Fields.{two64}
-use Rattle.format.proofs.Fields.{below-all}
+use Rattle.format.proofs.Below.{below-all}
 use Rattle.format.proofs.Runs.{layout-pos}
-use Rattle.rle_v2.proofs.StreamWalk.{OneRun, NoRun, Step, step-is, Counted, counted-first, counted-run, counted-whole, counted-refused}
+use Rattle.rle_v2.proofs.OneRun.{OneRun, NoRun, Step, step-is}
+use Rattle.rle_v2.proofs.StreamWalk.{Counted, counted-first, counted-run, counted-whole, counted-refused}
 use Rattle.rle_v2.proofs.measure_stream.Statement.{statement}
 use Rattle.rle_v2.proofs.measure_stream.Tie as tie
 

@@ -6,10 +6,11 @@ use Rattle.format.specs.Parse.{parse}
 use Rattle.format.specs.Promises.{Gives}
 use lib.ListN.{length, take, drop, drop-of-length-le}
 use denote.Ref.{now}
-use Rattle.format.proofs.Fields.{below-all}
+use Rattle.format.proofs.Below.{below-all}
 use Rattle.format.proofs.Runs.{layout-pos}
 use Rattle.util.proofs.Grow.{rest-is}
-use Rattle.rle_v2.proofs.StreamWalk.{OneRun, NoRun, Step, Walked, walked-first, walked-step, walked-run, back-refused, back-ended, walked-whole, walked-refused}
+use Rattle.rle_v2.proofs.OneRun.{OneRun, NoRun, Step}
+use Rattle.rle_v2.proofs.StreamPlaces.{Walked, walked-first, walked-step, walked-run, back-refused, back-ended, walked-whole, walked-refused}
 use borrow.Author.Needs.{needs}
 use native.Mathlib.Omega.{arith}
 use Rattle.rle_v2.proofs.read_stream.Statement.{statement}

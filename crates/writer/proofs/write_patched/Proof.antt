@@ -3,7 +3,7 @@ use mathlib.Core.Path.{sym, _∙_}
 use lib.ListN.{length}
 use mir.Facts.{toZ-ofZ}
 use denote.Ref.{now}
-use Rattle.writer.proofs.Laws.{within}
+use Rattle.writer.proofs.Pieces.{within}
 use Rattle.writer.proofs.PatchedHeader.{bad-count}
 use borrow.Author.Needs.{needs}
 use Rattle.writer.proofs.write_patched.Statement.{statement}

@@ -6,8 +6,8 @@ use borrow.Author.Tests.{not-true, not-false, eqb-true}
 use denote.Ref.{now}
 use Rattle.format.specs.Rows.{asU64}
 use Rattle.format.proofs.Kept.{kept-code}
-use Rattle.writer.proofs.Laws.{within, packed-kept}
-use Rattle.writer.proofs.Forms.{bad-count, bad-width}
+use Rattle.writer.proofs.Pieces.{within, packed-kept}
+use Rattle.writer.proofs.Promised.{bad-count, bad-width}
 use borrow.Author.Needs.{needs}
 use Rattle.writer.proofs.write_run.Statement.{statement}
 use Rattle.writer.proofs.write_run.Tie as tie

@@ -3,7 +3,7 @@ use mathlib.Core.Path.{sym, _∙_}
 use native.Mathlib.Omega.{arith}
 use lib.ListN.{length-drop}
 use denote.Ref.{now}
-use Rattle.format.proofs.Fields.{below-all}
+use Rattle.format.proofs.Below.{below-all}
 use Rattle.format.proofs.Rows.{byte-bounds}
 use Rattle.format.proofs.Runs.{layout-pos}
 use Rattle.util.proofs.Grow.{rest-is}

@@ -5,7 +5,7 @@ use native.Mathlib.Omega.{arith}
 use mathlib.Core.List.{[]}
 use lib.ListN.{length, drop, drop-of-length-le}
 use borrow.Author.Needs.{needs}
-use Rattle.format.proofs.Fields.{below-all}
+use Rattle.format.proofs.Below.{below-all}
 use Rattle.index.proofs.Turns.{Step, step-is, OneRun, NoRun}
 use Rattle.index.proofs.Fills.{Filling, filling-first, Room, has-room, filling-run, filling-refused, filling-end}
 use Rattle.index.proofs.walk.fill.Statement.{statement}

@@ -4,7 +4,7 @@ use Prim.Native.Nat.{ℕ}
 use native.Mathlib.Omega.{arith}
 use denote.Ref.{now}
 use borrow.Author.Tests.{ltb-true, eqb-true}
-use Rattle.format.proofs.Fields.{below-all}
+use Rattle.format.proofs.Below.{below-all}
 use Rattle.loader.proofs.Room.{enough-ten}
 use borrow.Author.Needs.{needs}
 use Rattle.loader.proofs.bytes.is_short.Statement.{statement}

@@ -5,7 +5,7 @@ use native.Mathlib.Omega.{arith}
 use lib.ListN.{length, take, drop, length-append}
 use lib.Seq.{length-take-le}
 use Rattle.format.specs.Answers.{answerPacked}
-use Rattle.format.proofs.Fields.{below-all}
+use Rattle.format.proofs.Below.{below-all}
 use Rattle.loader.proofs.Reading.{Reads, reads}
 use borrow.Author.Needs.{needs}
 use Rattle.loader.proofs.bytes.read_by.Statement.{statement}

@@ -1,7 +1,7 @@
 -- An entry of the list is taken apart as document 01 says. Assumes nothing.
 use Prim.Native.Nat.{_<_, _^_}
 use borrow.Author.Tests.{eq-eqb, ne-eqb}
-use Rattle.rle_v2.proofs.PatchList.{entry-is}
+use Rattle.rle_v2.proofs.PatchRows.{entry-is}
 use borrow.Author.Needs.{needs}
 use Rattle.rle_v2.proofs.patch_list.entry_at.Statement.{statement}
 use Rattle.rle_v2.proofs.patch_list.entry_at.Tie as tie

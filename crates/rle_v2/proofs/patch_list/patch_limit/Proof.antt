@@ -4,7 +4,7 @@ use Prim.Native.Nat.{_*_, _-_, _^_, _%_, _<_}
 use native.Mathlib.Nat.{one-mul, mod-eq-of-lt}
 use native.Mathlib.Omega.{arith}
 use lib.Pow.{pow-lt}
-use Rattle.format.proofs.Runs.{limit-is}
+use Rattle.format.proofs.RunComplete.{limit-is}
 use borrow.Author.Tests.{eq-eqb}
 use borrow.Author.Needs.{needs}
 use Rattle.rle_v2.proofs.patch_list.patch_limit.Statement.{statement}

@@ -8,7 +8,7 @@ use native.Mathlib.Nat.{add-mod-mod}
 use lib.ListN.{length, drop}
 use mir.Facts.{toZ-ofZ}
 use borrow.Author.Tests.{not-true, not-false}
-use Rattle.format.proofs.Fields.{below-all}
+use Rattle.format.proofs.Below.{below-all}
 use Rattle.util.specs.Packed.{fields, fieldAt}
 use Rattle.util.proofs.Window.{field-there, length-fields}
 use Rattle.rle_v2.proofs.PatchWalk.{entry-next, Put, put-first, put-last, put-skip, put-inside, put-named}

@@ -7,7 +7,7 @@ use lib.ListN.{drop}
 use borrow.Author.Tests.{lt-ltb, le-leb, le-ltb, not-true, not-false}
 use Rattle.format.specs.Fields.{pick}
 use Rattle.format.specs.Runs.{patchLimit}
-use Rattle.format.proofs.Fields.{below-all}
+use Rattle.format.proofs.Below.{below-all}
 use Rattle.util.specs.Packed.{fields, fieldAt}
 use Rattle.util.proofs.Window.{field-there, length-fields}
 use Rattle.rle_v2.specs.PatchList.{listNumber}

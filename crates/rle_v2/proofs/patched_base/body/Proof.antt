@@ -12,7 +12,8 @@ use Rattle.format.proofs.Widths.{width-pos}
 use Rattle.util.proofs.Grow.{rest-is}
 use Rattle.rle_v2.specs.PatchList.{listNumber}
 use Rattle.rle_v2.specs.PatchedHead.{valueBytes, listBytes}
-use Rattle.rle_v2.proofs.PatchedRun.{broken-off, refused-list, listed-is}
+use Rattle.rle_v2.proofs.PatchedRun.{broken-off, refused-list}
+use Rattle.rle_v2.proofs.PatchedFound.{listed-is}
 use borrow.Author.Needs.{needs}
 use Rattle.rle_v2.proofs.patched_base.body.Statement.{statement}
 use Rattle.rle_v2.proofs.patched_base.body.Tie as tie

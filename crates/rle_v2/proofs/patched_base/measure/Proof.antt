@@ -3,7 +3,8 @@ use native.Mathlib.Omega.{arith}
 use mathlib.Core.Path.{_∙_}
 use denote.Ref.{now}
 use Rattle.rle_v2.specs.PatchedHead.{Passed}
-use Rattle.rle_v2.proofs.PatchedRun.{run, passed-answer}
+use Rattle.rle_v2.proofs.PatchedRun.{run}
+use Rattle.rle_v2.proofs.PatchedFound.{passed-answer}
 use borrow.Author.Needs.{needs}
 use Rattle.rle_v2.proofs.patched_base.measure.Statement.{statement}
 use Rattle.rle_v2.proofs.patched_base.measure.Tie as tie

@@ -8,8 +8,9 @@ use Rattle.format.proofs.Rows.{width-le}
 use Rattle.util.proofs.Grow.{rest-is}
 use Rattle.rle_v2.specs.PatchedHead.{Passed}
 use Rattle.rle_v2.proofs.Blocks.{code-width}
-use Rattle.rle_v2.proofs.PatchList.{none-refused}
-use Rattle.rle_v2.proofs.PatchedRun.{run, all-in, values-there, list-there, passed-8, passed-read}
+use Rattle.rle_v2.proofs.PatchRefusals.{none-refused}
+use Rattle.rle_v2.proofs.PatchedRun.{run}
+use Rattle.rle_v2.proofs.PatchedFound.{all-in, values-there, list-there, passed-8, passed-read}
 use borrow.Author.Needs.{needs}
 use Rattle.rle_v2.proofs.patched_base.read.Statement.{statement}
 use Rattle.rle_v2.proofs.patched_base.read.Tie as tie

@@ -2,7 +2,7 @@
 use mathlib.Core.Path.{sym, _∙_}
 use native.Mathlib.Omega.{arith}
 use borrow.Author.Needs.{needs}
-use Rattle.format.proofs.Fields.{below-all}
+use Rattle.format.proofs.Below.{below-all}
 use Rattle.salvage.proofs.Keeping.{kept-empty, kept-whole, kept-refused}
 use Rattle.salvage.proofs.groups.is_kept.Statement.{statement}
 use Rattle.salvage.proofs.groups.is_kept.Tie as tie

@@ -9,7 +9,7 @@ use mir.Val.{toZ, ofZ}
 use mir.Syntax.{w64}
 use borrow.Author.Needs.{needs, sfits-of}
 use Rattle.format.specs.Rows.{asI64}
-use Rattle.format.proofs.Fields.{below-all}
+use Rattle.format.proofs.Below.{below-all}
 use Rattle.util.specs.Packed.{fieldAt, Laid}
 use Rattle.util.proofs.Window.{window, field-there, laid-more}
 use Rattle.util.proofs.packed.few.Statement.{statement}

@@ -11,7 +11,7 @@ use lib.Seq.{getD-take}
 use lib.Pow.{pow-pos}
 use borrow.Author.Needs.{needs}
 use Rattle.format.specs.Digits.{number, digits}
-use Rattle.format.proofs.Fields.{below-getD}
+use Rattle.format.proofs.Below.{below-getD}
 use Rattle.util.proofs.Packing.{Holds, joined-fits, full-fits, holds-joined, holds-full, full-room, whole}
 use Rattle.util.proofs.packed.pack.Statement.{statement}
 use Rattle.util.proofs.packed.pack.Tie as tie

@@ -9,7 +9,7 @@ use mir.Syntax.{w64}
 use borrow.Author.Needs.{needs, sfits-of}
 use borrow.Author.Tests.{ltb-true}
 use Rattle.format.specs.Rows.{asI64}
-use Rattle.format.proofs.Fields.{below-all}
+use Rattle.format.proofs.Below.{below-all}
 use Rattle.util.specs.Packed.{fieldAt, Lays}
 use Rattle.util.proofs.Window.{field-there, laid-more, laid-all}
 use Rattle.util.proofs.packed.unpack.Statement.{statement}

@@ -1,7 +1,7 @@
 -- `util::packed::word` meets its contract: the bytes are turned round twice. Assumes nothing.
 use mathlib.Core.Path.{_∙_, ap}
 use borrow.Author.Needs.{needs}
-use Rattle.format.proofs.Fields.{below-all}
+use Rattle.format.proofs.Below.{below-all}
 use Rattle.util.specs.Packed.{swap}
 use Rattle.util.proofs.Window.{word-is}
 use Rattle.util.proofs.packed.word.Statement.{statement}

@@ -6,7 +6,7 @@ use lib.ListN.{length, drop, getD}
 use denote.Ref.{now}
 use borrow.Author.Needs.{needs}
 use Rattle.format.specs.Parse.{cutIn, varint}
-use Rattle.format.proofs.Fields.{below-all, below-drop}
+use Rattle.format.proofs.Below.{below-all, below-drop}
 use Rattle.util.proofs.Varints.{toldFrom, told-from, at-end, at-last, at-long, at-next, sum-is, weight}
 use Rattle.util.specs.Varint.{varintAt}
 use Rattle.util.specs.declared.varint.Varint.the-variants.{Value}

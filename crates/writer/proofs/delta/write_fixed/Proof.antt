@@ -9,7 +9,7 @@ use Rattle.format.specs.Fields.{zigzagged}
 use Rattle.format.specs.Rows.{asU64}
 use Rattle.format.specs.Writing as Writing
 use Rattle.format.specs.Writing.{firstOf, baseDelta}
-use Rattle.writer.proofs.Forms.{Fixed, fixed-known, uneven, too-short, opened, start-sized, started}
+use Rattle.writer.proofs.FixedForm.{Fixed, fixed-known, uneven, too-short, opened, start-sized, started}
 use borrow.Author.Needs.{needs}
 use Rattle.writer.proofs.delta.write_fixed.Statement.{statement}
 use Rattle.writer.proofs.delta.write_fixed.Tie as tie

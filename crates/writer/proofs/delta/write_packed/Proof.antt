@@ -14,8 +14,9 @@ use Rattle.format.specs.Writing.{firstOf, baseDelta}
 use Rattle.format.proofs.Varints.{shortest-length}
 use Rattle.util.proofs.Grow.{rest-is}
 use Rattle.writer.specs.Start.{start}
-use Rattle.writer.proofs.Laws.{width-known, block-small}
-use Rattle.writer.proofs.Forms.{Packed, delta-packed, values-below, too-wide, too-few, packed, start-sized, started}
+use Rattle.writer.proofs.Pieces.{width-known, block-small}
+use Rattle.writer.proofs.PackedForms.{Packed, delta-packed, values-below, too-wide, too-few, packed}
+use Rattle.writer.proofs.FixedForm.{start-sized, started}
 use borrow.Author.Needs.{needs}
 use Rattle.writer.proofs.delta.write_packed.Statement.{statement}
 use Rattle.writer.proofs.delta.write_packed.Tie as tie

@@ -7,7 +7,7 @@ use denote.Ref.{now}
 use Rattle.format.specs.Fields.{shortest}
 use Rattle.format.specs.Runs.{head}
 use Rattle.writer.specs.Start.{start}
-use Rattle.writer.proofs.Laws.{behind}
+use Rattle.writer.proofs.Pieces.{behind}
 use borrow.Author.Needs.{needs}
 use Rattle.writer.proofs.delta.write_start.Statement.{statement}
 use Rattle.writer.proofs.delta.write_start.Tie as tie

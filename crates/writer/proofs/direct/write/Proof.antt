@@ -6,8 +6,8 @@ use denote.Ref.{now}
 use Rattle.format.specs.declared.Form.the-variants.{Direct}
 use Rattle.format.specs.declared.Kind.the-variants as kind
 use Rattle.format.specs.Runs.{head}
-use Rattle.writer.proofs.Laws.{width-known, block-small}
-use Rattle.writer.proofs.Forms.{Packed, direct-packed, values-below, too-wide, too-few, packed}
+use Rattle.writer.proofs.Pieces.{width-known, block-small}
+use Rattle.writer.proofs.PackedForms.{Packed, direct-packed, values-below, too-wide, too-few, packed}
 use borrow.Author.Needs.{needs}
 use Rattle.writer.proofs.direct.write.Statement.{statement}
 use Rattle.writer.proofs.direct.write.Tie as tie

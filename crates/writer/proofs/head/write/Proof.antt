@@ -1,7 +1,7 @@
 -- `head::write` meets its contract. Assumes nothing.
 use native.Mathlib.Omega.{arith}
 use denote.Ref.{now}
-use Rattle.writer.proofs.Laws.{two-set}
+use Rattle.writer.proofs.Pieces.{two-set}
 use borrow.Author.Needs.{needs}
 use Rattle.writer.proofs.head.write.Statement.{statement}
 use Rattle.writer.proofs.head.write.Tie as tie

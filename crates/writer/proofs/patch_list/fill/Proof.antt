@@ -6,7 +6,7 @@ use lib.ListN.{length, getD, take, length-set}
 use lib.Seq.{getD-take}
 use lib.Pow.{pow-pos, shr-lt}
 use denote.Ref.{now}
-use Rattle.format.proofs.Fields.{below-getD}
+use Rattle.format.proofs.Below.{below-getD}
 use Rattle.writer.proofs.PatchedFill.{Filling, filling, no-patch, put-skip, put-entry, too-long, filled-up}
 use Rattle.writer.proofs.patch_list.fill.Statement.{statement}
 use Rattle.writer.proofs.patch_list.fill.Tie as tie

@@ -6,7 +6,7 @@ use lib.ListN.{length}
 use denote.Ref.{now}
 use Rattle.format.specs.Fields.{bytesFor}
 use Rattle.format.proofs.Widths.{IsWidth, least-is}
-use Rattle.writer.proofs.Laws.{width-known, block-small}
+use Rattle.writer.proofs.Pieces.{width-known, block-small}
 use Rattle.writer.proofs.PatchedLay.{Sized, no-room, laid}
 use borrow.Author.Needs.{needs}
 use Rattle.writer.proofs.patched_base.lay.Statement.{statement}

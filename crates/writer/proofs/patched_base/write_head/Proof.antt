@@ -3,7 +3,7 @@ use mathlib.Core.Path.{refl}
 use native.Mathlib.Omega.{arith}
 use denote.Ref.{now}
 use Rattle.format.specs.Runs.{head}
-use Rattle.writer.proofs.Laws.{four-set}
+use Rattle.writer.proofs.Pieces.{four-set}
 use borrow.Author.Needs.{needs}
 use Rattle.writer.proofs.patched_base.write_head.Statement.{statement}
 use Rattle.writer.proofs.patched_base.write_head.Tie as tie

@@ -9,7 +9,7 @@ use denote.Ref.{now}
 use Rattle.format.specs.Rows.{asU64}
 use Rattle.format.specs.Writing as Writing
 use Rattle.format.specs.Writing.{firstOf}
-use Rattle.writer.proofs.Forms.{Short, short-known, unlike, too-large, too-little, repeated}
+use Rattle.writer.proofs.ShortForm.{Short, short-known, unlike, too-large, too-little, repeated}
 use borrow.Author.Needs.{needs}
 use Rattle.writer.proofs.short_repeat.write.Statement.{statement}
 use Rattle.writer.proofs.short_repeat.write.Tie as tie

@@ -1,7 +1,7 @@
 -- `short_repeat::write_head` meets its contract. Assumes nothing.
 use native.Mathlib.Omega.{arith}
 use denote.Ref.{now}
-use Rattle.writer.proofs.Laws.{one-set}
+use Rattle.writer.proofs.Pieces.{one-set}
 use borrow.Author.Needs.{needs}
 use Rattle.writer.proofs.short_repeat.write_head.Statement.{statement}
 use Rattle.writer.proofs.short_repeat.write_head.Tie as tie
