@@ -13,7 +13,7 @@ use Rattle.format.proofs.Digits.{length-digits, getD-digits}
 use Rattle.format.proofs.Booleans.{length-run, length-bits}
 use Rattle.boolean_rle.specs.declared.ByteRun as code
 use Rattle.boolean_rle.specs.declared.Found.the-variants as found
-use Rattle.boolean_rle.specs.Found.{foundIn, bytesIn, Wrote}
+use Rattle.boolean_rle.specs.Found.{foundIn, runBytesIn, Wrote}
 use Rattle.boolean_rle.proofs.FirstPass.{Here, countIn}
 
 -- ---- a run's bytes
@@ -46,10 +46,10 @@ byte-at s p e (literals bs) h i l =
       literal = λ u. (omega (arith, h .inside, h .size-is, h .count-is), rw z (at-place s p (suc i) (h .split) ∙ List·getD-append bs _ 0 i (omega (arith, h .count-is))));
     }
 
-pub bytes-are : (s : List ℕ) (p : ℕ) (e : code.ByteRun) (d : ByteRun) → Here s p e d → bytesIn (byteRun (drop p s)) ≡ runBytes d
-bytes-are s p e d h = ap bytesIn (h .is-run)
+pub bytes-are : (s : List ℕ) (p : ℕ) (e : code.ByteRun) (d : ByteRun) → Here s p e d → runBytesIn (byteRun (drop p s)) ≡ runBytes d
+bytes-are s p e d h = ap runBytesIn (h .is-run)
 
-pub length-bytes : (total : ℕ) (m : Parsed ByteRun) (e : code.ByteRun) → foundIn total m ≡ found.Run e → length (bytesIn m) ≡ e .count
+pub length-bytes : (total : ℕ) (m : Parsed ByteRun) (e : code.ByteRun) → foundIn total m ≡ found.Run e → length (runBytesIn m) ≡ e .count
 unfolding countIn
 length-bytes total end e f = ap countIn f
 length-bytes total (got d rest) e f = length-run d ∙ ap countIn f

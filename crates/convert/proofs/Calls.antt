@@ -11,7 +11,7 @@ use Rattle.format.specs.declared.Refusal.{Refusal}
 use Rattle.convert.specs.declared.Conversion.{Conversion}
 use Rattle.convert.specs.declared.Converted.{Converted}
 use Rattle.convert.specs.declared.Converted.the-variants.{Done, Refused}
-use Rattle.convert.specs.Convert.{Outcome, result, own, eight, bytesIn, toldAs, convert, Converts}
+use Rattle.convert.specs.Convert.{Outcome, result, own, eight, outcomeBytes, toldAs, convert, Converts}
 use Rattle.convert.specs.Walk.{Walked}
 
 none : (l : List ℕ) → length l ≡ 0 → l ≡ []

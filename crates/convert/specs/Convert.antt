@@ -71,10 +71,10 @@ convert signed bs places = outcomeOf signed places (runsIn bs)
 
 -- ---- THE PROMISE: the answer, and the lent bytes at exit: the runs in the first of them, and what stood in the others; nothing is written on a refusal
 
-abbrev pub bytesIn : List ℕ → Outcome → List ℕ
-bytesIn out (result altered bytes) = bytes ++ drop (length bytes) out
-bytesIn out (own r place) = out
-bytesIn out eight = out
+abbrev pub outcomeBytes : List ℕ → Outcome → List ℕ
+outcomeBytes out (result altered bytes) = bytes ++ drop (length bytes) out
+outcomeBytes out (own r place) = out
+outcomeBytes out eight = out
 
 -- as the call tells it, of an input of so many bytes: the runs altered and how many bytes; or the refusal, a stream's own with its place and its cut field
 abbrev pub done : ℕ → ℕ → Converted
@@ -87,4 +87,4 @@ toldAs total eight = Refused (refusing 8 0)
 
 pub record Converts (signed : Bool) (bs out out′ : List ℕ) (r : Converted) : Type 0 where
   pub answer : r ≡ toldAs (length bs) (convert signed bs (length out))
-  pub places : out′ ≡ bytesIn out (convert signed bs (length out))
+  pub places : out′ ≡ outcomeBytes out (convert signed bs (length out))

@@ -22,7 +22,7 @@ use Rattle.text.specs.Ascii.{ascii}
 use Rattle.text.specs.Hexadecimal.{allHex, hexBytes}
 use Rattle.text.specs.Decimal.{decimal, rowText, rowsText}
 use Rattle.lines.specs.Line.{badLine, frameOf, frameText, answerText, ended, answerLine, answerWords, rowsIn, wordsOf, Framed, Answered}
-use Rattle.text.specs.Written.{Written}
+use Rattle.text.specs.Written.{TextWritten}
 use Rattle.text.proofs.Texts.{decimal-length, row-length}
 
 -- ---- the tests of a line
@@ -103,7 +103,7 @@ module _ (line out out′ : List ℕ) where
   unfolding answerLine
   answered-none h = record { count = rw (lt-ltb (length out) 11310 h); places = rw (lt-ltb (length out) 11310 h) }
 
-  pub answered : (r : ℕ) → 11310 ≤ length out → Written (ended (answerText line)) out 0 out′ r → Answered line out out′ r
+  pub answered : (r : ℕ) → 11310 ≤ length out → TextWritten (ended (answerText line)) out 0 out′ r → Answered line out out′ r
   unfolding answerLine
   answered r h w =
       let z : 0 + length (ended (answerText line)) ≡ length (ended (answerText line)) = omega arith in

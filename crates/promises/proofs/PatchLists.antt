@@ -152,7 +152,7 @@ patch-lists = record {
         → (input : List ℕ) (at : ℕ) (signed : Bool) (out out′ : List ℤ) (r : Answer) → RunRead input at signed out out′ r
         → (rest : List ℕ) → drop at input ≡ layout (patched code base pc gw k l) ++ rest → length (k .values) ≤ length out
         → (s t : Bool) → tooLarge (width code) (patches (width pc) (l .values)) ≡ s → outOfPlace (width pc) (length (k .values)) (l .values) ≡ t
-        → PatchLists.Refused3 code pc l at out out′ r ⊎ (PatchLists.Refused7 code pc k l at out out′ r ⊎ PatchLists.Rows code base pc gw k l out out′ r)
+        → PatchLists.Refused3 code pc l at out out′ r ⊎ (PatchLists.Refused7 code pc k l at out out′ r ⊎ PatchLists.RowsPatched code base pc gw k l out out′ r)
     go code base pc gw k l v few list input at signed out out′ r h rest e room true t s₁ t₁ =
         inl (record {
           too-large = too-large (width pc) (width code) (l .values) .0 (rw s₁ tt);

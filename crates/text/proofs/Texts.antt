@@ -19,17 +19,17 @@ use Rattle.format.specs.Fields.{pick, two64}
 use Rattle.format.specs.Rows.{asU64}
 use Rattle.util.proofs.Grow.{same-is, front-is, kept-by}
 use Rattle.text.specs.Decimal.{decimalIn, decimal, rowText, rowsText}
-use Rattle.text.specs.Written.{Written}
+use Rattle.text.specs.Written.{TextWritten}
 
 -- ---- written texts
 
-pub none-written : (out : List ℕ) (at : ℕ) → Written [] out at out at
+pub none-written : (out : List ℕ) (at : ℕ) → TextWritten [] out at out at
 none-written out at = record { next = omega arith; places = sym (same-is out at) }
 
-pub one-written : (out : List ℕ) (at c : ℕ) → at < length out → Written (c ∷ []) out at (set out at c) (at + 1)
+pub one-written : (out : List ℕ) (at c : ℕ) → at < length out → TextWritten (c ∷ []) out at (set out at c) (at + 1)
 one-written out at c h = record { next = refl; places = rw (set-split out at c h, append-snoc, add-one) }
 
-pub then-written : {t u out out₁ out₂ : List ℕ} {at r s : ℕ} → at ≤ length out → Written t out at out₁ r → Written u out₁ r out₂ s → Written (t ++ u) out at out₂ s
+pub then-written : {t u out out₁ out₂ : List ℕ} {at r s : ℕ} → at ≤ length out → TextWritten t out at out₁ r → TextWritten u out₁ r out₂ s → TextWritten (t ++ u) out at out₂ s
 then-written {t} {u} {out} {out₁} {out₂} {at} {r} {s} h w v =
     let k = length t in
     let n : at + length (t ++ u) ≡ at + k + length u = omega (arith, length-append t u) in
@@ -44,7 +44,7 @@ then-written {t} {u} {out} {out₁} {out₂} {at} {r} {s} h w v =
     }
 
 -- what was written stands within the bytes
-pub written-fits : {t out out′ : List ℕ} {at r : ℕ} → at ≤ length out → Written t out at out′ r → r ≤ length out′
+pub written-fits : {t out out′ : List ℕ} {at r : ℕ} → at ≤ length out → TextWritten t out at out′ r → r ≤ length out′
 written-fits {t} {out} {out′} {at} {r} h w =
     omega (
       arith,

@@ -7,7 +7,7 @@ use lib.ListN.{length, drop, getD, length-append}
 use lib.IntN.{ℤ}
 use Rattle.text.specs.Ascii.{ascii}
 use Rattle.text.specs.Decimal.{decimal, rowText, rowsText}
-use Rattle.text.specs.Written.{Written}
+use Rattle.text.specs.Written.{TextWritten}
 use Rattle.text.proofs.Texts.{decimal-length, row-length}
 use Rattle.season.specs.declared.Extreme.{Extreme}
 use Rattle.season.specs.declared.Extreme.the-variants.{None, Row}
@@ -72,7 +72,7 @@ runs-length runs rows =
     (count-length (ascii "rows ") rows)
 
 -- a text that stands in the first bytes
-pub at-first : {t out out′ : List ℕ} {r : ℕ} → Written t out 0 out′ r → (r ≡ length t) × (out′ ≡ t ++ drop (length t) out)
+pub at-first : {t out out′ : List ℕ} {r : ℕ} → TextWritten t out 0 out′ r → (r ≡ length t) × (out′ ≡ t ++ drop (length t) out)
 at-first {t} {out} w =
     let e : 0 + length t ≡ length t = omega arith in
     (w .next ∙ e, w .places ∙ ap (λ (n : ℕ). t ++ drop n out) e)

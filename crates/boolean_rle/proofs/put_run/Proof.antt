@@ -5,7 +5,7 @@ use native.Mathlib.Omega.{arith}
 use denote.Ref.{now}
 use lib.ListN.{length, drop}
 use Rattle.format.specs.Booleans.{byteRun}
-use Rattle.boolean_rle.specs.Found.{bytesIn}
+use Rattle.boolean_rle.specs.Found.{runBytesIn}
 use Rattle.boolean_rle.proofs.RunBytes.{length-bytes, byte-more}
 use borrow.Author.Needs.{needs}
 use Rattle.boolean_rle.proofs.put_run.Statement.{statement}
@@ -20,10 +20,10 @@ returns-2 c =
     let a = s .args in
     let m = byteRun (drop (a .at) (now (a .input))) in
     let q = (a .n - a .k) / 8 in
-    let h : q < length (bytesIn m) = omega (arith, length-bytes (length (now (a .input))) m (a .run) (s .pre .0)) in
+    let h : q < length (runBytesIn m) = omega (arith, length-bytes (length (now (a .input))) m (a .run) (s .pre .0)) in
     let z : a .k + 8 * q + (a .n - a .k) % 8 ≡ a .n = omega arith in (
       omega arith,
-      rw z at (byte-more (bytesIn m) (a .k) q ((a .n - a .k) % 8) (now (a .out)) _ _ h (w .put-bytes2 .ensures) (rw (b .run-byte .ensures) at (p .put-bits .ensures))),
+      rw z at (byte-more (runBytesIn m) (a .k) q ((a .n - a .k) % 8) (now (a .out)) _ _ h (w .put-bytes2 .ensures) (rw (b .run-byte .ensures) at (p .put-bits .ensures))),
     )
 
 pub put-run-spec : {M : Type 1} → statement M

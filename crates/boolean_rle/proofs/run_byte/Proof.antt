@@ -3,14 +3,14 @@ use native.Mathlib.Omega.{arith}
 use denote.Ref.{now}
 use lib.ListN.{drop}
 use Rattle.format.specs.Booleans.{byteRun}
-use Rattle.boolean_rle.specs.Found.{bytesIn}
+use Rattle.boolean_rle.specs.Found.{runBytesIn}
 use Rattle.boolean_rle.proofs.FirstPass.{here}
 use Rattle.boolean_rle.proofs.RunBytes.{bytes-are, ByteAt, byte-at}
 use Rattle.boolean_rle.proofs.run_byte.Statement.{statement}
 use Rattle.boolean_rle.proofs.run_byte.Tie as tie
 
 byte-is : (c : tie.After-shared-slice-known)
-    → ByteAt (now (c .before .args .input)) (c .before .args .at) (c .before .args .i) (bytesIn (byteRun (drop (c .before .args .at) (now (c .before .args .input)))))
+    → ByteAt (now (c .before .args .input)) (c .before .args .at) (c .before .args .i) (runBytesIn (byteRun (drop (c .before .args .at) (now (c .before .args .input)))))
 byte-is c =
     let a = c .before .args in
     let (d, h) = here (now (a .input)) (a .at) (a .run) (λ i. c .shared-slice-known .given i .fits) (c .before .pre .0) in

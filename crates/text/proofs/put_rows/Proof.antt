@@ -10,14 +10,14 @@ use lib.ListN.{length, take, getD}
 use lib.IntN.{pos}
 use mir.Facts.{toZ-ofZ}
 use Rattle.text.specs.Decimal.{rowsText}
-use Rattle.text.specs.Written.{Written}
+use Rattle.text.specs.Written.{TextWritten}
 use Rattle.text.proofs.Texts.{none-written, then-written, row-length, rows-next}
 use Rattle.text.proofs.put_rows.Statement.{statement}
 use Rattle.text.proofs.put_rows.Tie as tie
 
 abbrev Inv-loop : tie.InvT-loop
 Inv-loop rows n out₀ at place₀ i₀ out place i =
-    (i ≤ n) × (place ≤ at + 22 * i) × (length out ≡ length out₀) × Written (rowsText (take i rows)) out₀ at out place
+    (i ≤ n) × (place ≤ at + 22 * i) × (length out ≡ length out₀) × TextWritten (rowsText (take i rows)) out₀ at out place
 
 abbrev μ-loop : tie.MeasureT-loop
 μ-loop rows n out₀ at place₀ i₀ out place i = n - i

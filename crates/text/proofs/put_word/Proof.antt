@@ -6,14 +6,14 @@ use native.Mathlib.Numerals.{add-one}
 use denote.Ref.{now}
 use lib.ListN.{length, take}
 use lib.Seq.{take-suc, take-length}
-use Rattle.text.specs.Written.{Written}
+use Rattle.text.specs.Written.{TextWritten}
 use Rattle.text.proofs.Texts.{none-written, then-written}
 use Rattle.text.proofs.put_word.Statement.{statement}
 use Rattle.text.proofs.put_word.Tie as tie
 
 abbrev Inv-loop : tie.InvT-loop
 Inv-loop word out₀ at place₀ i₀ out place i =
-    (i ≤ length word) × (place ≡ at + i) × (length out ≡ length out₀) × Written (take i word) out₀ at out place
+    (i ≤ length word) × (place ≡ at + i) × (length out ≡ length out₀) × TextWritten (take i word) out₀ at out place
 
 abbrev μ-loop : tie.MeasureT-loop
 μ-loop word out₀ at place₀ i₀ out place i = length word - i
