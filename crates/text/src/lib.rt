@@ -7,6 +7,8 @@ ghost use Prim.Native.Nat.{_+_, _*_, _%_, _<_, _≤_};
 ghost use lib.ListN.{length, take};
 ghost use Rattle.text.specs.Decimal.{decimal, rowText, rowsText};
 ghost use Rattle.text.specs.Written.{TextWritten};
+use format::ALL_BITS;
+use format::TOP_BIT;
 use util::pattern;
 
 // One character.
@@ -58,11 +60,11 @@ fn put_row(row: i64, out: &mut [u8], at: usize) -> usize
     ensures { λ r. ⌜ TextWritten (rowText row) (now (out .entry)) at (now (out .exit)) r ⌝ }
 {
     let bits = pattern::to_u64(row);
-    if bits < 9223372036854775808 {
+    if bits < TOP_BIT {
         return put_decimal(bits, out, at);
     }
     let next = put(b'-', out, at);
-    put_decimal(18446744073709551615 - bits + 1, out, next)
+    put_decimal(ALL_BITS - bits + 1, out, next)
 }
 
 // The first n rows, with a space before each. With its space, a row takes 22 characters at most.
