@@ -75,6 +75,7 @@ fn put_whole(words: Words, out: &mut [u8], at: usize) -> usize
 fn put_count(word: &[u8], count: u64, out: &mut [u8], at: usize) -> usize
     requires { ⌜ at + (length (now word) + 21) ≤ length (now out) ⌝ }
     ensures { λ r. ⌜ TextWritten (countLine (now (word .entry)) count) (now (out .entry)) at (now (out .exit)) r ⌝ }
+    ensures { λ r. ⌜ r ≤ at + (length (now (word .entry)) + 21) ⌝ }
 {
     let mut place = put_word(word, out, at);
     place = put_decimal(count, out, place);
@@ -85,6 +86,7 @@ fn put_count(word: &[u8], count: u64, out: &mut [u8], at: usize) -> usize
 fn put_extreme(word: &[u8], extreme: Extreme, out: &mut [u8], at: usize) -> usize
     requires { ⌜ at + (length (now word) + 23) ≤ length (now out) ⌝ }
     ensures { λ r. ⌜ TextWritten (extremeLine (now (word .entry)) extreme) (now (out .entry)) at (now (out .exit)) r ⌝ }
+    ensures { λ r. ⌜ r ≤ at + (length (now (word .entry)) + 23) ⌝ }
 {
     let place = put_word(word, out, at);
     match extreme {
@@ -104,6 +106,7 @@ fn put_extreme(word: &[u8], extreme: Extreme, out: &mut [u8], at: usize) -> usiz
 fn put_refusal(number: u64, count: u64, out: &mut [u8], at: usize) -> usize
     requires { ⌜ at + 50 ≤ length (now out) ⌝ }
     ensures { λ r. ⌜ TextWritten (refusalLine number count) (now (out .entry)) at (now (out .exit)) r ⌝ }
+    ensures { λ r. ⌜ r ≤ at + 50 ⌝ }
 {
     let mut place = put_word(&REFUSED, out, at);
     place = put_decimal(number, out, place);
@@ -116,6 +119,7 @@ fn put_refusal(number: u64, count: u64, out: &mut [u8], at: usize) -> usize
 fn put_refusals(counts: [u64; 15], out: &mut [u8], at: usize) -> usize
     requires { ⌜ at + 500 ≤ length (now out) ⌝ }
     ensures { λ r. ⌜ TextWritten (refusalsText counts) (now (out .entry)) at (now (out .exit)) r ⌝ }
+    ensures { λ r. ⌜ r ≤ at + 500 ⌝ }
 {
     let mut place = put_refusal(1, counts[1], out, at);
     place = put_refusal(2, counts[2], out, place);
@@ -147,6 +151,7 @@ fn put_sum(sum: Words, out: &mut [u8], at: usize) -> usize
 fn put_runs(runs: [u64; 6], rows: u64, out: &mut [u8], at: usize) -> usize
     requires { ⌜ at + 140 ≤ length (now out) ⌝ }
     ensures { λ r. ⌜ TextWritten (runsText runs rows) (now (out .entry)) at (now (out .exit)) r ⌝ }
+    ensures { λ r. ⌜ r ≤ at + 140 ⌝ }
 {
     let mut place = put_count(&SHORT, runs[0], out, at);
     place = put_count(&DIRECT, runs[1], out, place);

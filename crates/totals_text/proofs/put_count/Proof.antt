@@ -1,6 +1,8 @@
 -- `put_count` meets its contract. Assumes nothing.
 use Rattle.text.proofs.Texts.{then-written, decimal-length}
+use denote.Ref.{now}
 use Rattle.totals_text.specs.Text.{countLine}
+use Rattle.totals_text.proofs.Lengths.{count-length}
 use borrow.Author.Needs.{needs}
 use native.Mathlib.Omega.{arith}
 use Rattle.totals_text.proofs.put_count.Statement.{statement}
@@ -26,7 +28,8 @@ returns c =
     let x2 = x3 .before .before .before .before in
     let x1 = x2 .before .before .before .before in
     let s = x1 .before .before .before .before in
-    then-written (omega arith) (then-written (omega arith) (x1 .put-word .ensures) (x2 .put-decimal .ensures)) (x3 .put .ensures)
+    let w = then-written (omega arith) (then-written (omega arith) (x1 .put-word .ensures) (x2 .put-decimal .ensures)) (x3 .put .ensures) in
+    (w, omega (arith, w .next, count-length (now (s .args .word)) (s .args .count)))
 
 pub put-count-spec : {M : Type 1} → statement M
 put-count-spec = tie.close (tie.spec (λ c κs. search needs) put-decimal-requires put-requires (λ c. search needs) returns)

@@ -1,12 +1,13 @@
 -- `put_extreme` meets its contract. Assumes nothing.
-use mathlib.Core.Path.{_∙_}
+use denote.Ref.{now}
 use lib.IntN.{ℤ}
 use mir.Syntax.{w64}
 use mir.Val.{SFits, toZ, ofZ}
 use mir.Facts.{toZ-ofZ}
 use Rattle.text.proofs.Texts.{then-written}
+use Rattle.season.specs.declared.Extreme.the-variants.{None, Row}
 use Rattle.totals_text.specs.Text.{extremeText, extremeLine}
-use Rattle.totals_text.proofs.Lengths.{row-line}
+use Rattle.totals_text.proofs.Lengths.{row-line, extreme-length}
 use borrow.Author.Needs.{needs, sfits-of}
 use native.Mathlib.Omega.{arith}
 use Rattle.totals_text.proofs.put_extreme.Statement.{statement}
@@ -28,8 +29,8 @@ returns c =
     let e = n .before .before .before in
     let w = e .before .before .before .before in
     let s = w .before .before .before .before in
-    rw (e .enum-told .given .1)
-    (then-written (omega arith) (then-written (omega arith) (w .put-word .ensures) (n .put-word2 .ensures)) (p .put .ensures))
+    let t = then-written (omega arith) (then-written (omega arith) (w .put-word .ensures) (n .put-word2 .ensures)) (p .put .ensures) in
+    rw (e .enum-told .given .1) (t, omega (arith, t .next, extreme-length (now (s .args .word)) None))
 
 returns-2 : tie.Need-returns-2
 unfolding extremeLine extremeText
@@ -42,8 +43,8 @@ returns-2 c =
     let s = w .before .before .before .before in
     let z : ℤ = x .extreme .given .0 .0 in
     let f : SFits w64 z = sfits-of (k .known-told .given .0 .1) in
-    rw (x .extreme .given .1)
-    (then-written (omega arith) (then-written (omega arith) (w .put-word .ensures) (rw (toZ-ofZ f) at (r .put-rows .ensures))) (p .put2 .ensures))
+    let t = then-written (omega arith) (then-written (omega arith) (w .put-word .ensures) (rw (toZ-ofZ f) at (r .put-rows .ensures))) (p .put2 .ensures) in
+    rw (x .extreme .given .1) (t, omega (arith, t .next, extreme-length (now (s .args .word)) (Row z)))
 
 pub put-extreme-spec : {M : Type 1} → statement M
 put-extreme-spec =

@@ -1,6 +1,7 @@
 -- `put_refusal` meets its contract. Assumes nothing.
 use Rattle.text.proofs.Texts.{then-written, decimal-length}
 use Rattle.totals_text.specs.Text.{refusalLine}
+use Rattle.totals_text.proofs.Lengths.{refusal-length}
 use borrow.Author.Needs.{needs}
 use native.Mathlib.Omega.{arith}
 use Rattle.totals_text.proofs.put_refusal.Statement.{statement}
@@ -45,7 +46,8 @@ returns c =
     let x2 = x3 .before .before .before .before in
     let x1 = x2 .before .before .before .before in
     let s = x1 .before .before .before .before in
-    then-written (omega arith) (then-written (omega arith) (then-written (omega arith) (then-written (omega arith) (x1 .put-word .ensures) (x2 .put-decimal .ensures)) (x3 .put .ensures)) (x4 .put-decimal2 .ensures)) (x5 .put2 .ensures)
+    let w = then-written (omega arith) (then-written (omega arith) (then-written (omega arith) (then-written (omega arith) (x1 .put-word .ensures) (x2 .put-decimal .ensures)) (x3 .put .ensures)) (x4 .put-decimal2 .ensures)) (x5 .put2 .ensures) in
+    (w, omega (arith, w .next, refusal-length (s .args .number) (s .args .count)))
 
 pub put-refusal-spec : {M : Type 1} → statement M
 put-refusal-spec =

@@ -1,8 +1,6 @@
 -- `put_whole` meets its contract. Assumes nothing.
-use Prim.Native.Nat.{ℕ, _+_}
 use mathlib.Core.Path.{_≡_, sym, ap, _∙_}
-use mathlib.Core.Bool.{true, false}
-use mathlib.Core.List.{List, [], _∷_, _++_}
+use mathlib.Core.List.{[], _∷_, _++_}
 use lib.ListN.{length}
 use Rattle.text.proofs.Texts.{then-written}
 use Rattle.season.specs.Words.{wordsValue, sizeOf}

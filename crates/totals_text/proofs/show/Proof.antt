@@ -3,10 +3,10 @@ use lib.ListN.{length}
 use denote.Ref.{now}
 use borrow.Author.Tests.{lt-ltb, le-ltb}
 use Rattle.totals_text.specs.Text.{shownIn}
-use Rattle.totals_text.proofs.Lengths.{at-first}
 use borrow.Author.Needs.{needs}
 use Rattle.totals_text.proofs.show.Statement.{statement}
 use Rattle.totals_text.proofs.show.Tie as tie
+use Rattle.text.proofs.Texts.{from-first}
 
 returns : tie.Need-returns
 unfolding shownIn
@@ -20,7 +20,7 @@ returns-2 c =
     let p = c .before .before in
     let s = p .before .before .before .before in
     let e = le-ltb (length (now (s .args .out))) 1024 (p .before .before .if1 .left) in
-    record { count = rw e (at-first (p .put-totals .ensures) .0); places = rw e (at-first (p .put-totals .ensures) .1) }
+    record { count = rw e (from-first (p .put-totals .ensures) .0); places = rw e (from-first (p .put-totals .ensures) .1) }
 
 pub show-spec : {M : Type 1} → statement M
 show-spec = tie.close (tie.spec returns (λ c κs. search needs) (λ c. search needs) returns-2)
