@@ -1,7 +1,7 @@
 -- Enough rows for a run: ten for a short one, 512 for any. Where the rows are enough, only the output's places count.
 -- Assumes nothing.
 use mathlib.Core.Path.{_≡_, refl, ap}
-use Prim.Native.Nat.{ℕ, _/_, _%_, _<_, _≤_, min}
+use Prim.Native.Nat.{ℕ, _%_, _<_, _≤_, min}
 use native.Mathlib.Omega.{arith}
 use native.Mathlib.Decide.{decLt}
 use mathlib.Core.List.{List}

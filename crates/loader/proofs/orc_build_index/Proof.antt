@@ -7,8 +7,9 @@ use Rattle.loader.proofs.orc_build_index.Tie as tie
 
 returns-2 : tie.Need-returns-2
 returns-2 c =
+    let back-6 = c .before .before .before .before .before .before in
     let p = c .before .before in
-    let a = p .before .before .before .before .before .before .before .before in
+    let a = back-6 .before .before .before .before in
     index-put (a .build .ensures) (a .before .before .before .before .if1 .left) (p .put-built .ensures)
 
 pub orc-build-index-spec : {M : Type 1} → statement M

@@ -21,7 +21,7 @@ read-by-requires c κs =
 
 read-by-requires-2 : tie.Need-read-by-requires-2
 read-by-requires-2 c κs =
-    let s = c .before .before .before .before .before .before .before .before .before in
+    let s = (let back-6 = c .before .before .before .before .before .before in back-6 .before .before .before) in
     let a = s .before .args in
     let l : length (c .before .before .all-rows .result) ≡ 512 = search needs in
     rw l (enough-all (now (a .input)) (below-all 256 (now (a .input)) (λ i. s .shared-slice-known .given i .fits)))

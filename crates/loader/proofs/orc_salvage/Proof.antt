@@ -11,10 +11,12 @@ returns c = record { stream-told = few-of salvage-long (omega arith); report-tol
 
 returns-2 : tie.Need-returns-2
 returns-2 c =
+    let back-6 = c .before .before .before .before .before .before in
+    let back-12 = back-6 .before .before .before .before .before .before in
     let p = c .before .before in
     let a = p .before .before .before .before .before .before in
     let e = a .before .before .before in
-    let s = e .before .before .before .before .before .before .before in
+    let s = back-12 .before .before .before .before .before .before in
     let w = rw (toZ-ofZ (s .fits .fill)) at (a .salvage .ensures) in
     record {
       stream-told = put-of salvage-long (w .answer) (e .if1 .left) (w .new-stream) (p .put-outcome .ensures);

@@ -41,7 +41,7 @@ put-rows-requires c κs =
 
 packed-requires : tie.Need-packed-requires
 packed-requires c κs =
-    let t = told (c .before .before .before .before .before .before .before) in
+    let t = told (let back-6 = c .before .before .before .before .before .before in back-6 .before) in
     (omega (arith, t .few), omega (arith, t .short))
 
 returns : tie.Need-returns

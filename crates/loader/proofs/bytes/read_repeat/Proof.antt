@@ -1,5 +1,5 @@
 -- `read_repeat` meets its contract: what the measure named is laid down as bytes where there is room. Assumes nothing.
-use mathlib.Core.Path.{_≡_, sym, _∙_}
+use mathlib.Core.Path.{sym, _∙_}
 use native.Mathlib.Omega.{arith}
 use denote.Ref.{now}
 use Rattle.format.specs.declared.Answer.the-variants as answer
@@ -39,10 +39,12 @@ returns c =
     no-room (now (t .args .input)) (t .args .signed) (now (t .args .out)) (t .pre .0) (t .pre .1) _ (run-told m) (c .if1 .taken)
 
 read-requires : tie.Need-read-requires
-read-requires c κs = let m = told (c .before .before .before .before .before) in omega (arith, m .size-is, m .there, c .before .before .before .before .before .before .before .before .before .before .pre .1)
+read-requires c κs =
+    let m = told (c .before .before .before .before .before) in omega (arith, m .size-is, m .there, (let back-6 = c .before .before .before .before .before .before in back-6 .before .before .before .before .pre .1))
 
 packed-requires : tie.Need-packed-requires
-packed-requires c κs = let m = told (c .before .before .before .before .before .before .before .before .before .before .before) in (omega (arith, m .rows-are), omega (arith, m .bytes-are, m .there))
+packed-requires c κs =
+    let m = told (let back-6 = c .before .before .before .before .before .before in back-6 .before .before .before .before .before) in (omega (arith, m .rows-are), omega (arith, m .bytes-are, m .there))
 
 packed-requires-2 : tie.Need-packed-requires-2
 packed-requires-2 c κs = let n = refused-told c in (rw (n .rows) (omega arith), rw (n .bytes) (omega arith))
@@ -52,8 +54,9 @@ packed-requires-3 c κs = let n = end-told c in (rw (n .rows) (omega arith), rw 
 
 returns-2 : tie.Need-returns-2
 returns-2 c =
+    let back-6 = c .before .before .before .before .before .before in
     let w = c .before .before .before .before .before in
-    let m = w .before .before .before .before .before .before .before in
+    let m = back-6 .before .before .before .before .before .before in
     let t = m .before .before .before .before .before in
     let v = rw (w .before .read .ensures) at (w .row .ensures) in
     rw (c .packed .ensures)

@@ -11,15 +11,8 @@ use Rattle.loader.proofs.index_words.put_preview.Tie as tie
 returns : tie.Need-returns
 unfolding previewWords
 returns c =
-    let c1 = c .before in
-    let c2 = c1 .before in
-    let c3 = c2 .before in
-    let c4 = c3 .before in
-    let s = c4 .before .before in
-    record {
-      number-is = c .preview-number2 .ensures;
-      words-are = rw (c4 .preview-case .ensures, c3 .preview-number .ensures, c2 .preview-place .ensures, c1 .preview-rows .ensures) (sets-eq (previewWords (s .args .preview)) (now (s .args .words)) 0 (s .pre));
-    }
+    let s = c .before .before .before .before .before .before in
+    record { number-is = cc; words-are = cc (sets-eq (previewWords (s .args .preview)) (now (s .args .words)) 0 (s .pre)) }
 
 pub put-preview-spec : {M : Type 1} → statement M
 put-preview-spec =

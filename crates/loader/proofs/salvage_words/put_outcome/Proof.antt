@@ -11,16 +11,9 @@ use Rattle.loader.proofs.salvage_words.put_outcome.Tie as tie
 returns : tie.Need-returns
 unfolding salvageWords
 returns c =
-    let c1 = c .before in
-    let c2 = c1 .before in
-    let c3 = c2 .before in
-    let c4 = c3 .before in
-    let c5 = c4 .before in
-    let s = c5 .before .before in
-    record {
-      number-is = c .number2 .ensures;
-      words-are = rw (c5 .case .ensures, c4 .number .ensures, c3 .place .ensures, c2 .stream .ensures, c1 .report .ensures) (sets-eq (salvageWords (s .args .outcome)) (now (s .args .words)) 0 (s .pre));
-    }
+    let later = c .before .before .before .before .before .before in
+    let s = later .before in
+    record { number-is = cc; words-are = cc (sets-eq (salvageWords (s .args .outcome)) (now (s .args .words)) 0 (s .pre)) }
 
 pub put-outcome-spec : {M : Type 1} → statement M
 put-outcome-spec =
