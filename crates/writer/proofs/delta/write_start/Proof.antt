@@ -1,7 +1,7 @@
 -- `delta::write_start` meets its contract. Assumes nothing.
 use mathlib.Core.Path.{_≡_, refl, sym, ap, _∙_}
 use mathlib.Core.List.{List, _++_, append-assoc}
-use Prim.Native.Nat.{ℕ, _+_}
+use Prim.Native.Nat.{ℕ}
 use lib.ListN.{length, drop, length-append}
 use denote.Ref.{now}
 use Rattle.format.specs.Fields.{shortest}
@@ -15,10 +15,12 @@ use Rattle.writer.proofs.delta.write_start.Tie as tie
 returns : tie.Need-returns
 unfolding start
 returns c =
+    let back-6 = c .before .before .before .before .before .before in
+    let back-12 = back-6 .before .before .before .before .before .before in
     let w3 = c .before .before .write3 in
     let w2 = c .before .before .before .before .before .before .write2 in
-    let w1 = c .before .before .before .before .before .before .before .before .before .before .write in
-    let a = c .before .before .before .before .before .before .before .before .before .before .before .before .before .args in
+    let w1 = back-6 .before .before .before .before .write in
+    let a = back-12 .before .args in
     let h : List ℕ = head 3 (a .code) (a .rows) in
     let f : List ℕ = shortest (a .first) in
     let b : List ℕ = shortest (a .base) in

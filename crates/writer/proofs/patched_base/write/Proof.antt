@@ -22,7 +22,9 @@ write-kept-requires c κs =
     ((s .pre .0, s .pre .1), sym (k .is-kept .ensures) ∙ not-false _ (c .before .if1 .left))
 
 returns-2 : tie.Need-returns-2
-returns-2 c = rw (toZ-ofZ (c .before .before .before .before .before .before .before .fits .base)) at (c .before .before .write-kept .ensures)
+returns-2 c =
+    let back-6 = c .before .before .before .before .before .before in
+    rw (toZ-ofZ (back-6 .before .fits .base)) at (c .before .before .write-kept .ensures)
 
 pub write-spec : {M : Type 1} → statement M
 write-spec = tie.close (tie.spec (λ c κs. search needs) (λ c κs. search needs) returns write-kept-requires (λ c. search needs) returns-2)
