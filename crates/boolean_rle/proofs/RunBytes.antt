@@ -81,7 +81,6 @@ bit-more byte k j o out h l w all d more e f =
 
 -- the bits from byte i on
 bits-from : (bs : List ℕ) (i : ℕ) → i < length bs → drop (8 * i) (bits bs) ≡ digits 2 8 (getD bs i 0) ++ bits (drop (suc i) bs)
-unfolding bits
 bits-from [] i h = absurd (omega arith)
 bits-from (b ∷ bs) zero h = refl
 bits-from (b ∷ bs) (suc i) h =

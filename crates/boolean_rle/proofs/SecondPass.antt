@@ -12,8 +12,9 @@ use Rattle.format.specs.Parse.{Parsed, end, got, refused, cut, then}
 use Rattle.format.specs.Answers.{ran, refusedAt, cutAt}
 use Rattle.format.specs.declared.Kind.the-variants.{Booleans}
 use Rattle.format.specs.Booleans.{ByteRun, runBytes, byteCount, joinedRuns, joinedBytes, bits, booleansOf, byteRun, byteRuns, booleans, booleansInto, BooleansRead}
+use Rattle.format.proofs.Digits.{spread-append}
 use Rattle.format.proofs.ByteRuns.{OnlyCut, runs-only}
-use Rattle.format.proofs.Booleans.{length-run, length-bits, bits-append}
+use Rattle.format.proofs.Booleans.{length-run, length-bits}
 use Rattle.boolean_rle.specs.declared.ByteRun as code
 use Rattle.boolean_rle.specs.declared.Found.the-variants as found
 use Rattle.boolean_rle.specs.declared.Span.the-variants as span
@@ -63,7 +64,7 @@ module _ (s : List ℕ) (n : ℕ) (ds : List ByteRun) (rest out₀ : List ℕ) w
       let (f, (es, u, r, q)) = runs-first (g .fuel) (bytesFor (n - k)) (drop p s) (g .left) rest d (drop (p + e .size) s) (omega arith) (h .is-run) (g .reading) in
       let m : bytesFor (n - k) - byteCount d ≡ bytesFor (n - k′) = omega (arith, h .count-is) in
       let a : drop k (bits (joinedBytes ds)) ≡ bits (runBytes d) ++ bits (joinedBytes es) =
-      g .ahead l ∙ ap (λ (x : List ByteRun). bits (joinedBytes x)) q ∙ bits-append (runBytes d) (joinedBytes es) in
+      g .ahead l ∙ ap (λ (x : List ByteRun). bits (joinedBytes x)) q ∙ spread-append 2 8 (runBytes d) (joinedBytes es) in
       let b : length (bits (runBytes d)) ≡ 8 * e .count = length-bits (runBytes d) ∙ ap (λ (x : ℕ). 8 * x) (length-run d ∙ h .count-is) in
       record {
         fuel = f;

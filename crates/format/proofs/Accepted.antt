@@ -1,7 +1,7 @@
 -- What the writer accepts is a valid description, and stands for the rows given. Assumes nothing.
 use mathlib.Core.Path.{_≡_, refl, sym, ap, _∙_}
 use Prim.Native.Nat.{ℕ, _+_, _*_, _^_, _<_}
-use native.Mathlib.Nat.{zero-lt-suc, mul-comm}
+use native.Mathlib.Nat.{zero-lt-suc}
 use native.Mathlib.Omega.{arith}
 use mathlib.Core.Bool.{Bool, false}
 use mathlib.Core.List.{List, [], _∷_, map}
@@ -16,7 +16,7 @@ use Rattle.format.specs.Runs.{Valid}
 use Rattle.format.specs.Kept.{isKept}
 use Rattle.format.specs.Rows.{rowsOf, plus}
 use Rattle.format.specs.Writing.{stored, minus, stepsOf, baseDelta, falls, valuesOf, padded, firstOf, described, countAllowed, haveForm, widthAllowed, fitWidth}
-use Rattle.format.proofs.Digits.{length-digits, digits-below, number-digits, pow-pow}
+use Rattle.format.proofs.Digits.{length-digits, digits-below, number-digits, pow-256}
 use Rattle.format.proofs.Kept.{kept-code}
 use Rattle.format.proofs.Patterns.{zigzag-zigzagged, zigzagged-lt}
 use Rattle.format.proofs.Varints.{shortest-varint, shortest-value}
@@ -92,15 +92,11 @@ first-back signed b h = rw (shortest-value (stored signed b) (stored-lt signed b
 base-back : (b : ℕ) → b < two64 → zigzag (varintValue (shortest (zigzagged b))) ≡ b
 base-back b h = rw (shortest-value (zigzagged b) (zigzagged-lt b h)) (zigzag-zigzagged b h)
 
--- bytes in bits
-pub byte-bits : (w : ℕ) → 256 ^ w ≡ 2 ^ (8 * w)
-byte-bits w = pow-pow 2 8 w ∙ ap (λ (n : ℕ). 2 ^ n) (mul-comm w 8)
-
 pub accepted-rows : (signed : Bool) (f : Form) (w : ℕ) (rs : List ℕ) → AllBelow two64 rs → Accepted signed f w rs → rowsOf signed (described signed f w rs) ≡ rs
 unfolding described valuesOf fitWidth rowsOf haveForm
 accepted-rows signed ShortRepeat w [] h a = absurd (a .count)
 accepted-rows signed ShortRepeat w (x ∷ rs) h a =
-    let l : stored signed x < 256 ^ w = rw (byte-bits w) (every-below (2 ^ (8 * w)) (map (stored signed) (x ∷ rs)) (a .fits) .0) in
+    let l : stored signed x < 256 ^ w = rw (pow-256 w) (every-below (2 ^ (8 * w)) (map (stored signed) (x ∷ rs)) (a .fits) .0) in
     rw (number-digits 256 (zero-lt-suc 255) w (stored signed x) l, row-stored signed x (h .0)) (sym (every-same x (x ∷ rs) (a .form)))
 accepted-rows signed Direct w rs h a = map-back (row signed) (stored signed) two64 (row-stored signed) rs h
 accepted-rows signed FixedDelta w [] h a = absurd (a .count)

@@ -17,13 +17,13 @@ use Rattle.format.specs.Kept.{isKept}
 use Rattle.format.specs.Rows
 use Rattle.format.specs.Rows.{rowsOf, plus, walk}
 use Rattle.format.specs.Writing.{stored, stepsOf, baseDelta, falls, valuesOf, padded, described, every, haveForm, fitWidth, AsWritten, short-repeat, direct-run, fixed-delta, packed-delta}
-use Rattle.format.proofs.Digits.{number-lt, digits-number}
+use Rattle.format.proofs.Digits.{number-lt, digits-number, pow-256}
 use Rattle.format.proofs.Patterns.{zigzagged-zigzag, zigzag-lt}
 use Rattle.format.proofs.Varints.{varint-lt, shortest-unique}
 use Rattle.format.proofs.Rows.{width-le, below-replicate, row-lt, rows-count}
 use Rattle.format.proofs.Tests.{and-i, le-between, below-every, same-every}
 use Rattle.format.proofs.Steps.{stored-row, map-back, step-back, steps-walk, steps-even}
-use Rattle.format.proofs.Accepted.{Accepted, base-step, byte-bits}
+use Rattle.format.proofs.Accepted.{Accepted, base-step}
 
 -- ---- AND BACK: a run as the writer lays it down is what its own rows stand for
 
@@ -43,7 +43,7 @@ short-again : (signed : Bool) (w count : ℕ) (value : List ℕ) → length valu
 unfolding described valuesOf fitWidth rowsOf haveForm
 short-again signed w count value e v =
     let u : ℕ = number 256 value in
-    let small : u < 2 ^ (8 * w) = rw (byte-bits (length value), e) at (number-lt 256 value (v .bytes)) in
+    let small : u < 2 ^ (8 * w) = rw (pow-256 (length value), e) at (number-lt 256 value (v .bytes)) in
     let wide : 2 ^ (8 * w) ≤ two64 = pow-mono {i = 8 * w} {j = 64} (omega (arith, v .eight)) in
     let first : getD (replicate count (row signed u)) 0 0 ≡ row signed u = getD-replicate count 0 (row signed u) 0 (omega (arith, v .few)) in
     let back : stored signed (row signed u) ≡ u = stored-row signed u (lt-of-lt-of-le small wide) in

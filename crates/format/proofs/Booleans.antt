@@ -12,7 +12,7 @@ use Rattle.format.specs.Digits.{AllBelow, digits}
 use Rattle.format.specs.Fields.{bytesFor}
 use Rattle.format.specs.Parse.{cut, Parsed, got, refused}
 use Rattle.format.specs.Booleans.{ByteRun, repeat, literals, ValidRun, AllValidRuns, Needed, runLayout, runBytes, byteCount, joinedRuns, joinedBytes, bits, booleansOf, byteRun, booleans}
-use Rattle.format.proofs.Digits.{length-digits, digits-below}
+use Rattle.format.proofs.Digits.{length-spread, digits-below}
 use Rattle.format.proofs.Posts.{Post, at-got, at-refused, of-got, Took}
 use Rattle.format.proofs.Below.{append-below, below-append, below-take}
 use Rattle.format.proofs.RunSound.{append-empty}
@@ -98,14 +98,7 @@ length-run (repeat count byte) = length-replicate count byte
 length-run (literals bs) = refl
 
 pub length-bits : (bs : List ℕ) → length (bits bs) ≡ 8 * length bs
-unfolding bits
-length-bits [] = refl
-length-bits (b ∷ bs) = rw (length-append, length-digits, length-bits bs) (omega arith)
-
-pub bits-append : (s t : List ℕ) → bits (s ++ t) ≡ bits s ++ bits t
-unfolding bits
-bits-append [] t = refl
-bits-append (b ∷ s) t = rw (append-assoc (digits 2 8 b) (bits s) (bits t)) (ap (λ (x : List ℕ). digits 2 8 b ++ x) (bits-append s t))
+length-bits bs = omega (arith, length-spread 2 8 bs)
 
 -- the runs that m bytes need have m bytes at least
 pub needed-enough : (m : ℕ) (ds : List ByteRun) → Needed m ds → m ≤ length (joinedBytes ds)
@@ -118,7 +111,6 @@ unfolding booleansOf
 length-booleans n ds e = length-take-le n (bits (joinedBytes ds)) (omega (arith, needed-enough (bytesFor n) ds e, length-bits (joinedBytes ds)))
 
 bits-below : (bs : List ℕ) → AllBelow 2 (bits bs)
-unfolding bits
 bits-below [] = tt
 bits-below (b ∷ bs) = below-append 2 (digits 2 8 b) (bits bs) (digits-below 2 (zero-lt-suc 1) 8 b) (bits-below bs)
 

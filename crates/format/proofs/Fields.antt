@@ -2,7 +2,7 @@
 -- Soundness is said by `Post`: what holds of a thing that was got, and of the bytes after it. Assumes nothing.
 use mathlib.Core.Path.{_≡_, refl, sym, ap}
 use Prim.Native.Nat.{ℕ, zero, suc, _+_, _*_, _/_, _^_, _<_, _≤_}
-use native.Mathlib.Nat.{mod-lt, div-lt-iff-lt-mul, div-add-mod', zero-lt-suc, lt-of-lt-of-le}
+use native.Mathlib.Nat.{mod-lt, div-lt-iff-lt-mul, div-add-mod', zero-lt-suc, lt-of-lt-of-le, mul-le-mul}
 use native.Mathlib.Omega.{arith}
 use mathlib.Core.List.{List, [], _∷_, _++_}
 use lib.ListN.{length, length-append, take-append-drop}
@@ -96,6 +96,10 @@ module _ (w n x : ℕ) (h : x < 256 ^ bytesFor (n * w)) where
 
   unpack-number : number (2 ^ w) (unpack w n x .values) * 2 ^ padBits w n + unpack w n x .pad ≡ x
   unpack-number = rw (number-digits (2 ^ w) (pow-pos w) n _ quotient-lt) (div-add-mod' x (2 ^ padBits w n))
+
+-- a run's block is small
+pub block-small : (n w : ℕ) → n ≤ 512 → w ≤ 64 → bytesFor (n * w) ≤ 4096
+block-small n w a b = omega (arith, mul-le-mul {n₂ = 512} {m₂ = 64} a b)
 
 -- any bytes of a block's size are a block
 pub any-block : (w n : ℕ) (s : List ℕ) → AllBelow 256 s → length s ≡ bytesFor (n * w) → IsBlock w n (unpack w n (number 256 s)) × (blockBytes w n (unpack w n (number 256 s)) ≡ s)

@@ -3,9 +3,10 @@ use mathlib.Core.Path.{_≡_, refl}
 use mathlib.Core.Bool.{Bool}
 use Prim.Native.Nat.{_+_, _*_, _≤_}
 use native.Mathlib.Omega.{arith}
-use mathlib.Core.List.{List, [], _∷_, _++_, append-assoc}
+use mathlib.Core.List.{List, [], _∷_, _++_, append-assoc, append-nil}
 use lib.ListN.{length, length-append}
-use Rattle.format.specs.Runs.{Description, layout, AllValid, joined}
+use Rattle.format.specs.Runs.{Description, layout, rowCount, AllValid, joined}
+use Rattle.format.specs.Rows.{i64Rows}
 use Rattle.format.specs.Streams.{totalRows, joinedRows}
 use Rattle.format.proofs.Rows.{row-bounds}
 use Rattle.format.proofs.Runs.{layout-pos}
@@ -26,6 +27,18 @@ pub rows-append : (signed : Bool) (ds es : List Description) → joinedRows sign
 unfolding joinedRows
 rows-append signed [] es = refl
 rows-append signed (d ∷ ds) es = rw (rows-append signed ds es, append-assoc)
+
+pub joined-snoc : (ds : List Description) (d : Description) → joined (ds ++ (d ∷ [])) ≡ joined ds ++ layout d
+unfolding joined
+joined-snoc ds d = rw (joined-append ds (d ∷ []), append-nil (layout d))
+
+pub total-snoc : (ds : List Description) (d : Description) → totalRows (ds ++ (d ∷ [])) ≡ totalRows ds + rowCount d
+unfolding totalRows
+total-snoc ds d = omega (arith, total-append ds (d ∷ []))
+
+pub rows-snoc : (signed : Bool) (ds : List Description) (d : Description) → joinedRows signed (ds ++ (d ∷ [])) ≡ joinedRows signed ds ++ i64Rows signed d
+unfolding joinedRows
+rows-snoc signed ds d = rw (rows-append signed ds (d ∷ []), append-nil (i64Rows signed d))
 
 pub valid-behind : (ds es : List Description) → AllValid (ds ++ es) → AllValid es
 valid-behind [] es v = v

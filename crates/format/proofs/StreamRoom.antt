@@ -35,9 +35,9 @@ more-room n m rest r b l e = go (outcome rest b) e
         absurd (omega arith)
     go (refusal {r = q} z) e = into-refused n q ∙ sym (into-refused m q) ∙ e
 
-some-bytes : (s : List ℕ) → s ≢ [] → 1 ≤ length s
-some-bytes [] h = absurd (h refl)
-some-bytes (x ∷ s) h = omega arith
+pub not-empty : (s : List ℕ) → s ≢ [] → 1 ≤ length s
+not-empty [] h = absurd (h refl)
+not-empty (x ∷ s) h = omega arith
 
 -- more room than enough changes nothing
 pub room-enough : (bs : List ℕ) → AllBelow 256 bs → (n : ℕ) → 512 * length bs ≤ n → readAll n bs ≡ stream bs
@@ -47,7 +47,7 @@ room-enough bs h n l = go (stream-post (512 * length bs) bs h)
     go : {m : Reading} → Reads (512 * length bs) bs m → readAll n bs ≡ m
     go (reads-whole {ds} v e t) = rw e (stream-whole n ds v (omega arith))
     go (reads-broken {ds} {r} {rest} v e t f) =
-        let enough : rest ≢ [] → 512 ≤ 512 * length bs - totalRows ds = λ z. omega (arith, rows-le ds v, length-append (joined ds) rest, ap length e, some-bytes rest z) in
+        let enough : rest ≢ [] → 512 ≤ 512 * length bs - totalRows ds = λ z. omega (arith, rows-le ds v, length-append (joined ds) rest, ap length e, not-empty rest z) in
         rw e
         (stream-broken n ds rest r v (omega arith)
         (more-room (n - totalRows ds) (512 * length bs - totalRows ds) rest r (behind-below 256 (joined ds) rest (rw e at h)) enough f))

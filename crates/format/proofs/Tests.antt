@@ -1,7 +1,7 @@
 -- Tests of lists and bounds, as Booleans and as facts. Assumes nothing.
 use mathlib.Core.Path.{_≡_, refl, ap, _∙_}
 use Prim.Native.Nat.{ℕ, zero, suc, _≤_}
-use mathlib.Core.Bool.{Bool, true, false, _&&_}
+use mathlib.Core.Bool.{Bool, true, false, not, _&&_, _||_}
 use mathlib.Core.List.{List, [], _∷_}
 use lib.Dec.{T, leb, ltb, eqb, leb→le, le→leb, ltb→lt, lt→ltb, eqb→eq, eqb-refl}
 use lib.ListN.{length, replicate}
@@ -21,6 +21,27 @@ and-e a b t = (and-left a b t, and-right a b t)
 pub T-true : (a : Bool) → T a → a ≡ true
 T-true true t = refl
 T-true false t = absurd t
+
+pub is-false : (a : Bool) → (T a → ⊥) → a ≡ false
+is-false true f = absurd (f tt)
+is-false false f = refl
+
+pub never-both : (a : Bool) → T a → T (not a) → ⊥
+never-both true t f = f
+never-both false t f = t
+
+-- of tests of which none passes, neither does
+pub not-left : (a b : Bool) → T (not (a || b)) → T (not a)
+not-left true b t = t
+not-left false b t = tt
+
+pub not-right : (a b : Bool) → T (not (a || b)) → T (not b)
+not-right true b t = absurd t
+not-right false b t = t
+
+pub and-false : (a : Bool) → a && false ≡ false
+and-false true = refl
+and-false false = refl
 
 pub between-le : (low high n : ℕ) → T (between low high n) → (low ≤ n) × (n ≤ high)
 between-le low high n t =

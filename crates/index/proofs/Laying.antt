@@ -1,16 +1,16 @@
 -- The rows of the run that holds the row, without the first few, and those of the runs behind it. Assumes nothing.
 use mathlib.Core.Path.{_≡_, refl, sym, ap, _∙_}
-use Prim.Native.Nat.{ℕ, _+_, _-_, _<_, _≤_}
+use Prim.Native.Nat.{ℕ, _+_, _-_, _≤_}
 use native.Mathlib.Omega.{arith}
 use mathlib.Core.Bool.{Bool}
-use mathlib.Core.List.{List, [], _∷_, _++_, append-assoc}
+use mathlib.Core.List.{List, _∷_, _++_}
 use lib.ListN.{length, take, drop, length-append, length-drop}
 use lib.Seq.{take-at, drop-at, drop-drop, drop-append-le}
 use lib.IntN.{ℤ}
-use Rattle.format.specs.Runs.{Description, rowCount, layout, AllValid, joined}
+use Rattle.format.specs.Runs.{Description, rowCount, layout, joined}
 use Rattle.format.specs.Rows.{i64Rows}
 use Rattle.format.specs.Parse.{got, parse, into}
-use Rattle.format.specs.Streams.{whole, readAll, runsOf, totalRows, joinedRows}
+use Rattle.format.specs.Streams.{whole, readAll, totalRows, joinedRows}
 use Rattle.format.specs.Promises.{runOf, answerOf, placesOf, Gives, StreamRead}
 use Rattle.format.specs.declared.Refusal.{Refusal}
 use Rattle.format.specs.declared.Run.{Run}

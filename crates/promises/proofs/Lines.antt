@@ -1,17 +1,17 @@
 -- From the line to the refusal, line by line. Assumes nothing.
-use mathlib.Core.Path.{_≡_, refl, ap, _∙_}
+use mathlib.Core.Path.{_≡_, ap, _∙_}
 use Prim.Native.Nat.{ℕ, _+_, _%_, _<_, _≤_}
 use native.Mathlib.Omega.{arith}
-use mathlib.Core.Bool.{Bool, true, false}
+use mathlib.Core.Bool.{true, false}
 use mathlib.Core.List.{List, [], _∷_, _++_}
 use lib.ListN.{length, drop}
-use lib.Dec.{T}
 use borrow.Author.Tests.{lt-ltb}
 use Rattle.format.specs.Fields.{width}
 use Rattle.format.specs.Runs.{rowCount, patches, tooLarge, outOfPlace}
 use Rattle.format.specs.Parse.{Reason, plain, cutIn, refused, codeOf, rowsLess, parse, into}
 use Rattle.format.proofs.RunComplete.{parse-complete}
 use Rattle.format.proofs.Streams.{into-refused}
+use Rattle.format.proofs.Tests.{T-true, is-false}
 use Rattle.promises.specs.Refusals
 use Rattle.promises.specs.Refusals.{Table, refusal-1, refusal-2, refusal-3, refusal-4, refusal-5, refusal-7, refusal-8, CutLine, Given, by-number, by-field}
 use Rattle.promises.specs.Refusals.{TenthAbove, Unended, Headed, PatchedRun, DeltaRun, magnitudeBytes, listFrom, listTo, entries, valueBytes, baseBytes}
@@ -23,14 +23,6 @@ use Rattle.promises.proofs.DeltaFate.{behind-one, behind-two, delta-4, 
 use Rattle.promises.proofs.Fated.{header-cut, two, four}
 
 -- ---- .. and from the line to the refusal
-
-is-true : (b : Bool) → T b → b ≡ true
-is-true true h = refl
-is-true false h = absurd h
-
-is-false : (b : Bool) → (T b → ⊥) → b ≡ false
-is-false true h = absurd (h tt)
-is-false false h = refl
 
 line-1 : (bs : List ℕ) → Refusals.Line1 bs → parse bs ≡ refused (plain 1)
 line-1 [] (h, l) = absurd (omega arith)
@@ -81,7 +73,7 @@ line-3 bs l =
     four (λ x. Refusals.Line3 x → parse x ≡ refused (plain 3))
     (λ a b c e s l.
     let (d, rest, f) = patched-all 0 a b c e s (l .0 .headed .is-kind) (l .0 .not-2) (l .1) in
-    let t : tooLarge (width (codeOf a)) (patches (width (c % 32)) (entries (a ∷ b ∷ c ∷ e ∷ s))) ≡ true = is-true _ (too-large _ _ _ .1 (l .2)) in
+    let t : tooLarge (width (codeOf a)) (patches (width (c % 32)) (entries (a ∷ b ∷ c ∷ e ∷ s))) ≡ true = T-true _ (too-large _ _ _ .1 (l .2)) in
     f ∙ rw t) bs (l .0 .headed .header) l
 
 line-7 : (bs : List ℕ) → Refusals.Line7 bs → parse bs ≡ refused (plain 7)
@@ -90,7 +82,7 @@ line-7 bs l =
     (λ a b c e s l.
     let (d, rest, f) = patched-all 0 a b c e s (l .0 .headed .is-kind) (l .0 .not-2) (l .1) in
     let t : tooLarge (width (codeOf a)) (patches (width (c % 32)) (entries (a ∷ b ∷ c ∷ e ∷ s))) ≡ false = is-false _ (λ h. l .2 (too-large _ _ _ .0 h)) in
-    let u : outOfPlace (width (c % 32)) (rowsLess a b + 1) (entries (a ∷ b ∷ c ∷ e ∷ s)) ≡ true = is-true _ (out-of-place _ _ _ .1 (l .3)) in
+    let u : outOfPlace (width (c % 32)) (rowsLess a b + 1) (entries (a ∷ b ∷ c ∷ e ∷ s)) ≡ true = T-true _ (out-of-place _ _ _ .1 (l .3)) in
     f ∙ rw (t, u)) bs (l .0 .headed .header) l
 
 line-8 : (places : ℕ) (bs : List ℕ) → Refusals.Line8 places bs → into places (parse bs) ≡ refused (plain 8)

@@ -20,10 +20,11 @@ use Rattle.format.proofs.Fields.{any-block}
 use Rattle.format.proofs.RunComplete.{noList, patched-read}
 use Rattle.format.proofs.Rows.{i64-count}
 use Rattle.format.proofs.Streams.{into-got, into-refused}
+use Rattle.format.proofs.Tests.{never-both, not-left, not-right}
 use Rattle.promises.specs.PatchLists
 use Rattle.promises.specs.PatchLists.{Names, LastIsSkip, TooLarge, OutOfPlace, Patched, PatchLists}
 use Rattle.promises.proofs.Sums.{sums}
-use Rattle.promises.proofs.PatchNames.{or-cases, or-left, or-right, not-left, not-right, either, never-both, at-limit, past, rest, From, from-here, from-there, from-back, from-zero, of-skip, of-entry, some-names, names-some, names-taken, shared-names, names-shared}
+use Rattle.promises.proofs.PatchNames.{or-cases, or-left, or-right, either, at-limit, past, rest, From, from-here, from-there, from-back, from-zero, of-skip, of-entry, some-names, names-some, names-taken, shared-names, names-shared}
 
 -- ---- the last entry, and the patch at a place
 

@@ -11,6 +11,7 @@ use borrow.Author.Tests.{eq-eqb}
 use Rattle.format.specs.Fields.{pick}
 use Rattle.format.specs.Runs.{Patch, patchOf, gapOf, isSkip, patchesFrom, taken, shared, patchLimit}
 use Rattle.format.proofs.RunComplete.{limit-is}
+use Rattle.format.proofs.Tests.{never-both}
 use Rattle.promises.specs.PatchLists.{placeOf}
 
 -- ---- tests
@@ -27,21 +28,9 @@ pub or-right : (a b : Bool) → T b → T (a || b)
 or-right true b h = tt
 or-right false b h = h
 
-pub not-left : (a b : Bool) → T (not (a || b)) → T (not a)
-not-left true b h = h
-not-left false b h = tt
-
-pub not-right : (a b : Bool) → T (not (a || b)) → T (not b)
-not-right true b h = absurd h
-not-right false b h = h
-
 pub either : (b : Bool) → T b ⊎ T (not b)
 either true = inl tt
 either false = inr tt
-
-pub never-both : (b : Bool) → T b → T (not b) → ⊥
-never-both true h k = k
-never-both false h k = h
 
 same : (a b : ℕ) → a ≡ b → T (eqb a b)
 same a b e = rw (eq-eqb a b e) tt

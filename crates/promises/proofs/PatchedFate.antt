@@ -12,10 +12,10 @@ use Rattle.format.specs.Runs.{Description, patched, patches, tooLarge, outOfPla
 use Rattle.format.specs.Parse
 use Rattle.format.specs.Parse.{plain, cutIn, got, refused, unless, codeOf, rowsLess, parse}
 use Rattle.format.proofs.Reading.{bytes-here, bytes-cut, blockAt, block-here, block-cut}
+use Rattle.format.proofs.Tests.{never-both}
 use Rattle.promises.specs.Refusals
 use Rattle.promises.specs.Refusals.{refusal-2, refusal-3, refusal-7, by-number, by-field}
 use Rattle.promises.specs.Refusals.{PatchedRun, listFrom, listTo, entries}
-use Rattle.promises.proofs.PatchNames.{never-both}
 use Rattle.promises.proofs.PatchLists.{too-large, out-of-place}
 use Rattle.promises.proofs.Fates.{Fate, a-run, by-line}
 

@@ -28,7 +28,7 @@ use Rattle.format.proofs.Writing.{patterns-lt, patterns-back}
 use Rattle.format.proofs.Widths.{and-left, and-right}
 use Rattle.format.specs.Kept.{isKeptWidth}
 use Rattle.format.specs.PatchedWriting.{Parts, run, parts, headerHolds, writingPatched, PatchedWritten}
-use Rattle.promises.specs.Patched.{Describes, PatchedMeaning, Some, written, PatchedTable, PatchedTableHolds, PatchedReadsBack}
+use Rattle.promises.specs.Patched.{Describes, PatchedMeaning, Some, PatchedTable, PatchedTableHolds, PatchedReadsBack}
 use Rattle.promises.proofs.Patched.{patched-meaning}
 
 -- what is written, by the three tests

@@ -1,5 +1,5 @@
 -- Rows are whole-number sums modulo 2^64. Assumes nothing.
-use mathlib.Core.Path.{_≡_, refl, sym, ap, _∙_}
+use mathlib.Core.Path.{_≡_, refl, ap, _∙_}
 use Prim.Native.Nat.{ℕ, zero, suc, _+_, _-_, _*_, _%_, _^_, _<_, _≤_}
 use native.Mathlib.Nat.{suc-mul, mod-lt, zero-mul, lt-of-lt-of-le, mod-mod, mod-add-mod, add-mod-mod}
 use native.Mathlib.Omega.{arith}

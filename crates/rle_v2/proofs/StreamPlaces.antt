@@ -21,9 +21,10 @@ use Rattle.format.specs.declared.LastRun.the-variants as last-run
 use Rattle.format.proofs.Runs.{parse-empty}
 use Rattle.format.proofs.Rows.{i64-count}
 use Rattle.format.proofs.Streams.{into-end}
+use Rattle.format.proofs.Joined.{rows-snoc}
 use Rattle.util.proofs.Grow.{back-is, front-is, kept-by, long-by}
 use Rattle.rle_v2.proofs.OneRun.{OneRun, NoRun, Step, step-is}
-use Rattle.rle_v2.proofs.StreamWalk.{rows-snoc, Counted, counted-first, counted-run, is-whole, counted-whole, is-broken, counted-refused}
+use Rattle.rle_v2.proofs.StreamWalk.{Counted, counted-first, counted-run, is-whole, counted-whole, is-broken, counted-refused}
 
 -- ---- the stream reader's places
 

@@ -4,12 +4,10 @@ use mathlib.Core.Path.{_≡_, refl, sym, ap, _∙_}
 use Prim.Native.Nat.{ℕ, suc, _+_, _-_, _<_, _≤_}
 use native.Mathlib.Nat.{sub-zero, le-refl}
 use native.Mathlib.Omega.{arith}
-use mathlib.Core.Bool.{Bool}
-use mathlib.Core.List.{List, [], _∷_, _++_, append-nil}
+use mathlib.Core.List.{List, [], _∷_, _++_}
 use lib.ListN.{length, drop, length-append, length-drop}
-use Rattle.format.specs.Runs.{Description, rowCount, layout, joined}
-use Rattle.format.specs.Rows.{i64Rows}
-use Rattle.format.specs.Streams.{Reading, whole, broken, after, runsFrom, readAll, totalRows, joinedRows}
+use Rattle.format.specs.Runs.{Description, layout, joined}
+use Rattle.format.specs.Streams.{Reading, whole, broken, after, runsFrom, readAll, totalRows}
 use Rattle.format.specs.Answers.{readWhole, brokeAt}
 use Rattle.format.specs.Promises.{lastOf, streamAnswer}
 use Rattle.format.specs.declared.Refusal.{Refusal}
@@ -18,22 +16,10 @@ use Rattle.format.specs.declared.LastRun.{LastRun}
 use Rattle.format.specs.declared.LastRun.the-variants as last-run
 use Rattle.format.proofs.Runs.{layout-pos}
 use Rattle.format.proofs.Streams.{afterAll, after-whole, after-broken, stops-empty, stops-refused, sub-sub, last-snoc}
-use Rattle.format.proofs.Joined.{total-append, joined-append, rows-append}
+use Rattle.format.proofs.Joined.{joined-snoc, total-snoc}
 use Rattle.rle_v2.proofs.OneRun.{OneRun, NoRun}
 
 -- ---- the loop: one run more
-
-joined-snoc : (ds : List Description) (d : Description) → joined (ds ++ (d ∷ [])) ≡ joined ds ++ layout d
-unfolding joined
-joined-snoc ds d = rw (joined-append ds (d ∷ []), append-nil (layout d))
-
-total-snoc : (ds : List Description) (d : Description) → totalRows (ds ++ (d ∷ [])) ≡ totalRows ds + rowCount d
-unfolding totalRows
-total-snoc ds d = omega (arith, total-append ds (d ∷ []))
-
-pub rows-snoc : (signed : Bool) (ds : List Description) (d : Description) → joinedRows signed (ds ++ (d ∷ [])) ≡ joinedRows signed ds ++ i64Rows signed d
-unfolding joinedRows
-rows-snoc signed ds d = rw (rows-append signed ds (d ∷ []), append-nil (i64Rows signed d))
 
 pub after-snoc : (ds : List Description) (d : Description) (r : Reading) → afterAll (ds ++ (d ∷ [])) r ≡ afterAll ds (after d r)
 after-snoc [] d r = refl

@@ -10,19 +10,16 @@ use lib.Dec.{ltb, eqb}
 use lib.IntN.{ℤ}
 use borrow.Author.Tests.{ltb-false, eq-eqb, ne-eqb}
 use Rattle.text.specs.Written.{TextWritten}
-use Rattle.text.proofs.Texts.{none-written, then-written}
+use Rattle.text.proofs.Texts.{none-written, then-written, from-first}
 use Rattle.salvage.specs.declared.Outcome.{Outcome}
 use Rattle.salvage.specs.Salvage.{startsRight, salvaged, line, report, Call, refused, written, unless, salvaging, writtenOf, refusedWith, Salvaged}
 use Rattle.salvage.specs.Steps.{made, roomFor}
 use Rattle.salvage.specs.Laws.{RightStarts, Room}
-use Rattle.salvage.proofs.Tests.{T-true}
 use Rattle.salvage.proofs.Walking.{groups-end}
 use Rattle.salvage.proofs.Turning.{gs, new, text, Turn, stream-next, lines-next}
+use Rattle.format.proofs.Tests.{T-true}
 
 -- what is written from the first byte on
-from-first : {t out out′ : List ℕ} {r : ℕ} → TextWritten t out 0 out′ r → (r ≡ length t) × (out′ ≡ t ++ drop (length t) out)
-from-first {t} w = let e : 0 + length t ≡ length t = omega arith in (rw e at (w .next), rw e at (w .places))
-
 either : (a b : Bool) → not (a || b) ≡ true → (a ≡ false) × (b ≡ false)
 either true b e = let z : _≡_ {A = ℕ} 0 1 = cc in absurd (omega arith)
 either false true e = let z : _≡_ {A = ℕ} 0 1 = cc in absurd (omega arith)

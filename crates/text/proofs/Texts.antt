@@ -1,7 +1,7 @@
 -- Texts written one after the other are the joined text; the digits of a number, the characters of a row, and how many they are.
 -- Assumes nothing.
 use mathlib.Core.Path.{_≡_, refl, sym, ap, _∙_}
-use Prim.Native.Nat.{ℕ, zero, suc, _+_, _-_, _*_, _/_, _%_, _^_, _<_, _≤_}
+use Prim.Native.Nat.{ℕ, zero, suc, _+_, _-_, _/_, _%_, _^_, _<_, _≤_}
 use native.Mathlib.Omega.{arith}
 use native.Mathlib.Decide.{decLt}
 use native.Mathlib.Nat.{pow-suc}
@@ -55,6 +55,10 @@ written-fits {t} {out} {out′} {at} {r} h w =
       length-take-le at out h,
     )
 
+-- a text that stands in the first bytes
+pub from-first : {t out out′ : List ℕ} {r : ℕ} → TextWritten t out 0 out′ r → (r ≡ length t) × (out′ ≡ t ++ drop (length t) out)
+from-first {t} w = let e : 0 + length t ≡ length t = omega arith in (rw e at (w .next), rw e at (w .places))
+
 -- ---- decimal
 
 module _ (k x : ℕ) where
@@ -64,7 +68,7 @@ module _ (k x : ℕ) where
       let e : x % 10 ≡ x = omega arith in
       rw (lt-ltb x 10 h, e)
 
-  decimal-more : 10 ≤ x → decimalIn (suc k) x ≡ decimalIn k (x / 10) ++ ((48 + x % 10) ∷ [])
+  pub decimal-more : 10 ≤ x → decimalIn (suc k) x ≡ decimalIn k (x / 10) ++ ((48 + x % 10) ∷ [])
   unfolding decimalIn
   decimal-more h = rw (le-ltb x 10 h)
 
@@ -94,7 +98,7 @@ module _ (x : ℕ) where
   pub decimal-longer : 10 ≤ x → x < two64 → length (decimal x) ≡ length (decimal (x / 10)) + 1
   decimal-longer h l = ap length (decimal-next h l) ∙ length-append (decimal (x / 10)) ((48 + x % 10) ∷ [])
 
-decimalIn-length : (k x : ℕ) → length (decimalIn k x) ≤ k
+pub decimalIn-length : (k x : ℕ) → length (decimalIn k x) ≤ k
 unfolding decimalIn
 decimalIn-length zero x = omega arith
 decimalIn-length (suc k) x = by (ltb x 10) (decimalIn-length k (x / 10))

@@ -16,11 +16,8 @@ use lib.Pow.{pow-pos}
 use borrow.Author.Tests.{lt-ltb, le-ltb, eq-eqb, ne-eqb}
 use Rattle.format.specs.Rows.{asU64}
 use Rattle.format.specs.Writing.{minus, stepTo, stepsOf, baseDelta, every}
+use Rattle.format.proofs.Tests.{and-false}
 use Rattle.writer.specs.PatchedBase.{Largest}
-
-pub and-false : (b : Bool) → b && false ≡ false
-and-false true = refl
-and-false false = refl
 
 pub and-true : (b : Bool) → b && true ≡ b
 and-true true = refl

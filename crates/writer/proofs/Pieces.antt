@@ -1,14 +1,13 @@
 -- Bytes written one piece after another, the size of a block, and what a form allows. Assumes nothing.
 use mathlib.Core.Path.{_≡_, refl, sym, _∙_}
-use Prim.Native.Nat.{ℕ, _+_, _*_, _≤_}
-use native.Mathlib.Nat.{mul-le-mul}
+use Prim.Native.Nat.{ℕ, _+_, _≤_}
 use native.Mathlib.Omega.{arith}
 use mathlib.Core.Bool.{true, _&&_}
 use mathlib.Core.List.{List, [], _∷_, _++_}
 use lib.Dec.{leb, leb→le}
 use lib.ListN.{length, drop, take, set, length-append}
 use lib.Seq.{take-at, drop-append-add, drop-drop}
-use Rattle.format.specs.Fields.{width, bytesFor}
+use Rattle.format.specs.Fields.{width}
 use Rattle.format.specs.Kept.{isKept}
 use Rattle.format.specs.Writing.{between}
 use Rattle.format.proofs.Kept.{kept-code}
@@ -50,9 +49,6 @@ behind p q before out out′ at k n l e f =
 
 pub width-known : {bits : ℕ} (code : ℕ) → bits ≡ width code → IsWidth bits
 width-known code e = rw e (width-is code)
-
-pub block-small : (n bits : ℕ) → n ≤ 512 → bits ≤ 64 → bytesFor (n * bits) ≤ 4096
-block-small n bits a b = omega (arith, mul-le-mul {n₂ = 512} {m₂ = 64} a b)
 
 -- ---- what a form allows, in numbers
 

@@ -14,7 +14,7 @@ use Rattle.format.specs.Rows.{asU64}
 use Rattle.format.specs.Parse.{Parsed, got, refused, plain}
 use Rattle.format.specs.Promises.{answerOf, kindOf, widthOf}
 use Rattle.format.specs.Writing.{countAllowed, haveForm, widthAllowed, fitWidth, described, writing, bytesIn, Written}
-use Rattle.writer.proofs.Laws.{and-false}
+use Rattle.format.proofs.Tests.{and-false}
 
 pub and-same : (b : Bool) → b && b ≡ b
 and-same true = refl

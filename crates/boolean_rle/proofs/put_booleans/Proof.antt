@@ -25,8 +25,8 @@ abbrev μ-loop : tie.MeasureT-loop
 
 -- the run that was found
 run-here : (c : tie.After-known-told Inv-loop μ-loop)
-    → (d : ByteRun) × Here (now (c .before .before .before .before .before .before .before .before .args .input))
-    (c .before .before .before .before .before .loop .place) (c .before .run .given .0 .0) d
+    → let l = c .before .before .before .before .before in
+    (d : ByteRun) × Here (now (l .before .before .before .args .input)) (l .loop .place) (c .before .run .given .0 .0) d
 run-here c =
     let r = c .before in
     let l = r .before .before .before .before in

@@ -20,8 +20,8 @@ abbrev μ-loop : tie.MeasureT-loop
 
 -- the run that was found
 run-here : (c : tie.After-struct-known Inv-loop μ-loop)
-    → (d : ByteRun) × Here (now (c .before .before .before .before .before .before .before .before .before .args .input))
-    (c .before .before .before .before .before .before .loop .end) (c .before .before .run .given .0 .0) d
+    → let l = c .before .before .before .before .before .before in
+    (d : ByteRun) × Here (now (l .before .before .before .args .input)) (l .loop .end) (c .before .before .run .given .0 .0) d
 run-here c =
     let r = c .before .before in
     let l = r .before .before .before .before in
@@ -45,8 +45,9 @@ loop-less c = omega (arith, run-here (c .before) .1 .some)
 
 loop-again : tie.Need-loop-again Inv-loop μ-loop
 loop-again c =
+    let back-6 = c .before .before .before .before .before .before in
     let h = run-here (c .before) in
-    let l = c .before .before .before .before .before .before .before in
+    let l = back-6 .before in
     rw (c .less .ensures)
     (pass (now (l .before .before .before .args .input)) _ _ (l .loop .end) (l .loop .left) _ (h .0) (h .1) (omega arith) (l .loop .inv))
 

@@ -7,15 +7,17 @@ use Rattle.convert.proofs.convert.Tie as tie
 
 returns : tie.Need-returns
 returns c =
-    let x = c .before .before .before .before .before .before .before .before in
-    let a = c .before .before .before .before .before .before .before .before .before .before .before .before .args in
+    let back-6 = c .before .before .before .before .before .before in
+    let x = back-6 .before .before in
+    let a = back-6 .before .before .before .before .before .before .args in
     let w = x .walk .ensures in
     converts-done (a .signed) (now (a .input)) (now (a .out)) _ _ _ w _ (c .before .before .before .before .enum-told .given .1) _ _ _ (back-none (now (a .out)) (x .walk .last .1 .1 .1 .0) (w .long)) (c .before .before .walk2 .ensures)
 
 returns-2 : tie.Need-returns-2
 returns-2 c =
+    let back-6 = c .before .before .before .before .before .before in
     let x = c .before .before .before .before .before in
-    let a = c .before .before .before .before .before .before .before .before .before .args in
+    let a = back-6 .before .before .before .args in
     let w = x .walk .ensures in
     converts-refused (a .signed) (now (a .input)) (now (a .out)) _ _ _ w _ (c .before .first .given .1) _ (back-none (now (a .out)) (x .walk .last .1 .1 .1 .0) (w .long))
 

@@ -1,5 +1,4 @@
 -- `lay` meets its contract. Assumes nothing.
-use native.Mathlib.Omega.{arith}
 use denote.Ref.{now}
 use borrow.Author.Needs.{needs}
 use Rattle.convert.proofs.Lays.{lays-full, lays-over, lays-more}

@@ -18,56 +18,65 @@ abbrev μ-loop : tie.MeasureT-loop
 μ-loop input signed room out₀ p₀ altered₀ at₀ out p altered at = length input - p
 
 -- the run of a turn
-turned : (m : tie.After-step Inv-loop μ-loop) → let x = m .before .before .before in let l = x .before .before .before .before .loop in let a = x .before .before .before .before .before .before .before .args in
+turned : (m : tie.After-step Inv-loop μ-loop) → let back-6 = m .before .before .before .before .before .before in let x = m .before .before .before in let l = x .before .before .before .before .loop in let a = back-6 .before .before .before .before .args in
     Turned (a .signed) (now (a .input)) (l .p) (x .convert-run .last .1 .1 .1 .0) (m .step .given .0 .0)
 turned m = rw (m .step .given .1) at (m .before .before .before .convert-run .ensures)
 
 lay-requires : tie.Need-lay-requires Inv-loop μ-loop
 lay-requires c κs =
     let m = c .before .before .before in
-    (omega (arith, turned m .small), m .before .before .before .before .before .before .before .loop .inv .fill .end-in)
+    (omega (arith, turned m .small), (let back-6 = c .before .before .before .before .before .before in back-6 .before .before .before .before .loop .inv .fill .end-in))
 
 add-altered : tie.Need-add-altered Inv-loop μ-loop
 add-altered c =
-    let m = c .before .before .before .before .before .before .before in
-    omega (arith, c .count .ensures, counted-le (m .step .given .0 .0 .odd), m .before .before .before .before .before .before .before .loop .inv .few, m .before .before .before .before .before .before .loop-test .taken)
+    let m = (let back-6 = c .before .before .before .before .before .before in back-6 .before) in
+    omega (arith, c .count .ensures, counted-le (m .step .given .0 .0 .odd), (let back-6 = c .before .before .before .before .before .before in let back-12 = back-6 .before .before .before .before .before .before in back-12 .before .before .loop .inv .few), m .before .before .before .before .before .before .loop-test .taken)
 
 add-p : tie.Need-add-p Inv-loop μ-loop
-add-p c = omega (arith, turned (c .before .before .before .before .before .before .before .before) .within)
+add-p c =
+    omega (arith, turned (let back-6 = c .before .before .before .before .before .before in back-6 .before .before) .within)
 
 loop-less : tie.Need-loop-less Inv-loop μ-loop
 loop-less c =
-    let m = c .before .before .before .before .before .before .before .before in
+    let m = (let back-6 = c .before .before .before .before .before .before in back-6 .before .before) in
     let u = turned m in
     omega (arith, u .within, u .taken-is, layout-pos (u .which), m .before .before .before .before .before .before .loop-test .taken)
 
 loop-again : tie.Need-loop-again Inv-loop μ-loop
 loop-again c =
-    let m = c .before .before .before .before .before .before .before .before in
-    let l = m .before .before .before .before .before .before .before .loop in
-    let a = m .before .before .before .before .before .before .before .before .before .before .args in
+    let back-6 = c .before .before .before .before .before .before in
+    let back-12 = back-6 .before .before .before .before .before .before in
+    let m = back-6 .before .before in
+    let l = back-12 .before .before .before .loop in
+    let a = back-12 .before .before .before .before .before .before .args in
     rw (c .before .count .ensures)
     (along-next (a .signed) (now (a .input)) (a .room) (now (a .out)) (l .out) (l .p) (l .altered) (l .at) (l .inv) _ _ _ _ (turned m) (c .before .before .before .before .lay .ensures))
 
 same-length : tie.Need-same-length Inv-loop μ-loop
-same-length c = c .before .before .before .before .before .before .before .before .loop .inv .long
+same-length c =
+    let back-6 = c .before .before .before .before .before .before in
+    back-6 .before .before .loop .inv .long
 
 returns : tie.Need-returns Inv-loop μ-loop
 returns c =
+    let back-6 = c .before .before .before .before .before .before in
     let x = c .before .before .before .before in
     let l = x .before .before .before .before .loop in
-    let a = x .before .before .before .before .before .before .before .args in
+    let a = back-6 .before .before .before .before .before .args in
     along-refused (a .signed) (now (a .input)) (a .room) (now (a .out)) (l .out) (l .p) (l .altered) (l .at) (l .inv) _
     (below-all 256 (now (a .input)) (λ i. x .before .before .before .before .before .before .shared-slice-known .given i .fits)) (rw (c .before .step2 .given .1) at (x .convert-run .ensures))
 
 same-length-2 : tie.Need-same-length-2 Inv-loop μ-loop
-same-length-2 c = c .before .before .before .before .before .before .before .before .loop .inv .long
+same-length-2 c =
+    let back-6 = c .before .before .before .before .before .before in
+    back-6 .before .before .loop .inv .long
 
 returns-2 : tie.Need-returns-2 Inv-loop μ-loop
 returns-2 c =
+    let back-6 = c .before .before .before .before .before .before in
     let x = c .before .before .before .before in
     let l = x .before .before .before .before .loop in
-    let a = x .before .before .before .before .before .before .before .args in
+    let a = back-6 .before .before .before .before .before .args in
     rw (c .finish .ensures)
     (along-end (a .signed) (now (a .input)) (a .room) (now (a .out)) (l .out) (l .p) (l .altered) (l .at) (l .inv) (rw (c .before .enum-told .given .1) at (x .convert-run .ensures)))
 

@@ -1,5 +1,4 @@
 -- What the walk found is answered, and the columns are filled where there is room for all of it. Assumes nothing.
-use mathlib.Core.Path.{_≡_, sym, _∙_}
 use borrow.Author.Needs.{needs}
 use Rattle.format.proofs.Below.{below-all}
 use Rattle.index.proofs.Builds.{Found, what-found, Whole, unequal-offsets, unequal-counts, own-so, past-so, few-so, roomy-so, built-so}
@@ -7,13 +6,13 @@ use Rattle.index.proofs.build.Statement.{statement}
 use Rattle.index.proofs.build.Tie as tie
 
 -- what the walk found, and the case of a whole stream
-found : (x : tie.After-whole-of) → let a = x .before .before .before .before .before .before .before .args in Found (a .input .now) (x .whole-of .result)
+found : (x : tie.After-whole-of) → let back-6 = x .before .before .before .before .before .before in let a = back-6 .before .args in Found (a .input .now) (x .whole-of .result)
 found x =
     let k = x .before .before .before .before .before .before in
     let a = k .before .args in
     what-found (a .input .now) _ (below-all 256 (a .input .now) (λ i. k .shared-slice-known .given i .fits)) (x .whole-of .ensures)
 
-whole : (m : tie.After-runs) → let a = m .before .before .before .before .before .before .before .before .before .args in Whole (a .input .now) (m .runs .given .0 .0) (m .runs .given .0 .1 .0)
+whole : (m : tie.After-runs) → let back-6 = m .before .before .before .before .before .before in let a = back-6 .before .before .before .args in Whole (a .input .now) (m .runs .given .0 .0) (m .runs .given .0 .1 .0)
 whole m = rw (m .runs .given .1) at (found (m .before .before))
 
 returns : tie.Need-returns
@@ -23,7 +22,8 @@ returns c =
 
 returns-2 : tie.Need-returns-2
 returns-2 c =
-    let a = c .before .before .before .before .before .before .before .args in
+    let back-6 = c .before .before .before .before .before .before in
+    let a = back-6 .before .args in
     rw (c .refused2 .ensures) (unequal-counts (a .input .now) (a .first .now) (a .at .now) (a .counts .now) (c .before .if2 .taken))
 
 returns-3 : tie.Need-returns-3
@@ -58,7 +58,8 @@ returns-5 c =
 
 returns-6 : tie.Need-returns-6
 returns-6 c =
-    let f = c .before .before .before .before .before .before .before in
+    let back-6 = c .before .before .before .before .before .before in
+    let f = back-6 .before in
     let o = f .before .before .before .before in
     let t = o .before .before in
     let m = t .before .before .before in

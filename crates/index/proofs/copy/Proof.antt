@@ -2,10 +2,10 @@
 use mathlib.Core.Path.{_≡_, _∙_}
 use Prim.Native.Nat.{_+_, _-_, _≤_}
 use native.Mathlib.Omega.{arith}
-use mathlib.Core.List.{[], _++_}
+use mathlib.Core.List.{_++_}
 use lib.ListN.{length, take, drop, length-set}
 use mir.Facts.{toZ-ofZ}
-use borrow.Author.Needs.{needs, sfits-of}
+use borrow.Author.Needs.{sfits-of}
 use Rattle.util.proofs.Grow.{kept}
 use Rattle.index.proofs.Lists.{copy-first, copy-next, copy-last}
 use Rattle.index.proofs.copy.Statement.{statement}

@@ -1,5 +1,5 @@
 -- The run's rows are read aside, those from the row on are copied, and the runs behind it are read behind them. Assumes nothing.
-use mathlib.Core.Path.{_≡_, sym, ap, _∙_}
+use mathlib.Core.Path.{_≡_, ap}
 use Prim.Native.Nat.{ℕ, _+_, _-_}
 use mathlib.Core.List.{_++_}
 use native.Mathlib.Omega.{arith}
@@ -13,14 +13,14 @@ use Rattle.index.proofs.lay.Statement.{statement}
 use Rattle.index.proofs.lay.Tie as tie
 
 -- what the run reader gave
-rows : (m : tie.After-a) → let b = m .before .before .before .before .before .before .before in m .a .given .0 .0 .rows .rows ≡ rowCount (b .pre .run)
+rows : (m : tie.After-a) → let back-6 = m .before .before .before .before .before .before in let b = back-6 .before in m .a .given .0 .0 .rows .rows ≡ rowCount (b .pre .run)
 rows m =
     let x = m .before .before .before in
     let b = x .before .before .before .before in
     let a = b .args in
     rows-are (a .input .now) (a .at) (a .skip) (a .signed) (a .out .now) (b .pre) _ _ _ (x .before .before .scratch .ensures) (x .read-run .ensures) _ (m .a .given .1)
 
-consumed : (m : tie.After-a) → let b = m .before .before .before .before .before .before .before in m .a .given .0 .0 .consumed .bytes ≡ length (layout (b .pre .run))
+consumed : (m : tie.After-a) → let back-6 = m .before .before .before .before .before .before in let b = back-6 .before in m .a .given .0 .0 .consumed .bytes ≡ length (layout (b .pre .run))
 consumed m =
     let x = m .before .before .before in
     let b = x .before .before .before .before in
@@ -35,7 +35,9 @@ held x =
     held-is (a .input .now) (a .at) (a .skip) (a .signed) (a .out .now) (b .pre) _ _ _ (x .before .before .scratch .ensures) (x .read-run .ensures)
 
 sub-n : tie.Need-sub-n
-sub-n c = let m = c .before .before .before .before in let b = m .before .before .before .before .before .before .before in omega (arith, rows m, b .pre .skips)
+sub-n c =
+    let back-6 = c .before .before .before .before .before .before in
+    let m = c .before .before .before .before in let b = back-6 .before .before .before .before .before in omega (arith, rows m, b .pre .skips)
 
 copy-requires : tie.Need-copy-requires
 copy-requires c κs =
@@ -49,7 +51,8 @@ copy-requires c κs =
 
 add-read-stream : tie.Need-add-read-stream
 add-read-stream c =
-    let m = c .before .before .before .before .before .before .before .before .before in
+    let back-6 = c .before .before .before .before .before .before in
+    let m = back-6 .before .before .before in
     let x = m .before .before .before in
     let b = x .before .before .before .before in
     let a = b .args in
@@ -57,7 +60,8 @@ add-read-stream c =
 
 mul-read-stream : tie.Need-mul-read-stream
 mul-read-stream c =
-    let m = c .before .before .before .before .before .before .before .before .before in
+    let back-6 = c .before .before .before .before .before .before in
+    let m = back-6 .before .before .before in
     let x = m .before .before .before in
     let b = x .before .before .before .before in
     let a = b .args in
@@ -65,7 +69,8 @@ mul-read-stream c =
 
 sub-read-stream : tie.Need-sub-read-stream
 sub-read-stream c =
-    let m = c .before .before .before .before .before .before .before .before .before in
+    let back-6 = c .before .before .before .before .before .before in
+    let m = back-6 .before .before .before in
     let x = m .before .before .before in
     let b = x .before .before .before .before in
     let a = b .args in
@@ -73,7 +78,8 @@ sub-read-stream c =
 
 part-read-stream-start : tie.Need-part-read-stream-start
 part-read-stream-start c =
-    let m = c .before .before .before .before .before .before .before .before .before in
+    let back-6 = c .before .before .before .before .before .before in
+    let m = back-6 .before .before .before in
     let x = m .before .before .before in
     let b = x .before .before .before .before in
     let a = b .args in
@@ -81,8 +87,9 @@ part-read-stream-start c =
 
 returns : tie.Need-returns
 returns c =
+    let back-6 = c .before .before .before .before .before .before in
     let p = c .before .before .before .before .before in
-    let m = p .before .before .before .before .before .before .before in
+    let m = back-6 .before .before .before .before .before .before in
     let x = m .before .before .before in
     let b = x .before .before .before .before in
     let a = b .args in

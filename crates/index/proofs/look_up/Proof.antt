@@ -1,7 +1,7 @@
 -- Each test of the columns, in the order of the refusals. Assumes nothing.
 use mathlib.Core.Path.{sym, _∙_}
 use borrow.Author.Needs.{needs}
-use Rattle.index.proofs.Walks.{not-yes, not-no}
+use borrow.Author.Tests.{not-true, not-false}
 use Rattle.index.proofs.LookUps.{unequal-offsets, unequal-counts, wrong-so, none-so, found-so}
 use Rattle.index.proofs.look_up.Statement.{statement}
 use Rattle.index.proofs.look_up.Tie as tie
@@ -13,7 +13,8 @@ returns c =
 
 returns-2 : tie.Need-returns-2
 returns-2 c =
-    let a = c .before .before .before .before .before .before .before .args in
+    let back-6 = c .before .before .before .before .before .before in
+    let a = back-6 .before .args in
     c .refused2 .ensures ∙ unequal-counts (a .input .now) (a .first .now) (a .at .now) (a .counts .now) (a .row .rows) (c .before .if2 .taken)
 
 returns-3 : tie.Need-returns-3
@@ -21,7 +22,7 @@ returns-3 c =
     let x = c .before .before in
     let e = x .before in
     let a = e .before .before .before .before .before .before .args in
-    c .refused3 .ensures ∙ wrong-so (a .input .now) (a .first .now) (a .at .now) (a .counts .now) (a .row .rows) (e .before .if1 .left) (e .if2 .left) (sym (x .right .ensures) ∙ not-yes (x .right .result) (c .before .if3 .taken))
+    c .refused3 .ensures ∙ wrong-so (a .input .now) (a .first .now) (a .at .now) (a .counts .now) (a .row .rows) (e .before .if1 .left) (e .if2 .left) (sym (x .right .ensures) ∙ not-true (x .right .result) (c .before .if3 .taken))
 
 returns-4 : tie.Need-returns-4
 returns-4 c =
@@ -30,7 +31,7 @@ returns-4 c =
     let e = x .before in
     let a = e .before .before .before .before .before .before .args in
     c .refused4 .ensures
-    ∙ none-so (a .input .now) (a .first .now) (a .at .now) (a .counts .now) (a .row .rows) (e .before .if1 .left) (e .if2 .left) (sym (x .right .ensures) ∙ not-no (x .right .result) (p .before .if3 .left)) _ (p .place-of .ensures) (c .before .if4 .taken)
+    ∙ none-so (a .input .now) (a .first .now) (a .at .now) (a .counts .now) (a .row .rows) (e .before .if1 .left) (e .if2 .left) (sym (x .right .ensures) ∙ not-false (x .right .result) (p .before .if3 .left)) _ (p .place-of .ensures) (c .before .if4 .taken)
 
 returns-5 : tie.Need-returns-5
 returns-5 c =
@@ -40,7 +41,7 @@ returns-5 c =
     let e = x .before in
     let a = e .before .before .before .before .before .before .args in
     c .entry .ensures
-    ∙ found-so (a .input .now) (a .first .now) (a .at .now) (a .counts .now) (a .row .rows) (e .before .if1 .left) (e .if2 .left) (sym (x .right .ensures) ∙ not-no (x .right .result) (p .before .if3 .left)) _ (p .place-of .ensures) (i .if4 .left)
+    ∙ found-so (a .input .now) (a .first .now) (a .at .now) (a .counts .now) (a .row .rows) (e .before .if1 .left) (e .if2 .left) (sym (x .right .ensures) ∙ not-false (x .right .result) (p .before .if3 .left)) _ (p .place-of .ensures) (i .if4 .left)
 
 pub look-up-spec : {M : Type 1} → statement M
 look-up-spec =

@@ -17,15 +17,17 @@ abbrev μ-loop : tie.MeasureT-loop
 
 returns : tie.Need-returns Inv-loop μ-loop
 returns c =
+    let back-6 = c .before .before .before .before .before .before in
     let l = c .before .before .before .before .before .loop in
-    let b = c .before .before .before .before .before .before .before .before in
+    let b = back-6 .before .before in
     let a = b .args in
     place-here (a .row) (a .first .now) (a .counts .now) (l .i) (l .inv .1) (omega arith) (b .pre) (c .before .holds .result) (c .before .holds .ensures) (c .if1 .taken)
 
 loop-again : tie.Need-loop-again Inv-loop μ-loop
 loop-again c =
+    let back-6 = c .before .before .before .before .before .before in
     let l = c .before .before .before .before .before .loop in
-    let b = c .before .before .before .before .before .before .before .before in
+    let b = back-6 .before .before in
     let a = b .args in (
       omega arith,
       place-next (a .row) (a .first .now) (a .counts .now) (l .i) (l .inv .1) (omega arith) (b .pre) (c .before .holds .result) (c .before .holds .ensures) (c .if1 .left),

@@ -1,5 +1,5 @@
 -- What looking up answered, how many rows are left, and the rows laid. Assumes nothing.
-use mathlib.Core.Path.{_≡_, sym, _∙_}
+use mathlib.Core.Path.{sym, _∙_}
 use Prim.Native.Nat.{_-_}
 use native.Mathlib.Omega.{arith}
 use lib.ListN.{length, getD}
@@ -17,42 +17,50 @@ after x =
     let a = k .before .args in
     what-looked (a .input .now) (a .first .now) (a .at .now) (a .counts .now) (a .row .rows) _ (below-all 256 (a .input .now) (λ i. k .shared-slice-known .given i .fits)) (x .look-up .ensures)
 
-through : (m : tie.After-e) → let a = m .before .before .before .before .before .before .before .args in Through (a .input .now) (a .first .now) (a .at .now) (a .counts .now) (a .row .rows) (m .e .given .0 .0 .first .rows) (m .e .given .0 .0 .at .bytes)
+through : (m : tie.After-e) → let back-6 = m .before .before .before .before .before .before in let a = back-6 .before .args in Through (a .input .now) (a .first .now) (a .at .now) (a .counts .now) (a .row .rows) (m .e .given .0 .0 .first .rows) (m .e .given .0 .0 .at .bytes)
 through m = rw (m .e .given .1) at (after (m .before .before))
 
 sub-last : tie.Need-sub-last
 sub-last c =
+    let back-6 = c .before .before .before .before .before .before in
     let m = c .before .before .before in
-    let a = m .before .before .before .before .before .before .before .args in
+    let a = back-6 .before .before .before .before .args in
     some (a .input .now) (a .first .now) (a .at .now) (a .counts .now) (a .row .rows) (m .e .given .0 .0 .first .rows) (m .e .given .0 .0 .at .bytes) (through m)
 
 shared-slice-read-left-from : tie.Need-shared-slice-read-left-from
 shared-slice-read-left-from c =
+    let back-6 = c .before .before .before .before .before .before in
     let m = c .before .before .before .before in
-    let a = m .before .before .before .before .before .before .before .args in
+    let a = back-6 .before .before .before .before .before .args in
     omega (arith, some (a .input .now) (a .first .now) (a .at .now) (a .counts .now) (a .row .rows) (m .e .given .0 .0 .first .rows) (m .e .given .0 .0 .at .bytes) (through m))
 
 shared-slice-read-left-from-2 : tie.Need-shared-slice-read-left-from-2
 shared-slice-read-left-from-2 c =
+    let back-6 = c .before .before .before .before .before .before in
     let m = c .before .before .before .before .before in
-    let a = m .before .before .before .before .before .before .before .args in
+    let a = back-6 .before .before .before .before .before .before .args in
     omega (arith, some (a .input .now) (a .first .now) (a .at .now) (a .counts .now) (a .row .rows) (m .e .given .0 .0 .first .rows) (m .e .given .0 .0 .at .bytes) (through m), n-long (a .input .now) (a .first .now) (a .at .now) (a .counts .now) (a .row .rows) (m .e .given .0 .0 .first .rows) (m .e .given .0 .0 .at .bytes) (through m))
 
 left-from-requires : tie.Need-left-from-requires
 left-from-requires c κs =
+    let back-6 = c .before .before .before .before .before .before in
     let m = c .before .before .before .before .before in
-    let a = m .before .before .before .before .before .before .before .args in
+    let a = back-6 .before .before .before .before .before .before .args in
     row-below (a .input .now) (a .first .now) (a .at .now) (a .counts .now) (a .row .rows) (m .e .given .0 .0 .first .rows) (m .e .given .0 .0 .at .bytes) (through m)
 
 sub-lay : tie.Need-sub-lay
-sub-lay c = through (c .before .before .before .before .before .before .before .before .before .before) .from
+sub-lay c =
+    let back-6 = c .before .before .before .before .before .before in
+    through (back-6 .before .before .before .before) .from
 
 lay-requires : tie.Need-lay-requires
 lay-requires c κs =
+    let back-6 = c .before .before .before .before .before .before in
+    let back-12 = back-6 .before .before .before .before .before .before in
     let n = c .before .before .before in
     let l = n .before .before in
     let m = l .before .before .before .before .before .before in
-    let a = m .before .before .before .before .before .before .before .args in
+    let a = back-12 .before .before .before .before .before .before .args in
     let (k, q) = left-rows (getD (a .first .now) (length (a .first .now) - 1) 0) (getD (a .counts .now) (length (a .first .now) - 1) 0) (a .row .rows) (length (a .out .now)) (n .n .given .0 .0) (sym (n .n .given .1) ∙ l .left-from .ensures) in
     ready (a .input .now) (a .first .now) (a .at .now) (a .counts .now) (a .row .rows) (m .e .given .0 .0 .first .rows) (m .e .given .0 .0 .at .bytes) (through m) _ (omega (arith, k, q, last-is (a .input .now) (a .first .now) (a .at .now) (a .counts .now) (a .row .rows) (m .e .given .0 .0 .first .rows) (m .e .given .0 .0 .at .bytes) (through m)))
 
@@ -65,18 +73,23 @@ returns c =
 
 returns-2 : tie.Need-returns-2
 returns-2 c =
+    let back-6 = c .before .before .before .before .before .before in
+    let back-12 = back-6 .before .before .before .before .before .before in
     let l = c .before .before .before in
     let m = l .before .before .before .before .before .before in
-    let a = m .before .before .before .before .before .before .before .args in
+    let a = back-12 .before .before .before .before .args in
     let k = left-many (getD (a .first .now) (length (a .first .now) - 1) 0) (getD (a .counts .now) (length (a .first .now) - 1) 0) (a .row .rows) (length (a .out .now)) (sym (c .before .enum-told .given .1) ∙ l .left-from .ensures) in
     rw (c .refused .ensures) (eight-so (a .input .now) (a .first .now) (a .at .now) (a .counts .now) (a .row .rows) (m .e .given .0 .0 .first .rows) (m .e .given .0 .0 .at .bytes) (through m) (a .signed) (a .out .now) (omega (arith, k, last-is (a .input .now) (a .first .now) (a .at .now) (a .counts .now) (a .row .rows) (m .e .given .0 .0 .first .rows) (m .e .given .0 .0 .at .bytes) (through m))))
 
 returns-3 : tie.Need-returns-3
 returns-3 c =
+    let back-6 = c .before .before .before .before .before .before in
+    let back-12 = back-6 .before .before .before .before .before .before in
+    let back-18 = back-12 .before .before .before .before .before .before in
     let n = c .before .before .before .before .before .before in
     let l = n .before .before in
     let m = l .before .before .before .before .before .before in
-    let a = m .before .before .before .before .before .before .before .args in
+    let a = back-18 .before .before .before .args in
     let (k, q) = left-rows (getD (a .first .now) (length (a .first .now) - 1) 0) (getD (a .counts .now) (length (a .first .now) - 1) 0) (a .row .rows) (length (a .out .now)) (n .n .given .0 .0) (sym (n .n .given .1) ∙ l .left-from .ensures) in
     rw (c .rows .ensures)
     (rows-so (a .input .now) (a .first .now) (a .at .now) (a .counts .now) (a .row .rows) (m .e .given .0 .0 .first .rows) (m .e .given .0 .0 .at .bytes) (through m) (a .signed) (a .out .now) _ (omega (arith, k, last-is (a .input .now) (a .first .now) (a .at .now) (a .counts .now) (a .row .rows) (m .e .given .0 .0 .first .rows) (m .e .given .0 .0 .at .bytes) (through m))) q _ (c .before .before .lay .ensures))

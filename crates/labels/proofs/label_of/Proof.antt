@@ -2,7 +2,8 @@
 use mathlib.Core.Path.{sym, ap, _∙_}
 use mathlib.Core.Bool.{not}
 use borrow.Author.Needs.{needs}
-use Rattle.labels.proofs.Columns.{no-row, not-added, without, with-name, added-up}
+use borrow.Author.Tests.{not-false}
+use Rattle.labels.proofs.Columns.{no-row, not-added, without, with-name}
 use Rattle.labels.proofs.label_of.Statement.{statement}
 use Rattle.labels.proofs.label_of.Tie as tie
 
@@ -22,7 +23,7 @@ returns-3 c =
 named-requires : tie.Need-named-requires
 named-requires c κs =
     let t = c .before .before .before .before in
-    sym (t .add-up .ensures) ∙ added-up _ (c .before .before .before .if2 .left)
+    sym (t .add-up .ensures) ∙ not-false _ (c .before .before .before .if2 .left)
 
 returns-4 : tie.Need-returns-4
 returns-4 c =

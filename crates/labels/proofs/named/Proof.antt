@@ -21,8 +21,9 @@ returns-3 c =
 
 returns-4 : tie.Need-returns-4
 returns-4 c =
+    let back-6 = c .before .before .before .before .before .before in
     let e = c .before .before .before in
-    let a = e .before .before .before .before .before .before .before .before in
+    let a = back-6 .before .before .before .before .before in
     absurd (adds-whole _ (now (a .args .block)) _ (a .pre) (e .before .if2 .left) (sym (e .entry2 .ensures) ∙ c .before .enum-told2 .given .1))
 
 returns-5 : tie.Need-returns-5

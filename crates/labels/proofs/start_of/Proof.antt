@@ -16,7 +16,7 @@ abbrev μ-loop : tie.MeasureT-loop
 μ-loop lengths block k sum₀ i₀ sum i = k - i
 
 -- the sum with the length that was read
-more : (c : tie.After-known-told Inv-loop μ-loop) → startOf (now (c .before .before .before .before .before .before .before .args .lengths)) (c .before .before .before .before .before .loop .i + 1)
+more : (c : tie.After-known-told Inv-loop μ-loop) → let back-6 = c .before .before .before .before .before .before in startOf (now (back-6 .before .args .lengths)) (c .before .before .before .before .before .loop .i + 1)
     ≡ c .before .before .before .before .before .loop .sum + c .before .size .given .0 .0
 more c =
     let e = c .before .before .before in
@@ -36,7 +36,9 @@ returns c =
     absurd (adds-whole (now (a .args .lengths)) (now (a .args .block)) (l .i) (a .pre .0) (omega arith) (sym (e .entry .ensures) ∙ c .enum-told .given .1))
 
 add-sum : tie.Need-add-sum Inv-loop μ-loop
-add-sum c = omega (arith, more c, adds-start _ _ (c .before .before .before .before .before .loop .i + 1) (c .before .before .before .before .before .before .before .pre .0))
+add-sum c =
+    let back-6 = c .before .before .before .before .before .before in
+    omega (arith, more c, adds-start _ _ (c .before .before .before .before .before .loop .i + 1) (back-6 .before .pre .0))
 
 returns-2 : tie.Need-returns-2 Inv-loop μ-loop
 returns-2 c = let e : c .before .loop .i ≡ c .before .before .before .args .k = omega arith in c .before .loop .inv .1 ∙ ap (startOf _) e

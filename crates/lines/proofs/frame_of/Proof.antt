@@ -2,8 +2,9 @@
 use mathlib.Core.Path.{sym, _∙_}
 use denote.Ref.{now}
 use native.Mathlib.Omega.{arith}
-use Rattle.lines.proofs.Frames.{bad-empty, bad-odd, bad-long, bad-digit, bad-flag, framed, off, on}
+use Rattle.lines.proofs.Frames.{bad-empty, bad-odd, bad-long, bad-digit, bad-flag, framed}
 use borrow.Author.Needs.{needs}
+use borrow.Author.Tests.{not-true, not-false}
 use Rattle.lines.proofs.frame_of.Statement.{statement}
 use Rattle.lines.proofs.frame_of.Tie as tie
 
@@ -27,14 +28,14 @@ returns-4 c =
     let b = c .before .before .before in
     let i = b .before .before in
     let a = i .before .before .before .before .before .args in
-    bad-digit (now (a .line)) _ (i .before .before .if1 .left) (i .before .if2 .left) (i .if3 .left) (sym (b .bytes .ensures .0) ∙ off _ (c .if4 .taken))
+    bad-digit (now (a .line)) _ (i .before .before .if1 .left) (i .before .if2 .left) (i .if3 .left) (sym (b .bytes .ensures .0) ∙ not-true _ (c .if4 .taken))
 
 returns-5 : tie.Need-returns-5
 returns-5 c =
     let b = c .before .before .before .before .before in
     let i = b .before .before in
     let a = i .before .before .before .before .before .args in
-    let t = on _ (c .before .before .if4 .left) in
+    let t = not-false _ (c .before .before .if4 .left) in
     bad-flag (now (a .line)) _ (i .before .before .if1 .left) (i .before .if2 .left) (i .if3 .left) (sym (b .bytes .ensures .0) ∙ t) (b .bytes .ensures .1 t) (omega (arith, b .bytes .kept .1 .1 .0)) (c .if5 .taken)
 
 returns-6 : tie.Need-returns-6
@@ -42,7 +43,7 @@ returns-6 c =
     let b = c .before .before .before .before .before in
     let i = b .before .before in
     let a = i .before .before .before .before .before .args in
-    let t = on _ (c .before .before .if4 .left) in
+    let t = not-false _ (c .before .before .if4 .left) in
     framed (now (a .line)) _ (i .before .before .if1 .left) (i .before .if2 .left) (i .if3 .left) (sym (b .bytes .ensures .0) ∙ t) (b .bytes .ensures .1 t) (omega (arith, b .bytes .kept .1 .1 .0)) (c .if5 .left)
 
 pub frame-of-spec : {M : Type 1} → statement M

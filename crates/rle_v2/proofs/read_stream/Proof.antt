@@ -5,7 +5,6 @@ use mathlib.Core.List.{[], _++_}
 use Rattle.format.specs.Parse.{parse}
 use Rattle.format.specs.Promises.{Gives}
 use lib.ListN.{length, take, drop, drop-of-length-le}
-use denote.Ref.{now}
 use Rattle.format.proofs.Below.{below-all}
 use Rattle.format.proofs.Runs.{layout-pos}
 use Rattle.util.proofs.Grow.{rest-is}

@@ -82,11 +82,13 @@ say-requires c κs =
     rw z (t .text ∙ sym (whole-text (take n (drop (l .from) (now (a .input)))) (t .whole)))
 
 same-length-2 : tie.Need-same-length-2 Inv-loop μ-loop
-same-length-2 c = let k = c .before .before .before .before .before .before .before in k .answer-lines .kept .1 .0 ∙ k .before .before .before .loop .inv .1
+same-length-2 c =
+    let back-6 = c .before .before .before .before .before .before in
+    let k = back-6 .before in k .answer-lines .kept .1 .0 ∙ k .before .before .before .loop .inv .1
 
 loop-less : tie.Need-loop-less Inv-loop μ-loop
 loop-less c =
-    let k = c .before .before .before .before .before .before .before in
+    let k = (let back-6 = c .before .before .before .before .before .before in back-6 .before) in
     let l = k .before .before .before .loop in
     let a = k .before .before .before .before .before .before .args in
     let t = rw (rest-is (now (a .input)) (l .from)) at (k .answer-lines .ensures) in
@@ -94,7 +96,7 @@ loop-less c =
 
 loop-again : tie.Need-loop-again Inv-loop μ-loop
 loop-again c =
-    let k = c .before .before .before .before .before .before .before in
+    let k = (let back-6 = c .before .before .before .before .before .before in back-6 .before) in
     let l = k .before .before .before .loop in
     let a = k .before .before .before .before .before .before .args in
     let t = rw (rest-is (now (a .input)) (l .from)) at (k .answer-lines .ensures) in (

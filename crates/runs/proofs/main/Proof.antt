@@ -31,8 +31,9 @@ turn-requires c κs =
 
 loop-again : tie.Need-loop-again Inv-loop μ-loop
 loop-again c =
+    let back-6 = c .before .before .before .before .before .before in
     let t = c .before .before in
-    let l = t .before .before .before .before .before .before .before .loop in
+    let l = back-6 .before .before .before .loop in
     let g = t .before .before .before .before .left .given .0 in (
       l .inv .0 ∙ sym (t .turn .kept .0),
       l .inv .1 ∙ sym (t .turn .kept .1 .1 .1 .0),

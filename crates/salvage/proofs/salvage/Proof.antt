@@ -11,26 +11,30 @@ use Rattle.salvage.proofs.salvage.Statement.{statement}
 use Rattle.salvage.proofs.salvage.Tie as tie
 
 -- the starts and counts are in order
-right : (e : tie.Else2) → let a = e .before .before .before .before .before .before .before .before .args in RightStarts (a .input .now) (a .starts .now) (a .counts .now)
+right : (e : tie.Else2) → let back-6 = e .before .before .before .before .before .before in let a = back-6 .before .before .args in RightStarts (a .input .now) (a .starts .now) (a .counts .now)
 right e = record { lengths = omega arith; right = true-T _ (sym (e .before .starts-right .ensures) ∙ not-false _ (e .if2 .left)) }
 
 returns : tie.Need-returns
 returns c =
-    let a = c .before .before .before .before .before .before .before .args in
+    let back-6 = c .before .before .before .before .before .before in
+    let a = back-6 .before .args in
     was-refused (a .signed) (a .fill) (a .input .now) (a .starts .now) (a .counts .now) 17 (other-lengths (a .signed) (a .fill) (a .input .now) (a .starts .now) (a .counts .now) _ _ (λ e. omega (arith, e))) (c .refused .ensures)
 
 returns-2 : tie.Need-returns-2
 returns-2 c =
+    let back-6 = c .before .before .before .before .before .before in
     let t = c .before .before in
-    let a = t .before .before .before .before .before .before .before .args in
+    let a = back-6 .before .before .before .args in
     was-refused (a .signed) (a .fill) (a .input .now) (a .starts .now) (a .counts .now) 17
     (wrong-starts (a .signed) (a .fill) (a .input .now) (a .starts .now) (a .counts .now) _ _ (sym (t .starts-right .ensures) ∙ not-true _ (c .before .if2 .taken))) (c .refused2 .ensures)
 
 returns-3 : tie.Need-returns-3
 returns-3 c =
+    let back-6 = c .before .before .before .before .before .before in
+    let back-12 = back-6 .before .before .before .before .before .before in
     let h = c .before .before in
     let e = h .before .before .before in
-    let s = e .before .before .before .before .before .before .before .before in
+    let s = back-12 .before in
     let a = s .args in
     was-refused (a .signed) (a .fill) (a .input .now) (a .starts .now) (a .counts .now) 8
     (no-room (a .signed) (a .fill) (a .input .now) (a .starts .now) (a .counts .now) _ _ (right e) (sym (rw (toZ-ofZ (s .fits .fill)) at (h .has-room .ensures)) ∙ not-true _ (c .before .if3 .taken))) (c .refused3 .ensures)
@@ -39,7 +43,11 @@ write-all-requires : tie.Need-write-all-requires
 write-all-requires c κs = let h = c .before .before .before in (right (h .before .before .before), rw (h .has-room .ensures) at (not-false (h .has-room .result) (c .before .before .if3 .left)))
 
 returns-4 : tie.Need-returns-4
-returns-4 c = let s = c .before .before .before .before .before .before .before .before .before .before .before .before .before .before .before .before .before .before .before in rw (toZ-ofZ (s .fits .fill)) at (c .before .before .before .before .write-all .ensures)
+returns-4 c =
+    let back-6 = c .before .before .before .before .before .before in
+    let back-12 = back-6 .before .before .before .before .before .before in
+    let back-18 = back-12 .before .before .before .before .before .before in
+    let s = back-18 .before in rw (toZ-ofZ (s .fits .fill)) at (c .before .before .before .before .write-all .ensures)
 
 pub salvage-spec : {M : Type 1} → statement M
 salvage-spec =

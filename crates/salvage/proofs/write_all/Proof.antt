@@ -32,30 +32,43 @@ loop-holds : tie.Need-loop-holds Inv-loop μ-loop
 loop-holds c = let s = c .before .before .before .before .before .before in let a = s .args in laid-none (a .signed) (toZ w64 (ofZ w64 (a .fill))) (a .input .now) (a .starts .now) (a .counts .now) (a .out .now) (a .report .now) (rw (toZ-ofZ (s .fits .fill)) (s .pre .1))
 
 shared-slice-read-rows : tie.Need-shared-slice-read-rows Inv-loop μ-loop
-shared-slice-read-rows c = let s = c .before .before .before .before .before .before .before .before .before in omega (arith, s .pre .0 .lengths)
+shared-slice-read-rows c =
+    let back-6 = c .before .before .before .before .before .before in
+    let s = back-6 .before .before .before in omega (arith, s .pre .0 .lengths)
 
 bytes-of-requires : tie.Need-bytes-of-requires Inv-loop μ-loop
-bytes-of-requires c κs = let s = c .before .before .before .before .before .before .before .before .before in (s .pre .0 .right, omega arith)
+bytes-of-requires c κs =
+    let back-6 = c .before .before .before .before .before .before in
+    let s = back-6 .before .before .before in (s .pre .0 .right, omega arith)
 
 put-group-requires : tie.Need-put-group-requires Inv-loop μ-loop
-put-group-requires c κs = let k = c .before in let a = k .before .before .before .before .before .before .before .before .before .before .before .args in stream-room (a .signed) (toZ w64 (ofZ w64 (a .fill))) (a .input .now) (a .starts .now) (a .counts .now) (k .before .before .before .before .loop .inv) (turn-of k)
+put-group-requires c κs =
+    let back-6 = c .before .before .before .before .before .before in
+    let k = c .before in let a = back-6 .before .before .before .before .before .before .args in stream-room (a .signed) (toZ w64 (ofZ w64 (a .fill))) (a .input .now) (a .starts .now) (a .counts .now) (k .before .before .before .before .loop .inv) (turn-of k)
 
 put-line-requires : tie.Need-put-line-requires Inv-loop μ-loop
-put-line-requires c κs = let k = c .before .before .before .before .before in let a = k .before .before .before .before .before .before .before .before .before .before .before .args in lines-room (a .signed) (toZ w64 (ofZ w64 (a .fill))) (a .input .now) (a .starts .now) (a .counts .now) (k .before .before .before .before .loop .inv) (turn-of k)
+put-line-requires c κs =
+    let back-6 = c .before .before .before .before .before .before in
+    let back-12 = back-6 .before .before .before .before .before .before in
+    let k = c .before .before .before .before .before in let a = back-12 .before .before .before .before .args in lines-room (a .signed) (toZ w64 (ofZ w64 (a .fill))) (a .input .now) (a .starts .now) (a .counts .now) (k .before .before .before .before .loop .inv) (turn-of k)
 
 loop-again : tie.Need-loop-again Inv-loop μ-loop
 loop-again c =
+    let back-6 = c .before .before .before .before .before .before in
+    let back-12 = back-6 .before .before .before .before .before .before in
+    let back-18 = back-12 .before .before .before .before .before .before in
     let y = c .before .before in
     let z = y .before .before .before .before in
     let k = z .before .before in
-    let a = k .before .before .before .before .before .before .before .before .before .before .before .args in
+    let a = back-18 .before .args in
     laid-next (a .signed) (toZ w64 (ofZ w64 (a .fill))) (a .input .now) (a .starts .now) (a .counts .now) (k .before .before .before .before .loop .inv) (turn-of k) (omega arith)
     (z .put-group .ensures) (z .put-group .kept .1 .1 .1 .1 .0) (y .put-line .ensures) (y .put-line .kept .1 .1 .1 .0)
 
 returns : tie.Need-returns Inv-loop μ-loop
 returns c =
+    let back-6 = c .before .before .before .before .before .before in
     let l = c .before .before .loop in
-    let s = c .before .before .before .before .before .before .before .before .before in
+    let s = back-6 .before .before .before in
     let a = s .args in
     rw (toZ-ofZ (s .fits .fill)) at
     (was-written (a .signed) (toZ w64 (ofZ w64 (a .fill))) (a .input .now) (a .starts .now) (a .counts .now) (s .pre .0) (rw (toZ-ofZ (s .fits .fill)) (s .pre .1)) (l .inv) (omega arith) (c .written .ensures))

@@ -1,7 +1,7 @@
 -- `ones_in` meets its contract. Assumes nothing.
 use Prim.Native.Nat.{ℕ, _+_, _*_, _/_, _-_, _<_, _≤_}
 use mathlib.Core.Path.{_≡_, sym, ap, _∙_}
-use lib.ListN.{length, getD}
+use lib.ListN.{getD}
 use lib.Count.{ones, ones-le}
 use denote.Ref.{now}
 use Rattle.season.specs.Ones.{onesIn}

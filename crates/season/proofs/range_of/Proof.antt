@@ -44,8 +44,9 @@ loop-holds c =
 
 loop-again : tie.Need-loop-again Inv-loop μ-loop
 loop-again c =
+    let back-6 = c .before .before .before .before .before .before in
     let l = c .before .before .before .before .before .loop in
-    let rows = now (c .before .before .before .before .before .before .before .before .before .args .rows) in
+    let rows = now (back-6 .before .before .before .args .rows) in
     let z : ℤ = getD rows (l .i) (pos 0) in
     let f : SFits w64 z = sfits-of (c .before .before .before .lower-row-arg .given) in
     let low : c .before .before .lower-row .result ≡ lower (toZ w64 (l .smallest)) z = c .before .before .lower-row .ensures ∙ ap (lower (toZ w64 (l .smallest))) (taken-row z f) in

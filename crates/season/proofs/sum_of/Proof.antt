@@ -4,11 +4,11 @@ use lib.ListN.{length, getD}
 use lib.IntN.{ℤ, pos}
 use mir.Syntax.{w64}
 use mir.Val.{SFits}
-use mathlib.Core.Path.{_≡_, ap, _∙_}
+use mathlib.Core.Path.{ap, _∙_}
 use lib.Seq.{take-all}
 use borrow.Author.Needs.{sfits-of}
 use denote.Ref.{now}
-use Rattle.season.specs.Words.{wordsOf, addWords}
+use Rattle.season.specs.Words.{wordsOf}
 use Rattle.season.specs.Totals.{sumOf}
 use Rattle.season.proofs.Order.{taken-row}
 use Rattle.season.proofs.Sums.{Summed, summed-none, summed-more}

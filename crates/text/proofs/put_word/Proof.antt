@@ -23,9 +23,10 @@ loop-holds c = let a = c .before .before .args in (omega arith, omega arith, ref
 
 loop-again : tie.Need-loop-again Inv-loop μ-loop
 loop-again c =
+    let back-6 = c .before .before .before .before .before .before in
     let p = c .before .before in
     let l = p .before .before .before .before .loop in
-    let s = p .before .before .before .before .before .before .before in
+    let s = back-6 .before .before .before in
     let w = then-written (omega arith) (l .inv .3) (p .put .ensures) in (
       omega arith,
       omega (arith, p .put .ensures .next),

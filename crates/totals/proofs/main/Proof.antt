@@ -35,8 +35,9 @@ turn-requires c κs =
 
 loop-again : tie.Need-loop-again Inv-loop μ-loop
 loop-again c =
+    let back-6 = c .before .before .before .before .before .before in
     let t = c .before .before .before in
-    let l = t .before .before .before .before .before .before .before .loop in
+    let l = back-6 .before .before .before .before .loop in
     let n = t .before .before .before .before .next in
     let g = n .given .0 in
     let r = rw (n .given .1) at (l .inv .2) in (

@@ -13,7 +13,9 @@ write-requires : tie.Need-write-requires
 write-requires c κs = within 1 512 (length (now (c .before .before .before .before .args .rows))) (sym (c .before .before .between .ensures) ∙ c .before .if1 .taken)
 
 returns : tie.Need-returns
-returns c = rw (toZ-ofZ (c .before .before .before .before .before .before .before .fits .base)) at (c .before .before .write .ensures)
+returns c =
+    let back-6 = c .before .before .before .before .before .before in
+    rw (toZ-ofZ (back-6 .before .fits .base)) at (c .before .before .write .ensures)
 
 returns-2 : tie.Need-returns-2
 returns-2 c =

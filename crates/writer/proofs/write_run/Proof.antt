@@ -29,7 +29,8 @@ returns-2 c =
 
 write-requires : tie.Need-write-requires
 write-requires c κs =
-    let a = c .before .before .before .before .before .before .before .before .args in
+    let back-6 = c .before .before .before .before .before .before in
+    let a = back-6 .before .before .args in
     let e = c .before .enum-told .given .1 in
     let n = within 3 10 (length (now (a .rows))) (rw e at (sym (c .before .before .before .before .before .before .count .ensures) ∙ not-false _ (c .before .before .before .before .before .if1 .left))) in
     let w = within 1 8 (a .width) (rw e at (sym (c .before .before .before .before .width .ensures) ∙ not-false _ (c .before .before .before .if2 .left))) in
@@ -37,7 +38,8 @@ write-requires c κs =
 
 write-requires-2 : tie.Need-write-requires-2
 write-requires-2 c κs =
-    let a = c .before .before .before .before .before .before .before .before .args in
+    let back-6 = c .before .before .before .before .before .before in
+    let a = back-6 .before .before .args in
     let e = c .before .enum-told2 .given .1 in
     let n = within 1 512 (length (now (a .rows))) (rw e at (sym (c .before .before .before .before .before .before .count .ensures) ∙ not-false _ (c .before .before .before .before .before .if1 .left))) in
     let w = rw e at (sym (c .before .before .before .before .width .ensures) ∙ not-false _ (c .before .before .before .if2 .left)) in
@@ -46,14 +48,16 @@ write-requires-2 c κs =
 
 write-fixed-requires : tie.Need-write-fixed-requires
 write-fixed-requires c κs =
-    let a = c .before .before .before .before .before .before .before .before .args in
+    let back-6 = c .before .before .before .before .before .before in
+    let a = back-6 .before .before .args in
     let e = c .before .enum-told3 .given .1 in
     let n = within 1 512 (length (now (a .rows))) (rw e at (sym (c .before .before .before .before .before .before .count .ensures) ∙ not-false _ (c .before .before .before .before .before .if1 .left))) in
     (n .0, n .1, eqb-true (a .width) 0 (rw e at (sym (c .before .before .before .before .width .ensures) ∙ not-false _ (c .before .before .before .if2 .left))))
 
 write-packed-requires : tie.Need-write-packed-requires
 write-packed-requires c κs =
-    let a = c .before .before .before .before .before .before .before .before .args in
+    let back-6 = c .before .before .before .before .before .before in
+    let a = back-6 .before .before .args in
     let e = c .before .enum-told4 .given .1 in
     let n = within 2 512 (length (now (a .rows))) (rw e at (sym (c .before .before .before .before .before .before .count .ensures) ∙ not-false _ (c .before .before .before .before .before .if1 .left))) in
     let w = packed-kept (a .width) (rw e at (sym (c .before .before .before .before .width .ensures) ∙ not-false _ (c .before .before .before .if2 .left))) in

@@ -30,13 +30,17 @@ shared-slice-read-first c =
     omega (arith, o .within, o .bytes-are, layout-pos (o .which))
 
 rewrite-requires : tie.Need-rewrite-requires
-rewrite-requires c κs = omega (arith, ran (c .before .before .before .before .before .before .before .before) .rows-few)
+rewrite-requires c κs =
+    omega (arith, ran (let back-6 = c .before .before .before .before .before .before in back-6 .before .before) .rows-few)
 
 returns : tie.Need-returns
 returns c =
-    let m = c .before .before .before .before .before .before .before .before .before .before .before .before in
-    let a = m .before .before .before .before .before .before .before .before in
-    let i = c .before .before .before .before .before .before .before in
+    let back-6 = c .before .before .before .before .before .before in
+    let back-12 = back-6 .before .before .before .before .before .before in
+    let back-18 = back-12 .before .before .before .before .before .before in
+    let m = back-6 .before .before .before .before .before .before in
+    let a = back-18 .before .before in
+    let i = back-6 .before in
     rw (c .consumed .ensures)
     (turned-odd (a .args .signed) (now (a .args .input)) (a .args .p) _ (m .a .given .0 .0) (ran m) (now (a .args .run)) _ (c .before .before .before .rewrite .result) (a .pre) (sym (i .is-odd .ensures) ∙ c .before .before .before .before .before .before .if1 .taken) (c .before .before .before .rewrite .ensures))
 
@@ -48,15 +52,18 @@ part-copy-start c = omega (arith, ran (c .before .before .before .before .before
 
 copy-requires : tie.Need-copy-requires
 copy-requires c κs =
-    let m = c .before .before .before .before .before .before .before .before in
-    let a = m .before .before .before .before .before .before .before .before in
+    let m = (let back-6 = c .before .before .before .before .before .before in back-6 .before .before) in
+    let a = (let back-6 = c .before .before .before .before .before .before in let back-12 = back-6 .before .before .before .before .before .before in back-12 .before .before .before .before) in
     let o = ran m in
     (rw (rest-is (now (a .args .input)) (a .args .p), length-drop (a .args .p) (now (a .args .input))) (omega (arith, o .within)), omega (arith, o .bytes-are, byte-bounds (o .which) (o .valid), a .pre))
 
 returns-2 : tie.Need-returns-2
 returns-2 c =
-    let m = c .before .before .before .before .before .before .before .before .before .before .before in
-    let a = m .before .before .before .before .before .before .before .before in
+    let back-6 = c .before .before .before .before .before .before in
+    let back-12 = back-6 .before .before .before .before .before .before in
+    let back-18 = back-12 .before .before .before .before .before .before in
+    let m = back-6 .before .before .before .before .before in
+    let a = back-18 .before in
     turned-even (a .args .signed) (now (a .args .input)) (a .args .p) _ (m .a .given .0 .0) (ran m) (now (a .args .run)) _ (sym (c .before .before .before .before .before .before .is-odd .ensures) ∙ c .before .before .before .before .before .if1 .left)
     (rw (rest-is (now (a .args .input)) (a .args .p)) at (c .before .before .copy .ensures))
 

@@ -18,16 +18,16 @@ abbrev μ-loop : tie.MeasureT-loop
 μ-loop input first₀ at₀ counts₀ place₀ row₀ i₀ first at counts place row i = length input - place
 
 -- what a turn's run comes to, and its three cases
-step : (x : tie.After-measure Inv-loop μ-loop) → let l = x .before .before .loop in let a = x .before .before .before .before .before .before .before .args in Step (a .input .now) (l .place) (x .measure .result)
+step : (x : tie.After-measure Inv-loop μ-loop) → let back-6 = x .before .before .before .before .before .before in let l = x .before .before .loop in let a = back-6 .before .args in Step (a .input .now) (l .place) (x .measure .result)
 step x =
     let k = x .before .before .before .before .before .before in
     let a = k .before .args in
     step-is (a .input .now) (x .before .before .loop .place) _ (below-all 256 (a .input .now) (λ i. k .shared-slice-known .given i .fits)) (x .measure .ensures)
 
-ran-is : (m : tie.After-a Inv-loop μ-loop) → let l = m .before .before .before .before .loop in let a = m .before .before .before .before .before .before .before .before .before .args in OneRun (a .input .now) (l .place) (m .a .given .0 .0)
+ran-is : (m : tie.After-a Inv-loop μ-loop) → let back-6 = m .before .before .before .before .before .before in let l = m .before .before .before .before .loop in let a = back-6 .before .before .before .args in OneRun (a .input .now) (l .place) (m .a .given .0 .0)
 ran-is m = rw (m .a .given .1) at (step (m .before .before))
 
-roomy : (m : tie.After-a Inv-loop μ-loop) → let l = m .before .before .before .before .loop in let a = m .before .before .before .before .before .before .before .before .before .args in
+roomy : (m : tie.After-a Inv-loop μ-loop) → let back-6 = m .before .before .before .before .before .before in let l = m .before .before .before .before .loop in let a = back-6 .before .before .before .args in
     Room (a .input .now) (a .first .now) (a .at .now) (a .counts .now) (l .first) (l .at) (l .counts) (l .place) (l .row) (l .i) (l .inv) (m .a .given .0 .0) (ran-is m)
 roomy m = has-room _ _ _ _ _ _ _ _ _ _ _ _ _
 
@@ -65,9 +65,11 @@ loop-less c =
 
 loop-again : tie.Need-loop-again Inv-loop μ-loop
 loop-again c =
+    let back-6 = c .before .before .before .before .before .before in
+    let back-12 = back-6 .before .before .before .before .before .before in
     let m = c .before .before .before .before .before in
     let l = m .before .before .before .before .loop in
-    let a = m .before .before .before .before .before .before .before .before .before .args in
+    let a = back-12 .before .before .args in
     filling-run (a .input .now) (a .first .now) (a .at .now) (a .counts .now) (l .first) (l .at) (l .counts) (l .place) (l .row) (l .i) (l .inv) (m .a .given .0 .0) (ran-is m)
 
 same-length : tie.Need-same-length Inv-loop μ-loop
@@ -81,9 +83,10 @@ same-length-3 c = c .before .before .before .before .loop .inv .long-counts
 
 returns : tie.Need-returns Inv-loop μ-loop
 returns c =
+    let back-6 = c .before .before .before .before .before .before in
     let x = c .before .before in
     let l = x .before .before .loop in
-    let a = x .before .before .before .before .before .before .before .args in
+    let a = back-6 .before .before .before .args in
     let q : NoRun (a .input .now) (l .place) (c .enum-told .given .0 .0) = rw (c .enum-told .given .1) at (step x) in
     absurd (filling-refused (a .input .now) (a .first .now) (a .at .now) (a .counts .now) (l .first) (l .at) (l .counts) (l .place) (l .row) (l .i) (l .inv) _ q)
 
@@ -98,9 +101,10 @@ same-length-6 c = c .before .before .before .before .loop .inv .long-counts
 
 returns-2 : tie.Need-returns-2 Inv-loop μ-loop
 returns-2 c =
+    let back-6 = c .before .before .before .before .before .before in
     let x = c .before .before in
     let l = x .before .before .loop in
-    let a = x .before .before .before .before .before .before .before .args in
+    let a = back-6 .before .before .before .args in
     let z : drop (l .place) (a .input .now) ≡ [] = rw (c .enum-told2 .given .1) at (step x) in
     filling-end (a .input .now) (a .first .now) (a .at .now) (a .counts .now) (l .first) (l .at) (l .counts) (l .place) (l .row) (l .i) (l .inv) z
 

@@ -1,5 +1,5 @@
 -- The short repeat's reader meets its contract: what the measure named is laid down where there is room. Assumes nothing.
-use Prim.Native.Nat.{_+_, _-_, _<_, _^_}
+use Prim.Native.Nat.{_-_, _<_, _^_}
 use mathlib.Core.Path.{_≡_, sym, _∙_}
 use native.Mathlib.Omega.{arith}
 use lib.ListN.{length}

@@ -1,5 +1,4 @@
 -- `Totals::of_run` meets its contract. Assumes nothing.
-use mathlib.Core.Path.{sym, _∙_}
 use denote.Ref.{now}
 use Rattle.season.proofs.Held.{kind-below, one-run}
 use borrow.Author.Needs.{needs}

@@ -43,7 +43,9 @@ returns c =
     refused (sym (l .inv .2 ∙ not-high s (2 * l .i) (omega arith) (omega (arith, g .digit .ensures))))
 
 same-length-2 : tie.Need-same-length-2 Inv-loop μ-loop
-same-length-2 c = c .before .before .before .before .before .before .before .loop .inv .1
+same-length-2 c =
+    let back-6 = c .before .before .before .before .before .before in
+    back-6 .before .loop .inv .1
 
 returns-2 : tie.Need-returns-2 Inv-loop μ-loop
 returns-2 c =

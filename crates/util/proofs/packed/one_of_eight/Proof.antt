@@ -1,10 +1,8 @@
 -- `util::packed::one_of_eight` meets its contract: the field is whole bytes, or the first word of the eight holds it, or its own window does.
 -- Assumes nothing.
 use mathlib.Core.Path.{_≡_, sym, ap, _∙_}
-use Prim.Native.Nat.{ℕ, _+_, _-_, _*_, _/_, _%_, _^_, _≤_}
+use Prim.Native.Nat.{ℕ, _+_, _-_, _*_, _/_}
 use native.Mathlib.Omega.{arith}
-use lib.ListN.{length, take, drop}
-use Rattle.format.specs.Digits.{number}
 use Rattle.format.proofs.Below.{below-all}
 use Rattle.util.specs.Packed.{bits}
 use Rattle.util.proofs.Window.{window, whole}

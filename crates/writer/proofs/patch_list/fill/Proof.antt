@@ -41,11 +41,14 @@ returns c =
     too-long (l .inv .1) (omega arith) (omega arith) (λ z. c .before .if1 .left (c .before .before .above .ensures ∙ z)) (c .if2 .taken)
 
 slice-write-list : tie.Need-slice-write-list Inv-loop μ-loop
-slice-write-list c = omega (arith, c .before .before .before .before .before .before .before .loop .inv .1 .room)
+slice-write-list c =
+    let back-6 = c .before .before .before .before .before .before in
+    omega (arith, back-6 .before .loop .inv .1 .room)
 
 loop-again-2 : tie.Need-loop-again-2 Inv-loop μ-loop
 loop-again-2 c =
-    let l = c .before .before .before .before .before .before .before .loop in (
+    let back-6 = c .before .before .before .before .before .before in
+    let l = back-6 .before .loop in (
       simp length-set (l .inv .0),
       put-skip (l .inv .1) (omega arith) (omega arith) (λ z. c .before .before .before .if1 .left (c .before .before .before .before .above .ensures ∙ z)) (omega (arith, l .inv .1 .room)) (omega arith) _ (c .entry .ensures),
     )
@@ -54,11 +57,14 @@ entry-requires-2 : tie.Need-entry-requires-2 Inv-loop μ-loop
 entry-requires-2 c κs = (omega arith, omega arith, patch-small (c .before .before .before))
 
 slice-write-list-2 : tie.Need-slice-write-list-2 Inv-loop μ-loop
-slice-write-list-2 c = omega (arith, c .before .before .before .before .before .before .before .loop .inv .1 .room)
+slice-write-list-2 c =
+    let back-6 = c .before .before .before .before .before .before in
+    omega (arith, back-6 .before .loop .inv .1 .room)
 
 loop-again-3 : tie.Need-loop-again-3 Inv-loop μ-loop
 loop-again-3 c =
-    let l = c .before .before .before .before .before .before .before .loop in (
+    let back-6 = c .before .before .before .before .before .before in
+    let l = back-6 .before .loop in (
       simp length-set (l .inv .0),
       put-entry (l .inv .1) (omega arith) (omega arith) (λ z. c .before .before .before .if1 .left (c .before .before .before .before .above .ensures ∙ z)) (omega (arith, l .inv .1 .room)) (omega arith) _ (rw (c .before .before .before .before .above .ensures) at (c .entry2 .ensures)),
     )
