@@ -7,15 +7,14 @@ use lib.ListN.{replicate}
 use Rattle.format.specs.Digits
 use Rattle.format.specs.Fields
 use Rattle.format.specs.Runs
-use Rattle.format.specs.Runs.{Patch, layout}
+use Rattle.format.specs.Runs.{Patch}
 use Rattle.format.specs.Rows
 use Rattle.format.specs.Writing
-use Rattle.format.specs.Parse.{refused}
 use Rattle.format.specs.Answers.{answerNumber}
 use Rattle.format.specs.Promises.{answerOf}
 use Rattle.format.specs.Kept
 use Rattle.format.specs.PatchedWriting
-use Rattle.format.specs.PatchedWriting.{Entry, skip, entriesFrom, baseBytes, parts, writingPatched}
+use Rattle.format.specs.PatchedWriting.{Entry, skip, entriesFrom, baseBytes, writingPatched}
 
 -- (the `unfolding` line opens all that computes: whoever says `unfolding told` computes with it)
 -- the refusal's number, or else the bytes

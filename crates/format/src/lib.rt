@@ -13,6 +13,11 @@ pub struct RowNumber {
     pub rows: usize,
 }
 
+// The ends of 64 bits: all of them set, and the top one alone, which is the lowest row's pattern.
+pub const ALL_BITS: u64 = 18446744073709551615;
+
+pub const TOP_BIT: u64 = 9223372036854775808;
+
 // What a call read or wrote: one of the four kinds of integer run, booleans, or a byte value.
 pub enum Kind {
     ShortRepeat,

@@ -1,7 +1,6 @@
 -- The starred runs of document 01 ("Runs on each side of the line") as one table; beside it the lines that they leave open, and the public
 -- specification's own examples. Each line is stated by the reader's promise: this answer, and these places at exit, are what it allows.
 -- Assumes nothing.
-use mathlib.Core.Path.{_≡_}
 use Prim.Native.Nat.{ℕ, _-_}
 use mathlib.Core.Bool.{Bool, true, false}
 use mathlib.Core.List.{List, [], _∷_, _++_}
