@@ -1,5 +1,5 @@
 -- Byte runs and booleans: a valid run's layout reads as that run, nothing else reads, a run that is cut is refused as cut, and no second list of
--- runs has the same bytes. Reading n booleans takes exactly the runs that n needs. The starred line of document 01. Assumes nothing.
+-- runs has the same bytes. Reading n booleans takes exactly the runs that n needs. The starred line of FORMAT.md's samples. Assumes nothing.
 use mathlib.Core.Path.{_≡_, refl, sym, ap, _∙_}
 use mathlib.Core.Logic.{_≢_, _↔_}
 use Prim.Native.Nat.{ℕ, zero, suc, _+_, _-_, _*_, _<_, _≤_}
@@ -241,7 +241,7 @@ pub booleans-below : (n : ℕ) (ds : List ByteRun) → AllBelow 2 (booleansOf n 
 unfolding booleansOf
 booleans-below n ds = below-take 2 n (bits (joinedBytes ds)) (bits-below (joinedBytes ds))
 
--- ---- document 01's starred line: 32 booleans of `00 FF FF 00` are 24 true, 8 false, in 4 bytes; with 33 refusal 6, the next control byte missing
+-- ---- the starred line: 32 booleans of `00 FF FF 00` are 24 true, 8 false, in 4 bytes; with 33 refusal 6, the next control byte missing
 
 abbrev starred : List ℕ
 starred = 0x00 ∷ 0xFF ∷ 0xFF ∷ 0x00 ∷ []

@@ -203,7 +203,7 @@ pub varint-below : (k : ℕ) (v : List ℕ) → Varint k v → AllBelow 256 v
 varint-below k v (last {k = j} h) = (omega (arith, last-le j), tt)
 varint-below k v (more {k = j} {bs = bs} _ h r) = (h, varint-below j bs r)
 
--- ---- Document 01's own words for a packed block: its bits, highest bit of each byte first, are the fields' bits one after another, and then the padding.
+-- ---- FORMAT.md's own words for a packed block: its bits, highest bit of each byte first, are the fields' bits one after another, and then the padding.
 
 module _ (w n : ℕ) (k : Block) (v : IsBlock w n k) where
   bytes-bits : spread 2 8 (blockBytes w n k) ≡ digits 2 (bytesFor (n * w) * 8) (blockNumber w n k v)
