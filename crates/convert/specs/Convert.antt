@@ -1,4 +1,4 @@
--- THE CONVERTER (document 02, item 11): each direct or packed delta run of an odd width is replaced by the writer's run of the same rows at the next kept
+-- THE CONVERTER (FORMAT.md, "Converter"): each direct or packed delta run of an odd width is replaced by the writer's run of the same rows at the next kept
 -- width, and every other run is copied.
 -- Assumes nothing.
 use mathlib.Core.Path.{_≡_}

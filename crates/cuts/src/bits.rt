@@ -1,4 +1,4 @@
-// Numbers of rows, and the kept widths (document 02, item 11): 1, 2, 4, 8, 16, 24, 32, 40, 48, 56 and 64 bits are the classes 0 to 10. Rows are
+// Numbers of rows, and the kept widths (FORMAT.md, "Kept widths"): 1, 2, 4, 8, 16, 24, 32, 40, 48, 56 and 64 bits are the classes 0 to 10. Rows are
 // 64-bit patterns throughout; sums wrap and shifts are taken modulo 64, so that nothing is asked of a number: what is proposed is checked elsewhere.
 ghost use Prim.Native.Nat.{_≤_};
 use format::TOP_BIT;

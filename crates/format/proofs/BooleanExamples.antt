@@ -1,4 +1,4 @@
--- The starred line of document 01 and the specification's own booleans, as theorems. Assumes nothing.
+-- The starred line of FORMAT.md's samples and the specification's own booleans, as theorems. Assumes nothing.
 use mathlib.Core.Path.{_≡_, refl}
 use Prim.Native.Nat.{ℕ}
 use mathlib.Core.List.{List, [], _∷_, _++_}
@@ -10,7 +10,7 @@ use Rattle.format.specs.Parse.{bytes}
 use Rattle.format.specs.Answers.{ran, cutAt}
 use Rattle.format.specs.Booleans.{runLayout, runBytes, byteCount, joinedRuns, joinedBytes, bits, booleansOf, repeatRun, byteRun, byteRuns, booleans, booleansInto, booleansAnswer, booleansPlaces}
 
--- ---- document 01's starred line: 32 booleans of `00 FF FF 00` are 24 true, 8 false, in 4 bytes; with 33 refusal 6, the next control byte missing
+-- ---- the starred line: 32 booleans of `00 FF FF 00` are 24 true, 8 false, in 4 bytes; with 33 refusal 6, the next control byte missing
 
 abbrev starred : List ℕ
 starred = 0x00 ∷ 0xFF ∷ 0xFF ∷ 0x00 ∷ []

@@ -1,5 +1,5 @@
 -- More input: what was read stays read, and a refusal stays a refusal unless it is one for input that ended too soon (in a header: 1, or in a field).
--- So a run that is cut is refused with one of these. (Change request 4 rests on this law.) Assumes nothing.
+-- So a run that is cut is refused with one of these. (The reader in parts rests on this law.) Assumes nothing.
 use mathlib.Core.Path.{_≡_, refl, sym, ap, _∙_}
 use mathlib.Core.Logic.{_≢_}
 use Prim.Native.Nat.{ℕ, zero, suc, _+_, _-_, _*_, _/_, _%_, _≤_}

@@ -1,4 +1,4 @@
--- Document 01's own words for a packed block: its bits, highest bit of each byte first, are the fields. Assumes nothing.
+-- FORMAT.md's own words for a packed block: its bits, highest bit of each byte first, are the fields. Assumes nothing.
 use mathlib.Core.Path.{_≡_, sym, _∙_}
 use Prim.Native.Nat.{ℕ, zero, suc, _+_, _*_, _^_, _<_}
 use native.Mathlib.Nat.{zero-lt-suc, zero-mul, suc-mul}
@@ -11,7 +11,7 @@ use Rattle.format.specs.Fields.{Block, IsBlock, blockBytes, bytesFor, pa
 use Rattle.format.proofs.Digits.{spread-number, digits-split, length-digits, number-digits}
 use Rattle.format.proofs.Fields.{blockNumber, blockNumber-lt, block-below}
 
--- ---- Document 01's own words for a packed block: its bits, highest bit of each byte first, are the fields' bits one after another, and then the padding.
+-- ---- FORMAT.md's own words for a packed block: its bits, highest bit of each byte first, are the fields' bits one after another, and then the padding.
 
 module _ (w n : ℕ) (k : Block) (v : IsBlock w n k) where
   bytes-bits : spread 2 8 (blockBytes w n k) ≡ digits 2 (bytesFor (n * w) * 8) (blockNumber w n k v)

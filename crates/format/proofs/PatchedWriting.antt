@@ -1,4 +1,4 @@
--- What is written of a patched run (document 02, item 9): its fields have room in the widths that it chooses, and no lesser width holds them.
+-- What is written of a patched run (FORMAT.md, "Patched writer"): its fields have room in the widths that it chooses, and no lesser width holds them.
 -- Assumes nothing.
 use mathlib.Core.Path.{_≡_, _∙_}
 use Prim.Native.Nat.{ℕ, zero, suc, _+_, _-_, _*_, _/_, _^_, _<_, _≤_, _%_}

@@ -1,4 +1,4 @@
--- Booleans (document 01, "Booleans"): byte runs, their layout, reading the runs that n booleans need, and what the boolean reader promises.
+-- Booleans (FORMAT.md, "Booleans"): byte runs, their layout, reading the runs that n booleans need, and what the boolean reader promises.
 -- Assumes nothing.
 use mathlib.Core.Path.{_≡_}
 use Prim.Native.Nat.{ℕ, zero, suc, _+_, _-_, _<_, _≤_}

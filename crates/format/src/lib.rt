@@ -1,4 +1,4 @@
-// The nouns of document 01: units, kinds, answers. What bytes mean stands in specs/, and the laws of that meaning in proofs/.
+// The nouns of docs/FORMAT.md: units, kinds, answers. What bytes mean stands in specs/, and the laws of that meaning in proofs/.
 ghost use mathlib.Core.Path.{_≡_};
 ghost use Prim.Native.Nat.{_<_};
 ghost use Rattle.format.specs.Answers.{running, ran, refusing, cutting, refusedAt, cutAt, kindNumber, answerNumber, answerPlace, answerCut, answerWidth, answerRows, answerBytes, answerPacked, readWhole, brokeAt};
@@ -50,7 +50,7 @@ pub enum CutField {
     At(ByteOffset),
 }
 
-// A refusal: its number in document 01's table, the byte where the refused run begins, and for 6, 12, 13 and 14 the field that was cut.
+// A refusal: its number (FORMAT.md, "Refusals"), the byte where the refused run begins, and for 6, 12, 13 and 14 the field that was cut.
 pub struct Refusal {
     pub number: u8,
     pub place: ByteOffset,

@@ -1,4 +1,4 @@
-// One line of hexadecimal in, one answer line out: document 01's program, without its input and output.
+// One line of hexadecimal in, one answer line out: the program `runs`, without its input and output.
 ghost use mathlib.Core.Path.{_≡_};
 ghost use Prim.Native.Nat.{_≤_, _<_};
 ghost use lib.ListN.{length, take, getD};

@@ -1,5 +1,5 @@
 -- The theorems, one file for each file of statements in specs/.
--- document 01's lines and tables
+-- FORMAT.md's sample runs and its table of refusals
 pub mod Table
 pub mod Fates
 pub mod PatchedFate
@@ -21,7 +21,7 @@ pub mod PatchNames
 pub mod PatchLists
 pub mod Sums
 pub mod CutFile
--- the change requests of document 02
+-- what came with the changes behind the base (docs/CHANGES.md)
 pub mod BrokeOff
 pub mod Longest
 -- writing patched runs

@@ -1,4 +1,4 @@
--- The user's third question: sums past 64 bits. Each row of a delta or patched run is the whole-number sum that document 01 names, modulo 2^64. (Rows
+-- The user's third question: sums past 64 bits. Each row of a delta or patched run is the whole-number sum that FORMAT.md names, modulo 2^64. (Rows
 -- here are numbers below 2^64; what comes out is the i64 with the same bits.)
 -- Assumes nothing.
 use mathlib.Core.Path.{_≡_}

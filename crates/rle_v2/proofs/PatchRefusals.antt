@@ -75,7 +75,7 @@ or-turn true t s o = refl
 or-turn false true s o = refl
 or-turn false false s o = refl
 
--- what the walk says, by what document 01 says of the entries that are left
+-- what the walk says, by what the definition says of the entries that are left
 walk-is : (pw rows before free : ℕ) (skip : Bool) (es : List ℕ) → free ≤ before + 1
     → misplaced pw rows before free skip es
     ≡ (lastOr pw skip es || (under free (patchesFrom pw before es) || (shared (patchesFrom pw before es) || outside rows (patchesFrom pw before es))))

@@ -1,4 +1,4 @@
--- The walk over a patch list patches exactly the rows that document 01 names. Assumes nothing.
+-- The walk over a patch list patches exactly the rows that the definition names. Assumes nothing.
 use mathlib.Core.Path.{_≡_, refl, sym, ap, _∙_}
 use Prim.Native.Nat.{ℕ, zero, suc, _+_, _-_, _*_, _/_, _%_, _^_, _<_, _≤_}
 use native.Mathlib.Omega.{arith}

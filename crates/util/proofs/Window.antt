@@ -74,7 +74,7 @@ of-word s i m f h l =
 
 -- ---- fields
 
--- Document 01's words, for any width: field k of n that s begins with is bits k·w to k·w+w-1, highest bit of each byte first.
+-- FORMAT.md's words ("Packed blocks"), for any width: field k of n that s begins with is bits k·w to k·w+w-1, highest bit of each byte first.
 pub field-at : (w n k : ℕ) (s : List ℕ) → AllBelow 256 s → k < n → bytesFor (n * w) ≤ length s → getD (fields w n s) k 0 ≡ fieldAt w k s
 field-at w n k s d h l =
     let m = bytesFor (n * w) in

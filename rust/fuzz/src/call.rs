@@ -1,4 +1,4 @@
-//! A call, and what the model of documents 01 and 02 answers it.
+//! A call, and what the model of the rules answers it.
 mod indexed;
 mod outcome;
 mod planned;

@@ -1,4 +1,4 @@
--- `walk` meets its contract: each turn converts one run more, or ends with what document 02 says. Assumes nothing.
+-- `walk` meets its contract: each turn converts one run more, or ends with what the definition says. Assumes nothing.
 use Prim.Native.Nat.{_-_}
 use native.Mathlib.Omega.{arith}
 use lib.ListN.{length, drop-of-length-le}

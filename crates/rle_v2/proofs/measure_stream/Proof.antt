@@ -1,4 +1,4 @@
--- Each turn counts one run more, or ends with what document 01 says. Assumes nothing.
+-- Each turn counts one run more, or ends with what the definition says. Assumes nothing.
 use mathlib.Core.Path.{_≡_, _∙_}
 use Prim.Native.Nat.{_-_}
 use native.Mathlib.Omega.{arith}

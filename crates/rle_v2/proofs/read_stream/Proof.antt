@@ -1,4 +1,4 @@
--- The stream reader keeps its promise: each turn reads one run more, or ends with what document 01 says. Assumes nothing.
+-- The stream reader keeps its promise: each turn reads one run more, or ends with what the definition says. Assumes nothing.
 use Prim.Native.Nat.{_-_}
 use mathlib.Core.Path.{_≡_, _∙_, ap}
 use mathlib.Core.List.{[], _++_}

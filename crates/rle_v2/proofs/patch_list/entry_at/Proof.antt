@@ -1,4 +1,4 @@
--- An entry of the list is taken apart as document 01 says. Assumes nothing.
+-- An entry of the list is taken apart as the definition says. Assumes nothing.
 use Prim.Native.Nat.{_<_, _^_}
 use borrow.Author.Tests.{eq-eqb, ne-eqb}
 use Rattle.rle_v2.proofs.PatchRows.{entry-is}
