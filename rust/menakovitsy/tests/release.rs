@@ -15,21 +15,31 @@ const HEADER: &str = include_str!("../menakovitsy.h");
 /// A folder outside the repository that holds a release, and is removed with it.
 struct Release(PathBuf);
 
-/// Makes a release in a folder, of the library that is linked here.
-fn released(folder: &Path) -> Output {
-    Command::new("bash")
-        .arg(Path::new(HERE).join("../../.ci/release"))
-        .arg("--library")
-        .arg(Path::new(env!("MENAKOVITSY_LINKED")).join("libmenakovitsy.a"))
-        .arg(folder)
-        .output()
-        .unwrap()
+/// The library that is linked here.
+fn linked() -> PathBuf {
+    Path::new(env!("MENAKOVITSY_LINKED")).join("libmenakovitsy.a")
+}
+
+/// Makes a release of a library in a folder.
+fn released(library: &Path, folder: &Path) -> Output {
+    let mut release = Command::new("bash");
+    release.arg(Path::new(HERE).join("../../.ci/release")).arg("--library").arg(library).arg(folder);
+    release.output().unwrap()
+}
+
+/// A folder outside the repository, by its name.
+fn temporary(name: &str) -> PathBuf {
+    env::temp_dir().join(format!("menakovitsy-release-{name}-{}", process::id()))
+}
+
+fn compiler() -> String {
+    env::var("CC").unwrap_or_else(|_| "cc".into())
 }
 
 impl Release {
     fn new(name: &str) -> Self {
-        let folder = env::temp_dir().join(format!("menakovitsy-release-{name}-{}", process::id()));
-        let made = released(&folder.join("made"));
+        let folder = temporary(name);
+        let made = released(&linked(), &folder.join("made"));
         assert!(made.status.success(), "{}", String::from_utf8_lossy(&made.stderr));
         // carried: nothing in it may know where it was made
         fs::rename(folder.join("made"), folder.join("carried")).unwrap();
@@ -159,8 +169,7 @@ fn builds_from_an_empty_folder() {
 
     let readme = fs::read_to_string(release.path("README.md")).unwrap();
     let line = readme.lines().find_map(|line| line.strip_prefix("cc ")).unwrap();
-    let compiler = env::var("CC").unwrap_or_else(|_| "cc".into());
-    let line = format!("{compiler} {line}");
+    let line = format!("{} {line}", compiler());
     let ran = Command::new("sh").args(["-c", &line]).current_dir(release.path("")).output().unwrap();
     assert!(ran.status.success(), "{}", String::from_utf8_lossy(&ran.stderr));
     assert!(String::from_utf8_lossy(&ran.stdout).starts_with("flag 23 is 1, flag 24 is 0\n"));
@@ -169,12 +178,38 @@ fn builds_from_an_empty_folder() {
 /// A folder that is there and no release of ours is left alone.
 #[test]
 fn writes_over_nothing_but_a_release() {
-    let folder = env::temp_dir().join(format!("menakovitsy-not-a-release-{}", process::id()));
+    let folder = temporary("not-one");
     fs::create_dir_all(&folder).unwrap();
     fs::write(folder.join("letters"), "to keep").unwrap();
-    let release = released(&folder);
+    let release = released(&linked(), &folder);
     let kept = fs::read_to_string(folder.join("letters")).unwrap();
     fs::remove_dir_all(&folder).unwrap();
     assert_eq!((release.status.code(), kept.as_str()), (Some(2), "to keep"));
     assert!(String::from_utf8_lossy(&release.stderr).contains("is there, and is no release"));
+}
+
+/// The same library with one name more makes no release, and leaves nothing behind.
+#[test]
+fn refuses_a_library_with_another_name() {
+    let folder = temporary("another-name");
+    fs::create_dir_all(&folder).unwrap();
+    fs::write(folder.join("unpack.c"), "int unpack(void)\n{\n    return 1;\n}\n").unwrap();
+    let both = folder.join("both.o");
+    let mut link = Command::new(compiler());
+    link.args(["-nostdlib", "-r", "-o"]).arg(&both).arg(folder.join("unpack.c"));
+    link.arg("-Wl,--whole-archive").arg(linked());
+    assert!(link.status().unwrap().success());
+    let release = released(&both, &folder.join("made"));
+    let left: Vec<String> = fs::read_dir(&folder)
+        .unwrap()
+        .map(|entry| entry.unwrap().file_name().into_string().unwrap())
+        .filter(|name| name.starts_with("made"))
+        .collect();
+    fs::remove_dir_all(&folder).unwrap();
+    let said = String::from_utf8_lossy(&release.stderr);
+    assert_eq!((release.status.code(), left), (Some(1), vec![]));
+    assert!(
+        said.contains("> unpack\n") && said.contains("does not define exactly what the header declares"),
+        "{said}"
+    );
 }
