@@ -20,7 +20,8 @@ use menakovitsy::exported::{
 
 use crate::parts;
 
-pub use outcome::{named, Lending, Outcome};
+pub(crate) use outcome::named;
+pub use outcome::{Lending, Outcome};
 
 /// The most places that are lent for rows, and for bytes.
 pub const MOST: usize = 5000;

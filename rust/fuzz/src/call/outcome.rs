@@ -32,32 +32,32 @@ pub struct Lending<'a> {
 }
 
 impl Outcome {
-    pub fn of(words: [u64; WORDS]) -> Self {
+    pub(super) fn of(words: [u64; WORDS]) -> Self {
         Outcome { returned: words[1], words: words.to_vec(), ..Outcome::default() }
     }
 
-    pub fn counted(refusal: Refusal, rows: usize, bytes: usize) -> Self {
+    pub(super) fn counted(refusal: Refusal, rows: usize, bytes: usize) -> Self {
         let number = u64::from(refusal.number);
         let (cut, cut_at) = (u64::from(refusal.cut.is_some()), refusal.cut.unwrap_or(0) as u64);
         Self::of([case::REFUSED, number, refusal.place as u64, 0, rows as u64, bytes as u64, cut, cut_at, 0])
     }
 
-    pub fn refused(refusal: Refusal) -> Self {
+    pub(super) fn refused(refusal: Refusal) -> Self {
         Self::counted(refusal, 0, 0)
     }
 
     /// Of words of its own.
-    pub fn done(words: &[u64]) -> Self {
+    pub(super) fn done(words: &[u64]) -> Self {
         Outcome { returned: words[1], words: words.to_vec(), ..Outcome::default() }
     }
 
-    pub fn read(run: Info) -> Self {
+    pub(super) fn read(run: Info) -> Self {
         let [kind, width, rows, bytes] = named(Some(run));
         Self::of([case::READ, 0, 0, kind, rows, bytes, 0, 0, width])
     }
 
     /// The stream's, with its last run.
-    pub fn stream(refusal: Option<Refusal>, rows: Vec<i64>, bytes: usize, last: Option<Info>) -> Self {
+    pub(super) fn stream(refusal: Option<Refusal>, rows: Vec<i64>, bytes: usize, last: Option<Info>) -> Self {
         let mut outcome = match refusal {
             Some(refusal) => Self::counted(refusal, rows.len(), bytes),
             None => Self::of([case::READ, 0, 0, 0, rows.len() as u64, bytes as u64, 0, 0, 0]),
@@ -69,7 +69,7 @@ impl Outcome {
 }
 
 /// A run's kind, width, rows and bytes; 0 each where there is none.
-pub fn named(run: Option<Info>) -> [u64; 4] {
+pub(crate) fn named(run: Option<Info>) -> [u64; 4] {
     run.map_or([0; 4], |run| [number(run.kind), run.width as u64, run.rows as u64, run.bytes as u64])
 }
 
