@@ -175,9 +175,9 @@ fn builds_from_an_empty_folder() {
     assert!(String::from_utf8_lossy(&ran.stdout).starts_with("flag 23 is 1, flag 24 is 0\n"));
 }
 
-/// A folder that is there and no release of ours is left alone.
+/// A folder that is named and has something in it is left alone.
 #[test]
-fn writes_over_nothing_but_a_release() {
+fn writes_over_nothing() {
     let folder = temporary("not-one");
     fs::create_dir_all(&folder).unwrap();
     fs::write(folder.join("letters"), "to keep").unwrap();
@@ -185,7 +185,7 @@ fn writes_over_nothing_but_a_release() {
     let kept = fs::read_to_string(folder.join("letters")).unwrap();
     fs::remove_dir_all(&folder).unwrap();
     assert_eq!((release.status.code(), kept.as_str()), (Some(2), "to keep"));
-    assert!(String::from_utf8_lossy(&release.stderr).contains("is there, and is no release"));
+    assert!(String::from_utf8_lossy(&release.stderr).contains("is there, and is no empty folder"));
 }
 
 /// The same library with one name more makes no release, and leaves nothing behind.
