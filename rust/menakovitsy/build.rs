@@ -37,7 +37,10 @@ fn main() {
         )),
         Err(error) => fail(&format!("{} cannot be read: {error}", library.display())),
     }
-    println!("cargo:rerun-if-changed={}", library.display());
+    // One that was just built is newer than this run: watched, it would be built again at every call of cargo.
+    if !library.starts_with(&out) {
+        println!("cargo:rerun-if-changed={}", library.display());
+    }
     let folder = out.join("linked");
     if let Err(error) = taken(&library, &folder) {
         fail(&format!("{} cannot be copied to {}: {error}", library.display(), folder.display()));
