@@ -40,18 +40,6 @@ walk-requires c κs =
     let a = s .args in
     first-equal (a .signed) (now (a .rows)) (proposal (now (a .first)) (now (a .counts)) (now (a .forms)) (now (a .widths)) (now (a .bases))) (a .k) (s .pre)
 
-enum-known-c : tie.Need-enum-known-c
-enum-known-c c = search needs
-
-is-longer-requires : tie.Need-is-longer-requires
-is-longer-requires c κs = search needs
-
-returns : tie.Need-returns
-returns c = none
-
-enum-told : tie.Need-enum-told
-enum-told c = search needs
-
 returns-2 : tie.Need-returns-2
 returns-2 c =
     let long = c .before in
@@ -63,22 +51,7 @@ returns-2 c =
     proposes (a .signed) (now (a .rows)) (proposal (now (a .first)) (now (a .counts)) (now (a .forms)) (now (a .widths)) (now (a .bases))) (a .k) (s .pre)
     (given .0 .0) 18446744073709551615 (sym (given .1) ∙ w .walk .ensures) (sym (long .is-longer .ensures) ∙ c .if1 .left)
 
-returns-3 : tie.Need-returns-3
-returns-3 c = none
-
 pub sound-spec : {M : Type 1} → statement M
 sound-spec =
-    tie.close
-    (tie.spec
-    slice-aggregate-walk
-    slice-aggregate-walk-2
-    slice-aggregate-walk-3
-    slice-aggregate-walk-4
-    slice-aggregate-walk-5
-    walk-requires
-    enum-known-c
-    is-longer-requires
-    returns
-    enum-told
-    returns-2
-    returns-3)
+    tie.close (tie.spec slice-aggregate-walk slice-aggregate-walk-2 slice-aggregate-walk-3 slice-aggregate-walk-4 slice-aggregate-walk-5 walk-requires (λ c. search needs)
+    (λ c κs. search needs) (λ c. none) (λ c. search needs) returns-2 (λ c. none))
