@@ -8,7 +8,8 @@ use Rattle.rle_v2.proofs.in_places.Tie as tie
 
 returns : tie.Need-returns
 returns c =
-    let a = c .before .before .before .before .before .before .before .args in
+    let back-6 = c .before .before .before .before .before .before in
+    let a = back-6 .before .args in
     λ total m e. rw (c .refused .ensures) (placed-8 (a .at) total (a .places) m _ (sym (c .before .before .before .before .before .measured .given .1) ∙ e) (c .before .if1 .taken))
 
 returns-2 : tie.Need-returns-2

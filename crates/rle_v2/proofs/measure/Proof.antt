@@ -16,12 +16,15 @@ returns-3 : tie.Need-returns-3
 returns-3 c = let a = c .before .before .before .before .before .before .args in rw (is-direct (now (a .input)) (a .at .bytes) (c .before .before .before .before .if1 .left) (c .before .if3 .taken)) (c .measure2 .ensures)
 
 returns-4 : tie.Need-returns-4
-returns-4 c = let a = c .before .before .before .before .before .before .before .args in rw (is-patched (now (a .input)) (a .at .bytes) (c .before .before .before .before .before .if1 .left) (c .before .if4 .taken)) (c .measure3 .ensures)
+returns-4 c =
+    let back-6 = c .before .before .before .before .before .before in
+    let a = back-6 .before .args in rw (is-patched (now (a .input)) (a .at .bytes) (c .before .before .before .before .before .if1 .left) (c .before .if4 .taken)) (c .measure3 .ensures)
 
 returns-5 : tie.Need-returns-5
 returns-5 c =
+    let back-6 = c .before .before .before .before .before .before in
     let k = c .before .before .before .before in
-    let a = c .before .before .before .before .before .before .before .args in
+    let a = back-6 .before .args in
     rw (is-delta (now (a .input)) (a .at .bytes) (c .before .before .before .before .before .if1 .left) (omega (arith, k .shared-slice-known2 .given (a .at .bytes), c .before .before .before .if2 .left, c .before .before .if3 .left, c .before .if4 .left)))
     (c .measure4 .ensures)
 

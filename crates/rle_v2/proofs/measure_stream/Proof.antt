@@ -27,39 +27,44 @@ step x =
     step-is (a .input .now) (l .place) (two64 - 1 - l .count) (x .in-places .result) (below-all 256 (a .input .now) (λ i. x .before .before .before .before .shared-slice-known .given i .fits))
     (x .in-places .ensures _ _ (x .before .measure .ensures))
 
-ran-is : (m : tie.After-a Inv-loop μ-loop) → let l = m .before .before .before .before .before .loop in let a = m .before .before .before .before .before .before .before .args in OneRun (a .input .now) (l .place) (two64 - 1 - l .count) (m .a .given .0 .0)
+ran-is : (m : tie.After-a Inv-loop μ-loop) → let back-6 = m .before .before .before .before .before .before in let l = m .before .before .before .before .before .loop in let a = back-6 .before .args in OneRun (a .input .now) (l .place) (two64 - 1 - l .count) (m .a .given .0 .0)
 ran-is m = rw (m .a .given .1) at (step (m .before .before))
 
-refused-is : (m : tie.After-a2 Inv-loop μ-loop) → let l = m .before .before .before .before .before .loop in let a = m .before .before .before .before .before .before .before .args in NoRun (a .input .now) (l .place) (two64 - 1 - l .count) (m .a2 .given .0 .0)
+refused-is : (m : tie.After-a2 Inv-loop μ-loop) → let back-6 = m .before .before .before .before .before .before in let l = m .before .before .before .before .before .loop in let a = back-6 .before .args in NoRun (a .input .now) (l .place) (two64 - 1 - l .count) (m .a2 .given .0 .0)
 refused-is m = rw (m .a2 .given .1) at (step (m .before .before))
 
-ended-is : (m : tie.After-enum-told Inv-loop μ-loop) → let l = m .before .before .before .before .before .loop in let a = m .before .before .before .before .before .before .before .args in drop (l .place) (a .input .now) ≡ []
+ended-is : (m : tie.After-enum-told Inv-loop μ-loop) → let back-6 = m .before .before .before .before .before .before in let l = m .before .before .before .before .before .loop in let a = back-6 .before .args in drop (l .place) (a .input .now) ≡ []
 ended-is m = rw (m .enum-told .given .1) at (step (m .before .before))
 
 add-count : tie.Need-add-count Inv-loop μ-loop
-add-count c = omega (arith, ran-is (c .before .before .before .before) .fits, c .before .before .before .before .before .before .before .before .before .loop .inv .fits)
+add-count c =
+    let back-6 = c .before .before .before .before .before .before in
+    omega (arith, ran-is (c .before .before .before .before) .fits, back-6 .before .before .before .loop .inv .fits)
 
 add-place : tie.Need-add-place Inv-loop μ-loop
 add-place c = omega (arith, ran-is (c .before .before .before .before .before) .within)
 
 loop-less : tie.Need-loop-less Inv-loop μ-loop
 loop-less c =
+    let back-6 = c .before .before .before .before .before .before in
     let o = ran-is (c .before .before .before .before .before) in
-    omega (arith, o .within, o .bytes-are, layout-pos (o .run), c .before .before .before .before .before .before .before .before .before .loop-test .taken)
+    omega (arith, o .within, o .bytes-are, layout-pos (o .run), back-6 .before .before .before .loop-test .taken)
 
 loop-again : tie.Need-loop-again Inv-loop μ-loop
 loop-again c =
-    let l = c .before .before .before .before .before .before .before .before .before .before .loop in
-    let a = c .before .before .before .before .before .before .before .before .before .before .before .before .args in
-    counted-run (a .input .now) (a .at .bytes) (two64 - 1) (l .place) (l .count) (l .last) (l .inv) _ (c .before .before .before .before .before .before .before .before .before .loop-test .taken) (ran-is (c .before .before .before .before .before))
+    let back-6 = c .before .before .before .before .before .before in
+    let l = back-6 .before .before .before .before .loop in
+    let a = back-6 .before .before .before .before .before .before .args in
+    counted-run (a .input .now) (a .at .bytes) (two64 - 1) (l .place) (l .count) (l .last) (l .inv) _ (back-6 .before .before .before .loop-test .taken) (ran-is (c .before .before .before .before .before))
 
 sub-refused : tie.Need-sub-refused Inv-loop μ-loop
 sub-refused c = omega (arith, c .before .before .before .before .before .before .loop .inv .bytes)
 
 returns : tie.Need-returns Inv-loop μ-loop
 returns c =
-    let l = c .before .before .before .before .before .before .before .loop in
-    let a = c .before .before .before .before .before .before .before .before .before .args in
+    let back-6 = c .before .before .before .before .before .before in
+    let l = back-6 .before .loop in
+    let a = back-6 .before .before .before .args in
     c .refused .ensures ∙ counted-refused (a .input .now) (a .at .bytes) (two64 - 1) (l .place) (l .count) (l .last) (l .inv) _ (refused-is (c .before .before))
 
 sub-whole : tie.Need-sub-whole Inv-loop μ-loop
@@ -67,8 +72,9 @@ sub-whole c = omega (arith, c .before .before .before .before .before .loop .inv
 
 returns-2 : tie.Need-returns-2 Inv-loop μ-loop
 returns-2 c =
+    let back-6 = c .before .before .before .before .before .before in
     let l = c .before .before .before .before .before .before .loop in
-    let a = c .before .before .before .before .before .before .before .before .args in
+    let a = back-6 .before .before .args in
     c .whole .ensures ∙ counted-whole (a .input .now) (a .at .bytes) (two64 - 1) (l .place) (l .count) (l .last) (l .inv) (ended-is (c .before))
 
 sub-whole-2 : tie.Need-sub-whole-2 Inv-loop μ-loop

@@ -23,7 +23,8 @@ lay-packed-requires c κs =
 
 returns : tie.Need-returns
 returns c =
-    let s = c .before .before .before .before .before .before .before in
+    let back-6 = c .before .before .before .before .before .before in
+    let s = back-6 .before in
     let a = s .args in
     steps-laid (now (a .input)) (a .signed) (a .t) (a .bits) (a .n) (now (a .out)) (c .before .steps .last .1 .1 .1 .0) (c .before .before .before .if1 .taken) (s .pre .1)
     (rw (c .before .before .before .before .before .row .ensures, c .before .before .before .before .unzigzag .ensures) at (c .before .steps .ensures))

@@ -13,7 +13,7 @@ use Rattle.rle_v2.proofs.direct.measure.Statement.{statement}
 use Rattle.rle_v2.proofs.direct.measure.Tie as tie
 
 -- what the code found in the header
-size-is : (z : tie.After-block-size) → let a = z .before .before .before .before .before .before .before .args in
+size-is : (z : tie.After-block-size) → let back-6 = z .before .before .before .before .before .before in let a = back-6 .before .args in
     z .block-size .result ≡ bytesFor ((rowsLess (getD (now (a .input)) (a .at) 0) (getD (now (a .input)) (a .at + 1) 0) + 1) * width (codeOf (getD (now (a .input)) (a .at) 0)))
 size-is z = z .block-size .ensures ∙ rw (z .before .bits-of .ensures, z .before .before .two-bytes .ensures .0, z .before .before .two-bytes .ensures .1)
 
@@ -25,14 +25,16 @@ block-size-requires c κs = (rw (c .bits-of .ensures) (width-le _), omega (arith
 
 returns-2 : tie.Need-returns-2
 returns-2 c =
+    let back-6 = c .before .before .before .before .before .before in
     let z = c .before .before in
-    let a = z .before .before .before .before .before .before .before .args in
+    let a = back-6 .before .before .before .args in
     c .cut .ensures ∙ no-body (now (a .input)) (a .at) (z .before .before .before .before .before .if1 .left) (rw (size-is z) at (c .before .if2 .taken))
 
 returns-3 : tie.Need-returns-3
 returns-3 c =
+    let back-6 = c .before .before .before .before .before .before in
     let z = c .before .before in
-    let a = z .before .before .before .before .before .before .before .args in
+    let a = back-6 .before .before .before .args in
     let h = z .before .before .two-bytes .ensures in
     c .run .ensures ∙ rw (size-is z, z .before .bits-of .ensures, h .0, h .1) (run-is (now (a .input)) (a .at) (z .before .before .before .before .before .if1 .left) (rw (size-is z) at (c .before .if2 .left)))
 

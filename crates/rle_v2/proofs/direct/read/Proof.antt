@@ -54,15 +54,16 @@ unpack-requires c κs =
 
 returns-2 : tie.Need-returns-2
 returns-2 c =
+    let back-6 = c .before .before .before .before .before .before in
     let d = c .before in
     let u = c .before .before .before .before in
-    let m = c .before .before .before .before .before .before .before .before .before .before .before in
+    let m = back-6 .before .before .before .before .before in
     let a = m .before .before .before .before .args in
     let s = now (a .input) in
     let r = m .r .given .0 .0 in
     let o = then-pass (decoded (a .signed)) (map asI64 (blockAt s (a .at + 2) (r .width) (r .rows .rows) .values)) (now (a .out)) (u .unpack .last .1 .1 .1 .0) (d .decode .last .1 .1 .0) (r .rows .rows)
     (block-rows s (a .at + 2) (r .width) (r .rows .rows)) (rw (rest-is s (a .at + 2)) at (u .unpack .ensures)) (d .decode .ensures) in
-    read-is s (a .at) (a .signed) (now (a .out)) r (named m) (measured-is m) (d .decode .last .1 .1 .0) (c .before .before .before .before .before .before .before .if1 .left) o
+    read-is s (a .at) (a .signed) (now (a .out)) r (named m) (measured-is m) (d .decode .last .1 .1 .0) (back-6 .before .if1 .left) o
 
 returns-3 : tie.Need-returns-3
 returns-3 c =

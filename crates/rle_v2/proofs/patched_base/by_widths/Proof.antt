@@ -26,8 +26,9 @@ returns c =
 
 body-requires : tie.Need-body-requires
 body-requires c κs =
+    let back-6 = c .before .before .before .before .before .before in
     let k = c .before .before .before in
-    let s = c .before .before .before .before .before .before .before in (
+    let s = back-6 .before in (
       s .pre .0,
       s .pre .1,
       record { bits-is = c .before .before .before .before .before .bits-of .ensures; patch-is = c .before .before .before .before .bits-of2 .ensures; entry-is = c .entry-width .ensures ∙ ap leastWidth (sum-2 k) },

@@ -15,21 +15,30 @@ returns c =
     (gone-plain (now (s .args .input)) (s .args .at) _ 1 (λ z. omega arith) (no-header (now (s .args .input)) (s .args .at) (s .pre) (c .before .before .if1 .taken)))
 
 cast-t8 : tie.Need-cast-t8
-cast-t8 c = omega (arith, c .shared-slice-known5 .given (c .before .before .before .before .before .before .before .args .at + 2))
+cast-t8 c =
+    let back-6 = c .before .before .before .before .before .before in
+    omega (arith, c .shared-slice-known5 .given (back-6 .before .args .at + 2))
 
 add-t7 : tie.Need-add-t7
-add-t7 c = omega (arith, c .shared-slice-known5 .given (c .before .before .before .before .before .before .before .args .at + 2))
+add-t7 c =
+    let back-6 = c .before .before .before .before .before .before in
+    omega (arith, c .shared-slice-known5 .given (back-6 .before .args .at + 2))
 
 cast-t18 : tie.Need-cast-t18
-cast-t18 c = omega (arith, c .shared-slice-known5 .given (c .before .before .before .before .before .before .before .args .at + 3))
+cast-t18 c =
+    let back-6 = c .before .before .before .before .before .before in
+    omega (arith, c .shared-slice-known5 .given (back-6 .before .args .at + 3))
 
 add-t19 : tie.Need-add-t19
-add-t19 c = omega (arith, c .shared-slice-known5 .given (c .before .before .before .before .before .before .before .args .at + 3))
+add-t19 c =
+    let back-6 = c .before .before .before .before .before .before in
+    omega (arith, c .shared-slice-known5 .given (back-6 .before .args .at + 3))
 
 by-widths-requires : tie.Need-by-widths-requires
 by-widths-requires c κs =
+    let back-6 = c .before .before .before .before .before .before in
     let h = c .before .before .two-bytes .ensures in
-    let a = c .before .before .before .before .before .before .before .args in
+    let a = back-6 .before .args in
     let g = c .shared-slice-known5 .given in (
       omega arith,
       record {
@@ -46,8 +55,9 @@ by-widths-requires c κs =
 
 returns-2 : tie.Need-returns-2
 returns-2 c =
+    let back-6 = c .before .before .before .before .before .before in
     let h = c .before .before .before .two-bytes .ensures in
-    let a = c .before .before .before .before .before .before .before .before .args in
+    let a = back-6 .before .before .args in
     rw (is-body (now (a .input)) (a .at) (c .before .before .before .before .before .before .if1 .left)) (rw (h .0, h .1) at (c .by-widths .ensures))
 
 pub headed-spec : {M : Type 1} → statement M

@@ -8,7 +8,8 @@ use Rattle.rle_v2.proofs.patched_base.put.Tie as tie
 
 put-requires : tie.Need-put-requires
 put-requires c κs =
-    let s = c .before .before .before .before .before .before .before .before in
+    let back-6 = c .before .before .before .before .before .before in
+    let s = back-6 .before .before in
     let f = s .args .f in
     let r = s .pre .0 in
     rw (rest-is (now (s .args .input)) (f .list)) (r .list-there, (r .narrow, r .rows, omega arith, r .in-place))

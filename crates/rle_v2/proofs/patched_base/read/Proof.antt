@@ -65,8 +65,9 @@ returns-2 c =
 
 returns-3 : tie.Need-returns-3
 returns-3 c =
+    let back-6 = c .before .before .before .before .before .before in
     let t = c .before .before .before in
-    let a = t .before .before .before .before .before .before .before .args in
+    let a = back-6 .before .before .before .before .args in
     rw (c .refused3 .ensures) (passed-8 (now (a .input)) (a .at) _ _ _ _ (passed t) (a .signed) (now (a .out)) (c .before .if3 .taken))
 
 put-requires : tie.Need-put-requires
@@ -77,14 +78,18 @@ put-requires c κs =
     (ready (now (a .input)) (a .at) _ _ (heads e) (sym (number-is (t .before)) ∙ t .if2 .left), c .before .if3 .left)
 
 sub-run : tie.Need-sub-run
-sub-run c = omega (arith, heads (c .before .before .before .before .before .before .before .before .before) .headed .parts .end-is)
+sub-run c =
+    let back-6 = c .before .before .before .before .before .before in
+    omega (arith, heads (back-6 .before .before .before) .headed .parts .end-is)
 
 returns-4 : tie.Need-returns-4
 returns-4 c =
+    let back-6 = c .before .before .before .before .before .before in
+    let back-12 = back-6 .before .before .before .before .before .before in
     let p = c .before .before .before in
     let r = p .before .before in
     let t = r .before .before in
-    let a = t .before .before .before .before .before .before .before .args in
+    let a = back-12 .before .before .args in
     rw (c .run .ensures)
     (passed-read (now (a .input)) (a .at) _ _ _ _ (passed t) (a .signed) (now (a .out)) _ _ (r .if3 .left) refl (p .put .ensures))
 

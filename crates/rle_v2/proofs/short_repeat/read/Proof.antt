@@ -26,13 +26,16 @@ returns c =
     rw (c .refused .ensures) (no-room (now (a .input)) (a .at) (a .signed) (now (a .out)) _ (named m) (measured-is m) (c .before .if1 .taken))
 
 read-requires : tie.Need-read-requires
-read-requires c κs = let m = measured-is (c .before .before .before .before .before) in omega (arith, m .size-is, m .there, c .before .before .before .before .before .before .before .before .before .pre .1)
+read-requires c κs =
+    let back-6 = c .before .before .before .before .before .before in
+    let m = measured-is (c .before .before .before .before .before) in omega (arith, m .size-is, m .there, back-6 .before .before .before .pre .1)
 
 returns-2 : tie.Need-returns-2
 returns-2 c =
+    let back-6 = c .before .before .before .before .before .before in
     let p = c .before in
     let w = c .before .before .before in
-    let m = c .before .before .before .before .before .before .before .before .before .before in
+    let m = back-6 .before .before .before .before in
     let a = m .before .before .before .before .args in
     let v = rw (w .before .read .ensures) at (w .row .ensures) in
     let f : w .row .result < 2 ^ 64 = w .row .ok in
