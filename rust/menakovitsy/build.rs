@@ -1,31 +1,33 @@
-//! Finds the static library of the proved crate `loader`, or builds it, and says where it is.
+//! Finds the static library of the proved crate `loader`, or builds it, and says where it is. The first of:
 //!
-//! `MENAKOVITSY_LIB_DIR`, where set, names a folder that holds `libloader.a` already: nothing is
-//! proved or built then. Otherwise the repository's crates are copied into this script's own output
-//! folder and `rt staticlib loader` is run there: nothing else is written.
+//! 1. what the folder holds that `MENAKOVITSY_LIB_DIR` names: `libmenakovitsy.a` of a release, or the
+//!    `libloader.a` that `rt staticlib loader` leaves in `target/staticlib`;
+//! 2. `libmenakovitsy.a` two folders above this crate, which then stands in a release's folder;
+//! 3. what `rt staticlib loader` makes of the checkout that this crate stands in. The repository's crates are
+//!    copied into this script's own output folder for it, and it runs there.
+//!
+//! Nothing is written but in the output folder. From there it is linked, under one name wherever it came from.
 use std::io::{self, ErrorKind};
 use std::path::{Path, PathBuf};
 use std::process::{self, Command};
 use std::{env, fs};
 
-const LIBRARY: &str = "libloader.a";
+/// A release's library, and the name that every program links.
+const LIBRARY: &str = "libmenakovitsy.a";
+
+/// The name that `rt` gives it.
+const BUILT: &str = "libloader.a";
 
 fn main() {
     println!("cargo:rerun-if-changed=build.rs");
     println!("cargo:rerun-if-env-changed=MENAKOVITSY_LIB_DIR");
     let target = env::var("CARGO_CFG_TARGET_ARCH").unwrap_or_default();
-    let folder = match env::var_os("MENAKOVITSY_LIB_DIR") {
-        Some(named) => PathBuf::from(named),
-        None => build(&target),
+    let here = PathBuf::from(env::var_os("CARGO_MANIFEST_DIR").expect("cargo sets CARGO_MANIFEST_DIR"));
+    let out = PathBuf::from(env::var_os("OUT_DIR").expect("cargo sets OUT_DIR"));
+    let library = match env::var_os("MENAKOVITSY_LIB_DIR") {
+        Some(folder) => named(&absolute(Path::new(&folder))),
+        None => found_or_built(&absolute(&here.join("../..")), &out, &target),
     };
-    let folder = fs::canonicalize(&folder).unwrap_or(folder);
-    let library = folder.join(LIBRARY);
-    if !library.is_file() {
-        fail(&format!(
-            "{} is missing: name its folder in MENAKOVITSY_LIB_DIR, or unset it",
-            library.display()
-        ));
-    }
     match machine(&library) {
         Ok(made_for) if made_for == target => {}
         Ok(made_for) => fail(&format!(
@@ -35,45 +37,77 @@ fn main() {
         )),
         Err(error) => fail(&format!("{} cannot be read: {error}", library.display())),
     }
-    println!("cargo:rerun-if-changed={}", library.display());
+    // One that was just built is newer than this run: watched, it would be built again at every call of cargo.
+    if !library.starts_with(&out) {
+        println!("cargo:rerun-if-changed={}", library.display());
+    }
+    let folder = out.join("linked");
+    if let Err(error) = taken(&library, &folder) {
+        fail(&format!("{} cannot be copied to {}: {error}", library.display(), folder.display()));
+    }
     println!("cargo:rustc-link-search=native={}", folder.display());
-    println!("cargo:rustc-link-lib=static=loader");
+    println!("cargo:rustc-link-lib=static=menakovitsy");
     // The tests link it, too, from C and from a project of their own.
     println!("cargo:rustc-env=MENAKOVITSY_LINKED={}", folder.display());
 }
 
-/// Proves and builds the library, and answers the folder that holds it.
-fn build(target: &str) -> PathBuf {
+fn absolute(path: &Path) -> PathBuf {
+    fs::canonicalize(path).unwrap_or_else(|_| path.to_path_buf())
+}
+
+/// The library in the folder that the caller named.
+fn named(folder: &Path) -> PathBuf {
+    let library = [LIBRARY, BUILT].map(|name| folder.join(name)).into_iter().find(|file| file.is_file());
+    library.unwrap_or_else(|| {
+        fail(&format!(
+            "MENAKOVITSY_LIB_DIR names {}, which holds neither {LIBRARY} nor {BUILT}: name a release's folder, or \
+             target/staticlib of a checkout behind `rt staticlib loader`, or unset it",
+            folder.display()
+        ))
+    })
+}
+
+/// The library of the release that `root` is; otherwise that of the checkout, which is proved and built.
+fn found_or_built(root: &Path, out: &Path, target: &str) -> PathBuf {
+    if root.join(LIBRARY).is_file() {
+        return root.join(LIBRARY);
+    }
+    if !root.join("crates/loader").is_dir() {
+        fail(&format!(
+            "{} is neither a release (it holds no {LIBRARY}) nor a checkout (it holds no crates/loader): set \
+             MENAKOVITSY_LIB_DIR to a release's folder",
+            root.display()
+        ));
+    }
     if target != "x86_64" {
         fail(&format!(
             "the library is built for x86-64, and this build is for {target}: choose an x86-64 target{}",
             on_arm(target)
         ));
     }
-    let here = PathBuf::from(env::var_os("CARGO_MANIFEST_DIR").expect("cargo sets CARGO_MANIFEST_DIR"));
-    let root = here.join("../..");
-    let root = fs::canonicalize(&root).unwrap_or(root);
-    if !root.join("crates/loader").is_dir() {
-        fail(&format!(
-            "there is no crate `loader` in {}: take a whole checkout, or set MENAKOVITSY_LIB_DIR to a folder \
-             that holds {LIBRARY}",
-            root.join("crates").display()
-        ));
-    }
-    let out = PathBuf::from(env::var_os("OUT_DIR").expect("cargo sets OUT_DIR")).join("repository");
-    if let Err(error) = copied(&root, &out) {
+    let out = out.join("repository");
+    if let Err(error) = copied(root, &out) {
         fail(&format!("{} cannot be copied to {}: {error}", root.join("crates").display(), out.display()));
     }
     match Command::new("rt").args(["staticlib", "loader"]).current_dir(&out).status() {
         Ok(status) if status.success() => {}
         Ok(status) => fail(&format!("`rt staticlib loader` in {} failed ({status})", out.display())),
-        Err(error) if error.kind() == ErrorKind::NotFound => fail(&format!(
+        Err(error) if error.kind() == ErrorKind::NotFound => fail(
             "`rt`, which proves and compiles the library, is not on the PATH: install the Rattle kit, or set \
-             MENAKOVITSY_LIB_DIR to a folder that holds {LIBRARY}"
-        )),
+             MENAKOVITSY_LIB_DIR to a release's folder, which `.ci/release` makes where the kit is",
+        ),
         Err(error) => fail(&format!("`rt` cannot be run: {error}")),
     }
-    out.join("target/staticlib")
+    out.join("target/staticlib").join(BUILT)
+}
+
+/// Copies the library into a folder, under its one name.
+fn taken(library: &Path, folder: &Path) -> io::Result<()> {
+    if folder.exists() {
+        fs::remove_dir_all(folder)?;
+    }
+    fs::create_dir_all(folder)?;
+    fs::copy(library, folder.join(LIBRARY)).map(|_| ())
 }
 
 /// What else there is on Arm.

@@ -1,8 +1,9 @@
 /* Proved readers and a writer for the integer runs (RLEv2), booleans and byte values of Apache ORC
  * files.
  *
- * Build the library with `rt staticlib loader` in the repository's root and link
- * target/staticlib/libloader.a (x86-64, little endian, 64-bit size_t).
+ * Link libmenakovitsy.a of a release, which stands beside this header there (x86-64, little endian,
+ * 64-bit size_t). `.ci/release` in a checkout makes one; `rt staticlib loader` the library alone, as
+ * target/staticlib/libloader.a.
  *
  * Slices. A slice is a pointer and, behind it, its length in elements (bytes, int64_t or uint64_t).
  * A null pointer is allowed where the length is 0. A slice that is read must hold its elements; one

@@ -62,6 +62,8 @@ fn missing(checkout: &Path, file: &Path) -> ! {
     eprintln!("error: the Rust decoders are not there: {} is missing.", file.display());
     eprintln!("They are compiled from {}.", checkout.display());
     eprintln!("Set ORC_RS to a checkout of WenyXu/orc-rs at commit 3a197fa636 (the folder that");
-    eprintln!("holds src/reader/decode), or put one at shared/docs/src beside this repository.");
+    eprintln!("holds src/reader/decode), or put one at shared/docs/src beside this repository. All but what");
+    eprintln!("compares with them goes without: cargo's --workspace --exclude oracle --exclude differential");
+    eprintln!("--exclude fuzz --exclude bench.");
     process::exit(1);
 }

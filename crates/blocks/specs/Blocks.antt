@@ -1,4 +1,4 @@
--- AN INPUT'S LINES (document 01, "The program"), and the same for an input that comes in blocks.
+-- AN INPUT'S LINES (FORMAT.md, "The programs"), and the same for an input that comes in blocks.
 -- Assumes nothing.
 use mathlib.Core.Path.{_≡_}
 use Prim.Native.Nat.{ℕ, suc, _+_, _≤_}

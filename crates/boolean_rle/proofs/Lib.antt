@@ -1,3 +1,5 @@
 -- The laws that the proofs of the boolean reader cite.
-pub mod Laws
+pub mod FirstPass
+pub mod RunBytes
+pub mod SecondPass
 pub mod ByteBits

@@ -26,10 +26,10 @@ foundIn total (got d rest) = found.Run (record { size = length (runLayout d); co
 foundIn total (refused r) = found.Cut (numberOf r) (fieldIn total r)
 
 -- the bytes that it stands for
-abbrev pub bytesIn : Parsed ByteRun → List ℕ
-bytesIn end = []
-bytesIn (got d rest) = runBytes d
-bytesIn (refused r) = []
+abbrev pub runBytesIn : Parsed ByteRun → List ℕ
+runBytesIn end = []
+runBytesIn (got d rest) = runBytes d
+runBytesIn (refused r) = []
 
 -- several runs: the bytes of their layouts
 abbrev pub spanOf : ℕ → Parsed (List ByteRun) → Span

@@ -7,7 +7,7 @@ ghost use Rattle.format.specs.Digits.{digits};
 ghost use Rattle.format.specs.Fields.{bytesFor};
 ghost use Rattle.format.specs.Loader.{lowestFirst};
 ghost use Rattle.format.specs.Booleans.{byteRun, booleans, bits, BooleansRead};
-ghost use Rattle.boolean_rle.specs.Found.{foundIn, bytesIn, spanOf, Wrote, Filled};
+ghost use Rattle.boolean_rle.specs.Found.{foundIn, runBytesIn, spanOf, Wrote, Filled};
 use format::Answer;
 use format::ByteOffset;
 use format::Kind;
@@ -104,7 +104,7 @@ fn span_from(input: &[u8], at: usize, n: usize) -> Span
 // Byte i of the run at a place.
 fn run_byte(input: &[u8], at: usize, run: ByteRun, i: usize) -> u8
     requires { ⌜ (foundIn (length (now input)) (byteRun (drop at (now input))) ≡ Found.Run run) × (i < run .count) ⌝ }
-    ensures { λ r. ⌜ r ≡ getD (bytesIn (byteRun (drop at (now (input .entry))))) i 0 ⌝ }
+    ensures { λ r. ⌜ r ≡ getD (runBytesIn (byteRun (drop at (now (input .entry))))) i 0 ⌝ }
 {
     if input[at] < 128 {
         return input[at + 1];
@@ -157,7 +157,7 @@ fn put_byte(byte: u8, out: &mut [u8], k: usize)
 // The first bytes of the run at a place, in eight places each, from k on.
 fn put_bytes(input: &[u8], at: usize, run: ByteRun, count: usize, out: &mut [u8], k: usize)
     requires { ⌜ (foundIn (length (now input)) (byteRun (drop at (now input))) ≡ Found.Run run) × (count ≤ run .count) × (k + 8 * count ≤ length (now out)) ⌝ }
-    ensures { λ _. ⌜ Wrote k (k + 8 * count) (bits (bytesIn (byteRun (drop at (now (input .entry)))))) (now (out .entry)) (now (out .exit)) ⌝ }
+    ensures { λ _. ⌜ Wrote k (k + 8 * count) (bits (runBytesIn (byteRun (drop at (now (input .entry)))))) (now (out .entry)) (now (out .exit)) ⌝ }
 {
     let mut i = 0;
     while i < count {
@@ -169,7 +169,7 @@ fn put_bytes(input: &[u8], at: usize, run: ByteRun, count: usize, out: &mut [u8]
 // The booleans of the run at a place, from place k on and up to place n: the place after them.
 fn put_run(input: &[u8], at: usize, run: ByteRun, n: usize, out: &mut [u8], k: usize) -> usize
     requires { ⌜ (foundIn (length (now input)) (byteRun (drop at (now input))) ≡ Found.Run run) × (k ≤ n) × (n ≤ length (now out)) ⌝ }
-    ensures { λ r. ⌜ (r ≡ min n (k + 8 * run .count)) × Wrote k r (bits (bytesIn (byteRun (drop at (now (input .entry)))))) (now (out .entry)) (now (out .exit)) ⌝ }
+    ensures { λ r. ⌜ (r ≡ min n (k + 8 * run .count)) × Wrote k r (bits (runBytesIn (byteRun (drop at (now (input .entry)))))) (now (out .entry)) (now (out .exit)) ⌝ }
 {
     let whole = (n - k) / 8;
     let count = run.count;

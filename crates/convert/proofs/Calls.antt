@@ -1,17 +1,17 @@
 -- From the two walks to the promise of the call. Assumes nothing.
 use mathlib.Core.Path.{_≡_, refl, sym, ap, _∙_}
-use Prim.Native.Nat.{ℕ, _-_, _≤_}
+use Prim.Native.Nat.{ℕ, _-_}
 use native.Mathlib.Omega.{arith}
 use native.Mathlib.Nat.{le-refl}
 use mathlib.Core.Bool.{Bool}
 use mathlib.Core.List.{List, [], _∷_, _++_, append-nil}
-use lib.ListN.{length, take, drop, length-drop, drop-of-length-le}
+use lib.ListN.{length, take, drop, drop-of-length-le}
 use lib.Seq.{take-all}
 use Rattle.format.specs.declared.Refusal.{Refusal}
 use Rattle.convert.specs.declared.Conversion.{Conversion}
 use Rattle.convert.specs.declared.Converted.{Converted}
 use Rattle.convert.specs.declared.Converted.the-variants.{Done, Refused}
-use Rattle.convert.specs.Convert.{Outcome, result, own, eight, bytesIn, toldAs, convert, Converts}
+use Rattle.convert.specs.Convert.{Outcome, result, own, eight, toldAs, convert, Converts}
 use Rattle.convert.specs.Walk.{Walked}
 
 none : (l : List ℕ) → length l ≡ 0 → l ≡ []

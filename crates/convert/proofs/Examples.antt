@@ -5,13 +5,14 @@ use mathlib.Core.Bool.{Bool, false}
 use mathlib.Core.List.{List, [], _∷_}
 use Rattle.format.specs.Fields.{zigzagged, shortestIn, shortest}
 use Rattle.format.specs.Parse.{plain}
+use Rattle.format.specs.Streams.{stream}
 use Rattle.format.specs.Writing.{stored, stepsOf, baseDelta, valuesOf, described}
 use Rattle.format.proofs.Examples.{told}
 use Rattle.format.specs.Kept.{keptCodes, among, isKept, nextKept}
 use Rattle.convert.specs.Convert.{rewritten, converted, oddRuns, Outcome, result, own, eight, convert}
 
 unfoldable seen : Bool → List ℕ → ℕ → Outcome
-unfolding told zigzagged shortestIn shortest stored stepsOf baseDelta valuesOf described keptCodes among isKept nextKept rewritten converted oddRuns convert
+unfolding told zigzagged shortestIn shortest stored stepsOf baseDelta valuesOf described keptCodes among isKept nextKept rewritten converted oddRuns stream convert
 seen signed bs places = convert signed bs places
 
 -- one direct row of 26 bits: 32 bits

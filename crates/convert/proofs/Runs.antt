@@ -1,15 +1,14 @@
 -- One run: what an altered run is; that it is valid, has the same rows and no odd width. Assumes nothing.
 use mathlib.Core.Path.{_≡_, refl, sym, ap, _∙_}
-use Prim.Native.Nat.{ℕ, _<_, _≤_}
+use Prim.Native.Nat.{ℕ, _<_}
 use native.Mathlib.Omega.{arith}
-use native.Mathlib.Nat.{le-refl, le-trans, lt-of-lt-of-le}
+use native.Mathlib.Nat.{le-refl, le-trans}
 use mathlib.Core.Bool.{Bool, true, false, not}
-use mathlib.Core.List.{List, [], _∷_}
+use mathlib.Core.List.{List}
 use lib.ListN.{length}
 use lib.Pow.{pow-pos, pow-mono}
 use Rattle.format.specs.declared.Form.{Form}
 use Rattle.format.specs.declared.Form.the-variants.{Direct, PackedDelta}
-use Rattle.format.specs.Digits.{AllBelow}
 use Rattle.format.specs.Fields.{pick, width, two64, Block, IsBlock, varintValue, shortest, Shortest}
 use Rattle.format.specs.Runs.{Description, short, direct, fixed, delta, patched, Valid, layout}
 use Rattle.format.specs.Rows.{rowsOf, i64Rows, asI64, asU64}
@@ -21,7 +20,9 @@ use Rattle.format.proofs.Patterns.{as-back}
 use Rattle.format.proofs.Varints.{varint-lt, shortest-stands, shortest-varint, shortest-value}
 use Rattle.format.proofs.Rows.{rows-below}
 use Rattle.format.proofs.Runs.{got-inj}
-use Rattle.format.proofs.Writing.{below-mono, map-back, accepted, written, writes-back}
+use Rattle.format.proofs.Again.{below-mono}
+use Rattle.format.proofs.Steps.{map-back}
+use Rattle.format.proofs.Writing.{accepted, written, writes-back}
 use Rattle.format.specs.Kept.{nextKept}
 use Rattle.format.proofs.Kept.{next-kept, next-code, next-wider}
 use Rattle.convert.specs.Convert.{isOdd, rewritten, converted}

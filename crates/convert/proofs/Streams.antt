@@ -1,26 +1,24 @@
 -- The stream and the call. Assumes nothing.
 use mathlib.Core.Path.{_≡_, refl, sym, ap, subst, _∙_}
-use Prim.Native.Nat.{ℕ, _-_, _*_, _≤_}
+use Prim.Native.Nat.{ℕ, _*_}
 use native.Mathlib.Omega.{arith}
-use native.Mathlib.Nat.{le-trans}
 use mathlib.Core.Bool.{Bool, true, false}
-use mathlib.Core.List.{List, [], _∷_, _++_}
-use lib.ListN.{length, length-map, length-append}
-use lib.Seq.{drop-append-seam}
+use mathlib.Core.List.{List, [], _∷_}
+use lib.ListN.{length, length-map}
 use lib.Dec.{ltb}
 use borrow.Author.Tests.{lt-ltb, le-ltb, ltb-true, ltb-false}
 use Rattle.format.specs.Digits.{AllBelow}
 use Rattle.format.specs.Fields.{pick}
 use Rattle.format.specs.Runs.{Description, AllValid, layout, joined}
 use Rattle.format.specs.Rows.{i64Rows}
-use Rattle.format.specs.Parse.{Reason, Parsed, refused, parse, into}
-use Rattle.format.specs.Streams.{Reading, whole, readAll, totalRows, joinedRows}
-use Rattle.format.proofs.Fields.{below-append, below-drop}
-use Rattle.format.proofs.Rows.{row-bounds, joined-count}
-use Rattle.format.proofs.Runs.{layout-pos, layout-below, Outcome, nothing, run, refusal, outcome}
-use Rattle.format.proofs.Streams.{into-got, into-refused, into-end, Reads, reads-whole, reads-broken, stream-post, stream-whole, stream-broken}
+use Rattle.format.specs.Streams.{Reading, whole, readAll, stream, totalRows, joinedRows}
+use Rattle.format.proofs.Below.{below-append}
+use Rattle.format.proofs.Rows.{joined-count}
+use Rattle.format.proofs.Runs.{layout-below}
+use Rattle.format.proofs.Streams.{Reads, reads-whole, reads-broken, stream-post, stream-whole}
+use Rattle.format.proofs.StreamRoom
 use Rattle.convert.specs.Convert as c
-use Rattle.convert.specs.Convert.{isOdd, converted, convertedAll, oddRuns, result, eight, outcomeOf, runsIn, convert}
+use Rattle.convert.specs.Convert.{isOdd, converted, convertedAll, oddRuns, result, eight, outcomeOf, convert}
 use Rattle.convert.specs.Laws.{StreamsHold, Gives, gives-own, gives-eight, gives-result, ConvertExactly, Result, ResultsHold, RoomEnough, ConvertDetermined}
 use Rattle.convert.proofs.Runs.{runs-hold}
 
@@ -62,45 +60,21 @@ streams-hold signed ds v = record {
 
 -- ---- room enough
 
-pub room : (ds : List Description) → AllValid ds → totalRows ds ≤ 512 * length (joined ds)
-unfolding totalRows joined
-room [] v = omega arith
-room (d ∷ ds) v = omega (arith, row-bounds d (v .0), layout-pos d, length-append (layout d) (joined ds), room ds (v .1))
-
 pub joined-below : (ds : List Description) → AllValid ds → AllBelow 256 (joined ds)
 unfolding joined
 joined-below [] v = tt
 joined-below (d ∷ ds) v = below-append 256 (layout d) (joined ds) (layout-below d (v .0)) (joined-below ds (v .1))
 
--- a refusal with room for any run is a refusal with more room
-refused-more : (n m : ℕ) (rest : List ℕ) (r : Reason) → AllBelow 256 rest → 512 * length rest ≤ n → into n (parse rest) ≡ refused r → into m (parse rest) ≡ refused r
-refused-more n m rest r h l e = go (outcome rest h) e
-  where
-    go : {p : Parsed Description} → Outcome rest p → into n p ≡ refused r → into m p ≡ refused r
-    go (nothing z) e = let z : _≡_ {A = ℕ} 0 1 = cc (into-end n) in absurd (omega arith)
-    go (run {d} {rest = s} t) e =
-        let z : _≡_ {A = ℕ} 0 1 = cc (into-got n d s (omega (arith, l, row-bounds d (t .ok), layout-pos d, length-append (layout d) s, ap length (t .split)))) in
-        absurd (omega arith)
-    go (refusal {r = q} z) e = into-refused m q ∙ sym (into-refused n q) ∙ e
-
 pub room-enough : RoomEnough
-room-enough bs n h l = go (stream-post (512 * length bs) bs h)
-  where
-    go : {m : Reading} → Reads (512 * length bs) bs m → readAll n bs ≡ m
-    go (reads-whole {ds} v e k) = ap (readAll n) e ∙ stream-whole n ds v (le-trans k l)
-    go (reads-broken {ds} {r} {rest} v e k f) =
-        let b : AllBelow 256 rest = rw drop-append-seam at (below-drop 256 (length (joined ds)) (joined ds ++ rest) (rw e at h)) in
-        ap (readAll n) e
-        ∙ stream-broken n ds rest r v (le-trans k l)
-        (refused-more (512 * length bs - totalRows ds) (n - totalRows ds) rest r b (omega (arith, room ds v, ap length e, length-append (joined ds) rest)) f)
+room-enough bs n h l = StreamRoom.room-enough bs h n l
 
 -- ---- the call
 
-pub whole-in : (bs : List ℕ) (ds : List Description) → AllValid ds → bs ≡ joined ds → runsIn bs ≡ whole ds
-whole-in bs ds v e = ap runsIn e ∙ stream-whole (512 * length (joined ds)) ds v (room ds v)
+pub whole-in : (bs : List ℕ) (ds : List Description) → AllValid ds → bs ≡ joined ds → stream bs ≡ whole ds
+whole-in bs ds v e = ap stream e ∙ StreamRoom.stream-is ds v
 
 gives : (signed : Bool) (bs : List ℕ) (places : ℕ) → AllBelow 256 bs → Gives signed bs places (convert signed bs places)
-unfolding convert
+unfolding convert stream
 gives signed bs places h = go (stream-post (512 * length bs) bs h) refl
   where
     fit : (ds : List Description) → AllValid ds → bs ≡ joined ds → (t : Bool) → ltb places (length (joined (convertedAll signed ds))) ≡ t
@@ -108,7 +82,7 @@ gives signed bs places h = go (stream-post (512 * length bs) bs h) refl
     fit ds v e true f = gives-eight ds v e (ltb-true places (length (joined (convertedAll signed ds))) f)
     fit ds v e false f = gives-result ds v e (ltb-false places (length (joined (convertedAll signed ds))) f)
 
-    go : {m : Reading} → Reads (512 * length bs) bs m → runsIn bs ≡ m → Gives signed bs places (outcomeOf signed places m)
+    go : {m : Reading} → Reads (512 * length bs) bs m → stream bs ≡ m → Gives signed bs places (outcomeOf signed places m)
     go (reads-whole {ds} v e k) f = fit ds v e (ltb places (length (joined (convertedAll signed ds)))) refl
     go (reads-broken {ds} {r} {rest} v e k g) f = gives-own ds r rest f
 

@@ -1,6 +1,6 @@
 -- What a turn finds at its place, and what it is converted to. Assumes nothing.
 use mathlib.Core.Path.{_≡_, refl, sym, ap, _∙_}
-use Prim.Native.Nat.{ℕ, _+_, _-_, _*_, _/_, _%_, _<_, _≤_}
+use Prim.Native.Nat.{ℕ, _+_, _-_, _*_, _/_, _%_, _≤_}
 use native.Mathlib.Omega.{arith}
 use mathlib.Core.Bool.{Bool, true, false}
 use mathlib.Core.List.{List, [], _++_, map}
@@ -8,27 +8,25 @@ use lib.IntN.{ℤ}
 use lib.ListN.{length, getD, take, drop, length-append, length-drop}
 use lib.Seq.{drop-drop, drop-at, take-at, getD-drop, paste}
 use borrow.Author.Tests.{lt-ltb, le-ltb}
-use Rattle.format.specs.declared.Form.{Form}
 use Rattle.format.specs.declared.Form.the-variants.{Direct, PackedDelta}
 use Rattle.format.specs.declared.Answer.{Answer}
 use Rattle.format.specs.declared.Answer.the-variants as answer
 use Rattle.format.specs.declared.Run.{Run}
 use Rattle.format.specs.Digits.{AllBelow}
-use Rattle.format.specs.Fields.{Block, varintValue, shortest}
+use Rattle.format.specs.Fields.{Block}
 use Rattle.format.specs.Kept.{keptCodes, among, isKept, nextKept}
 use Rattle.format.specs.Runs.{Description, short, direct, fixed, delta, patched, Valid, layout, rowCount}
 use Rattle.format.specs.Rows.{asU64, rowsOf, i64Rows}
-use Rattle.format.specs.Parse.{Reason, Parsed, end, got, refused, parse, into}
-use Rattle.format.specs.Promises.{answerOf, placesOf, runOf, RunRead}
+use Rattle.format.specs.Parse.{Parsed, got, parse, into}
+use Rattle.format.specs.Promises.{answerOf, placesOf, RunRead}
 use Rattle.format.specs.Answers.{answerBytes}
-use Rattle.format.specs.Writing.{padded, writing, bytesIn, Written, direct-run, packed-delta}
-use Rattle.format.proofs.Fields.{below-drop}
+use Rattle.format.specs.Writing.{padded, writing, Written, direct-run, packed-delta}
+use Rattle.format.proofs.Below.{below-drop}
 use Rattle.format.proofs.Kept.{next-kept}
 use Rattle.format.proofs.Rows.{row-bounds, byte-bounds, i64-count}
 use Rattle.format.proofs.Streams.{Into, into-nothing, into-run, into-refusal, into-outcome}
 use Rattle.format.proofs.Runs.{layout-pos}
 use Rattle.format.proofs.Writing.{writes-back}
-use Rattle.convert.specs.declared.turn.Turn.{Turn}
 use Rattle.convert.specs.Convert.{isOdd, rewritten, converted}
 use Rattle.convert.specs.Turn.{oddFirst, formFirst, Turned, NoRun}
 use Rattle.convert.proofs.Runs.{altered, direct-valid, rebuilt, delta-valid, delta-rows, delta-shortest, runs-hold}

@@ -1,42 +1,35 @@
 -- The turns of the walk: the runs so far, the runs that they are converted to, and where the stream ends or is refused. Assumes nothing.
 use mathlib.Core.Path.{_≡_, refl, sym, ap, _∙_}
-use Prim.Native.Nat.{ℕ, _+_, _-_, _*_, _<_, _≤_}
+use Prim.Native.Nat.{ℕ, _+_, _-_, _*_, _≤_}
 use native.Mathlib.Omega.{arith}
 use mathlib.Core.Bool.{Bool, true, false}
 use mathlib.Core.List.{List, [], _∷_, _++_, append-assoc, append-nil}
-use lib.ListN.{length, take, drop, length-append, length-drop}
-use lib.Seq.{drop-append-seam}
+use lib.ListN.{length, drop, length-append}
 use lib.Dec.{ltb}
 use borrow.Author.Tests.{le-ltb}
 use Rattle.format.specs.declared.Refusal.{Refusal}
 use Rattle.format.specs.Digits.{AllBelow}
-use Rattle.format.specs.Fields.{pick}
 use Rattle.format.specs.Runs.{Description, AllValid, Valid, layout, joined}
-use Rattle.format.specs.Parse.{Reason, Parsed, refused, parse, into}
-use Rattle.format.specs.Streams.{whole, broken, totalRows}
-use Rattle.format.proofs.Fields.{below-drop}
-use Rattle.format.proofs.Rows.{row-bounds}
-use Rattle.format.proofs.Runs.{layout-pos, Outcome, nothing, run, refusal, outcome}
-use Rattle.format.proofs.Streams.{into-got, into-refused, into-end, stream-broken}
+use Rattle.format.specs.Streams.{whole, broken, totalRows, stream}
+use Rattle.format.proofs.Below.{below-drop}
+use Rattle.format.proofs.Runs.{layout-pos}
+use Rattle.format.proofs.Streams.{stream-broken}
+use Rattle.format.proofs.StreamRoom.{more-room}
+use Rattle.format.proofs.Joined.{joined-snoc, rows-le}
 use Rattle.convert.specs.declared.Laid.{Laid}
 use Rattle.convert.specs.declared.Converted.the-variants.{Refused}
 use Rattle.convert.specs.declared.turn.Turn.{Turn}
 use Rattle.convert.specs.Convert as c
-use Rattle.convert.specs.Convert.{isOdd, converted, convertedAll, oddRuns, result, eight, own, toldAs, runsIn, convert}
+use Rattle.convert.specs.Convert.{isOdd, converted, convertedAll, oddRuns, result, convert}
 use Rattle.convert.specs.Turn.{Turned, NoRun}
 use Rattle.convert.specs.Walk.{counted, finished, Filled, Lays, Walked}
-use Rattle.convert.proofs.Streams.{room, whole-in}
+use Rattle.convert.proofs.Streams.{whole-in}
 
 -- ---- one run more
 
 all-snoc : (ds : List Description) (d : Description) → AllValid ds → Valid d → AllValid (ds ++ (d ∷ []))
 all-snoc [] d v w = (w, tt)
 all-snoc (x ∷ ds) d v w = (v .0, all-snoc ds d (v .1) w)
-
-joined-snoc : (ds : List Description) (d : Description) → joined (ds ++ (d ∷ [])) ≡ joined ds ++ layout d
-unfolding joined
-joined-snoc [] d = append-nil (layout d)
-joined-snoc (x ∷ ds) d = rw (joined-snoc ds d) (sym (append-assoc (layout x) (joined ds) (layout d)))
 
 converted-snoc : (signed : Bool) (ds : List Description) (d : Description) → convertedAll signed (ds ++ (d ∷ [])) ≡ convertedAll signed ds ++ (converted signed d ∷ [])
 converted-snoc signed [] d = refl
@@ -53,15 +46,6 @@ counted-le false = omega arith
 
 result-inj : {a a′ : ℕ} {l l′ : List ℕ} → result a l ≡ result a′ l′ → l ≡ l′
 result-inj e = cc
-
--- a refusal with room for any run is a refusal in any room
-refused-any : (n : ℕ) (rest : List ℕ) (r : Reason) → AllBelow 256 rest → into 512 (parse rest) ≡ refused r → into n (parse rest) ≡ refused r
-refused-any n rest r h e = go (outcome rest h) e
-  where
-    go : {p : Parsed Description} → Outcome rest p → into 512 p ≡ refused r → into n p ≡ refused r
-    go (nothing z) e = let z : _≡_ {A = ℕ} 0 1 = cc (into-end 512) in absurd (omega arith)
-    go (run {d} {rest = s} t) e = let z : _≡_ {A = ℕ} 0 1 = cc (into-got 512 d s (row-bounds d (t .ok) .1)) in absurd (omega arith)
-    go (refusal {r = q} z) e = into-refused n q ∙ sym (into-refused 512 q) ∙ e
 
 module _ (signed : Bool) (bs : List ℕ) (limit : ℕ) (out₀ : List ℕ) where
   -- the runs ds are behind the walk
@@ -110,10 +94,10 @@ module _ (signed : Bool) (bs : List ℕ) (limit : ℕ) (out₀ : List ℕ) where
     pub along-end : drop p bs ≡ [] → Walked signed bs limit out₀ out (finished altered at)
     unfolding convert
     along-end z =
-        let e : runsIn bs ≡ whole (w .ds) = whole-in bs (w .ds) (w .valid) (w .split ∙ rw (z, append-nil)) in
+        let e : stream bs ≡ whole (w .ds) = whole-in bs (w .ds) (w .valid) (w .split ∙ rw (z, append-nil)) in
         by e (at .full) refl (sym (w .fill .full-is))
       where
-        by : runsIn bs ≡ whole (w .ds) → (f : Bool) → at .full ≡ f → ltb limit (length (joined (convertedAll signed (w .ds)))) ≡ at .full → Walked signed bs limit out₀ out (finished altered at)
+        by : stream bs ≡ whole (w .ds) → (f : Bool) → at .full ≡ f → ltb limit (length (joined (convertedAll signed (w .ds)))) ≡ at .full → Walked signed bs limit out₀ out (finished altered at)
         by e true g h = record {
           answer = rw (e, h, g);
           long = w .long;
@@ -129,12 +113,12 @@ module _ (signed : Bool) (bs : List ℕ) (limit : ℕ) (out₀ : List ℕ) where
 
     -- a run is refused
     pub along-refused : (f : Refusal) → AllBelow 256 bs → NoRun signed bs p f → Walked signed bs limit out₀ out (Refused f)
-    unfolding convert
+    unfolding convert stream
     along-refused f h n =
         let n₀ = 512 * length bs in
-        let r = refused-any (n₀ - totalRows (w .ds)) (drop p bs) (n .reason) (below-drop 256 p bs h) (n .read) in
-        let k : totalRows (w .ds) ≤ n₀ = omega (arith, room (w .ds) (w .valid), ap length (w .split), length-append (joined (w .ds)) (drop p bs)) in
-        let e : runsIn bs ≡ broken (w .ds) (n .reason) (drop p bs) = rw (← (w .split)) at (stream-broken n₀ (w .ds) (drop p bs) (n .reason) (w .valid) k r) in
+        let r = more-room (n₀ - totalRows (w .ds)) 512 (drop p bs) (n .reason) (below-drop 256 p bs h) (λ z. omega arith) (n .read) in
+        let k : totalRows (w .ds) ≤ n₀ = omega (arith, rows-le (w .ds) (w .valid), ap length (w .split), length-append (joined (w .ds)) (drop p bs)) in
+        let e : stream bs ≡ broken (w .ds) (n .reason) (drop p bs) = rw (← (w .split)) at (stream-broken n₀ (w .ds) (drop p bs) (n .reason) (w .valid) k r) in
         record {
           answer = rw (e, ← (w .place)) (ap Refused (n .refusal-is));
           long = w .long;

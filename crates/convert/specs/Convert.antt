@@ -1,8 +1,8 @@
--- THE CONVERTER (document 02, item 11): each direct or packed delta run of an odd width is replaced by the writer's run of the same rows at the next kept
+-- THE CONVERTER (FORMAT.md, "Converter"): each direct or packed delta run of an odd width is replaced by the writer's run of the same rows at the next kept
 -- width, and every other run is copied.
 -- Assumes nothing.
 use mathlib.Core.Path.{_≡_}
-use Prim.Native.Nat.{ℕ, _+_, _-_, _*_}
+use Prim.Native.Nat.{ℕ, _+_, _-_}
 use mathlib.Core.Bool.{Bool, false, not}
 use mathlib.Core.List.{List, [], _∷_, _++_, map}
 use lib.ListN.{length, drop}
@@ -13,7 +13,7 @@ use Rattle.format.specs.Kept.{isKept, nextKept}
 use Rattle.format.specs.Runs.{Description, short, direct, fixed, delta, patched, joined}
 use Rattle.format.specs.Rows.{rowsOf}
 use Rattle.format.specs.Parse.{Reason}
-use Rattle.format.specs.Streams.{Reading, whole, broken, readAll}
+use Rattle.format.specs.Streams.{Reading, whole, broken, stream}
 use Rattle.format.specs.Writing.{described}
 use Rattle.format.specs.Answers.{refusing, refusal}
 use Rattle.convert.specs.declared.Converted.{Converted}
@@ -62,19 +62,16 @@ outcomeOf signed places (whole ds) =
     pick (ltb places (length (joined (convertedAll signed ds)))) eight (result (oddRuns ds) (joined (convertedAll signed ds)))
 outcomeOf signed places (broken ds r rest) = own r (length (joined ds))
 
--- the stream is read with room enough: a run has a byte at least and 512 rows at most
-abbrev pub runsIn : List ℕ → Reading
-runsIn bs = readAll (512 * length bs) bs
-
+-- the stream is read with room enough
 unfoldable pub convert : Bool → List ℕ → ℕ → Outcome
-convert signed bs places = outcomeOf signed places (runsIn bs)
+convert signed bs places = outcomeOf signed places (stream bs)
 
 -- ---- THE PROMISE: the answer, and the lent bytes at exit: the runs in the first of them, and what stood in the others; nothing is written on a refusal
 
-abbrev pub bytesIn : List ℕ → Outcome → List ℕ
-bytesIn out (result altered bytes) = bytes ++ drop (length bytes) out
-bytesIn out (own r place) = out
-bytesIn out eight = out
+abbrev pub outcomeBytes : List ℕ → Outcome → List ℕ
+outcomeBytes out (result altered bytes) = bytes ++ drop (length bytes) out
+outcomeBytes out (own r place) = out
+outcomeBytes out eight = out
 
 -- as the call tells it, of an input of so many bytes: the runs altered and how many bytes; or the refusal, a stream's own with its place and its cut field
 abbrev pub done : ℕ → ℕ → Converted
@@ -87,4 +84,4 @@ toldAs total eight = Refused (refusing 8 0)
 
 pub record Converts (signed : Bool) (bs out out′ : List ℕ) (r : Converted) : Type 0 where
   pub answer : r ≡ toldAs (length bs) (convert signed bs (length out))
-  pub places : out′ ≡ bytesIn out (convert signed bs (length out))
+  pub places : out′ ≡ outcomeBytes out (convert signed bs (length out))

@@ -10,11 +10,11 @@ use Rattle.format.specs.Fields.{Block, varintValue, shortest}
 use Rattle.format.specs.Runs.{Description, direct, delta, Valid, AllValid, joined}
 use Rattle.format.specs.Rows.{rowsOf}
 use Rattle.format.specs.Parse.{Reason}
-use Rattle.format.specs.Streams.{whole, broken, readAll, totalRows, joinedRows}
+use Rattle.format.specs.Streams.{whole, broken, readAll, totalRows, joinedRows, stream}
 use Rattle.format.specs.Writing.{padded}
 use Rattle.format.specs.Kept.{nextKept}
 use Rattle.convert.specs.declared.Converted.{Converted}
-use Rattle.convert.specs.Convert.{isOdd, rewritten, converted, convertedAll, oddRuns, Outcome, result, own, eight, runsIn, convert, Converts}
+use Rattle.convert.specs.Convert.{isOdd, rewritten, converted, convertedAll, oddRuns, Outcome, result, own, eight, convert, Converts}
 
 -- ---- ONE RUN
 
@@ -54,7 +54,7 @@ StreamsHold = (signed : Bool) (ds : List Description) → AllValid ds → Stream
 
 -- each outcome, exactly when: the stream's own refusals, then 8
 pub data Gives (signed : Bool) (bs : List ℕ) (places : ℕ) : Outcome → Type 0 where
-  gives-own : (ds : List Description) (r : Reason) (rest : List ℕ) → runsIn bs ≡ broken ds r rest → Gives signed bs places (own r (length (joined ds)))
+  gives-own : (ds : List Description) (r : Reason) (rest : List ℕ) → stream bs ≡ broken ds r rest → Gives signed bs places (own r (length (joined ds)))
   gives-eight : (ds : List Description) → AllValid ds → bs ≡ joined ds → places < length (joined (convertedAll signed ds)) → Gives signed bs places eight
   gives-result : (ds : List Description) → AllValid ds → bs ≡ joined ds → length (joined (convertedAll signed ds)) ≤ places
       → Gives signed bs places (result (oddRuns ds) (joined (convertedAll signed ds)))
@@ -80,7 +80,7 @@ ResultsHold =
 
 -- the room that is enough: the stream's own refusals are those of any larger number of places, and never 8 for want of places
 abbrev pub RoomEnough : Type 0
-RoomEnough = (bs : List ℕ) (n : ℕ) → AllBelow 256 bs → 512 * length bs ≤ n → readAll n bs ≡ runsIn bs
+RoomEnough = (bs : List ℕ) (n : ℕ) → AllBelow 256 bs → 512 * length bs ≤ n → readAll n bs ≡ stream bs
 
 -- any two outcomes that the promise allows are equal
 abbrev pub ConvertDetermined : Type 0

@@ -1,4 +1,4 @@
--- The converter to kept widths (document 02, item 11): its meaning, its theorems, and what its inner functions are stated with.
+-- The converter to kept widths (FORMAT.md, "Converter"): its meaning, its theorems, and what its inner functions are stated with.
 pub mod Convert
 pub mod Laws
 pub mod Turn

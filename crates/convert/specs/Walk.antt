@@ -1,7 +1,7 @@
 -- The walk over a stream, as its functions are stated. Assumes nothing.
 use mathlib.Core.Path.{_≡_}
 use Prim.Native.Nat.{ℕ, _+_, _≤_}
-use mathlib.Core.Bool.{Bool, true, false}
+use mathlib.Core.Bool.{Bool, false}
 use mathlib.Core.List.{List, _++_}
 use lib.ListN.{length, take, drop}
 use lib.Seq.{paste}
@@ -11,7 +11,7 @@ use Rattle.format.specs.Answers.{refusing}
 use Rattle.convert.specs.declared.Laid.{Laid}
 use Rattle.convert.specs.declared.Converted.{Converted}
 use Rattle.convert.specs.declared.Converted.the-variants.{Refused}
-use Rattle.convert.specs.Convert.{done, toldAs, Outcome, result, convert}
+use Rattle.convert.specs.Convert.{done, toldAs, result, convert}
 
 abbrev pub counted : Bool → ℕ
 counted odd = pick odd 1 0

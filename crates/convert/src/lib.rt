@@ -1,4 +1,4 @@
-// The converter to kept widths (document 02, item 11). It walks the stream twice: first without a place to write to, since nothing is
+// The converter to kept widths (FORMAT.md, "Converter"). It walks the stream twice: first without a place to write to, since nothing is
 // written on a refusal, wherever in the stream it stands; then it writes.
 ghost use mathlib.Core.Path.{_≡_};
 ghost use Prim.Native.Nat.{_≤_};

@@ -1,2 +1,2 @@
--- The planner's heuristic (document 02, item 10): what it promises.
+-- The planner's heuristic (FORMAT.md, "Planner"): what it promises.
 pub mod Proposed

@@ -1,6 +1,7 @@
-// Numbers of rows, and the kept widths (document 02, item 11): 1, 2, 4, 8, 16, 24, 32, 40, 48, 56 and 64 bits are the classes 0 to 10. Rows are
+// Numbers of rows, and the kept widths (FORMAT.md, "Kept widths"): 1, 2, 4, 8, 16, 24, 32, 40, 48, 56 and 64 bits are the classes 0 to 10. Rows are
 // 64-bit patterns throughout; sums wrap and shifts are taken modulo 64, so that nothing is asked of a number: what is proposed is checked elsewhere.
 ghost use Prim.Native.Nat.{_≤_};
+use format::TOP_BIT;
 use util::pattern;
 
 pub(crate) fn least(a: u64, b: u64) -> u64 {
@@ -23,12 +24,12 @@ pub(crate) fn whole_bytes(bits: u64) -> u64 {
 
 // Whether one row is below another, as signed numbers.
 pub(crate) fn is_below(a: u64, b: u64) -> bool {
-    a ^ 9223372036854775808 < b ^ 9223372036854775808
+    a ^ TOP_BIT < b ^ TOP_BIT
 }
 
 // The size of a step, without its direction.
 pub(crate) fn magnitude(step: u64) -> u64 {
-    if step < 9223372036854775808 {
+    if step < TOP_BIT {
         step
     } else {
         pattern::sub(0, step)

@@ -1,4 +1,4 @@
-// Where a column is cut, and each run's form, width and base (document 02, item 10): the planner's heuristic. It is proved safe and ending and no more,
+// Where a column is cut, and each run's form, width and base (FORMAT.md, "Planner"): the planner's heuristic. It is proved safe and ending and no more,
 // since whoever takes a proposal up has it checked, and has the direct runs of 64 bits where it is not accepted.
 //
 // Windows of at most 512 rows, the cheapest way through each, and for each run of it the exact width and base. For a window: `menu` counts

@@ -11,7 +11,8 @@ use Rattle.format.specs.Digits.{AllBelow}
 use Rattle.format.specs.Parse.{got, bytes}
 use Rattle.format.specs.Answers.{ran, cutAt}
 use Rattle.format.specs.ByteValues.{byteValue, valueAnswer, valuePart}
-use Rattle.format.proofs.Fields.{Took, IsBytes, of-got, bytes-complete, bytes-sound}
+use Rattle.format.proofs.Posts.{Took, of-got}
+use Rattle.format.proofs.Fields.{IsBytes, bytes-complete, bytes-sound}
 
 -- what is taken is exactly a value of length n, and what follows it
 pub value-exactly : (n : ℕ) (bs v rest : List ℕ) → AllBelow 256 bs → (byteValue n bs ≡ got v rest) ↔ ((length v ≡ n) × (bs ≡ v ++ rest))

@@ -1,5 +1,5 @@
 -- More input: what was read stays read, and a refusal stays a refusal unless it is one for input that ended too soon (in a header: 1, or in a field).
--- So a run that is cut is refused with one of these. (Change request 4 rests on this law.) Assumes nothing.
+-- So a run that is cut is refused with one of these. (The reader in parts rests on this law.) Assumes nothing.
 use mathlib.Core.Path.{_≡_, refl, sym, ap, _∙_}
 use mathlib.Core.Logic.{_≢_}
 use Prim.Native.Nat.{ℕ, zero, suc, _+_, _-_, _*_, _/_, _%_, _≤_}
@@ -14,7 +14,9 @@ use Rattle.format.specs.Fields.{pick, width, bytesFor, lastBelow}
 use Rattle.format.specs.Runs.{Description, Valid, layout, patches, tooLarge, outOfPlace, entryWidth}
 use Rattle.format.specs.Parse
 use Rattle.format.specs.Parse.{Reason, cutIn, unfinished, Parsed, got, refused, then, unless, bytes, block, varint, codeOf, rowsLess, parse}
-use Rattle.format.proofs.Runs.{parse-empty, parse-complete, cut-refused}
+use Rattle.format.proofs.Runs.{parse-empty, cut-refused}
+use Rattle.format.proofs.RunComplete.{parse-complete}
+use Rattle.format.proofs.Tests.{never-both}
 
 -- what reading gives with the bytes q behind the input, by what it gave without them
 pub data Extends {A : Type 0} (q : List ℕ) : Parsed A → Parsed A → Type 0 where
@@ -102,10 +104,6 @@ module _ (q : List ℕ) where
       go (suc (suc (suc k))) = delta-ext a bs
 
 -- so a refusal for another reason stays, whatever follows
-pub both : (b : Bool) → T b → T (not b) → ⊥
-both true t f = f
-both false t f = t
-
 pub refused-stays : (bs q : List ℕ) (r : Reason) → parse bs ≡ refused r → T (not (unfinished r)) → parse (bs ++ q) ≡ refused r
 refused-stays [] q r e h =
     let z : _≡_ {A = ℕ} 0 1 = cc parse-empty in
@@ -114,7 +112,7 @@ refused-stays (a ∷ bs) q r e h = go (rw e at (parse-ext q a bs))
   where
     go : {m : Parsed Description} → Extends q (refused r) m → m ≡ refused r
     go ext-refused = refl
-    go (ext-cut c) = absurd (both (unfinished r) c h)
+    go (ext-cut c) = absurd (never-both (unfinished r) c h)
 
 -- (d) in full: a proper part of a layout, from its start and not empty, is refused as one that is cut
 pub cut-number : (d : Description) (p q : List ℕ) → Valid d → layout d ≡ p ++ q → p ≢ [] → q ≢ [] → (n : Reason) × (parse p ≡ refused n) × T (unfinished n)

@@ -4,7 +4,7 @@ use mathlib.Core.Path.{_≡_, refl, ap, _∙_}
 use Prim.Native.Nat.{ℕ, zero, suc, _+_, _*_, _/_, _%_, _^_, _<_, _-_}
 use native.Mathlib.Nat.{one-le-pow, pow-succ', pow-zero, mod-lt, mod-one, div-one, zero-lt-suc, zero-mul, suc-mul, pow-suc, one-mul, mod-eq-of-lt, zero-add, suc-add, add-comm, mul-assoc, div-div-eq-div-mul, mul-add-div-right, mul-add-mod-self-right}
 use native.Mathlib.Omega.{arith}
-use mathlib.Core.List.{List, [], _∷_, _++_}
+use mathlib.Core.List.{List, [], _∷_, _++_, append-assoc}
 use lib.ListN.{length, getD, take, length-append}
 use lib.Seq.{take-suc}
 use lib.Arith.{digits-lt, digits-div, mod-mul}
@@ -103,6 +103,18 @@ digits-number b (d ∷ ds) h =
 pub pow-pow : (b m n : ℕ) → (b ^ m) ^ n ≡ b ^ (n * m)
 pow-pow b m zero = rw (pow-zero, zero-mul, pow-zero)
 pow-pow b m (suc n) = rw (pow-suc, pow-pow b m n, suc-mul, pow-add)
+
+-- a power of 256 as one of 2
+pub pow-256 : (n : ℕ) → 256 ^ n ≡ 2 ^ (8 * n)
+pow-256 n = pow-pow 2 8 n ∙ ap (λ (m : ℕ). 2 ^ m) (omega arith)
+
+pub length-spread : (b w : ℕ) (s : List ℕ) → length (spread b w s) ≡ length s * w
+length-spread b w [] = omega arith
+length-spread b w (v ∷ s) = omega (arith, length-append (digits b w v) (spread b w s), length-digits b w v, length-spread b w s)
+
+pub spread-append : (b w : ℕ) (s t : List ℕ) → spread b w (s ++ t) ≡ spread b w s ++ spread b w t
+spread-append b w [] t = refl
+spread-append b w (v ∷ s) t = rw (spread-append b w s t, append-assoc)
 
 -- digits in base b^w are groups of w digits in base b
 pub spread-number : (b w : ℕ) (vs : List ℕ) → 0 < b → AllBelow (b ^ w) vs → digits b (length vs * w) (number (b ^ w) vs) ≡ spread b w vs

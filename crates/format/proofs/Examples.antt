@@ -1,4 +1,4 @@
--- A run for each easy slip of document 01 that concerns integer runs, and for each limit that the laws leave open, by computation: an edit of the
+-- A run for each easy slip that concerns integer runs, and for each limit that the laws leave open, by computation: an edit of the
 -- definitions that makes the slip is refused here. The starred table and the specification's examples stand in the crate `promises`.
 -- Assumes nothing.
 use mathlib.Core.Path.{_≡_, refl}

@@ -14,7 +14,7 @@ use Rattle.format.specs.Parse
 use Rattle.format.specs.Parse.{Reason, plain, cutIn, unfinished, Parsed, end, got, refused, then, unless, bytes, block, varint, codeOf, rowsLess, parse}
 use Rattle.format.proofs.Rows.{width-le}
 use Rattle.format.proofs.Widths.{least-le}
-use Rattle.format.proofs.Cut.{both}
+use Rattle.format.proofs.Tests.{never-both}
 
 -- reading the bytes bs looks at n of them at most: what is unfinished has fewer, and what is read has taken no more
 pub data Within {A : Type 0} (n : ℕ) (bs : List ℕ) : Parsed A → Type 0 where
@@ -121,4 +121,4 @@ unfinished-short bs r b e u = go (rw e at (parse-within bs b))
   where
     go : Within {A = Description} 4356 bs (refused r) → length bs < 4356
     go (short-of l) = l
-    go (for-good n) = absurd (both (unfinished r) u n)
+    go (for-good n) = absurd (never-both (unfinished r) u n)

@@ -1,8 +1,15 @@
 -- The laws of the definitions in specs/.
 pub mod Digits
+pub mod Posts
+pub mod Below
 pub mod Fields
+pub mod FieldBits
+pub mod RunComplete
+pub mod RunSound
 pub mod Runs
 pub mod Streams
+pub mod Joined
+pub mod StreamRoom
 pub mod Widths
 pub mod Kept
 pub mod Patterns
@@ -12,9 +19,15 @@ pub mod Rows
 pub mod Cut
 pub mod Length
 pub mod Parts
+pub mod ByteRuns
 pub mod Booleans
+pub mod BooleanExamples
 pub mod ByteValues
 pub mod Reading
+pub mod Tests
+pub mod Steps
+pub mod Accepted
+pub mod Again
 pub mod Writing
 pub mod Least
 pub mod PatchedWriting

@@ -1,4 +1,4 @@
--- A line for each edge of item 9, by computation: an edit of the definitions that makes the slip is refused here, or by a law before it.
+-- A line for each edge of the patched writer, by computation: an edit of the definitions that makes the slip is refused here, or by a law before it.
 -- Assumes nothing.
 use mathlib.Core.Path.{_≡_, refl}
 use Prim.Native.Nat.{ℕ, _-_, _^_}
@@ -7,15 +7,14 @@ use lib.ListN.{replicate}
 use Rattle.format.specs.Digits
 use Rattle.format.specs.Fields
 use Rattle.format.specs.Runs
-use Rattle.format.specs.Runs.{Patch, layout}
+use Rattle.format.specs.Runs.{Patch}
 use Rattle.format.specs.Rows
 use Rattle.format.specs.Writing
-use Rattle.format.specs.Parse.{refused}
 use Rattle.format.specs.Answers.{answerNumber}
 use Rattle.format.specs.Promises.{answerOf}
 use Rattle.format.specs.Kept
 use Rattle.format.specs.PatchedWriting
-use Rattle.format.specs.PatchedWriting.{Entry, skip, entriesFrom, baseBytes, parts, writingPatched}
+use Rattle.format.specs.PatchedWriting.{Entry, skip, entriesFrom, baseBytes, writingPatched}
 
 -- (the `unfolding` line opens all that computes: whoever says `unfolding told` computes with it)
 -- the refusal's number, or else the bytes
@@ -72,7 +71,7 @@ base-below = refl
 
 -- ---- runs
 
--- document 01's 101, 102, 183, 104, with the patch 5 in 3 bits
+-- the sample run 101, 102, 183, 104, with the patch 5 in 3 bits
 four : told 100 4 (101 ∷ 102 ∷ 183 ∷ 104 ∷ []) 8 ≡ (0, 0x86 ∷ 0x03 ∷ 0x02 ∷ 0x21 ∷ 0x64 ∷ 0x12 ∷ 0x34 ∷ 0xA8 ∷ [])
 unfolding told
 four = refl

@@ -1,4 +1,4 @@
--- What is written of a patched run (document 02, item 9): its fields have room in the widths that it chooses, and no lesser width holds them.
+-- What is written of a patched run (FORMAT.md, "Patched writer"): its fields have room in the widths that it chooses, and no lesser width holds them.
 -- Assumes nothing.
 use mathlib.Core.Path.{_≡_, _∙_}
 use Prim.Native.Nat.{ℕ, zero, suc, _+_, _-_, _*_, _/_, _^_, _<_, _≤_, _%_}
@@ -11,14 +11,14 @@ use lib.ListN.{length, replicate, length-map}
 use lib.Dec.{eqb, eqb→eq, ltb, ltb→lt, eqb-refl}
 use lib.Pow.{pow-pos, pow-add, high, pow-mono, shr-le}
 use lib.Arith.{digits-lt}
-use Rattle.format.specs.Digits.{AllBelow, number}
+use Rattle.format.specs.Digits.{AllBelow}
 use Rattle.format.specs.Fields.{pick, two64, width, widths}
-use Rattle.format.specs.Runs.{Patch, gapOf, patches}
+use Rattle.format.specs.Runs.{Patch, gapOf}
 use Rattle.format.proofs.Widths.{allB, all-at, width-window}
-use Rattle.format.specs.PatchedWriting.{lows, patchesAbove, Entry, skip, skipsIn, entriesFrom, field, differences, allFit, codeFor, patchCode, gapWidth, baseSize, baseBytes, run, patchesIn}
+use Rattle.format.specs.PatchedWriting.{lows, patchesAbove, Entry, skip, skipsIn, entriesFrom, field, differences, allFit, codeFor, patchCode, gapWidth, baseSize, baseBytes, patchesIn}
 use Rattle.format.specs.Writing.{minus}
 use Rattle.format.proofs.Digits.{length-digits}
-use Rattle.format.proofs.Writing.{every-below, below-every}
+use Rattle.format.proofs.Tests.{every-below, below-every}
 use Rattle.format.proofs.Least.{least-low, least-passes, least-least}
 
 pub below-mods : (f : ℕ → ℕ) (b : ℕ) → 0 < b → (l : List ℕ) → AllBelow b (map (λ x. f x % b) l)

@@ -13,7 +13,7 @@ use Rattle.format.specs.Digits.{number}
 use Rattle.format.specs.Fields.{Block, bytesFor}
 use Rattle.format.specs.Runs.{Description, rowCount, layout}
 use Rattle.format.specs.Rows.{i64Rows}
-use Rattle.format.specs.Parse.{Reason, plain, cutIn, Parsed, end, got, refused, bytes, unpack, block, into}
+use Rattle.format.specs.Parse.{plain, cutIn, Parsed, end, got, refused, bytes, unpack, block, into}
 use Rattle.format.specs.Answers.{ran, refusal, refusedAt, cutAt, cutting}
 use Rattle.format.specs.Promises.{kindOf, widthOf, runOf, answerOf, Gives}
 use Rattle.format.specs.declared.Kind.{Kind}

@@ -1,7 +1,7 @@
 -- Rows and counts: how many rows a run has, that each is below 2^64, and how many bytes it takes.
 -- Assumes nothing.
 use mathlib.Core.Path.{_≡_, refl, sym, ap, _∙_}
-use Prim.Native.Nat.{ℕ, zero, suc, _+_, _-_, _*_, _^_, _<_, _≤_}
+use Prim.Native.Nat.{ℕ, zero, suc, _+_, _*_, _^_, _<_, _≤_}
 use native.Mathlib.Nat.{mod-lt, zero-lt-suc, lt-of-lt-of-le, pow-le-pow-right, mul-le-mul}
 use native.Mathlib.Omega.{arith}
 use native.Mathlib.Numerals.{add-two}

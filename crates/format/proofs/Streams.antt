@@ -3,7 +3,7 @@
 use mathlib.Core.Path.{_≡_, refl, sym, ap, _∙_}
 use mathlib.Core.Logic.{_≢_, _↔_}
 use mathlib.Core.Bool.{Bool, true, false}
-use Prim.Native.Nat.{ℕ, zero, suc, _+_, _-_, _*_, _^_, _<_, _≤_}
+use Prim.Native.Nat.{ℕ, zero, suc, _+_, _-_, _≤_}
 use native.Mathlib.Nat.{le-refl, sub-zero}
 use native.Mathlib.Omega.{arith}
 use mathlib.Core.List.{List, [], _∷_, _++_, append-assoc, append-nil}
@@ -13,16 +13,14 @@ use borrow.Author.Tests.{le-ltb}
 use Rattle.format.specs.Digits.{AllBelow}
 use Rattle.format.specs.Runs.{Description, rowCount, Valid, layout, AllValid, joined}
 use Rattle.format.specs.Parse.{Reason, unfinished, Parsed, end, got, refused, parse, into}
-use Rattle.format.specs.Streams.{Reading, whole, broken, after, next, runsFrom, readAll, totalRows, stream, joinedRows}
+use Rattle.format.specs.Streams.{Reading, whole, broken, after, next, runsFrom, readAll, totalRows}
 use Rattle.format.specs.Promises.{runOf, lastOr}
 use Rattle.format.specs.declared.LastRun.{LastRun}
 use Rattle.format.specs.declared.LastRun.the-variants.{Run}
-use Rattle.format.proofs.Fields.{Took, behind-below}
+use Rattle.format.proofs.Posts.{Took}
 use Rattle.format.proofs.Cut.{cut-number}
-use Rattle.format.specs.Fields.{two64}
-use Rattle.format.specs.Rows.{i64Rows}
-use Rattle.format.proofs.Rows.{row-bounds}
-use Rattle.format.proofs.Runs.{Outcome, nothing, run, refusal, outcome, parse-complete, parse-empty, layout-pos, got-inj}
+use Rattle.format.proofs.Runs.{Outcome, nothing, run, refusal, outcome, parse-empty, layout-pos, got-inj}
+use Rattle.format.proofs.RunComplete.{parse-complete}
 
 -- ---- one run, into n places
 
@@ -44,7 +42,7 @@ pub data Into (n : ℕ) (bs : List ℕ) : Parsed Description → Type 0 where
   into-run : {d : Description} {rest : List ℕ} → Took bs layout Valid d rest → rowCount d ≤ n → Into n bs (got d rest)
   into-refusal : {r : Reason} → bs ≢ [] → Into n bs (refused r)
 
-append-nonempty : (s t : List ℕ) → 1 ≤ length s → s ++ t ≢ []
+pub append-nonempty : (s t : List ℕ) → 1 ≤ length s → s ++ t ≢ []
 append-nonempty s t h e = omega (arith, h, length-append s t, ap length e)
 
 pub into-outcome : (n : ℕ) (bs : List ℕ) → AllBelow 256 bs → Into n bs (into n (parse bs))
@@ -180,70 +178,3 @@ stream-cut n ds d p q vs v h e pe qe =
 pub last-snoc : (none : LastRun) (ds : List Description) (d : Description) → lastOr none (ds ++ d ∷ []) ≡ Run (runOf d)
 last-snoc none [] d = refl
 last-snoc none (e ∷ ds) d = last-snoc (Run (runOf e)) ds d
-
--- ---- runs one after another
-
-pub total-append : (ds es : List Description) → totalRows (ds ++ es) ≡ totalRows ds + totalRows es
-unfolding totalRows
-total-append [] es = omega arith
-total-append (d ∷ ds) es = omega (arith, total-append ds es)
-
-pub joined-append : (ds es : List Description) → joined (ds ++ es) ≡ joined ds ++ joined es
-unfolding joined
-joined-append [] es = refl
-joined-append (d ∷ ds) es = rw (joined-append ds es, append-assoc)
-
-pub rows-append : (signed : Bool) (ds es : List Description) → joinedRows signed (ds ++ es) ≡ joinedRows signed ds ++ joinedRows signed es
-unfolding joinedRows
-rows-append signed [] es = refl
-rows-append signed (d ∷ ds) es = rw (rows-append signed ds es, append-assoc)
-
-pub valid-behind : (ds es : List Description) → AllValid (ds ++ es) → AllValid es
-valid-behind [] es v = v
-valid-behind (d ∷ ds) es v = valid-behind ds es (v .1)
-
--- a run takes a byte at least and holds 512 rows at most
-pub rows-le : (ds : List Description) → AllValid ds → totalRows ds ≤ 512 * length (joined ds)
-unfolding totalRows joined
-rows-le [] v = omega arith
-rows-le (d ∷ ds) v = omega (arith, rows-le ds (v .1), row-bounds d (v .0), layout-pos d, length-append (layout d) (joined ds))
-
--- ---- THE STREAM WITH ROOM ENOUGH
-
-pub stream-is : (ds : List Description) → AllValid ds → stream (joined ds) ≡ whole ds
-unfolding stream
-stream-is ds v = stream-whole (512 * length (joined ds)) ds v (rows-le ds v)
-
--- a refusal with room for a run of any size is a refusal with any room
-pub more-room : (n m : ℕ) (rest : List ℕ) (r : Reason) → AllBelow 256 rest → (rest ≢ [] → 512 ≤ m) → into m (parse rest) ≡ refused r
-    → into n (parse rest) ≡ refused r
-more-room n m rest r b l e = go (outcome rest b) e
-  where
-    go : {p : Parsed Description} → Outcome rest p → into m p ≡ refused r → into n p ≡ refused r
-    go (nothing z) e = let z : _≡_ {A = ℕ} 0 1 = cc (into-end m) in absurd (omega arith)
-    go (run {d} {rest = s} t) e =
-        let k : 512 ≤ m = l λ z. append-nonempty (layout d) s (layout-pos d) (sym (t .split) ∙ z) in
-        let z : _≡_ {A = ℕ} 0 1 = cc (into-got m d s (omega (arith, row-bounds d (t .ok)))) in
-        absurd (omega arith)
-    go (refusal {r = q} z) e = into-refused n q ∙ sym (into-refused m q) ∙ e
-
-some-bytes : (s : List ℕ) → s ≢ [] → 1 ≤ length s
-some-bytes [] h = absurd (h refl)
-some-bytes (x ∷ s) h = omega arith
-
--- more room than enough changes nothing
-pub room-enough : (bs : List ℕ) → AllBelow 256 bs → (n : ℕ) → 512 * length bs ≤ n → readAll n bs ≡ stream bs
-unfolding stream
-room-enough bs h n l = go (stream-post (512 * length bs) bs h)
-  where
-    go : {m : Reading} → Reads (512 * length bs) bs m → readAll n bs ≡ m
-    go (reads-whole {ds} v e t) = rw e (stream-whole n ds v (omega arith))
-    go (reads-broken {ds} {r} {rest} v e t f) =
-        let enough : rest ≢ [] → 512 ≤ 512 * length bs - totalRows ds = λ z. omega (arith, rows-le ds v, length-append (joined ds) rest, ap length e, some-bytes rest z) in
-        rw e
-        (stream-broken n ds rest r v (omega arith)
-        (more-room (n - totalRows ds) (512 * length bs - totalRows ds) rest r (behind-below 256 (joined ds) rest (rw e at h)) enough f))
-
--- what the stream's measure counts is all, in less than 2^55 bytes
-pub counted-all : (bs : List ℕ) → AllBelow 256 bs → length bs < 2 ^ 55 → readAll (two64 - 1) bs ≡ stream bs
-counted-all bs h l = room-enough bs h (two64 - 1) (omega arith)

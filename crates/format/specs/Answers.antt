@@ -1,5 +1,5 @@
--- The answers, case by case: document 01's number and values for each (number, place, cut field, width, rows, bytes, the loader's packed
--- number), and the case that stands for each thing that document 01 has a call answer.
+-- The answers, case by case (FORMAT.md, "Answers"): the number and values of each (number, place, cut field, width, rows, bytes, the loader's packed
+-- number), and the case that stands for each thing that a call can answer.
 -- Assumes nothing.
 use Prim.Native.Nat.{ℕ, _+_, _-_, _*_}
 use Rattle.format.specs.declared.Kind.{Kind}

@@ -1,4 +1,4 @@
--- Booleans (document 01, "Booleans"): byte runs, their layout, reading the runs that n booleans need, and what the boolean reader promises.
+-- Booleans (FORMAT.md, "Booleans"): byte runs, their layout, reading the runs that n booleans need, and what the boolean reader promises.
 -- Assumes nothing.
 use mathlib.Core.Path.{_≡_}
 use Prim.Native.Nat.{ℕ, zero, suc, _+_, _-_, _<_, _≤_}
@@ -8,7 +8,7 @@ use lib.Dec.{ltb, eqb}
 use Rattle.format.specs.declared.Kind.the-variants.{Booleans}
 use Rattle.format.specs.declared.Answer.{Answer}
 use Rattle.format.specs.declared.Answer.the-variants.{Refused}
-use Rattle.format.specs.Digits.{AllBelow, digits}
+use Rattle.format.specs.Digits.{AllBelow, spread}
 use Rattle.format.specs.Fields.{pick, bytesFor}
 use Rattle.format.specs.Parse.{cutIn, Parsed, end, got, refused, then, unless, bytes}
 use Rattle.format.specs.Answers.{ran, cutAt, refusal}
@@ -70,9 +70,8 @@ Needed m (d ∷ ds) = (0 < m) × Needed (m - byteCount d) ds
 
 -- ---- BOOLEANS: highest bit first; n of them are the first n bits
 
-unfoldable pub bits : List ℕ → List ℕ
-bits [] = []
-bits (b ∷ bs) = digits 2 8 b ++ bits bs
+abbrev pub bits : List ℕ → List ℕ
+bits bs = spread 2 8 bs
 
 unfoldable pub booleansOf : ℕ → List ByteRun → List ℕ
 booleansOf n ds = take n (bits (joinedBytes ds))

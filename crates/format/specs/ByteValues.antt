@@ -1,4 +1,4 @@
--- Byte values (document 01, "Byte values"): a value of length n is the first n bytes of the rest, handed back as a part of it.
+-- Byte values (FORMAT.md, "Byte values"): a value of length n is the first n bytes of the rest, handed back as a part of it.
 -- Assumes nothing.
 use mathlib.Core.Path.{_≡_}
 use Prim.Native.Nat.{ℕ, _-_}

@@ -1,4 +1,4 @@
--- KEPT WIDTHS (document 02, item 11): those that are written. The others are odd: they are read, and no longer written.
+-- KEPT WIDTHS (FORMAT.md, "Kept widths"): those that are written. The others are odd: they are read, and no longer written.
 -- Assumes nothing.
 use mathlib.Core.Path.{_≡_}
 use Prim.Native.Nat.{ℕ, _^_, _<_, _≤_}

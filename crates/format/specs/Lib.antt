@@ -1,4 +1,4 @@
--- The definitions that the contracts cite. Document 01 is the text that each of them is checked against.
+-- The definitions that the contracts cite. docs/FORMAT.md is the text that each of them is checked against.
 pub mod Digits
 pub mod Fields
 pub mod Kept

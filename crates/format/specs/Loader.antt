@@ -28,11 +28,11 @@ use Rattle.format.specs.Booleans.{booleansInto, booleansAnswer, booleans
 use Rattle.format.specs.ByteValues.{byteValue, valueAnswer}
 use Rattle.format.specs.Writing.{writing, bytesIn}
 
--- "its flag is a number: 0 unsigned, any other signed"
+-- its flag is a number: 0 unsigned, any other signed (FORMAT.md, "Exported functions")
 abbrev pub isSigned : ℕ → Bool
 isSigned flag = not (eqb flag 0)
 
--- "a trailing part of fewer than eight bytes being no place"
+-- a trailing part of fewer than eight bytes is no place
 abbrev pub placesIn : List ℕ → ℕ
 placesIn out = length out / 8
 
@@ -41,7 +41,7 @@ unfoldable pub lowestFirst : ℕ → ℕ → List ℕ
 lowestFirst zero x = []
 lowestFirst (suc n) x = x % 256 ∷ lowestFirst n (x / 256)
 
--- "rows go out as eight bytes each, lowest first"
+-- rows go out as eight bytes each, lowest first
 unfoldable pub rowBytes : List ℤ → List ℕ
 rowBytes [] = []
 rowBytes (z ∷ zs) = lowestFirst 8 (asU64 z) ++ rowBytes zs

@@ -1,4 +1,4 @@
--- The reader in parts (document 02, item 4): its state, what each call does, for every state, and what the code's calls promise. A call's part stands
+-- FORMAT.md, "Reader in parts": its state, what each call does, for every state, and what the code's calls promise. A call's part stands
 -- behind the bytes held, and what reading one run of them gives decides.
 -- Assumes nothing.
 use mathlib.Core.Path.{_≡_}

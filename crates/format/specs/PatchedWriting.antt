@@ -1,4 +1,4 @@
--- Writing patched runs (document 02, item 9): the description that rows, a base and a value width in bits stand for, and when they are refused.
+-- Writing patched runs (FORMAT.md, "Patched writer"): the description that rows, a base and a value width in bits stand for, and when they are refused.
 -- Rows and base are 64-bit patterns here, as in Writing; the promise turns i64 into them. Nothing here reads.
 -- Assumes nothing.
 use mathlib.Core.Path.{_≡_}

@@ -1,4 +1,4 @@
--- Description descriptions, which of them are valid, and the bytes that each lays down (document 01, "Layouts" and "Numbers that come back").
+-- Run descriptions, which of them are valid, and the bytes that each lays down (FORMAT.md, from "Short repeat" to "Patch lists").
 -- Nothing here reads: `layout` is defined by the fields alone. Assumes nothing.
 use Prim.Native.Nat.{ℕ, _+_, _-_, _*_, _/_, _%_, _^_, _<_, _≤_}
 use mathlib.Core.Bool.{Bool, false, not, _&&_, _||_}

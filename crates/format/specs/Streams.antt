@@ -7,7 +7,7 @@ use lib.ListN.{length}
 use lib.IntN.{ℤ}
 use Rattle.format.specs.Runs.{Description, rowCount}
 use Rattle.format.specs.Rows.{i64Rows}
-use Rattle.format.specs.Parse.{Reason, Parsed, end, got, refused, parse, into}
+use Rattle.format.specs.Parse.{Reason, plain, Parsed, end, got, refused, parse, into}
 
 -- what a stream holds: all its runs; or the runs before the first refusal, the refusal, and the bytes from the refused run on
 pub data Reading : Type 0 where
@@ -24,9 +24,10 @@ next go n bs end = whole []
 next go n bs (got d rest) = after d (go (n - rowCount d) rest)
 next go n bs (refused r) = broken [] r bs
 
--- at most `fuel` runs: every run takes a byte at least, so the length is fuel enough
+-- at most `fuel` runs: every run takes a byte at least, so the length is fuel enough, and bytes without fuel, which never are, are refused
 unfoldable pub runsFrom : ℕ → ℕ → List ℕ → Reading
-runsFrom zero n bs = whole []
+runsFrom zero n [] = whole []
+runsFrom zero n (b ∷ bs) = broken [] (plain 1) (b ∷ bs)
 runsFrom (suc fuel) n bs = next (λ m rest. runsFrom fuel m rest) n bs (into n (parse bs))
 
 unfoldable pub readAll : ℕ → List ℕ → Reading

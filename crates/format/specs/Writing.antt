@@ -1,4 +1,4 @@
--- The run writer (document 01): the description that rows, flag, form and width stand for, when they are refused, and what a call promises.
+-- The run writer (FORMAT.md, "Run writer"): the description that rows, flag, form and width stand for, when they are refused, and what a call promises.
 -- Rows are 64-bit patterns here, as in Rows; the promise turns i64 rows into them. Nothing here reads.
 -- Assumes nothing.
 use mathlib.Core.Path.{_≡_}

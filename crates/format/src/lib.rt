@@ -1,4 +1,4 @@
-// The nouns of document 01: units, kinds, answers. What bytes mean stands in specs/, and the laws of that meaning in proofs/.
+// The nouns of docs/FORMAT.md: units, kinds, answers. What bytes mean stands in specs/, and the laws of that meaning in proofs/.
 ghost use mathlib.Core.Path.{_≡_};
 ghost use Prim.Native.Nat.{_<_};
 ghost use Rattle.format.specs.Answers.{running, ran, refusing, cutting, refusedAt, cutAt, kindNumber, answerNumber, answerPlace, answerCut, answerWidth, answerRows, answerBytes, answerPacked, readWhole, brokeAt};
@@ -12,6 +12,11 @@ pub struct ByteOffset {
 pub struct RowNumber {
     pub rows: usize,
 }
+
+// The ends of 64 bits: all of them set, and the top one alone, which is the lowest row's pattern.
+pub const ALL_BITS: u64 = 18446744073709551615;
+
+pub const TOP_BIT: u64 = 9223372036854775808;
 
 // What a call read or wrote: one of the four kinds of integer run, booleans, or a byte value.
 pub enum Kind {
@@ -45,7 +50,7 @@ pub enum CutField {
     At(ByteOffset),
 }
 
-// A refusal: its number in document 01's table, the byte where the refused run begins, and for 6, 12, 13 and 14 the field that was cut.
+// A refusal: its number (FORMAT.md, "Refusals"), the byte where the refused run begins, and for 6, 12, 13 and 14 the field that was cut.
 pub struct Refusal {
     pub number: u8,
     pub place: ByteOffset,

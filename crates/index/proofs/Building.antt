@@ -14,7 +14,7 @@ use Rattle.format.specs.Fields.{two64}
 use Rattle.format.specs.Runs.{Description, AllValid, joined}
 use Rattle.format.specs.Parse.{Reason, plain}
 use Rattle.format.specs.Streams.{Reading, whole, broken, stream, totalRows}
-use Rattle.index.specs.Entries.{Result, gives, refuses, unless, Entry, entries, buildingOf, building, tableOf}
+use Rattle.index.specs.Entries.{gives, refuses, unless, Entry, entries, buildingOf, building, tableOf}
 use Rattle.index.specs.Theorems.{IsIndex}
 use Rattle.index.proofs.Entries.{entries-length}
 use Rattle.index.proofs.Checked.{exactly-whole}

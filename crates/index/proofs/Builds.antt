@@ -4,8 +4,8 @@ use Prim.Native.Nat.{ℕ, _+_, _-_, _*_, _<_, _≤_}
 use native.Mathlib.Omega.{arith}
 use native.Mathlib.Nat.{zero-add}
 use mathlib.Core.Bool.{Bool, true, false, _||_}
-use mathlib.Core.List.{List, [], _∷_, _++_}
-use lib.ListN.{length, drop, length-append}
+use mathlib.Core.List.{List}
+use lib.ListN.{length, length-append}
 use lib.Dec.{leb, ltb}
 use borrow.Author.Tests.{le-leb, lt-leb, le-ltb, lt-ltb}
 use Rattle.format.specs.Digits.{AllBelow}
@@ -16,8 +16,8 @@ use Rattle.format.specs.Streams.{Reading, whole, broken, stream, totalRows}
 use Rattle.format.specs.Answers as answers
 use Rattle.format.specs.declared.Refusal.{Refusal}
 use Rattle.format.proofs.Streams.{Reads, reads-whole, reads-broken}
-use Rattle.index.specs.Entries.{Result, gives, refuses, buildingOf, building}
-use Rattle.index.specs.Columns.{Columns, columnsAt, buildingIn}
+use Rattle.index.specs.Entries.{Result, gives, refuses, building}
+use Rattle.index.specs.Columns.{columnsAt, buildingIn}
 use Rattle.index.specs.Promises.{builtOf, builtWith, notBuilt, BuiltIn}
 use Rattle.index.specs.declared.Built.the-variants as built
 use Rattle.index.specs.declared.walk.Total.{Total}

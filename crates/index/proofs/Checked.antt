@@ -10,8 +10,9 @@ use lib.Dec.{T}
 use Rattle.format.specs.Digits.{AllBelow}
 use Rattle.format.specs.Runs.{Description, AllValid, joined}
 use Rattle.format.specs.Parse.{plain}
-use Rattle.format.specs.Streams.{Reading, whole, broken, stream}
-use Rattle.format.proofs.Streams.{Reads, reads-whole, reads-broken, stream-post, joined-unique, stream-is}
+use Rattle.format.specs.Streams.{Reading, whole, stream}
+use Rattle.format.proofs.Streams.{Reads, reads-whole, reads-broken, stream-post, joined-unique}
+use Rattle.format.proofs.StreamRoom.{stream-is}
 use Rattle.index.specs.Entries.{Result, gives, refuses, unless, Entry, entries, same, sameEntry, checkedOf, checked}
 use Rattle.index.specs.Theorems.{IsIndex}
 use Rattle.index.proofs.Entries.{same-sound, same-refl, entry-sound, entry-refl}

@@ -3,25 +3,18 @@ use mathlib.Core.Path.{_≡_, refl, ap}
 use Prim.Native.Nat.{ℕ, suc, _+_}
 use native.Mathlib.Omega.{arith}
 use native.Mathlib.Nat.{add-zero, zero-add}
-use mathlib.Core.Bool.{Bool, true, false, _&&_}
+use mathlib.Core.Bool.{Bool}
 use mathlib.Core.List.{List, [], _∷_, _++_, append-nil}
 use lib.ListN.{length, length-append}
 use lib.Dec.{T, eqb, eqb→eq, eqb-refl}
 use Rattle.format.specs.Runs.{Description, rowCount, layout, joined}
 use Rattle.format.specs.Streams.{totalRows}
-use Rattle.format.proofs.Streams.{total-append, joined-append}
-use Rattle.index.specs.Entries.{Entry, entriesFrom, entries, same, sameEntry}
+use Rattle.format.proofs.Joined.{joined-append, total-snoc}
+use Rattle.format.proofs.Tests.{and-e, and-i}
+use Rattle.index.specs.Entries.{Entry, entriesFrom, same, sameEntry}
 use Rattle.index.specs.Theorems.{EntriesHold}
 
 -- ---- tests
-
-pub and-e : (a b : Bool) → T (a && b) → T a × T b
-and-e true b t = (tt, t)
-and-e false b t = absurd t
-
-pub and-i : (a b : Bool) → T a → T b → T (a && b)
-and-i true b p q = q
-and-i false b p q = p
 
 pub same-sound : {A : Type 0} (eq : A → A → Bool) → ((x y : A) → T (eq x y) → x ≡ y) → (xs ys : List A) → T (same eq xs ys) → xs ≡ ys
 unfolding same
@@ -71,10 +64,6 @@ entries-append f a (d ∷ ds) es =
     let g : a + length (layout d ++ joined ds) ≡ a + length (layout d) + length (joined ds) = omega (arith, length-append (layout d) (joined ds)) in
     rw (e, g) (ap (λ (t : List Entry). record { first = f; at = a; rows = rowCount d } ∷ t) (entries-append (f + rowCount d) (a + length (layout d)) ds es))
 
-one-total : (ds : List Description) (d : Description) → totalRows (ds ++ (d ∷ [])) ≡ totalRows ds + rowCount d
-unfolding totalRows
-one-total ds d = omega (arith, total-append ds (d ∷ []))
-
 one-joined : (ds : List Description) (d : Description) → length (joined (ds ++ (d ∷ []))) ≡ length (joined ds) + length (layout d)
 unfolding joined
 one-joined ds d = rw (joined-append ds (d ∷ []), append-nil (layout d)) (length-append (joined ds) (layout d))
@@ -84,5 +73,5 @@ unfolding entriesFrom
 entries-hold = record {
   one-a-run = entries-length 0 0;
   sums = λ before behind d.
-      rw (one-total before d, one-joined before d) (rw (zero-add, zero-add) at (entries-append 0 0 before (d ∷ behind)));
+      rw (total-snoc before d, one-joined before d) (rw (zero-add, zero-add) at (entries-append 0 0 before (d ∷ behind)));
 }

@@ -1,16 +1,16 @@
 -- The walk that fills the columns: what stands so far, then what is still to come, is the stream's. Assumes nothing.
 use mathlib.Core.Path.{_≡_, refl, sym, ap, _∙_}
-use Prim.Native.Nat.{ℕ, suc, _+_, _-_, _<_, _≤_}
+use Prim.Native.Nat.{ℕ, suc, _+_, _<_, _≤_}
 use native.Mathlib.Omega.{arith}
 use mathlib.Core.List.{List, [], _∷_, _++_, map}
 use lib.ListN.{length, take, drop, set, length-set}
 use Rattle.format.specs.Fields.{two64}
-use Rattle.format.specs.Runs.{Description, rowCount, layout}
+use Rattle.format.specs.Runs.{Description, rowCount}
 use Rattle.format.specs.Streams.{Reading, whole, broken, after, stream, totalRows}
 use Rattle.format.specs.declared.Refusal.{Refusal}
 use Rattle.format.specs.declared.Run.{Run}
 use Rattle.util.proofs.Grow.{grow, kept, filled}
-use Rattle.index.specs.Columns.{Columns, sumsBefore, byteCount, columns, columnsAt}
+use Rattle.index.specs.Columns.{Columns, sumsBefore, byteCount, columnsAt}
 use Rattle.index.specs.Entries.{gives}
 use Rattle.index.specs.Walk.{Roomy, Filled}
 use Rattle.index.proofs.Turns.{stream-none, OneRun, NoRun}

@@ -15,7 +15,7 @@ use Rattle.format.specs.Parse.{plain}
 use Rattle.format.specs.Streams.{totalRows}
 use Rattle.index.specs.Entries.{Result, gives, refuses, Entry, entriesFrom, holdsRow, holder}
 use Rattle.index.specs.Theorems.{Holds}
-use Rattle.index.proofs.Entries.{and-e, and-i}
+use Rattle.format.proofs.Tests.{and-e, and-i}
 
 holds-row : (e : Entry) (r : ℕ) → Holds e r → T (holdsRow e r)
 holds-row e r h = and-i (leb (e .first) r) (ltb r (e .first + e .rows)) (le→leb (e .first) r (h .from)) (lt→ltb r (e .first + e .rows) (h .below))

@@ -16,7 +16,8 @@ use Rattle.format.specs.Runs.{Description, joined}
 use Rattle.format.specs.Parse.{plain}
 use Rattle.format.specs.Streams.{whole, stream, totalRows, joinedRows}
 use Rattle.format.proofs.Rows.{joined-count}
-use Rattle.format.proofs.Streams.{stream-is, room-enough, total-append, joined-append, rows-append, valid-behind}
+use Rattle.format.proofs.StreamRoom.{stream-is, room-enough}
+use Rattle.format.proofs.Joined.{total-append, joined-append, rows-append, valid-behind}
 use Rattle.index.specs.Entries.{Result, gives, refuses, numberOf, unless, Entry, entries, building, tableOf, holder, lookup, rowsFrom, reading}
 use Rattle.index.specs.Theorems.{IsIndex, Holds, LookupHolds, ReadingHolds, IndexHolds, IndexProved}
 use Rattle.index.proofs.Entries.{total-cons}

@@ -1,16 +1,16 @@
 -- The rows of the run that holds the row, without the first few, and those of the runs behind it. Assumes nothing.
 use mathlib.Core.Path.{_≡_, refl, sym, ap, _∙_}
-use Prim.Native.Nat.{ℕ, _+_, _-_, _<_, _≤_}
+use Prim.Native.Nat.{ℕ, _+_, _-_, _≤_}
 use native.Mathlib.Omega.{arith}
 use mathlib.Core.Bool.{Bool}
-use mathlib.Core.List.{List, [], _∷_, _++_, append-assoc}
+use mathlib.Core.List.{List, _∷_, _++_}
 use lib.ListN.{length, take, drop, length-append, length-drop}
 use lib.Seq.{take-at, drop-at, drop-drop, drop-append-le}
 use lib.IntN.{ℤ}
-use Rattle.format.specs.Runs.{Description, rowCount, layout, AllValid, joined}
+use Rattle.format.specs.Runs.{Description, rowCount, layout, joined}
 use Rattle.format.specs.Rows.{i64Rows}
 use Rattle.format.specs.Parse.{got, parse, into}
-use Rattle.format.specs.Streams.{whole, readAll, runsOf, totalRows, joinedRows}
+use Rattle.format.specs.Streams.{whole, readAll, totalRows, joinedRows}
 use Rattle.format.specs.Promises.{runOf, answerOf, placesOf, Gives, StreamRead}
 use Rattle.format.specs.declared.Refusal.{Refusal}
 use Rattle.format.specs.declared.Run.{Run}
@@ -18,7 +18,7 @@ use Rattle.format.specs.declared.Answer.{Answer}
 use Rattle.format.specs.declared.Answer.the-variants as answer
 use Rattle.format.specs.declared.Stream.{Stream}
 use Rattle.format.proofs.Reading.{run-inj, run-not-refused}
-use Rattle.format.proofs.Runs.{parse-complete}
+use Rattle.format.proofs.RunComplete.{parse-complete}
 use Rattle.format.proofs.Rows.{row-bounds, i64-count}
 use Rattle.format.proofs.Streams.{into-got, stream-whole, joined-unique}
 use Rattle.util.proofs.Grow.{back-is}

@@ -1,18 +1,16 @@
 -- What looking up and reading answer, by what the code found in the columns. Assumes nothing.
 use mathlib.Core.Path.{_≡_, refl, sym, ap, _∙_}
-use Prim.Native.Nat.{ℕ, zero, suc, _+_, _-_, _<_, _≤_}
+use Prim.Native.Nat.{ℕ, suc, _<_, _≤_}
 use native.Mathlib.Omega.{arith}
-use mathlib.Core.Bool.{Bool, true, false, not, _&&_}
-use mathlib.Core.List.{List, [], _∷_, _++_, map}
-use lib.ListN.{length, drop, getD, length-map}
-use lib.Dec.{T, eqb}
-use Rattle.format.specs.Digits.{AllBelow}
+use mathlib.Core.Bool.{Bool, true, false, not}
+use mathlib.Core.List.{List, [], _∷_}
+use lib.ListN.{length, getD}
 use Rattle.format.specs.Fields.{pick}
-use Rattle.format.specs.Runs.{Description, AllValid, joined}
-use Rattle.format.specs.Parse.{Reason, plain}
+use Rattle.format.specs.Runs.{Description}
+use Rattle.format.specs.Parse.{plain}
 use Rattle.format.specs.Streams.{Reading, whole, broken, stream}
-use Rattle.index.specs.Entries.{Result, gives, refuses, unless, Entry, holdsRow}
-use Rattle.index.specs.Columns.{Columns, sameColumns, columns, alike, checkedColumns, checkedIn, holderIn, lookupIn}
+use Rattle.index.specs.Entries.{gives, refuses, unless, holdsRow}
+use Rattle.index.specs.Columns.{Columns, checkedColumns, checkedIn, holderIn, lookupIn}
 use Rattle.index.specs.Promises.{foundOf, foundAt, notFound, LookedUp}
 use Rattle.index.specs.Walk.{rightFrom, placeOf}
 use Rattle.index.proofs.Columns.{columns-hold, alike-true}

@@ -20,10 +20,10 @@ use Rattle.index.specs.Promises.{foundOf, LookedUp, previewOf, ReadFrom}
 use Rattle.index.specs.declared.Found.{Found}
 use Rattle.index.specs.declared.Found.the-variants as found
 use Rattle.index.specs.declared.Preview.the-variants as preview
-use Rattle.index.proofs.Entries.{and-e}
 use Rattle.index.proofs.Held.{Held, held, unheld, what-held}
 use Rattle.index.proofs.Checked.{Checked, right, wrong, what-checked}
 use Rattle.index.proofs.Columns.{columns-hold, checked-same, columns-are}
+use Rattle.format.proofs.Tests.{and-e}
 
 module _ (bs f o n : List ℕ) (r : ℕ) where
   abbrev c : Columns

@@ -9,13 +9,12 @@ use lib.ListN.{length, take, drop, length-map}
 use lib.Seq.{take-at}
 use Rattle.format.specs.Digits.{AllBelow}
 use Rattle.format.specs.Runs.{Description, rowCount}
-use Rattle.format.specs.Parse.{Reason, plain, cut}
+use Rattle.format.specs.Parse.{plain, cut}
 use Rattle.format.specs.Answers as answers
-use Rattle.format.specs.declared.Refusal.{Refusal}
 use Rattle.index.specs.Entries.{Result, gives, refuses, numberOf, unless, Entry, entries, building, lookup}
-use Rattle.index.specs.Columns.{Columns, sumsBefore, byteCount, columns, columnsAt, alike, buildingIn, lookupIn}
-use Rattle.index.specs.Theorems.{IsIndex, PromisesHold, asColumns}
-use Rattle.index.specs.Promises.{sizesOf, builtOf, foundOf, notFound, BuiltIn, LookedUp}
+use Rattle.index.specs.Columns.{Columns, sumsBefore, byteCount, columnsAt, alike, buildingIn, lookupIn}
+use Rattle.index.specs.Theorems.{PromisesHold, asColumns}
+use Rattle.index.specs.Promises.{builtOf, foundOf, notFound, BuiltIn, LookedUp}
 use Rattle.index.specs.declared.Sizes.{Sizes}
 use Rattle.index.specs.declared.Built.{Built}
 use Rattle.index.specs.declared.Built.the-variants as built

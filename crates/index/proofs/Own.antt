@@ -4,7 +4,7 @@ use mathlib.Core.Logic.{_≢_, _↔_, _⊎_, inl, inr}
 use Prim.Native.Nat.{ℕ, zero, suc, _+_, _-_, _*_, _/_, _%_, _<_, _≤_}
 use native.Mathlib.Omega.{arith}
 use mathlib.Core.Bool.{Bool, true, false, _||_}
-use mathlib.Core.List.{List, [], _∷_, _++_}
+use mathlib.Core.List.{List, [], _∷_}
 use lib.ListN.{length, take, drop, length-append}
 use lib.Dec.{leb, ltb, eqb}
 use borrow.Author.Tests.{leb-true, ltb-true}
@@ -14,10 +14,12 @@ use Rattle.format.specs.Runs.{Description, layout, AllValid, patches, tooLarge,
 use Rattle.format.specs.Parse
 use Rattle.format.specs.Parse.{Reason, plain, cut, cutIn, Parsed, end, got, refused, then, unless, bytes, block, varint, codeOf, rowsLess, parse, into}
 use Rattle.format.specs.Streams.{Reading, whole, broken, stream, totalRows}
-use Rattle.format.proofs.Fields.{behind-below}
+use Rattle.format.proofs.Below.{behind-below}
 use Rattle.format.proofs.Rows.{row-bounds}
 use Rattle.format.proofs.Runs.{layout-pos, Outcome, nothing, run, refusal, outcome}
-use Rattle.format.proofs.Streams.{Reads, reads-broken, into-got, into-end, into-refused, rows-le}
+use Rattle.format.proofs.Streams.{Reads, reads-broken, into-got, into-end, into-refused}
+use Rattle.format.proofs.Joined.{rows-le}
+use Rattle.format.proofs.StreamRoom.{not-empty}
 use Rattle.index.specs.Entries as Entries
 use Rattle.index.specs.Entries.{Result, gives, refuses, numberOf, buildingOf, building}
 use Rattle.index.proofs.Checked.{stream-reads, exactly-whole}
@@ -111,10 +113,6 @@ parse-never (a ∷ bs) = by-kind (a / 64) a bs
 pub never-8 : (bs : List ℕ) (r : Reason) → parse bs ≡ refused r → reasonNumber r ≢ 8
 never-8 bs r e = rw e at (parse-never bs)
 
-some : (s : List ℕ) → s ≢ [] → 1 ≤ length s
-some [] h = absurd (h refl)
-some (x ∷ s) h = omega arith
-
 -- .. so the stream's own refusal is never 8
 pub own-never-8 : (bs : List ℕ) → AllBelow 256 bs → (ds : List Description) (r : Reason) (rest : List ℕ) → stream bs ≡ broken ds r rest → reasonNumber r ≢ 8
 own-never-8 bs h ds r rest e = go (rw e at (stream-reads bs h))
@@ -131,7 +129,7 @@ own-never-8 bs h ds r rest e = go (rw e at (stream-reads bs h))
 
     go : Reads (512 * length bs) bs (broken ds r rest) → reasonNumber r ≢ 8
     go (reads-broken v b t f) =
-        own (512 * length bs - totalRows ds) (λ z. omega (arith, rows-le ds v, length-append (joined ds) rest, ap length b, some rest z)) f refl
+        own (512 * length bs - totalRows ds) (λ z. omega (arith, rows-le ds v, length-append (joined ds) rest, ap length b, not-empty rest z)) f refl
         (outcome rest (behind-below 256 (joined ds) rest (rw b at h)))
 
 -- ---- building tells 8 exactly where an entry lacks a place or the rows pass 2^64 - 1

@@ -15,9 +15,9 @@ use Rattle.format.specs.Runs.{Description, rowCount, joined}
 use Rattle.format.specs.Parse.{plain}
 use Rattle.format.specs.Streams.{totalRows, joinedRows}
 use Rattle.format.proofs.Rows.{joined-count}
-use Rattle.format.proofs.Streams.{total-append, joined-append, rows-append, valid-behind}
+use Rattle.format.proofs.Joined.{total-append, joined-append, rows-append, valid-behind}
 use Rattle.index.specs.Entries.{gives, refuses, placesOf}
-use Rattle.index.specs.Columns.{Columns, sumsBefore, columns, readingIn}
+use Rattle.index.specs.Columns.{Columns, sumsBefore, readingIn}
 use Rattle.index.specs.Promises.{previewOf, readRows, notRead, ReadFrom}
 use Rattle.index.specs.declared.Left.the-variants as left
 use Rattle.index.specs.Walk.{leftOf, Ready, Laid}

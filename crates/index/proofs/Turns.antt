@@ -1,14 +1,14 @@
 -- The turns of the walks: what the stream's reading is, by the run that it begins with. Assumes nothing.
 use mathlib.Core.Path.{_≡_, refl, sym, ap, _∙_}
 use mathlib.Core.Logic.{_≢_}
-use Prim.Native.Nat.{ℕ, suc, _+_, _-_, _*_, _<_, _≤_}
+use Prim.Native.Nat.{ℕ, _+_, _-_, _*_, _≤_}
 use native.Mathlib.Omega.{arith}
 use mathlib.Core.List.{List, [], _∷_, _++_, append-assoc}
 use lib.ListN.{length, drop, length-append, length-drop}
 use lib.Seq.{drop-drop, drop-at}
 use Rattle.format.specs.Digits.{AllBelow}
 use Rattle.format.specs.Runs.{Description, rowCount, Valid, layout, AllValid, joined}
-use Rattle.format.specs.Parse.{Reason, Parsed, end, got, refused, parse, into}
+use Rattle.format.specs.Parse.{Reason, Parsed, refused, parse, into}
 use Rattle.format.specs.Streams.{Reading, whole, broken, after, stream, totalRows}
 use Rattle.format.specs.Answers as answers
 use Rattle.format.specs.Promises.{answerOf}
@@ -16,10 +16,12 @@ use Rattle.format.specs.declared.Refusal.{Refusal}
 use Rattle.format.specs.declared.Run.{Run}
 use Rattle.format.specs.declared.Answer.{Answer}
 use Rattle.format.specs.declared.Answer.the-variants as answer
-use Rattle.format.proofs.Fields.{below-drop, behind-below}
+use Rattle.format.proofs.Below.{below-drop, behind-below}
 use Rattle.format.proofs.Runs.{layout-pos, Outcome, nothing, run, refusal, outcome}
 use Rattle.format.proofs.Rows.{row-bounds}
-use Rattle.format.proofs.Streams.{Reads, reads-whole, reads-broken, stream-broken, stream-is, more-room, rows-le, into-refused}
+use Rattle.format.proofs.Streams.{Reads, reads-whole, reads-broken, stream-broken, into-refused}
+use Rattle.format.proofs.StreamRoom.{stream-is, more-room, not-empty}
+use Rattle.format.proofs.Joined.{rows-le}
 use Rattle.index.proofs.Checked.{stream-reads}
 
 -- ---- the stream, run by run
@@ -31,10 +33,6 @@ stream-none = stream-is [] tt
 pub stream-refused : (rest : List ℕ) (r : Reason) → parse rest ≡ refused r → stream rest ≡ broken [] r rest
 unfolding stream joined totalRows
 stream-refused rest r e = stream-broken (512 * length rest) [] rest r tt (omega arith) (rw e (into-refused (512 * length rest - 0) r))
-
-some : (s : List ℕ) → s ≢ [] → 1 ≤ length s
-some [] h = absurd (h refl)
-some (x ∷ s) h = omega arith
 
 -- a stream that is refused behind some runs, by a refusal with room for any run
 broken-at : (bs : List ℕ) (ds : List Description) (t : List ℕ) (r : Reason) (m : ℕ) → AllValid ds → bs ≡ joined ds ++ t → AllBelow 256 t → (t ≢ [] → 512 ≤ m)
@@ -54,7 +52,7 @@ stream-cons d rest v h = go (stream-reads rest h)
         broken-at (layout d ++ rest) (d ∷ ds) t r (512 * length rest - totalRows ds) (v, vs)
         (ap (λ (x : List ℕ). layout d ++ x) e ∙ sym (append-assoc (layout d) (joined ds) t))
         (behind-below 256 (joined ds) t (rw e at h))
-        (λ z. omega (arith, rows-le ds vs, length-append (joined ds) t, ap length e, some t z)) f
+        (λ z. omega (arith, rows-le ds vs, length-append (joined ds) t, ap length e, not-empty t z)) f
 
 -- ---- what a measured run says of the stream from a place on
 

@@ -1,10 +1,10 @@
 -- The walks that find a stream's runs and compare them with columns: what is left at each place gives the whole's answer. Assumes nothing.
 use mathlib.Core.Path.{_≡_, refl, sym, ap, _∙_}
-use Prim.Native.Nat.{ℕ, zero, suc, _+_, _-_, _<_, _≤_}
+use Prim.Native.Nat.{ℕ, suc, _+_, _<_, _≤_}
 use native.Mathlib.Omega.{arith}
 use native.Mathlib.Decide.{decLt}
 use native.Mathlib.Nat.{add-zero}
-use mathlib.Core.Bool.{Bool, true, false, not, _&&_}
+use mathlib.Core.Bool.{Bool, true, false, _&&_}
 use mathlib.Core.List.{List, [], _∷_, _++_}
 use lib.ListN.{length, drop, getD, length-append, length-drop, drop-of-length-le}
 use lib.Seq.{drop-cons}
@@ -23,6 +23,7 @@ use Rattle.index.specs.declared.walk.Survey.the-variants as survey
 use Rattle.index.specs.Walk.{totalOf, surveyFrom, rightFrom, sameThree}
 use Rattle.index.proofs.Columns.{regrouped}
 use Rattle.index.proofs.Turns.{stream-none, OneRun, NoRun}
+use Rattle.format.proofs.Tests.{and-false}
 
 none-yet : total.Rows 0 ≡ totalOf 0
 unfolding totalOf
@@ -41,15 +42,11 @@ survey-after k rows p d (broken ds r rest) =
     rw a
 
 module _ (first at : ℕ) (d : Description) where
-  and-none : (b : Bool) → b && false ≡ false
-  and-none true = refl
-  and-none false = refl
-
   right-after : (f o n : ℕ) (fs os ns : List ℕ) (m : Reading)
       → rightFrom first at (f ∷ fs) (o ∷ os) (n ∷ ns) (after d m) ≡ sameThree f o n first at (rowCount d) && rightFrom (first + rowCount d) (at + length (layout d)) fs os ns m
   unfolding same sumsBefore
   right-after f o n fs os ns (whole ds) = sym (regrouped (eqb f first) (eqb o at) (eqb n (rowCount d)) _ _ _ _ refl)
-  right-after f o n fs os ns (broken ds r rest) = sym (and-none (sameThree f o n first at (rowCount d)))
+  right-after f o n fs os ns (broken ds r rest) = sym (and-false (sameThree f o n first at (rowCount d)))
 
   right-short : (os ns : List ℕ) (m : Reading) → rightFrom first at [] os ns (after d m) ≡ false
   unfolding same sumsBefore
@@ -65,14 +62,6 @@ right-empty first at i fs os ns h p q = go (decLt i (length fs))
     go (yes l) = rw (ne-eqb i (length fs) (λ e. omega arith), drop-cons fs i 0 l)
     go (no l) =
         rw (eq-eqb i (length fs) (omega arith), drop-of-length-le fs {i = i} (omega arith), drop-of-length-le os {i = i} (omega arith), drop-of-length-le ns {i = i} (omega arith))
-
-pub not-yes : (b : Bool) → not b ≡ true → b ≡ false
-not-yes false e = refl
-not-yes true e = let z : _≡_ {A = ℕ} 0 1 = cc in absurd (omega arith)
-
-pub not-no : (b : Bool) → not b ≡ false → b ≡ true
-not-no true e = refl
-not-no false e = let z : _≡_ {A = ℕ} 0 1 = cc in absurd (omega arith)
 
 module _ (s : List ℕ) where
   -- ---- THE WALK THAT COUNTS: k runs and p bytes are passed

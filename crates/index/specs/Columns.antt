@@ -1,4 +1,4 @@
--- The row index as three columns: first row, byte offset, rows (document 02, item 14).
+-- The row index as three columns: first row, byte offset, rows (FORMAT.md, "Index").
 -- Assumes nothing.
 use Prim.Native.Nat.{ℕ, _+_}
 use mathlib.Core.Bool.{Bool, not, _&&_}

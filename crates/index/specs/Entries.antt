@@ -1,4 +1,4 @@
--- The row index of an integer stream as a table of entries (document 02, item 6).
+-- The row index of an integer stream as a table of entries (FORMAT.md, "Index").
 -- Assumes nothing.
 use Prim.Native.Nat.{ℕ, _+_, _-_}
 use mathlib.Core.Bool.{Bool, true, false, not, _&&_, _||_}

@@ -1,4 +1,4 @@
--- The row index (document 02, items 6 and 14): what each call comes to, what it promises, and the statements of what is proved of it.
+-- The row index (FORMAT.md, "Index"): what each call comes to, what it promises, and the statements of what is proved of it.
 pub mod Entries
 pub mod Columns
 pub mod Promises

@@ -1,17 +1,16 @@
 -- Laws for the walks over the columns: what is left of the lengths at each place, and how many names the flags have before it. Assumes nothing.
-use mathlib.Core.Path.{_≡_, refl, sym, ap, _∙_}
+use mathlib.Core.Path.{_≡_, refl, ap, _∙_}
 use Prim.Native.Nat.{ℕ, zero, suc, _+_, _<_, _≤_}
 use mathlib.Core.Logic.{_≢_}
 use native.Mathlib.Omega.{arith}
 use mathlib.Core.Bool.{Bool, true, false, not, _&&_}
 use mathlib.Core.List.{List, [], _∷_}
-use lib.ListN.{length, take, drop, getD}
+use lib.ListN.{length, drop, getD}
 use lib.Seq.{drop-cons}
 use lib.Dec.{eqb, ltb}
 use lib.IntN.{ℤ, pos, negsuc}
 use borrow.Author.Tests.{ne-eqb, eq-eqb, lt-ltb, le-ltb, le-leb, lt-leb}
 use Rattle.format.specs.Fields.{pick}
-use Rattle.labels.specs.declared.Whole.{Whole}
 use Rattle.labels.specs.declared.Whole.the-variants.{Number, Below}
 use Rattle.labels.specs.Whole.{wholeOf}
 use Rattle.labels.specs.Labels.{size, total, noneBelow, addUp, startOf, sizeOf, names, entryOf, isName, nameAt, fallbackOf, refusedWith, numbered, named, label}
@@ -170,10 +169,6 @@ module _ (lengths numbers : List ℤ) (flags block fall : List ℕ) (row : ℕ) 
       pub with-name : getD flags row 0 ≢ 0 → label lengths numbers flags block fall row ≡ named lengths numbers (entryOf flags row)
       unfolding label
       with-name n = rw (lt-leb (length flags) row h, a, ne-eqb (getD flags row 0) 0 n)
-
-pub added-up : (b : Bool) → not b ≡ false → b ≡ true
-added-up true e = refl
-added-up false e = let y : _≡_ {A = ℕ} 0 1 = cc in absurd (omega arith)
 
 -- ---- a name lies in the block
 

@@ -12,19 +12,12 @@ use lib.Signed.{leZ-yes, yes-nonNeg}
 use borrow.Author.Tests.{le-leb, lt-leb, leb-true, leb-false, lt-ltb, ltb-true, ltb-false, eq-eqb}
 use Rattle.format.specs.Fields.{pick}
 use Rattle.format.proofs.Widths.{and-left, and-right}
+use Rattle.format.proofs.Tests.{T-true, is-false}
 use Rattle.labels.specs.declared.Label.{Label}
 use Rattle.labels.specs.Labels.{total, noneBelow, addUp, startOf, sizeOf, isName, entryOf, nameAt, fallbackOf, refusedWith, numbered, named, label, partOf}
 use Rattle.labels.specs.Laws.{sum, NoneBelow, AddUp, Number, Name, Said, sixteen, eighteen, nineteen, the-name, no-name, LabelsExactly, partsBefore, PartsHold, LabelsGiven, LabelsDetermined}
 
 -- ---- tests
-
-flat : (b : Bool) → (T b → ⊥) → b ≡ false
-flat true f = absurd (f tt)
-flat false f = refl
-
-full : (b : Bool) → T b → b ≡ true
-full true t = refl
-full false t = absurd t
 
 -- ---- the lengths
 
@@ -111,7 +104,7 @@ module _ (lengths numbers : List ℤ) (flags block fall : List ℕ) (row : ℕ) 
     where
       by : (z : ℤ) → entryOf flags row < length numbers → getD numbers (entryOf flags row) (pos 0) ≡ z → numbered lengths z ≡ refusedWith 19
       by (negsuc k) l e = refl
-      by (pos k) l e = rw (flat (ltb k (length lengths)) (λ t. o k (record { there = l; entry = e; inside = ltb→lt k (length lengths) t })))
+      by (pos k) l e = rw (is-false (ltb k (length lengths)) (λ t. o k (record { there = l; entry = e; inside = ltb→lt k (length lengths) t })))
 
       go : (t : Bool) → ltb (entryOf flags row) (length numbers) ≡ t
           → pick t (numbered lengths (getD numbers (entryOf flags row) (pos 0))) (refusedWith 19) ≡ refusedWith 19
@@ -121,11 +114,11 @@ module _ (lengths numbers : List ℤ) (flags block fall : List ℕ) (row : ℕ) 
   said : {r : Label} → Says r → label lengths numbers flags block fall row ≡ r
   unfolding label named numbered
   said (sixteen h) = rw (le-leb (length flags) row h)
-  said (eighteen h a) = rw (lt-leb (length flags) row h, flat (addUp lengths block) (λ t. a (adds lengths block (full (addUp lengths block) t))))
-  said (nineteen h a n o) = rw (lt-leb (length flags) row h, added lengths block a, full (isName (getD flags row 0)) n) (no-number o)
+  said (eighteen h a) = rw (lt-leb (length flags) row h, is-false (addUp lengths block) (λ t. a (adds lengths block (T-true (addUp lengths block) t))))
+  said (nineteen h a n o) = rw (lt-leb (length flags) row h, added lengths block a, T-true (isName (getD flags row 0)) n) (no-number o)
   said (the-name h a n k m) =
-      rw (lt-leb (length flags) row h, added lengths block a, full (isName (getD flags row 0)) n, lt-ltb (entryOf flags row) (length numbers) (m .there), m .entry, lt-ltb k (length lengths) (m .inside))
-  said (no-name h a n) = rw (lt-leb (length flags) row h, added lengths block a, flat (isName (getD flags row 0)) n)
+      rw (lt-leb (length flags) row h, added lengths block a, T-true (isName (getD flags row 0)) n, lt-ltb (entryOf flags row) (length numbers) (m .there), m .entry, lt-ltb k (length lengths) (m .inside))
+  said (no-name h a n) = rw (lt-leb (length flags) row h, added lengths block a, is-false (isName (getD flags row 0)) n)
 
 pub labels-exactly : LabelsExactly
 labels-exactly lengths numbers flags block fall row r = (

@@ -1,4 +1,4 @@
--- LABELS (document 02, item 12): a byte block, a column of lengths, a column of numbers, and flags that say which rows have a name.
+-- LABELS (FORMAT.md, "Labels"): a byte block, a column of lengths, a column of numbers, and flags that say which rows have a name.
 -- Lengths and numbers are i64, as whole numbers; flags and the block are bytes.
 -- Assumes nothing.
 use mathlib.Core.Path.{_≡_}

@@ -1,4 +1,4 @@
--- Labels for the chunk list (document 02, item 12).
+-- Labels for the chunk list (FORMAT.md, "Labels").
 pub mod Labels
 pub mod Laws
 pub mod Whole

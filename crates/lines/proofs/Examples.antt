@@ -1,4 +1,4 @@
--- Document 01's input lines and what they write, by computation. Assumes nothing.
+-- The README's input lines and what they write, by computation. Assumes nothing.
 use mathlib.Core.Path.{_≡_, refl}
 use Prim.Native.Nat.{ℕ}
 use mathlib.Core.List.{List}

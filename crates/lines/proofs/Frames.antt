@@ -3,37 +3,29 @@
 use mathlib.Core.Path.{_≡_, refl, sym, ap, _∙_}
 use Prim.Native.Nat.{ℕ, suc, _+_, _-_, _*_, _/_, _%_, _<_, _≤_}
 use native.Mathlib.Omega.{arith}
-use mathlib.Core.Bool.{Bool, true, false, not}
-use mathlib.Core.List.{List, [], _∷_, _++_}
-use lib.ListN.{length, take, drop, getD, length-append, length-map, length-take}
+use mathlib.Core.Bool.{Bool, true, false}
+use mathlib.Core.List.{List, [], _∷_}
+use lib.ListN.{length, take, drop, getD, length-append, length-take}
 use lib.Seq.{length-take-le, take-at, getD-take}
 use lib.Dec.{ltb, eqb}
 use lib.IntN.{ℤ}
 use borrow.Author.Tests.{lt-ltb, le-ltb, eq-eqb, ne-eqb, ltb-false}
 use Rattle.format.specs.Runs.{Description, rowCount}
-use Rattle.format.specs.Rows.{i64Rows, asI64, rowsOf}
+use Rattle.format.specs.Rows.{i64Rows}
 use Rattle.format.specs.Parse.{Parsed, end, got, refused, unless, into, parse}
 use Rattle.format.specs.Answers.{answerRows}
 use Rattle.format.specs.Promises.{RunRead, answerOf, placesOf}
 use Rattle.format.specs.declared.Answer.{Answer}
 use Rattle.format.specs.declared.Answer.the-variants.{End, Run, Refused}
-use Rattle.format.proofs.Rows.{rows-count}
+use Rattle.format.proofs.Rows.{i64-count}
 use Rattle.text.specs.Ascii.{ascii}
 use Rattle.text.specs.Hexadecimal.{allHex, hexBytes}
-use Rattle.text.specs.Decimal.{decimal, rowText, rowsText}
-use Rattle.lines.specs.Line.{badLine, frameOf, frameText, answerText, ended, answerLine, answerWords, rowsIn, wordsOf, Framed, Answered}
-use Rattle.text.specs.Written.{Written}
+use Rattle.text.specs.Decimal.{rowText, rowsText}
+use Rattle.lines.specs.Line.{badLine, frameOf, frameText, answerText, ended, answerLine, answerWords, wordsOf, Framed, Answered}
+use Rattle.text.specs.Written.{TextWritten}
 use Rattle.text.proofs.Texts.{decimal-length, row-length}
 
 -- ---- the tests of a line
-
-pub off : (b : Bool) → not b ≡ true → b ≡ false
-off true h = sym h
-off false h = refl
-
-pub on : (b : Bool) → not b ≡ false → b ≡ true
-on true h = refl
-on false h = sym h
 
 module _ (line frame : List ℕ) where
   framed-none : badLine line ≡ true → Framed line frame 0
@@ -103,7 +95,7 @@ module _ (line out out′ : List ℕ) where
   unfolding answerLine
   answered-none h = record { count = rw (lt-ltb (length out) 11310 h); places = rw (lt-ltb (length out) 11310 h) }
 
-  pub answered : (r : ℕ) → 11310 ≤ length out → Written (ended (answerText line)) out 0 out′ r → Answered line out out′ r
+  pub answered : (r : ℕ) → 11310 ≤ length out → TextWritten (ended (answerText line)) out 0 out′ r → Answered line out out′ r
   unfolding answerLine
   answered r h w =
       let z : 0 + length (ended (answerText line)) ≡ length (ended (answerText line)) = omega arith in
@@ -134,10 +126,6 @@ into-rows n (got b s) d rest e = by (ltb n (rowCount b)) refl e
         let z : b ≡ d = cc in
         rw z at (ltb-false n (rowCount b) f)
 
-rows-long : (signed : Bool) (d : Description) → length (i64Rows signed d) ≡ rowCount d
-unfolding i64Rows
-rows-long signed d = length-map (rowsOf signed d) asI64 ∙ rows-count signed d
-
 -- what was read at byte 1 of a frame, in words
 pub record Reads (frame : List ℕ) (signed : Bool) (out′ : List ℤ) (r : Answer) : Type 0 where
   pub few : answerRows r ≤ 512
@@ -151,7 +139,7 @@ reads frame signed out out′ r l g = by (into 512 (parse (drop 1 frame))) refl 
     by (refused n) e a p = record { few = rw a (omega arith); words = rw (a, e) }
     by (got d rest) e a p = record {
       few = rw a (into-rows 512 (parse (drop 1 frame)) d rest e);
-      words = rw (a, e, p, take-at (i64Rows signed d) (drop (rowCount d) out) (rowCount d) (rows-long signed d));
+      words = rw (a, e, p, take-at (i64Rows signed d) (drop (rowCount d) out) (rowCount d) (i64-count signed d));
     }
 
 -- the frame's first byte and the run after it

@@ -1,2 +1,2 @@
--- What a line of the program is answered with (document 01, "The program").
+-- What a line of the program is answered with (FORMAT.md, "The programs").
 pub mod Line

@@ -1,4 +1,4 @@
--- THE PROGRAM'S ANSWER to a line (document 01, "The program"), and what `answer_line` promises.
+-- THE PROGRAM'S ANSWER to a line (FORMAT.md, "The programs"), and what `answer_line` promises.
 -- Assumes nothing.
 use mathlib.Core.Path.{_≡_}
 use Prim.Native.Nat.{ℕ, _%_}

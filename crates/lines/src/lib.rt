@@ -1,4 +1,4 @@
-// One line of hexadecimal in, one answer line out: document 01's program, without its input and output.
+// One line of hexadecimal in, one answer line out: the program `runs`, without its input and output.
 ghost use mathlib.Core.Path.{_≡_};
 ghost use Prim.Native.Nat.{_≤_, _<_};
 ghost use lib.ListN.{length, take, getD};
@@ -6,7 +6,7 @@ ghost use lib.Dec.{eqb};
 ghost use Rattle.format.specs.Answers.{answerRows};
 ghost use Rattle.format.specs.Promises.{RunRead};
 ghost use Rattle.lines.specs.Line.{runWords, answerWords, frameText, ended, answerRoom, Framed, Answered, LineRead};
-ghost use Rattle.text.specs.Written.{Written};
+ghost use Rattle.text.specs.Written.{TextWritten};
 use format::Answer;
 use format::ByteOffset;
 use format::Kind;
@@ -41,7 +41,7 @@ pub enum Reading {
 // A run's rows, its bytes consumed, and then the rows.
 fn put_run(rows: usize, consumed: usize, values: &[i64], out: &mut [u8]) -> usize
     requires { ⌜ (rows ≤ 512) × (rows ≤ length (now values)) × (answerRoom ≤ length (now out)) ⌝ }
-    ensures { λ r. ⌜ Written (runWords rows consumed (take rows (now (values .entry)))) (now (out .entry)) 0 (now (out .exit)) r ⌝ }
+    ensures { λ r. ⌜ TextWritten (runWords rows consumed (take rows (now (values .entry)))) (now (out .entry)) 0 (now (out .exit)) r ⌝ }
 {
     let mut at = put_word(&RUN, out, 0);
     at = put_decimal(rows as u64, out, at);
@@ -53,7 +53,7 @@ fn put_run(rows: usize, consumed: usize, values: &[i64], out: &mut [u8]) -> usiz
 // What the run reader answered, in words.
 fn put_answer(answer: Answer, values: &[i64], out: &mut [u8]) -> usize
     requires { ⌜ (answerRows answer ≤ 512) × (answerRows answer ≤ length (now values)) × (answerRoom ≤ length (now out)) ⌝ }
-    ensures { λ r. ⌜ Written (answerWords answer (take (answerRows answer) (now (values .entry)))) (now (out .entry)) 0 (now (out .exit)) r ⌝ }
+    ensures { λ r. ⌜ TextWritten (answerWords answer (take (answerRows answer) (now (values .entry)))) (now (out .entry)) 0 (now (out .exit)) r ⌝ }
 {
     match answer {
         Answer::End => put_word(&END, out, 0),
@@ -114,7 +114,7 @@ fn read_frame(frame: &[u8], rows: &mut [i64]) -> Answer
 // The answer line to a frame that has a flag.
 fn put_frame(frame: &[u8], out: &mut [u8]) -> usize
     requires { ⌜ (0 < length (now frame)) × (answerRoom ≤ length (now out)) ⌝ }
-    ensures { λ r. ⌜ Written (ended (frameText (now (frame .entry)))) (now (out .entry)) 0 (now (out .exit)) r ⌝ }
+    ensures { λ r. ⌜ TextWritten (ended (frameText (now (frame .entry)))) (now (out .entry)) 0 (now (out .exit)) r ⌝ }
 {
     let mut rows = row_places();
     let answer = read_frame(frame, &mut rows);

@@ -1,7 +1,7 @@
 -- Enough rows for a run: ten for a short one, 512 for any. Where the rows are enough, only the output's places count.
 -- Assumes nothing.
 use mathlib.Core.Path.{_≡_, refl, ap}
-use Prim.Native.Nat.{ℕ, _/_, _%_, _<_, _≤_, min}
+use Prim.Native.Nat.{ℕ, _%_, _<_, _≤_, min}
 use native.Mathlib.Omega.{arith}
 use native.Mathlib.Decide.{decLt}
 use mathlib.Core.List.{List}
@@ -13,7 +13,7 @@ use Rattle.format.specs.Parse.{Parsed, end, got, refused, into}
 use Rattle.format.proofs.Rows.{row-bounds}
 use Rattle.format.proofs.Runs.{Outcome, nothing, run, refusal, outcome}
 use Rattle.format.proofs.Streams.{into-end, into-refused, into-got}
-use Rattle.format.proofs.Fields.{Took}
+use Rattle.format.proofs.Posts.{Took}
 use Rattle.loader.specs.Room.{Enough}
 
 -- the two bytes that a run other than a short repeat begins with: nine bits of them are rows-1

@@ -8,7 +8,7 @@ use Rattle.format.specs.declared.CutField.the-variants as field
 use Rattle.format.specs.Loader.{isSigned, cutCase, cutByte, ToldOf}
 use Rattle.convert.specs.declared.Converted.{Converted}
 use Rattle.convert.specs.declared.Converted.the-variants.{Done, Refused}
-use Rattle.convert.specs.Convert.{convert, toldAs, bytesIn}
+use Rattle.convert.specs.Convert.{convert, toldAs, outcomeBytes}
 
 abbrev pub convertCase : Converted → ℕ
 convertCase (Done c) = 1
@@ -60,7 +60,7 @@ convertWordCount = 7
 abbrev pub ConvertTold : List ℕ → ℕ → List ℕ → List ℕ → List ℕ → List ℕ → ℕ → Type 0
 ConvertTold input flag out out′ words words′ r =
     let m = convert (isSigned flag) input (length out) in
-    ToldOf convertWords convertNumber (toldAs (length input) m) words words′ r (bytesIn out m) out out′
+    ToldOf convertWords convertNumber (toldAs (length input) m) words words′ r (outcomeBytes out m) out out′
 
 -- any two outcomes that the promise allows are equal
 abbrev pub ConvertToldDetermined : Type 0

@@ -1,4 +1,4 @@
--- What the loader's inner functions are stated with, and the promises of the requests' own functions. The other promises stand in `format`.
+-- What the loader's inner functions are stated with, and the promises of the functions over other rooms than the first. The other promises stand in `format`.
 pub mod Room
 pub mod Labels
 pub mod Patched

@@ -4,6 +4,7 @@ ghost use Prim.Native.Nat.{_≤_};
 ghost use lib.ListN.{length};
 ghost use Rattle.format.specs.Loader.{answerCase, answerKind, answerWords, cutCase, cutByte, streamCase, streamNumber, streamPlace, streamCut, streamRows, streamBytes, streamLast, lastAnswer, streamWords, wordCount, streamWordCount, Put};
 ghost use Rattle.format.specs.Answers.{answerNumber};
+use format::ALL_BITS;
 use format::Answer;
 use format::CutField;
 use format::LastRun;
@@ -15,7 +16,7 @@ pub const COUNT: usize = 9;
 pub const STREAM_COUNT: usize = 14;
 
 // What a call with fewer words answers.
-pub const TOO_FEW: u64 = 18446744073709551615;
+pub const TOO_FEW: u64 = ALL_BITS;
 
 fn case(answer: Answer) -> u64
     ensures { λ r. ⌜ r ≡ answerCase answer ⌝ }

@@ -14,9 +14,8 @@ use Rattle.format.specs.declared.Answer.{Answer}
 use Rattle.format.specs.Digits.{AllBelow}
 use Rattle.format.specs.Runs.{Description}
 use Rattle.format.specs.Parse.{unfinished, Parsed, refused, parse}
-use Rattle.format.specs.Answers.{refusal}
 use Rattle.format.specs.Promises.{RunRead}
-use Rattle.format.proofs.Fields.{below-append, below-take}
+use Rattle.format.proofs.Below.{below-append, below-take}
 use Rattle.format.proofs.Runs.{Outcome, nothing, run, outcome}
 use Rattle.format.proofs.Runs as runs
 use Rattle.format.specs.declared.ByteOffset.{ByteOffset}

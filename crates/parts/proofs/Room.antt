@@ -16,7 +16,7 @@ use Rattle.format.specs.Digits.{AllBelow}
 use Rattle.format.specs.Runs.{Description}
 use Rattle.format.specs.Parse.{Parsed, end, got, refused, parse, into}
 use Rattle.format.specs.Promises.{answerOf, placesOf, RunRead}
-use Rattle.format.proofs.Fields.{below-take}
+use Rattle.format.proofs.Below.{below-take}
 use Rattle.format.specs.declared.PartReader.{PartReader}
 use Rattle.format.specs.declared.Standing.the-variants.{Opened, Broken, Closed}
 use Rattle.format.specs.declared.PartAnswer.the-variants.{Refused, End}

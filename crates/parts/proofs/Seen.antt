@@ -15,8 +15,9 @@ use Rattle.format.specs.Runs.{Description, layout}
 use Rattle.format.specs.Parse.{Reason, plain, cut, unfinished, Parsed, end, got, refused, parse, into}
 use Rattle.format.specs.Answers.{refusal}
 use Rattle.format.specs.Promises.{answerOf, placesOf, RunRead}
-use Rattle.format.proofs.Fields.{append-below}
-use Rattle.format.proofs.Runs.{Outcome, nothing, run, outcome, parse-complete}
+use Rattle.format.proofs.Below.{append-below}
+use Rattle.format.proofs.Runs.{Outcome, nothing, run, outcome}
+use Rattle.format.proofs.RunComplete.{parse-complete}
 use Rattle.format.proofs.Runs as runs
 use Rattle.format.specs.declared.PartReader.{PartReader}
 use Rattle.format.specs.Parts.{refusalFrom, onPart, stepOf, placesAfter, room}

@@ -1,4 +1,4 @@
-// The reader in parts (document 02, item 4): it takes the input in parts and hands out one run at a time.
+// The reader in parts (FORMAT.md, "Reader in parts"): it takes the input in parts and hands out one run at a time.
 ghost use mathlib.Core.Path.{_≡_};
 ghost use Prim.Native.Nat.{_+_, _-_, _≤_, min};
 ghost use lib.ListN.{length};

@@ -1,4 +1,4 @@
--- Accepted exactly as document 02 says. Assumes nothing.
+-- Accepted exactly as FORMAT.md, "Column writer", says. Assumes nothing.
 use mathlib.Core.Path.{_≡_, refl, sym, ap, subst, _∙_}
 use mathlib.Core.Logic.{_↔_}
 use Prim.Native.Nat.{ℕ, _+_, _≤_}

@@ -23,7 +23,10 @@ use Rattle.format.specs.Streams.{joinedRows}
 use Rattle.format.specs.Writing.{stored, valuesOf, described, haveForm, fitWidth, writing, AllI64}
 use Rattle.format.proofs.Patterns.{as-lt}
 use Rattle.format.proofs.Rows.{bytes-count}
-use Rattle.format.proofs.Writing.{Accepted, le-between, below-every, stored-lt, written, reads-back}
+use Rattle.format.proofs.Accepted.{Accepted}
+use Rattle.format.proofs.Tests.{le-between, below-every}
+use Rattle.format.proofs.Steps.{stored-lt}
+use Rattle.format.proofs.Writing.{written, reads-back}
 use Rattle.planner.specs.Check.{parts, wide}
 use Rattle.planner.specs.Laws.{WideHolds}
 

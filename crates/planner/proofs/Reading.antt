@@ -12,7 +12,7 @@ use Rattle.format.specs.Fields.{two64}
 use Rattle.format.specs.Runs.{Description, AllValid, joined}
 use Rattle.format.specs.Streams.{readAll, totalRows, joinedRows}
 use Rattle.format.specs.Writing.{AllI64}
-use Rattle.format.proofs.Fields.{below-getD, below-drop}
+use Rattle.format.proofs.Below.{below-getD, below-drop}
 use Rattle.format.proofs.Rows.{joined-count}
 use Rattle.format.proofs.Streams.{stream-whole}
 use Rattle.planner.specs.declared.segment.Segment.{Segment}

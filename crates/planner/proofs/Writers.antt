@@ -19,7 +19,9 @@ use Rattle.format.specs.Writing.{stored, minus, baseDelta, falls, valuesOf, des
 use Rattle.format.specs.PatchedWriting.{differences, run, parts, headerHolds, writingPatched}
 use Rattle.format.proofs.Rows.{byte-bounds}
 use Rattle.format.proofs.Runs.{got-inj}
-use Rattle.format.proofs.Writing.{between-le, later-steps, reads-back, patterns-lt, patterns-back}
+use Rattle.format.proofs.Tests.{between-le}
+use Rattle.format.proofs.Steps.{later-steps}
+use Rattle.format.proofs.Writing.{reads-back, patterns-lt, patterns-back}
 use Rattle.promises.proofs.PatchedValid.{header-room, described as patched-described}
 use Rattle.planner.specs.Check.{anyRun, writeIn}
 use Rattle.planner.specs.Laws.{RoomForAny}

@@ -1,4 +1,4 @@
--- THE CHECK (document 02, item 10): a proposal of segments for a column of rows, when it is accepted, and what is written. Nothing here says how segments are
+-- THE CHECK (FORMAT.md, "Column writer"): a proposal of segments for a column of rows, when it is accepted, and what is written. Nothing here says how segments are
 -- found.
 -- Assumes nothing.
 use mathlib.Core.Path.{_≡_}

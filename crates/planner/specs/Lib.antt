@@ -1,4 +1,4 @@
--- The check in front of the writer of whole columns (document 02, item 10): its meaning, its theorems, and what its inner functions are stated with.
+-- The check in front of the writer of whole columns (FORMAT.md, "Column writer"): its meaning, its theorems, and what its inner functions are stated with.
 pub mod Check
 pub mod Laws
 pub mod Walk

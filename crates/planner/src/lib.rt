@@ -1,4 +1,4 @@
-// The check in front of the writer of whole columns, and that writer (document 02, item 10). Whoever proposes how a column is cut into runs, the
+// The check in front of the writer of whole columns, and that writer (FORMAT.md, "Column writer"). Whoever proposes how a column is cut into runs, the
 // stream reads back as the rows: a proposal that is not accepted is not written.
 ghost use mathlib.Core.Path.{_≡_};
 ghost use Rattle.planner.specs.Check.{proposal, checkedAs, Wrote};

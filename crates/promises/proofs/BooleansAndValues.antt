@@ -1,16 +1,12 @@
 -- Booleans and byte values, from the law of booleans. Assumes nothing.
 use mathlib.Core.Path.{_≡_, refl, sym, ap, _∙_, subst}
-use Prim.Native.Nat.{ℕ, zero, suc, _+_, _-_, _<_, _≤_}
+use Prim.Native.Nat.{ℕ, _+_, _-_, _<_, _≤_}
 use native.Mathlib.Decide.{decLt}
 use native.Mathlib.Nat.{le-refl}
 use native.Mathlib.Omega.{arith}
-use mathlib.Core.Bool.{Bool, true, false}
-use mathlib.Core.List.{List, [], _∷_, _++_, append-assoc, append-nil}
-use lib.ListN.{length, take, drop, length-drop, length-append, drop-of-length-le}
-use lib.Seq.{drop-append-add}
-use lib.Dec.{ltb, eqb}
-use borrow.Author.Tests.{lt-ltb, le-ltb, le-leb, lt-leb, ne-eqb}
-use mir.Facts.{eqb-no}
+use mathlib.Core.List.{List, _++_}
+use lib.ListN.{length, drop, length-drop}
+use borrow.Author.Tests.{lt-ltb, le-ltb, le-leb, lt-leb}
 use Rattle.format.specs.declared.Kind.the-variants.{Booleans}
 use Rattle.format.specs.declared.CutField.{CutField}
 use Rattle.format.specs.declared.CutField.the-variants.{None, At}
@@ -19,139 +15,17 @@ use Rattle.format.specs.declared.Answer.{Answer}
 use Rattle.format.specs.declared.Answer.the-variants.{Refused}
 use Rattle.format.specs.Answers.{ran, refusedAt, cutAt, answerNumber, answerCut}
 use Rattle.format.specs.Digits.{AllBelow}
-use Rattle.format.specs.Fields.{pick, bytesFor}
-use Rattle.format.specs.Parse.{Reason, cutIn, Parsed, got, refused, then, bytes}
-use Rattle.format.specs.Booleans.{ByteRun, literals, ValidRun, AllValidRuns, runLayout, runBytes, byteCount, joinedRuns, joinedBytes, booleansOf, repeatRun, byteRun, byteRuns, booleans, booleansInto, BooleansRead}
-use Rattle.format.proofs.Fields.{Took, of-got, below-drop}
+use Rattle.format.specs.Fields.{bytesFor}
+use Rattle.format.specs.Parse.{cutIn, Parsed, got, refused, bytes}
+use Rattle.format.specs.Booleans.{ByteRun, joinedRuns, booleansOf, booleans, booleansInto, BooleansRead}
+use Rattle.format.proofs.Posts.{Took, of-got}
+use Rattle.format.proofs.Below.{below-drop}
 use Rattle.format.proofs.Runs.{got-inj}
-use Rattle.format.proofs.Booleans.{layout-pos, run-complete, run-sound, length-run, booleans-complete, booleans-sound, ValidNeeded}
-use Rattle.promises.specs.BooleansAndValues.{behind, CutShort, no-control, in-run, Hold, BooleansExactly, BooleansHold, ValueHolds}
-
--- ---- where reading stops
-
--- a run: it is read, or there is none, or it is cut behind its control byte
-data RunRead (bs : List ℕ) : Parsed ByteRun → Type 0 where
-  run-got : {d : ByteRun} {rest : List ℕ} → Took bs runLayout ValidRun d rest → RunRead bs (got d rest)
-  run-none : bs ≡ [] → RunRead bs (refused (cutIn 6 []))
-  run-cut : (c : ℕ) (rest : List ℕ) → bs ≡ c ∷ rest → length rest < behind c → RunRead bs (refused (cutIn 13 rest))
-
--- a control byte with too few bytes behind it
-cut-run : (c : ℕ) (rest : List ℕ) → length rest < behind c → byteRun (c ∷ rest) ≡ refused (cutIn 13 rest)
-unfolding byteRun repeatRun bytes
-cut-run c rest h = go (ltb c 128) rest h
-  where
-    go : (t : Bool) (rest : List ℕ) → length rest < pick t 1 (256 - c)
-        → pick t (repeatRun c rest) (then (bytes 13 (256 - c) rest) λ v s. got (literals v) s) ≡ refused (cutIn 13 rest)
-    go true [] h = refl
-    go true (b ∷ rest) h = absurd (omega (arith, h))
-    go false rest h = rw (lt-leb (256 - c) (length rest) h)
-
-whole-run : (c : ℕ) (rest : List ℕ) → behind c ≤ length rest → (d : ByteRun) × (s : List ℕ) × (byteRun (c ∷ rest) ≡ got d s)
-unfolding byteRun repeatRun bytes
-whole-run c rest h = go (ltb c 128) rest h
-  where
-    go : (t : Bool) (rest : List ℕ) → pick t 1 (256 - c) ≤ length rest
-        → (d : ByteRun) × (s : List ℕ) × (pick t (repeatRun c rest) (then (bytes 13 (256 - c) rest) λ v s. got (literals v) s) ≡ got d s)
-    go true [] h = absurd (omega (arith, h))
-    go true (b ∷ rest) h = (_, _, refl)
-    go false rest h = (literals (take (256 - c) rest), drop (256 - c) rest, rw (le-leb (256 - c) (length rest) h))
-
-run-read : (bs : List ℕ) → AllBelow 256 bs → RunRead bs (byteRun bs)
-unfolding byteRun
-run-read [] h = run-none refl
-run-read (c ∷ rest) h = go (decLt (length rest) (behind c))
-  where
-    go : Dec (length rest < behind c) → RunRead (c ∷ rest) (byteRun (c ∷ rest))
-    go (yes l) = rw (cut-run c rest l) (run-cut c rest refl l)
-    go (no l) =
-        let (d, s, e) = whole-run c rest (omega arith) in
-        rw e (run-got (of-got (rw e at (run-sound (c ∷ rest) h))))
-
--- the runs that m bytes need: they are read, or the line that says where reading stops
-data Fate (m : ℕ) (bs : List ℕ) : Parsed (List ByteRun) → Type 0 where
-  all-read : {ds : List ByteRun} {rest : List ℕ} → Fate m bs (got ds rest)
-  stops : {k field : ℕ} → CutShort bs m k field → Fate m bs (refused (cutIn k (drop field bs)))
-
-module _ (m : ℕ) (bs : List ℕ) (d : ByteRun) (s : List ℕ) (v : ValidRun d) (e : bs ≡ runLayout d ++ s) where
-  later : (k field : ℕ) → CutShort s (m - byteCount d) k field → CutShort bs m k (length (runLayout d) + field)
-  unfolding joinedRuns joinedBytes
-  later k field (no-control ds w l f) =
-      rw (← (length-append (runLayout d) (joinedRuns ds)))
-      (no-control (d ∷ ds) (v, w) (omega (arith, l, length-append (runBytes d) (joinedBytes ds), length-run d)) (e ∙ ap (λ (x : List ℕ). runLayout d ++ x) f))
-  later k field (in-run ds c rest w l f h) =
-      let i : length (runLayout d ++ joinedRuns ds) + 1 ≡ length (runLayout d) + (length (joinedRuns ds) + 1) = omega (arith, length-append (runLayout d) (joinedRuns ds)) in
-      rw (← i)
-      (in-run (d ∷ ds) c rest (v, w) (omega (arith, l, length-append (runBytes d) (joinedBytes ds), length-run d))
-      (e ∙ ap (λ (x : List ℕ). runLayout d ++ x) f ∙ sym (append-assoc (runLayout d) (joinedRuns ds) (c ∷ rest))) h)
-
-  fate-later : {x : Parsed (List ByteRun)} → Fate (m - byteCount d) s x → Fate m bs (then x λ ds rest. got (d ∷ ds) rest)
-  fate-later all-read = all-read
-  fate-later (stops {k} {field} c) =
-      let i : drop (length (runLayout d) + field) bs ≡ drop field s = rw e (drop-append-add (runLayout d) s field) in
-      rw (← i) (stops (later k field c))
-
-fate : (f m : ℕ) (bs : List ℕ) → AllBelow 256 bs → length bs ≤ f → Fate m bs (byteRuns f m bs)
-unfolding byteRuns joinedRuns joinedBytes
-fate zero m (a ∷ bs) h l = absurd (omega arith)
-fate zero m [] h l = go (eqb m 0) refl
-  where
-    go : (t : Bool) → eqb m 0 ≡ t → Fate m [] (pick t (got [] []) (refused (cutIn 6 [])))
-    go true e = all-read
-    go false e = stops (no-control [] tt (omega (arith, eqb-no {a = m} {b = 0} (rw e tt))) refl)
-fate (suc f) m bs h l = go (eqb m 0) refl (run-read bs h) (fate f)
-  where
-    stopped : (k field : ℕ) {rest : List ℕ} → drop field bs ≡ rest → CutShort bs m k field → Fate m bs (refused (cutIn k rest))
-    stopped k field e c = rw (← e) (stops c)
-
-    go : {x : Parsed ByteRun} (t : Bool) → eqb m 0 ≡ t → RunRead bs x
-        → ((m : ℕ) (s : List ℕ) → AllBelow 256 s → length s ≤ f → Fate m s (byteRuns f m s))
-        → Fate m bs (pick t (got [] bs) (then x λ d s. then (byteRuns f (m - byteCount d) s) λ ds rest. got (d ∷ ds) rest))
-    go true e r ih = all-read
-    go false e (run-none z) ih = stopped 6 0 z (no-control [] tt (omega (arith, eqb-no {a = m} {b = 0} (rw e tt))) z)
-    go false e (run-cut c rest z k) ih = stopped 13 1 (ap (drop 1) z) (in-run [] c rest tt (omega (arith, eqb-no {a = m} {b = 0} (rw e tt))) z k)
-    go false e (run-got {d} {rest} t) ih =
-        fate-later m bs d rest (t .ok) (t .split)
-        (ih (m - byteCount d) rest (t .rest-bytes) (omega (arith, layout-pos d, length-append (runLayout d) rest, ap length (t .split))))
-
--- ---- and back: from the line to the refusal
-
-module _ (t : List ℕ) (r : Reason) (stuck : (f m : ℕ) → 0 < m → length t ≤ f → byteRuns f m t ≡ refused r) where
-  behind-runs : (f m : ℕ) (ds : List ByteRun) → AllValidRuns ds → length (joinedBytes ds) < m → length (joinedRuns ds ++ t) ≤ f
-      → byteRuns f m (joinedRuns ds ++ t) ≡ refused r
-  unfolding byteRuns joinedRuns joinedBytes
-  behind-runs f m [] v l h = stuck f m (omega arith) h
-  behind-runs zero m (d ∷ ds) v l h = absurd (omega (arith, h, layout-pos d, length-append (runLayout d ++ joinedRuns ds) t, length-append (runLayout d) (joinedRuns ds)))
-  behind-runs (suc f) m (d ∷ ds) v l h =
-      let k : length (runBytes d ++ joinedBytes ds) ≡ byteCount d + length (joinedBytes ds) = omega (arith, length-append (runBytes d) (joinedBytes ds), length-run d) in
-      rw (
-        ne-eqb m 0 (omega arith),
-        append-assoc (runLayout d) (joinedRuns ds) t,
-        run-complete d (joinedRuns ds ++ t) (v .0),
-        behind-runs f (m - byteCount d) ds (v .1) (omega arith)
-            (omega (arith, h, layout-pos d, length-append (runLayout d) (joinedRuns ds ++ t), ap length (append-assoc (runLayout d) (joinedRuns ds) t))),
-      )
-
-stuck-none : (f m : ℕ) → 0 < m → 0 ≤ f → byteRuns f m [] ≡ refused (cutIn 6 [])
-unfolding byteRuns byteRun
-stuck-none zero m h l = rw (ne-eqb m 0 (omega arith))
-stuck-none (suc f) m h l = rw (ne-eqb m 0 (omega arith))
-
-stuck-cut : (c : ℕ) (rest : List ℕ) → length rest < behind c → (f m : ℕ) → 0 < m → length (c ∷ rest) ≤ f → byteRuns f m (c ∷ rest) ≡ refused (cutIn 13 rest)
-unfolding byteRuns
-stuck-cut c rest k zero m h l = absurd (omega arith)
-stuck-cut c rest k (suc f) m h l = rw (ne-eqb m 0 (omega arith), cut-run c rest k)
-
-line : (m : ℕ) (bs : List ℕ) {k field : ℕ} → CutShort bs m k field → byteRuns (length bs) m bs ≡ refused (cutIn k (drop field bs))
-line m bs (no-control ds v l e) =
-    rw (e, drop-of-length-le (joinedRuns ds) {i = length (joinedRuns ds)} (le-refl _))
-    (rw (append-nil (joinedRuns ds)) at (behind-runs [] (cutIn 6 []) stuck-none (length (joinedRuns ds)) m ds v l (rw (append-nil (joinedRuns ds)) (le-refl _))))
-line m bs (in-run ds c rest v l e h) =
-    rw (e, drop-append-add (joinedRuns ds) (c ∷ rest) 1) (behind-runs (c ∷ rest) (cutIn 13 rest) (stuck-cut c rest h) _ m ds v l (le-refl _))
-
--- the field begins in the input
-field-le : (m : ℕ) (bs : List ℕ) {k field : ℕ} → CutShort bs m k field → field ≤ length bs
-field-le m bs (no-control ds v l e) = omega (arith, ap length e)
-field-le m bs (in-run ds c rest v l e h) = omega (arith, ap length e, length-append (joinedRuns ds) (c ∷ rest))
+use Rattle.format.proofs.ByteRuns.{ValidNeeded}
+use Rattle.format.proofs.Booleans.{booleans-complete, booleans-sound}
+use Rattle.promises.specs.BooleansAndValues.{CutShort, Hold, BooleansExactly, BooleansHold, ValueHolds}
+use Rattle.promises.proofs.BooleanFates.{Fate, all-read, stops, fate}
+use Rattle.promises.proofs.BooleanLines.{line, field-le}
 
 -- ---- the promise
 

@@ -1,4 +1,4 @@
--- Change request 1 leaves what was accepted alone: from demand 2 and the table of numbers. Assumes nothing.
+-- The numbers of a cut field leave what was accepted alone: from demand 2 and the table of numbers. Assumes nothing.
 use mathlib.Core.Path.{_≡_, refl}
 use mathlib.Core.Logic.{_≢_}
 use Prim.Native.Nat.{ℕ, _+_, _<_, _≤_}

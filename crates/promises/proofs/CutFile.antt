@@ -1,28 +1,23 @@
 -- A file that is cut inside a run is refused there. Assumes nothing.
 use mathlib.Core.Path.{_≡_, refl, sym, ap, _∙_}
 use mathlib.Core.Logic.{_≢_}
-use Prim.Native.Nat.{ℕ, zero, suc, _+_, _-_, _<_, _≤_}
-use native.Mathlib.Nat.{le-refl}
+use Prim.Native.Nat.{ℕ, suc, _+_, _-_, _<_, _≤_}
 use native.Mathlib.Decide.{decLt}
 use native.Mathlib.Omega.{arith}
 use mathlib.Core.List.{List, [], _∷_, _++_, append-assoc}
 use lib.ListN.{length, take, drop, length-append, take-append-drop}
 use lib.Seq.{take-append-le, take-append-add, length-take-le}
 use lib.Dec.{T, eqb→eq}
-use lib.IntN.{ℤ}
-use Rattle.format.specs.declared.Stream.{Stream}
 use Rattle.format.specs.Answers.{refusal}
 use Rattle.format.specs.Digits.{AllBelow}
 use Rattle.format.specs.Runs.{Description, Valid, AllValid, layout, joined}
 use Rattle.format.specs.Parse.{Reason, unfinished, into}
 use Rattle.format.specs.Streams.{whole, broken, readAll, totalRows}
-use Rattle.format.specs.Promises.{StreamRead}
-use Rattle.format.proofs.Fields.{append-below}
+use Rattle.format.proofs.Below.{append-below}
 use Rattle.format.proofs.Runs.{layout-below}
 use Rattle.format.proofs.Cut.{cut-number}
 use Rattle.format.proofs.Streams.{into-refused, stream-whole, stream-broken}
-use Rattle.promises.specs.Demand3.{LaidOut, IsWhole}
-use Rattle.promises.specs.CutFile.{EndInside, CutBetween, in-header, in-field, CutFile, CutFileHolds}
+use Rattle.promises.specs.CutFile.{EndInside, CutBetween, in-header, in-field, CutFileHolds}
 use Rattle.promises.specs.Refusals.{Given, by-number, by-field}
 use Rattle.promises.proofs.Demand3.{demand3}
 use Rattle.promises.proofs.Refusals.{refusals, field-le, field-pos, field-here}

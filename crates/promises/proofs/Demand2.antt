@@ -1,20 +1,20 @@
 -- Demand 2, from the laws of one run. Assumes nothing.
-use mathlib.Core.Path.{_≡_, refl, sym, ap, _∙_}
-use mathlib.Core.Logic.{_≢_}
+use mathlib.Core.Path.{_≡_, sym, _∙_}
 use Prim.Native.Nat.{ℕ, _≤_}
 use native.Mathlib.Omega.{arith}
-use mathlib.Core.List.{List, [], _∷_, _++_}
+use mathlib.Core.List.{List, []}
 use lib.ListN.{length, drop}
 use lib.IntN.{ℤ}
 use Rattle.format.specs.declared.Answer.{Answer}
 use Rattle.format.specs.declared.Answer.the-variants.{End}
-use Rattle.format.specs.Runs.{Description, rowCount, Valid, layout}
+use Rattle.format.specs.Runs.{Description, rowCount}
 use Rattle.format.specs.Parse.{Parsed, got, parse, into}
 use Rattle.format.specs.Promises.{answerOf}
-use Rattle.format.proofs.Fields.{below-drop}
-use Rattle.format.proofs.Runs.{parse-complete, parse-empty, layout-unique}
+use Rattle.format.proofs.Below.{below-drop}
+use Rattle.format.proofs.RunComplete.{parse-complete}
+use Rattle.format.proofs.Runs.{parse-empty, layout-unique}
 use Rattle.format.proofs.Streams.{Into, into-nothing, into-run, into-refusal, into-outcome, into-got, into-end}
-use Rattle.promises.specs.Demand2.{Begins, IsRun, Demand2, Demand2Holds}
+use Rattle.promises.specs.Demand2.{Begins, IsRun, Demand2Holds}
 
 module _ (bs : List ℕ) (at total : ℕ) (out : List ℤ) (r : Answer) where
   read-run : (d : Description) → (b : Begins bs d) → rowCount d ≤ length out → into (length out) (parse bs) ≡ got d (b .rest)

@@ -1,5 +1,5 @@
 -- Demand 3, from the law of streams. Assumes nothing.
-use mathlib.Core.Path.{_≡_, refl, sym, ap, _∙_}
+use mathlib.Core.Path.{_≡_, sym, _∙_}
 use Prim.Native.Nat.{ℕ, _≤_}
 use native.Mathlib.Omega.{arith}
 use mathlib.Core.Bool.{Bool}
@@ -7,14 +7,12 @@ use mathlib.Core.List.{List, [], _∷_, _++_}
 use lib.ListN.{length, drop}
 use lib.IntN.{ℤ}
 use Rattle.format.specs.declared.Stream.{Stream}
-use Rattle.format.specs.Answers.{readWhole}
-use Rattle.format.specs.Digits.{AllBelow}
-use Rattle.format.specs.Runs.{Description, AllValid, joined}
-use Rattle.format.specs.Streams.{Reading, whole, broken, readAll, runsOf, totalRows, joinedRows}
-use Rattle.format.specs.Promises.{StreamRead, streamAnswer}
-use Rattle.format.proofs.Fields.{below-drop}
+use Rattle.format.specs.Runs.{Description, joined}
+use Rattle.format.specs.Streams.{Reading, whole, readAll, totalRows}
+use Rattle.format.specs.Promises.{streamAnswer}
+use Rattle.format.proofs.Below.{below-drop}
 use Rattle.format.proofs.Streams.{Reads, reads-whole, reads-broken, stream-post, stream-whole, joined-unique, last-snoc}
-use Rattle.promises.specs.Demand3.{LaidOut, IsWhole, Demand3, Demand3Holds}
+use Rattle.promises.specs.Demand3.{LaidOut, IsWhole, Demand3Holds}
 
 module _ (bs : List ℕ) (at : ℕ) (signed : Bool) (out out′ : List ℤ) (r : Stream) where
   -- the descriptions of a stream that was read whole

@@ -1,5 +1,5 @@
 -- Each width at each length is read back: a valid description's layout parses as that description. Assumes nothing.
-use mathlib.Core.Path.{_≡_, refl, sym, ap, _∙_}
+use mathlib.Core.Path.{_≡_, refl, ap}
 use Prim.Native.Nat.{ℕ, zero, suc}
 use native.Mathlib.Omega.{arith}
 use mathlib.Core.Bool.{Bool}
@@ -9,7 +9,7 @@ use lib.IntN.{ℤ}
 use Rattle.format.specs.Fields.{row}
 use Rattle.format.specs.Runs.{Description, Valid}
 use Rattle.format.specs.Rows.{rowsOf, asI64, i64Rows}
-use Rattle.format.proofs.Runs.{parse-complete}
+use Rattle.format.proofs.RunComplete.{parse-complete}
 use Rattle.format.proofs.Streams.{into-got}
 use Rattle.promises.specs.EachWidth.{ReadBack, EachWidth}
 

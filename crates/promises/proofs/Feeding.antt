@@ -15,8 +15,9 @@ use Rattle.format.specs.Fields.{pick, two64}
 use Rattle.format.specs.Runs.{Description, Valid, layout, AllValid, joined}
 use Rattle.format.specs.Parse.{Reason, plain, cut, unfinished, Parsed, refused, parse}
 use Rattle.format.specs.Answers.{refusing}
-use Rattle.format.proofs.Fields.{below-append, append-below, below-drop}
-use Rattle.format.proofs.Runs.{Outcome, nothing, run, refusal, outcome, parse-empty, parse-complete}
+use Rattle.format.proofs.Below.{below-append, append-below, below-drop}
+use Rattle.format.proofs.Runs.{Outcome, nothing, run, refusal, outcome, parse-empty}
+use Rattle.format.proofs.RunComplete.{parse-complete}
 use Rattle.format.proofs.Cut.{refused-stays}
 use Rattle.format.specs.declared.Standing.the-variants.{Opened, Broken}
 use Rattle.format.specs.Parts as reader

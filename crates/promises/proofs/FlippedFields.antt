@@ -1,11 +1,11 @@
 -- What two blocks that differ in one byte have in common, and how many rows a byte touches: by the law that field i of a block is bits i·w to i·w+w-1 of
 -- its bytes. Assumes nothing.
-use mathlib.Core.Path.{_≡_, refl, sym, ap, _∙_}
+use mathlib.Core.Path.{_≡_, sym, ap, _∙_}
 use mathlib.Core.Logic.{inl, inr}
 use Prim.Native.Nat.{ℕ, zero, suc, _+_, _-_, _*_, _/_, _^_, _<_, _≤_}
 use native.Mathlib.Nat.{le-div-iff-mul-le, div-lt-iff-lt-mul, div-mul-le-self, lt-div-mul-add, zero-lt-suc}
 use native.Mathlib.Omega.{arith}
-use mathlib.Core.List.{List, [], _∷_, _++_, append-assoc}
+use mathlib.Core.List.{List, _∷_, _++_, append-assoc}
 use lib.ListN.{length, getD, take, drop, length-append, length-drop}
 use lib.Seq.{take-append-le, drop-append-le, drop-append-add, take-append-add, take-append-seam}
 use lib.Pow.{pow-pos}
@@ -13,20 +13,15 @@ use Rattle.format.specs.Digits.{AllBelow, number, digits, spread}
 use Rattle.format.specs.Fields.{Block, IsBlock, blockBytes, bytesFor}
 use Rattle.format.specs.Runs.{Description, Valid, ValidHead, layout, head₀, head₁}
 use Rattle.format.specs.Parse.{got, parse}
-use Rattle.format.proofs.Digits.{length-digits, number-digits}
-use Rattle.format.proofs.Fields.{Took, below-getD, block-field, length-block}
+use Rattle.format.proofs.Digits.{length-digits, number-digits, length-spread, spread-append}
+use Rattle.format.proofs.Posts.{Took}
+use Rattle.format.proofs.Below.{below-getD}
+use Rattle.format.proofs.FieldBits.{block-field}
+use Rattle.format.proofs.Fields.{length-block}
 use Rattle.format.proofs.Runs.{Outcome, run, outcome}
 use Rattle.promises.specs.FlippedByte.{Outside}
 
 -- ---- the bits of a list of bytes
-
-length-spread : (b w : ℕ) (s : List ℕ) → length (spread b w s) ≡ length s * w
-length-spread b w [] = omega arith
-length-spread b w (v ∷ s) = omega (arith, length-append (digits b w v) (spread b w s), length-digits b w v, length-spread b w s)
-
-spread-append : (b w : ℕ) (s t : List ℕ) → spread b w (s ++ t) ≡ spread b w s ++ spread b w t
-spread-append b w [] t = refl
-spread-append b w (v ∷ s) t = rw (spread-append b w s t, append-assoc)
 
 -- w of them from the a-th on, all before byte j, or all behind it
 bits-before : (w a : ℕ) (s t : List ℕ) → a + w ≤ length s * 8 → take w (drop a (spread 2 8 (s ++ t))) ≡ take w (drop a (spread 2 8 s))

@@ -1,18 +1,27 @@
 -- The theorems, one file for each file of statements in specs/.
--- document 01's lines and tables
+-- FORMAT.md's sample runs and its table of refusals
 pub mod Table
+pub mod Fates
+pub mod PatchedFate
+pub mod PlainFates
+pub mod DeltaFate
+pub mod Fated
+pub mod Lines
 pub mod Refusals
 -- its demands
 pub mod Demand2
 pub mod Demand3
+pub mod BooleanFates
+pub mod BooleanLines
 pub mod BooleansAndValues
 pub mod RoundTrips
 -- the user's four questions
 pub mod EachWidth
+pub mod PatchNames
 pub mod PatchLists
 pub mod Sums
 pub mod CutFile
--- the change requests of document 02
+-- what came with the changes behind the base (docs/CHANGES.md)
 pub mod BrokeOff
 pub mod Longest
 -- writing patched runs
@@ -26,7 +35,9 @@ pub mod PatchedTable
 pub mod PatchedExamples
 pub mod Feeding
 pub mod Parts
+pub mod PartsRefused
 pub mod PartsFollow
+pub mod PartsCalls
 pub mod PartsDelivered
 pub mod PartsSample
 -- one flipped byte

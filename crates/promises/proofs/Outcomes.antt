@@ -1,11 +1,9 @@
 -- Each promise determines the answer and every lent place: it is an equation for either. (The narrowest code is no equation: it is there, and it is one.)
 -- Assumes nothing.
-use mathlib.Core.Path.{_≡_, refl, sym, _∙_, ap}
+use mathlib.Core.Path.{_≡_, refl, sym, _∙_}
 use Prim.Native.Nat.{ℕ, zero, suc, _+_, _^_, _<_, _≤_}
 use native.Mathlib.Omega.{arith}
 use native.Mathlib.Decide.{decLt}
-use mathlib.Core.List.{List}
-use lib.IntN.{ℤ}
 use Rattle.format.specs.Fields.{width, widths, two64, Narrowest}
 use Rattle.format.specs.Kept.{nextKept}
 use Rattle.format.proofs.Kept.{narrowest-next, narrowest-kept-unique}

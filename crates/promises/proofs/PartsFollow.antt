@@ -15,7 +15,7 @@ use Rattle.format.specs.Fields.{pick}
 use Rattle.format.specs.Runs.{Description}
 use Rattle.format.specs.Parse.{unfinished, Parsed, end, got, refused, parse}
 use Rattle.format.specs.Answers.{refusing}
-use Rattle.format.proofs.Fields.{below-append, below-take}
+use Rattle.format.proofs.Below.{below-append, below-take}
 use Rattle.format.proofs.Runs.{Outcome, nothing, run, refusal, outcome}
 use Rattle.format.specs.declared.PartReader.{PartReader}
 use Rattle.format.specs.declared.PartStep.{PartStep}

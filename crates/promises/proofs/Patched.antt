@@ -12,7 +12,7 @@ use Rattle.format.specs.Rows.{baseValue}
 use Rattle.format.specs.PatchedWriting.{differences, field, codeFor, patchCode, gapWidth, baseBytes, Parts, run, patchesIn, entriesOf, parts}
 use Rattle.promises.specs.Patched.{Describes, NoBetter, Chosen, PatchedMeaningHolds}
 use Rattle.promises.proofs.PatchedBase.{base-zero, same-base}
-use Rattle.format.proofs.PatchedWriting.{width-same, code-found, code-fits, qs-below, size-is}
+use Rattle.format.proofs.PatchedWriting.{width-same, code-found, qs-below, size-is}
 use Rattle.promises.proofs.PatchedEntries.{same-entries, only-skips, above-some}
 use Rattle.promises.proofs.PatchedValid.{Room, header-room, valid-room, its-patches, described-valid, described, is-width}
 use Rattle.promises.proofs.PatchedLeast.{kept-is, gaps-256, its-lows, no-less-base, no-less-code, no-less-patch, no-less-list, no-less-gap, has-room}

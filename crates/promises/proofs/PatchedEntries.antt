@@ -14,11 +14,11 @@ use borrow.Author.Tests.{ne-eqb, eqb-false}
 use Rattle.format.specs.Digits.{AllBelow}
 use Rattle.format.specs.Fields.{pick}
 use Rattle.format.specs.Runs.{Patch, patchOf, gapOf, isSkip, patchesFrom, lastIsSkip, tooLarge}
-use Rattle.format.proofs.Runs.{limit-is}
+use Rattle.format.proofs.RunComplete.{limit-is}
 use Rattle.format.proofs.Widths.{and-left, and-right}
 use Rattle.format.specs.PatchedWriting.{patchesAbove, Entry, skip, skipsIn, entriesFrom, field}
 use Rattle.promises.specs.Patched.{OnlySkips}
-use Rattle.format.proofs.Writing.{below-mono}
+use Rattle.format.proofs.Again.{below-mono}
 use Rattle.format.proofs.PatchedWriting.{gaps-255, skip-next}
 use Rattle.promises.proofs.PatchedPlaces.{or-not, and-false, Rising, rising-from, kept}
 

@@ -12,7 +12,7 @@ use Rattle.format.specs.Rows
 use Rattle.format.specs.Writing
 use Rattle.format.specs.Writing.{padded}
 use Rattle.format.specs.PatchedWriting
-use Rattle.format.specs.PatchedWriting.{entriesFrom, Parts, parts}
+use Rattle.format.specs.PatchedWriting.{Parts, parts}
 use Rattle.promises.specs.Patched.{Describes}
 
 abbrev narrower : Parts

@@ -3,7 +3,7 @@ use mathlib.Core.Path.{_≡_}
 use Prim.Native.Nat.{ℕ, _+_, _^_, _<_, _≤_}
 use native.Mathlib.Nat.{lt-of-le-of-lt, zero-add, mod-lt}
 use native.Mathlib.Omega.{arith}
-use mathlib.Core.Bool.{Bool, true, false, not}
+use mathlib.Core.Bool.{Bool, true, false}
 use lib.Dec.{eqb}
 use mathlib.Core.List.{List, [], _∷_, map}
 use lib.ListN.{length, length-map}
@@ -14,12 +14,14 @@ use Rattle.format.specs.Runs.{Patch, Valid, gapOf, patchOf, isSkip, patches, pa
 use Rattle.format.specs.Rows.{baseValue, rowsOf, plus}
 use Rattle.format.specs.Writing.{minus}
 use Rattle.format.proofs.Rows.{width-le}
-use Rattle.format.proofs.Writing.{map-back, below-mono}
+use Rattle.format.proofs.Steps.{map-back}
+use Rattle.format.proofs.Again.{below-mono}
 use Rattle.format.specs.PatchedWriting.{differences, lows, patchesAbove, field, Parts, run, patchesIn, entriesOf, parts}
 use Rattle.promises.specs.Patched.{Describes, OnlySkips}
 use Rattle.promises.proofs.PatchedBase.{base-least}
 use Rattle.format.proofs.PatchedWriting.{width-mono, width-56, code-found, code-least, code-fits, gap-least, gap-8, size-is}
-use Rattle.promises.proofs.PatchedPlaces.{Rising, rises, or-left, or-right, sums, rows-sums, sums-below, kept, lows-sums, above-sums}
+use Rattle.format.proofs.Tests.{not-left, not-right}
+use Rattle.promises.proofs.PatchedPlaces.{Rising, rises, sums, rows-sums, sums-below, kept, lows-sums, above-sums}
 use Rattle.promises.proofs.PatchedEntries.{fewest, least-gaps}
 use Rattle.promises.proofs.PatchedValid.{Room}
 
@@ -61,9 +63,9 @@ module _ (signed : Bool) (d : Parts) (v : Valid (run d)) (hb : baseValue (d .bas
   its-rise : Rising 0 (0 + length (d .values .values)) its-qs
   unfolding patches outOfPlace
   its-rise =
-      let n = or-right (lastIsSkip (width (d .pc)) (d .list .values)) _ (v .not-7) in
+      let n = not-right (lastIsSkip (width (d .pc)) (d .list .values)) _ (v .not-7) in
       let rows : ℕ = length (d .values .values) in
-      rw (zero-add rows) (rises (width (d .pc)) 0 rows (d .list .values) (or-left (shared its-qs) (outside rows its-qs) n) (or-right (shared its-qs) (outside rows its-qs) n))
+      rw (zero-add rows) (rises (width (d .pc)) 0 rows (d .list .values) (not-left (shared its-qs) (outside rows its-qs) n) (not-right (shared its-qs) (outside rows its-qs) n))
 
   -- UNIQUE: its patches that are not 0 are what is above the low bits, and its values are these
   pub its-kept : patchesAbove (width (d .code)) 0 its-differences ≡ kept its-qs

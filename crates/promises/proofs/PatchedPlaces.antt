@@ -15,18 +15,11 @@ use Rattle.format.specs.Digits.{AllBelow}
 use Rattle.format.specs.Fields.{pick, two64}
 use Rattle.format.specs.Runs.{Patch, patchOf, gapOf, isSkip, patchesFrom, taken, shared, outside, tooLarge}
 use Rattle.format.specs.Rows.{patchAt, patchedRows, plus}
-use Rattle.format.proofs.Runs.{limit-is}
+use Rattle.format.proofs.RunComplete.{limit-is}
+use Rattle.format.proofs.Tests.{not-left, not-right}
 use Rattle.format.specs.PatchedWriting.{lows, patchesAbove}
 
 -- ---- tests
-
-pub or-left : (a b : Bool) → T (not (a || b)) → T (not a)
-or-left true b h = h
-or-left false b h = tt
-
-pub or-right : (a b : Bool) → T (not (a || b)) → T (not b)
-or-right true b h = absurd h
-or-right false b h = h
 
 pub or-not : (a b : Bool) → T (not a) → T (not b) → T (not (a || b))
 or-not true b h k = h
@@ -67,8 +60,8 @@ rises pw before end (e ∷ es) s o = by (isSkip pw e) (before + gapOf pw e) (pat
     by true at qs h s o ih = rising-from at before end qs h (ih s o)
     by false at qs h s o ih = (
       h,
-      nleb→lt end at (or-left (leb end at) (outside end qs) o),
-      rising-past at end qs (or-left (taken at qs) (shared qs) s) (ih (or-right (taken at qs) (shared qs) s) (or-right (leb end at) (outside end qs) o)),
+      nleb→lt end at (not-left (leb end at) (outside end qs) o),
+      rising-past at end qs (not-left (taken at qs) (shared qs) s) (ih (not-right (taken at qs) (shared qs) s) (not-right (leb end at) (outside end qs) o)),
     )
 
 -- and what rises is not out of place
@@ -122,7 +115,7 @@ unfolding tooLarge patchAt
 patch-fits w p [] t = pow-pos (64 - w)
 patch-fits w p (q ∷ qs) t =
     let u : T (not (leb (2 ^ (64 - w)) (q .patch) || tooLarge w qs)) = rw (limit-is w) at t in
-    by (eqb p (q .place)) (nleb→lt _ _ (or-left (leb (2 ^ (64 - w)) (q .patch)) (tooLarge w qs) u)) (patch-fits w p qs (or-right (leb (2 ^ (64 - w)) (q .patch)) (tooLarge w qs) u))
+    by (eqb p (q .place)) (nleb→lt _ _ (not-left (leb (2 ^ (64 - w)) (q .patch)) (tooLarge w qs) u)) (patch-fits w p qs (not-right (leb (2 ^ (64 - w)) (q .patch)) (tooLarge w qs) u))
   where
     by : (u : Bool) → q .patch < 2 ^ (64 - w) → patchAt p qs < 2 ^ (64 - w) → pick u (q .patch) (patchAt p qs) < 2 ^ (64 - w)
     by true h k = h

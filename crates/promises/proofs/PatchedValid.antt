@@ -14,10 +14,11 @@ use Rattle.format.specs.Fields.{two64, width}
 use Rattle.format.specs.Runs.{Patch, Valid, patches, shared, outside, outOfPlace, tooLarge}
 use Rattle.format.specs.Rows.{rowsOf, plus}
 use Rattle.format.specs.Writing.{minus}
-use Rattle.format.proofs.Digits.{length-digits, digits-below}
+use Rattle.format.proofs.Digits.{digits-below}
 use Rattle.format.proofs.Widths.{and-left, and-right, least-holds}
 use Rattle.format.proofs.Rows.{width-le}
-use Rattle.format.proofs.Writing.{map-back, and-i}
+use Rattle.format.proofs.Steps.{map-back}
+use Rattle.format.proofs.Tests.{and-i}
 use Rattle.format.specs.PatchedWriting.{differences, lows, entriesFrom, field, codeFor, patchCode, gapWidth, baseSize, baseBytes, Parts, run, patchesIn, parts, headerHolds}
 use Rattle.promises.specs.Patched.{Describes}
 use Rattle.promises.proofs.PatchedBase.{base-value}

@@ -1,13 +1,10 @@
 -- The writer's round trips and its table. Assumes nothing.
 use mathlib.Core.Path.{_≡_, refl}
-use Prim.Native.Nat.{ℕ, _<_, _≤_}
 use mathlib.Core.Bool.{Bool, true, false, not, _&&_}
-use mathlib.Core.List.{List, [], map}
+use mathlib.Core.List.{[], map}
 use lib.ListN.{length, length-map}
-use lib.IntN.{ℤ}
 use lib.Dec.{ltb}
 use borrow.Author.Tests.{ltb-true, ltb-false}
-use Rattle.format.specs.declared.Form.{Form}
 use Rattle.format.specs.Rows.{asU64}
 use Rattle.format.specs.Runs.{layout}
 use Rattle.format.specs.Parse.{got, unless}

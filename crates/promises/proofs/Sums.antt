@@ -1,5 +1,5 @@
 -- Rows are whole-number sums modulo 2^64. Assumes nothing.
-use mathlib.Core.Path.{_≡_, refl, sym, ap, _∙_}
+use mathlib.Core.Path.{_≡_, refl, ap, _∙_}
 use Prim.Native.Nat.{ℕ, zero, suc, _+_, _-_, _*_, _%_, _^_, _<_, _≤_}
 use native.Mathlib.Nat.{suc-mul, mod-lt, zero-mul, lt-of-lt-of-le, mod-mod, mod-add-mod, add-mod-mod}
 use native.Mathlib.Omega.{arith}
@@ -15,7 +15,7 @@ use Rattle.format.specs.Runs.{Patch, fixed, delta, patched, patches}
 use Rattle.format.specs.Rows.{steps, walk, patchedRows, patchAt, plus, rowsOf, baseValue}
 use Rattle.format.proofs.Varints.{varint-lt}
 use Rattle.format.proofs.Rows.{width-le, row-lt}
-use Rattle.promises.specs.Sums.{sum, firstRow, baseDelta, Sums}
+use Rattle.promises.specs.Sums.{sum, firstRow, firstStep, Sums}
 
 steps-at : (n x step i : ℕ) → x < two64 → i < n → getD (steps n x step) i 0 ≡ (x + i * step) % two64
 unfolding steps
@@ -64,7 +64,7 @@ below-mono a b [] h p = tt
 below-mono a b (x ∷ l) h p = (lt-of-lt-of-le (p .0) h, below-mono a b l h (p .1))
 
 fixed-at : (signed : Bool) (rows : ℕ) (first base : List ℕ) (i : ℕ) → Varint 10 first → i < rows
-    → getD (rowsOf signed (fixed rows first base)) i 0 ≡ (firstRow signed first + i * baseDelta base) % two64
+    → getD (rowsOf signed (fixed rows first base)) i 0 ≡ (firstRow signed first + i * firstStep base) % two64
 unfolding rowsOf
 fixed-at signed rows first base i v h = steps-at rows _ _ i (row-lt signed _ (varint-lt first v)) h
 
@@ -77,9 +77,9 @@ patched-row-at signed code base pc gw k l p h =
     rw e at (patched-at (baseValue base) (width code) (patches (width pc) (l .values)) 0 (k .values) p h)
 
 -- the rows of a packed delta run, by its direction
-module _ (signed : Bool) (code : ℕ) (first base : List ℕ) (k : Block) (falling : Bool) (e : leb (2 ^ 63) (baseDelta base) ≡ falling) where
+module _ (signed : Bool) (code : ℕ) (first base : List ℕ) (k : Block) (falling : Bool) (e : leb (2 ^ 63) (firstStep base) ≡ falling) where
   second : ℕ
-  second = plus (firstRow signed first) (baseDelta base)
+  second = plus (firstRow signed first) (firstStep base)
 
   delta-rows : rowsOf signed (delta code first base k) ≡ firstRow signed first ∷ second ∷ walk falling second (k .values)
   unfolding rowsOf second
@@ -95,11 +95,11 @@ sums = record {
   fixed-row = λ signed rows first base i v h. fixed-at signed rows first base i (v .first-varint) h;
   first-row = λ signed code first base k v. rw (delta-rows signed code first base k _ refl);
   rising-row = λ signed code first base k i v h s.
-      rw (delta-row signed code first base k false (lt-leb (2 ^ 63) (baseDelta base) s))
-      (rising-at (plus (firstRow signed first) (baseDelta base)) (k .values) i (mod-lt (firstRow signed first + baseDelta base) (pow-pos 64)) h ∙ omega arith);
+      rw (delta-row signed code first base k false (lt-leb (2 ^ 63) (firstStep base) s))
+      (rising-at (plus (firstRow signed first) (firstStep base)) (k .values) i (mod-lt (firstRow signed first + firstStep base) (pow-pos 64)) h ∙ omega arith);
   falling-row = λ signed code first base k i v h s.
-      rw (delta-row signed code first base k true (le-leb (2 ^ 63) (baseDelta base) s))
-      (falling-at (plus (firstRow signed first) (baseDelta base)) (k .values) i (below-mono _ two64 (k .values) (pow-mono (width-le code)) (v .block .fits)) h
+      rw (delta-row signed code first base k true (le-leb (2 ^ 63) (firstStep base) s))
+      (falling-at (plus (firstRow signed first) (firstStep base)) (k .values) i (below-mono _ two64 (k .values) (pow-mono (width-le code)) (v .block .fits)) h
       ∙ omega arith);
   patched-row = λ signed code base pc gw k l p h. patched-row-at signed code base pc gw k l p h;
   base-above = λ base h. rw (lt-leb (2 ^ (8 * length base - 1)) (number 256 base) h);

@@ -39,7 +39,7 @@ all-hold (l ∷ ls) e = (line-holds l (cc), all-hold ls (cc))
 
 -- (the `unfolding` line opens all that computes: whoever says `unfolding computed` computes with it)
 unfoldable computed : ℕ
-unfolding told b.runLayout b.runBytes b.byteCount b.joinedRuns b.joinedBytes b.bits b.booleansOf b.repeatRun b.byteRun b.byteRuns b.booleans b.booleansInto
+unfolding told b.runLayout b.runBytes b.byteCount b.joinedRuns b.joinedBytes b.booleansOf b.repeatRun b.byteRun b.byteRuns b.booleans b.booleansInto
 computed = 0
 
 pub starred-holds : Holds starred

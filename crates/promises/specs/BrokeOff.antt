@@ -1,5 +1,5 @@
--- Change request 1, "say where it broke off": what it leaves alone, and that the numbers it makes of 6 are together what 6 was. Stated of the promise of
--- the run reader, for every input of bytes, position, flag and lent places.
+-- Where a field is cut (FORMAT.md, "Places and cut bytes"): what this leaves alone, and that its four numbers are together "the input ends".
+-- Stated of the promise of the run reader, for every input of bytes, position, flag and lent places.
 -- Assumes nothing.
 use mathlib.Core.Path.{_≡_}
 use mathlib.Core.Logic.{_↔_}
@@ -18,7 +18,7 @@ use Rattle.format.specs.Promises.{kindOf, widthOf, RunRead}
 use Rattle.promises.specs.Demand2.{Begins, IsRun}
 use Rattle.promises.specs.Refusals.{Headed, PatchedRun, DeltaRun, Unended, CutNumber, size, code, rows, valueBytes, magnitudeBytes, listTo}
 
--- document 01's line 6: the input ends before the run does
+-- the four together: the input ends before the run does
 pub data Ended (bs : List ℕ) : Type 0 where
   in-value : Headed 0 bs → length bs < 1 + size bs → Ended bs
   in-direct : Headed 1 bs → length bs < 2 + valueBytes bs → Ended bs

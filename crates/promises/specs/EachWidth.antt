@@ -2,7 +2,7 @@
 -- padding bits, is read back as those values, under both flags. The rows of delta and patched runs are given as sums in specs/Sums.antt.
 -- Assumes nothing.
 use mathlib.Core.Path.{_≡_}
-use Prim.Native.Nat.{ℕ, _+_, _^_, _<_, _≤_}
+use Prim.Native.Nat.{ℕ, _+_, _<_, _≤_}
 use mathlib.Core.Bool.{Bool, not}
 use mathlib.Core.List.{List, _++_, map}
 use lib.ListN.{length, drop, replicate}

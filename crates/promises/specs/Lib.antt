@@ -1,6 +1,6 @@
--- The user's demands, as statements over the definitions that the contracts cite; the theorems stand in proofs/. Documents 01 and 02 are the text that
+-- The user's demands, as statements over the definitions that the contracts cite; the theorems stand in proofs/. docs/FORMAT.md is the text that
 -- each of them is checked against.
--- document 01's lines and tables
+-- FORMAT.md's sample runs and its table of refusals
 pub mod Table
 pub mod Refusals
 -- its demands
@@ -13,7 +13,7 @@ pub mod EachWidth
 pub mod PatchLists
 pub mod Sums
 pub mod CutFile
--- the change requests of document 02
+-- what came with the changes behind the base (docs/CHANGES.md)
 pub mod BrokeOff
 pub mod Longest
 pub mod Patched

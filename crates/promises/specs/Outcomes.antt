@@ -1,4 +1,4 @@
--- "Each public promise determines the answer and every lent place, refused inputs too: show that any two outcomes allowed by it are equal."
+-- Each public promise determines the answer and every lent place, of refused inputs too: any two outcomes that it allows are equal.
 -- Assumes nothing.
 use mathlib.Core.Path.{_≡_}
 use Prim.Native.Nat.{ℕ, _<_}

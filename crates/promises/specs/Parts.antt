@@ -1,5 +1,5 @@
--- Change request 4, "tables arrive over the wire": what a whole list of parts gives, and that it is what the whole-stream reader gives of the joined bytes,
--- however they are cut. Stated of the calls as format defines them; the code's promises are equations with these calls.
+-- The reader in parts (FORMAT.md, "Reader in parts"): what a whole list of parts gives, and that it is what the whole-stream reader gives of the joined
+-- bytes, however they are cut. Stated of the calls as format defines them; the code's promises are equations with these calls.
 -- Assumes nothing.
 use mathlib.Core.Path.{_≡_}
 use mathlib.Core.Logic.{_↔_}

@@ -56,7 +56,7 @@ pub record Patched (code : ℕ) (base : List ℕ) (pc : ℕ) (k l : Block) (out�
       → getD out′ p (pos 0) ≡ asI64 ((baseValue base + (getD (k .values) p 0 + patchOf (width pc) (getD (l .values) j 0) * 2 ^ width code)) % two64)
   pub other : ((j : ℕ) → Names (width pc) (l .values) j p → ⊥) → getD out′ p (pos 0) ≡ asI64 ((baseValue base + getD (k .values) p 0) % two64)
 
-pub record Rows (code : ℕ) (base : List ℕ) (pc gw : ℕ) (k l : Block) (out out′ : List ℤ) (r : Answer) : Type 0 where
+pub record RowsPatched (code : ℕ) (base : List ℕ) (pc gw : ℕ) (k l : Block) (out out′ : List ℤ) (r : Answer) : Type 0 where
   pub fitting : TooLarge (width code) (width pc) (l .values) → ⊥
   pub in-place : OutOfPlace (width pc) (length (k .values)) (l .values) → ⊥
   pub answer : r ≡ ran PatchedBase (width code) (length (k .values)) (length (layout (patched code base pc gw k l)))
@@ -84,4 +84,4 @@ pub record PatchLists : Type 0 where
       → length (l .values) < 32 → IsBlock (entryWidth pc gw) (length (l .values)) l
       → (input : List ℕ) (at : ℕ) (signed : Bool) (out out′ : List ℤ) (r : Answer) → RunRead input at signed out out′ r
       → (rest : List ℕ) → drop at input ≡ layout (patched code base pc gw k l) ++ rest → length (k .values) ≤ length out
-      → Refused3 code pc l at out out′ r ⊎ (Refused7 code pc k l at out out′ r ⊎ Rows code base pc gw k l out out′ r)
+      → Refused3 code pc l at out out′ r ⊎ (Refused7 code pc k l at out out′ r ⊎ RowsPatched code base pc gw k l out out′ r)

@@ -1,4 +1,4 @@
--- Writing patched runs (document 02, item 9): what is shown of it. "These rows" are 64-bit patterns, under either flag.
+-- Writing patched runs (FORMAT.md, "Patched writer"): what is shown of it. "These rows" are 64-bit patterns, under either flag.
 -- Assumes nothing.
 use mathlib.Core.Path.{_≡_}
 use mathlib.Core.Logic.{_↔_, _⊎_}
@@ -42,7 +42,7 @@ pub record NoBetter (d e : Parts) : Type 0 where
   pub gap-width : length (e .base) ≡ length (d .base) → width (e .pc) ≡ width (d .pc) → d .gw ≤ e .gw
   pub entries : length (e .base) ≡ length (d .base) → width (e .pc) ≡ width (d .pc) → e .gw ≡ d .gw → length (d .list .values) ≤ length (e .list .values)
 
--- THE RUN THAT ITEM 9 ASKS FOR: it describes the rows, rows without a patch have no entry, a base of 0 has no sign bit, the padding is zero, and each
+-- THE RUN THAT THE RULES ASK FOR: it describes the rows, rows without a patch have no entry, a base of 0 has no sign bit, the padding is zero, and each
 -- choice is the least that works
 pub record Chosen (signed : Bool) (base w : ℕ) (rs : List ℕ) (d : Parts) : Type 0 where
   pub describes : Describes signed base w rs d
@@ -57,7 +57,7 @@ pub record PatchedMeaning (signed : Bool) (base w : ℕ) (rs : List ℕ) : Type 
   pub exactly-valid : T (headerHolds (parts base w rs)) ↔ Valid (run (parts base w rs))
   -- .. which is exactly where the rows have any description with that base and W and gaps within the gap width ..
   pub exactly-some : T (headerHolds (parts base w rs)) ↔ ((d : Parts) × Describes signed base w rs d)
-  -- .. and it is then the one that item 9 asks for
+  -- .. and it is then the one that the rules ask for
   pub chosen : T (headerHolds (parts base w rs)) → Chosen signed base w rs (parts base w rs)
   pub only : (d : Parts) → Chosen signed base w rs d → d ≡ parts base w rs
   -- its entries that are no skips are the patches of the rows that have one

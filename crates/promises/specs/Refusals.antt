@@ -1,4 +1,4 @@
--- The table of numbers of documents 01 and 02 that the run reader gives: "given exactly when". Each line is said of the bytes, in the table's words,
+-- The table of numbers (FORMAT.md, "Refusals") that the run reader gives: "given exactly when". Each line is said of the bytes, in the table's words,
 -- with what the reading order adds: 1, 2, 4; then 5 and the numbers of a cut field (6, 12, 13, 14) in byte order; then 3; then 7; then 8. No other
 -- number is given, and a byte exactly with those of a cut field.
 -- Assumes nothing.

@@ -1,5 +1,5 @@
 -- Demand 2, the writer: its runs read back as the rows given, rows written again in the same form give the same bytes, and each of its refusals is
--- given exactly when its line of document 01's table holds. Stated of the promises of the writer and of the run reader.
+-- given exactly when its line of the table (FORMAT.md, "Refusals") holds. Stated of the promises of the writer and of the run reader.
 -- Assumes nothing.
 use mathlib.Core.Path.{_≡_}
 use Prim.Native.Nat.{ℕ, _<_, _≤_}

@@ -1,7 +1,6 @@
--- The starred runs of document 01 ("Runs on each side of the line") as one table; beside it the lines that they leave open, and the public
+-- The starred runs (FORMAT.md, "Sample runs") as one table; beside it the lines that they leave open, and the public
 -- specification's own examples. Each line is stated by the reader's promise: this answer, and these places at exit, are what it allows.
 -- Assumes nothing.
-use mathlib.Core.Path.{_≡_}
 use Prim.Native.Nat.{ℕ, _-_}
 use mathlib.Core.Bool.{Bool, true, false}
 use mathlib.Core.List.{List, [], _∷_, _++_}
@@ -98,7 +97,7 @@ starred =
 
 abbrev pub others : List Line
 others =
-    -- the other lines of document 01: the widest step, one row, a refusal before the missing body
+    -- the other lines of FORMAT.md's samples: the widest step, one row, a refusal before the missing body
     signed (0xC0 ∷ 0x01 ∷ 0xFE ∷ 0xFF ∷ 0xFF ∷ 0xFF ∷ 0xFF ∷ 0xFF ∷ 0xFF ∷ 0xFF ∷ 0xFF ∷ 0x01 ∷ 0x02 ∷ []) (run Delta 0 (pos 9223372036854775807 ∷ minus 9223372036854775808 ∷ []) 13)
     ++ unsigned (0xC0 ∷ 0x00 ∷ 0x07 ∷ 0x00 ∷ []) (run Delta 0 (pos 7 ∷ []) 4)
     ++ either (0x86 ∷ 0x03 ∷ 0x1F ∷ 0x21 ∷ []) (refusal 2)

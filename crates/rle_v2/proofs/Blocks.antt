@@ -40,5 +40,3 @@ pub entry-width : (bits : ℕ) → Width (Fields.leastWidth bits)
 entry-width bits = for-unpack (least-is bits)
 
 -- a block of a run is small
-pub size-small : (n w : ℕ) → n ≤ 512 → w ≤ 64 → bytesFor (n * w) ≤ 4096
-size-small n w h l = omega (arith, mul-le-mul {n₂ = 512} {m₂ = 64} h l)

@@ -1,4 +1,5 @@
-pub mod PatchList
+pub mod PatchRefusals
+pub mod PatchRows
 pub mod Pass
 pub mod Blocks
 pub mod DeltaStart
@@ -10,4 +11,6 @@ pub mod DeltaRun
 pub mod PatchedRun
 pub mod PatchedFound
 pub mod ByKind
+pub mod OneRun
 pub mod StreamWalk
+pub mod StreamPlaces

@@ -16,7 +16,8 @@ use Rattle.format.specs.Runs.{isSkip, gapOf, patchOf, patches, patchLimit, tooL
 use Rattle.util.specs.Packed.{fields, fieldAt}
 use Rattle.util.proofs.Window.{field-at, length-fields}
 use Rattle.rle_v2.specs.PatchList.{IsEntry, misplaced, large, listNumber, patchedRow, patchAll}
-use Rattle.rle_v2.proofs.PatchList.{misplaced-is, large-is, skip-gap, or-false}
+use Rattle.rle_v2.proofs.PatchRefusals.{misplaced-is, large-is, skip-gap}
+use Rattle.rle_v2.proofs.PatchRows.{or-false}
 
 -- entry k, and those after it
 pub entry-next : (w n k : ℕ) (s : List ℕ) → AllBelow 256 s → k < n → bytesFor (n * w) ≤ length s

@@ -1,29 +1,38 @@
--- What was found of a patched base run, before its list is tested: it is refused, or it is all there. Assumes nothing.
+-- What was found of a patched base run: it is refused, or it is all there; where its list stands, and what the run gives once its list has passed. Assumes nothing.
 use mathlib.Core.Path.{_≡_, _∙_}
 use mathlib.Core.Logic.{_≢_}
-use Prim.Native.Nat.{ℕ, _+_, _-_, _≤_}
+use Prim.Native.Nat.{ℕ, _+_, _-_, _*_, _<_, _≤_}
 use native.Mathlib.Omega.{arith}
 use mathlib.Core.Bool.{Bool, true, false}
-use mathlib.Core.List.{List}
-use lib.ListN.{length, drop}
+use mathlib.Core.List.{List, _++_, map}
+use lib.ListN.{length, take, drop, length-drop}
 use lib.Dec.{ltb, eqb}
 use lib.IntN.{ℤ}
 use borrow.Author.Tests.{ne-eqb}
-use Rattle.format.specs.Fields.{pick, width}
+use Rattle.format.specs.Fields.{pick, width, bytesFor}
 use Rattle.format.specs.Runs.{Description, entryWidth}
+use Rattle.format.specs.Rows.{asI64, baseValue}
 use Rattle.format.specs.Parse.{Parsed}
 use Rattle.format.specs.Promises.{answerOf, Gives}
 use Rattle.format.specs.declared.Answer.the-variants as answer
-use Rattle.format.specs.Answers.{refusing, cutting, refusedAt, cutAt}
+use Rattle.format.specs.Answers.{ran, refusing, cutting, refusedAt, cutAt}
+use Rattle.format.specs.declared.Kind.the-variants.{PatchedBase}
+use Rattle.format.proofs.Widths.{width-pos}
 use Rattle.format.proofs.Rows.{width-le}
 use Rattle.format.proofs.Reading.{blockAt, gives-none}
-use Rattle.rle_v2.specs.PatchList.{Listed, listNumber}
+use Rattle.rle_v2.specs.Pass.{based}
+use Rattle.util.specs.Packed.{fields}
+use Rattle.rle_v2.specs.PatchList.{Listed, listNumber, patchAll}
 use Rattle.rle_v2.specs.declared.patched_base.Found.{Found}
 use Rattle.rle_v2.specs.declared.patched_base.Header.{Header}
-use Rattle.rle_v2.specs.PatchedHead.{valueBytes, listBytes, cutBody, Passed, goneBy, refusedBy, IsFound, Heads, headOf, widthsOf, partsOf, numberOf, Ready}
-use Rattle.rle_v2.proofs.Blocks.{code-width}
-use Rattle.rle_v2.proofs.PatchList.{none-refused}
-use Rattle.rle_v2.proofs.PatchedRun.{refused-list, listed-is, values-there}
+use Rattle.rle_v2.specs.declared.patched_base.Widths.{Widths}
+use Rattle.rle_v2.specs.declared.patched_base.Parts.{Parts}
+use Rattle.rle_v2.specs.PatchedHead.{InRange, IsWidths, valueBytes, listBytes, IsParts, cutBody, Passed, goneBy, refusedBy, IsFound, Heads, headOf, widthsOf, partsOf, numberOf, Ready}
+use Rattle.rle_v2.proofs.Blocks.{code-width, entry-width}
+use Rattle.rle_v2.proofs.PatchRefusals.{none-refused}
+use Rattle.rle_v2.proofs.PatchedRun.{entries, refused-list, run-is, refused-8, read-is}
+
+-- ---- a run that is refused
 
 module _ (s : List ℕ) (at : ℕ) (m : Parsed Description) where
   -- a run that is refused, in its header, by its widths or where the input ends
@@ -52,6 +61,56 @@ module _ (s : List ℕ) (at : ℕ) (m : Parsed Description) where
           → Gives at (length s - at) signed m out out (pick t (refusedAt (f .number) at) (cutAt (f .number) at (f .field)))
       by true e = gives-none at (length s - at) signed m out _ tt e
       by false e = gives-none at (length s - at) signed m out _ tt e
+
+-- ---- a run whose tests have passed
+
+-- the list stands where its walks look for it
+pub listed-is : (s : List ℕ) (at : ℕ) (h : Header) (w : Widths) (q : Parts) → InRange h → IsWidths h w → w .patch + h .gap ≤ 64 → IsParts at h q → q .end ≤ length s
+    → Listed (w .entry) (w .patch) (h .entries) (drop (q .list) s)
+listed-is s at h w q i e f a l =
+    let n : bytesFor (h .entries * w .entry) ≡ listBytes h = rw (e .entry-is) in
+    record {
+      wide = rw (e .entry-is) (entry-width _);
+      some = rw (e .patch-is) (width-pos _);
+      few = omega (arith, i .some-gap);
+      entries = i .entries;
+      there = rw length-drop (omega (arith, a .list-is, a .end-is));
+    }
+
+module _ (s : List ℕ) (at : ℕ) (m : Parsed Description) (h : Header) (w : Widths) (q : Parts) (p : Passed s at m h w q) where
+  pub all-in : at + 4 + h .base + valueBytes h + listBytes h ≤ length s
+  all-in = rw (p .headed .parts .end-is) at (p .headed .there)
+
+  pub values-there : bytesFor (h .rows * w .bits) ≤ length s - q .values
+  values-there = rw (p .headed .widths .bits-is, p .headed .parts .values-is) (omega (arith, all-in))
+
+  pub list-there : Listed (w .entry) (w .patch) (h .entries) (drop (q .list) s)
+  list-there = listed-is s at h w q (p .headed .fields-fit) (p .headed .widths) (p .headed .not-2) (p .headed .parts) (p .headed .there)
+
+  fits : width (h .patch) + h .gap ≤ 64
+  fits = rw (p .headed .widths .patch-is) at (p .headed .not-2)
+
+  none : listNumber (width (h .code)) (width (h .patch)) (h .rows) (blockAt s (at + 4 + h .base + valueBytes h) (entryWidth (h .patch) (h .gap)) (h .entries) .values) ≡ 0
+  none = rw (p .headed .parts .list-is, p .headed .widths .entry-is, p .headed .widths .patch-is, p .headed .widths .bits-is) at (p .list)
+
+  pub passed-answer : ran PatchedBase (w .bits) (h .rows) (q .end - at) ≡ answerOf at (length s - at) m
+  passed-answer =
+      rw (p .headed .body, p .headed .widths .bits-is, p .headed .parts .end-is)
+      (run-is s at (h .code) (h .rows) (h .base) (h .patch) (h .gap) (h .entries) fits all-in none)
+
+  module _ (signed : Bool) (out : List ℤ) where
+    pub passed-8 : length out < h .rows → Gives at (length s - at) signed m out out (refusedAt 8 at)
+    passed-8 l = rw (p .headed .body) (refused-8 s at (h .code) (h .rows) (h .base) (h .patch) (h .gap) (h .entries) fits all-in none signed out l)
+
+    pub passed-read : (one out′ : List ℤ) → h .rows ≤ length out
+        → one ≡ based (baseValue (take (h .base) (drop (at + 4) s))) (map asI64 (fields (w .bits) (h .rows) (drop (q .values) s))) ++ drop (h .rows) out
+        → out′ ≡ patchAll (w .bits) (w .patch) 0 one (fields (w .entry) (h .entries) (drop (q .list) s))
+        → Gives at (length s - at) signed m out out′ (ran PatchedBase (w .bits) (h .rows) (q .end - at))
+    passed-read one out′ l e f =
+        rw (p .headed .body, p .headed .widths .bits-is, p .headed .parts .end-is)
+        (read-is s at (h .code) (h .rows) (h .base) (h .patch) (h .gap) (h .entries) fits all-in none signed out one out′ l
+        (rw (p .headed .parts .values-is, p .headed .widths .bits-is) at e)
+        (rw (p .headed .parts .list-is, p .headed .widths .entry-is, p .headed .widths .patch-is, p .headed .widths .bits-is) at f))
 
 -- ---- what was found, by the list's number
 

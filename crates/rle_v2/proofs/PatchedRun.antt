@@ -19,18 +19,14 @@ use Rattle.format.specs.declared.Answer.the-variants as answer
 use Rattle.format.specs.Answers.{ran, refusedAt}
 use Rattle.format.specs.declared.Kind.the-variants.{PatchedBase}
 use Rattle.format.proofs.Rows.{width-le, bytes-count}
-use Rattle.format.proofs.Widths.{width-pos}
 use Rattle.format.proofs.Reading.{byte-here, bytes-here, bytes-cut, blockAt, block-here, block-cut, answer-refused, answer-cut, answer-run, gives-8, gives-run}
 use Rattle.rle_v2.specs.Pass.{based}
-use Rattle.util.specs.Packed.{fields}
-use Rattle.rle_v2.specs.PatchList.{Listed, listNumber, patchAll}
-use Rattle.rle_v2.specs.declared.patched_base.Header.{Header}
-use Rattle.rle_v2.specs.declared.patched_base.Widths.{Widths}
-use Rattle.rle_v2.specs.declared.patched_base.Parts.{Parts}
-use Rattle.rle_v2.specs.PatchedHead.{InRange, IsWidths, valueBytes, listBytes, IsParts, cutBody, Passed}
+use Rattle.rle_v2.specs.PatchList.{listNumber, patchAll}
+use Rattle.rle_v2.specs.PatchedHead.{cutBody}
 use Rattle.rle_v2.proofs.Pass.{based-is}
-use Rattle.rle_v2.proofs.PatchList.{none-refused, patched-is}
-use Rattle.rle_v2.proofs.Blocks.{block-count, block-patterns, entry-width}
+use Rattle.rle_v2.proofs.PatchRefusals.{none-refused}
+use Rattle.rle_v2.proofs.PatchRows.{patched-is}
+use Rattle.rle_v2.proofs.Blocks.{block-count, block-patterns}
 
 module _ (s : List ℕ) (at : ℕ) where
   -- ---- the header
@@ -103,7 +99,7 @@ module _ (s : List ℕ) (at : ℕ) where
               )))
 
       module _ (h : at + 4 + bw + size + listSize ≤ length s) where
-        abbrev entries : List ℕ
+        abbrev pub entries : List ℕ
         entries = blockAt s (at + 4 + bw + size) (entryWidth pc gw) len .values
 
         abbrev number : ℕ
@@ -163,53 +159,3 @@ module _ (s : List ℕ) (at : ℕ) where
                 = e ∙ ap (λ (x : List ℤ). x ++ drop rows out) (based-is base (width code) 0 vs (block-patterns s (at + 4 + bw) (width code) rows (width-le code))) in
                 gives-run at (length s - at) signed body out _ _ is-run out′ _ run-is (rw n r)
                 (f ∙ rw (b, n) (patched-is (width code) (width pc) base vs entries (drop rows out) (rw n (none-refused (width code) (width pc) rows entries z .1))))
-
--- ---- what the tests found
-
--- the list stands where its walks look for it
-pub listed-is : (s : List ℕ) (at : ℕ) (h : Header) (w : Widths) (q : Parts) → InRange h → IsWidths h w → w .patch + h .gap ≤ 64 → IsParts at h q → q .end ≤ length s
-    → Listed (w .entry) (w .patch) (h .entries) (drop (q .list) s)
-listed-is s at h w q i e f a l =
-    let n : bytesFor (h .entries * w .entry) ≡ listBytes h = rw (e .entry-is) in
-    record {
-      wide = rw (e .entry-is) (entry-width _);
-      some = rw (e .patch-is) (width-pos _);
-      few = omega (arith, i .some-gap);
-      entries = i .entries;
-      there = rw length-drop (omega (arith, a .list-is, a .end-is));
-    }
-
-module _ (s : List ℕ) (at : ℕ) (m : Parsed Description) (h : Header) (w : Widths) (q : Parts) (p : Passed s at m h w q) where
-  pub all-in : at + 4 + h .base + valueBytes h + listBytes h ≤ length s
-  all-in = rw (p .headed .parts .end-is) at (p .headed .there)
-
-  pub values-there : bytesFor (h .rows * w .bits) ≤ length s - q .values
-  values-there = rw (p .headed .widths .bits-is, p .headed .parts .values-is) (omega (arith, all-in))
-
-  pub list-there : Listed (w .entry) (w .patch) (h .entries) (drop (q .list) s)
-  list-there = listed-is s at h w q (p .headed .fields-fit) (p .headed .widths) (p .headed .not-2) (p .headed .parts) (p .headed .there)
-
-  fits : width (h .patch) + h .gap ≤ 64
-  fits = rw (p .headed .widths .patch-is) at (p .headed .not-2)
-
-  none : listNumber (width (h .code)) (width (h .patch)) (h .rows) (blockAt s (at + 4 + h .base + valueBytes h) (entryWidth (h .patch) (h .gap)) (h .entries) .values) ≡ 0
-  none = rw (p .headed .parts .list-is, p .headed .widths .entry-is, p .headed .widths .patch-is, p .headed .widths .bits-is) at (p .list)
-
-  pub passed-answer : ran PatchedBase (w .bits) (h .rows) (q .end - at) ≡ answerOf at (length s - at) m
-  passed-answer =
-      rw (p .headed .body, p .headed .widths .bits-is, p .headed .parts .end-is)
-      (run-is s at (h .code) (h .rows) (h .base) (h .patch) (h .gap) (h .entries) fits all-in none)
-
-  module _ (signed : Bool) (out : List ℤ) where
-    pub passed-8 : length out < h .rows → Gives at (length s - at) signed m out out (refusedAt 8 at)
-    passed-8 l = rw (p .headed .body) (refused-8 s at (h .code) (h .rows) (h .base) (h .patch) (h .gap) (h .entries) fits all-in none signed out l)
-
-    pub passed-read : (one out′ : List ℤ) → h .rows ≤ length out
-        → one ≡ based (baseValue (take (h .base) (drop (at + 4) s))) (map asI64 (fields (w .bits) (h .rows) (drop (q .values) s))) ++ drop (h .rows) out
-        → out′ ≡ patchAll (w .bits) (w .patch) 0 one (fields (w .entry) (h .entries) (drop (q .list) s))
-        → Gives at (length s - at) signed m out out′ (ran PatchedBase (w .bits) (h .rows) (q .end - at))
-    passed-read one out′ l e f =
-        rw (p .headed .body, p .headed .widths .bits-is, p .headed .parts .end-is)
-        (read-is s at (h .code) (h .rows) (h .base) (h .patch) (h .gap) (h .entries) fits all-in none signed out one out′ l
-        (rw (p .headed .parts .values-is, p .headed .widths .bits-is) at e)
-        (rw (p .headed .parts .list-is, p .headed .widths .entry-is, p .headed .widths .patch-is, p .headed .widths .bits-is) at f))

@@ -1,4 +1,4 @@
--- THE PROGRAM (document 01): what it writes for its input, line by line, and the same for an input that comes in blocks.
+-- THE PROGRAM (FORMAT.md, "The programs"): what it writes for its input, line by line, and the same for an input that comes in blocks.
 -- Assumes nothing.
 use mathlib.Core.Path.{_≡_}
 use Prim.Native.Nat.{ℕ, _+_, _≤_}

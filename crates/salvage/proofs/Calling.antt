@@ -16,9 +16,9 @@ use Rattle.format.specs.Streams.{totalRows}
 use Rattle.salvage.specs.Salvage
 use Rattle.salvage.specs.Salvage.{Group, groups, rising, startsRight, mended, salvaged, report, unless, salvaging}
 use Rattle.salvage.specs.Laws.{AllBytes, AllKept, counts, together, startsFrom, RightStarts, Room, SomeRows, trueGroups, AllValidGroups, renewed, CallHolds}
-use Rattle.salvage.proofs.Tests.{T-true, and-e, and-i}
 use Rattle.salvage.proofs.Grouping.{renew, some-rows, kept-together, runs-kept, renewed-together, salvaged-holds}
 use Rattle.salvage.proofs.Starting.{back}
+use Rattle.format.proofs.Tests.{T-true, and-e, and-i}
 
 module _ (signed : Bool) (fill : ℤ) (fits : SFits w64 fill) where
   counts-renewed : (gs : List Group) → counts (renewed signed fill gs) ≡ counts gs

@@ -1,6 +1,6 @@
 -- Fill runs: what the writer writes of the fill row, valid, of the fill row alone, and how many bytes they have. Assumes nothing.
 use mathlib.Core.Path.{_≡_, refl, ap, _∙_}
-use Prim.Native.Nat.{ℕ, zero, suc, _+_, _-_, _*_, _/_, _%_, _≤_}
+use Prim.Native.Nat.{ℕ, zero, suc, _+_, _*_, _/_, _%_, _≤_}
 use native.Mathlib.Nat.{le-refl}
 use native.Mathlib.Omega.{arith}
 use mathlib.Core.Bool.{Bool, true, false}
@@ -18,8 +18,10 @@ use Rattle.format.specs.Rows.{asU64, i64Rows}
 use Rattle.format.specs.Streams.{joinedRows}
 use Rattle.format.specs.Writing.{stored, minus, stepsOf, baseDelta, valuesOf, described, every, haveForm, fitWidth, AllI64}
 use Rattle.format.proofs.Patterns.{as-lt}
-use Rattle.format.proofs.Streams.{joined-append, rows-append}
-use Rattle.format.proofs.Writing.{Accepted, written, reads-back, le-between, same-every}
+use Rattle.format.proofs.Joined.{joined-append, rows-append}
+use Rattle.format.proofs.Accepted.{Accepted}
+use Rattle.format.proofs.Writing.{written, reads-back}
+use Rattle.format.proofs.Tests.{le-between, same-every}
 use Rattle.salvage.specs.Salvage.{fillRun, fillRuns}
 use Rattle.salvage.specs.Laws.{FillHolds, FillSize}
 

@@ -1,7 +1,7 @@
 -- A group kept or replaced, and all groups: what they become reads whole, with the listed rows. Assumes nothing.
 use mathlib.Core.Path.{_≡_, refl, sym, ap, _∙_}
 use mathlib.Core.Logic.{_↔_}
-use Prim.Native.Nat.{ℕ, _+_, _*_, _≤_}
+use Prim.Native.Nat.{ℕ, _*_, _≤_}
 use native.Mathlib.Omega.{arith}
 use mathlib.Core.Bool.{Bool, true, false}
 use mathlib.Core.List.{List, [], _∷_, _++_}
@@ -17,10 +17,13 @@ use Rattle.format.specs.Runs.{Description, AllValid, layout, joined}
 use Rattle.format.specs.Streams.{Reading, whole, readAll, stream, totalRows, joinedRows}
 use Rattle.format.proofs.Rows.{row-bounds, joined-count}
 use Rattle.format.proofs.Runs.{layout-pos}
-use Rattle.format.proofs.Streams.{Reads, reads-whole, reads-broken, stream-post, stream-whole, stream-is, rows-le, total-append, joined-append, rows-append}
+use Rattle.format.proofs.Streams.{Reads, reads-whole, reads-broken, stream-post, stream-whole}
+use Rattle.format.proofs.StreamRoom.{stream-is}
+use Rattle.format.proofs.Joined.{rows-le, total-append, joined-append, rows-append}
+use Rattle.format.proofs.Tests.{T-true}
 use Rattle.salvage.specs.Salvage.{Group, keptOf, kept, fillRuns, mended, salvaged}
 use Rattle.salvage.specs.Laws.{AllBytes, AllKept, counts, sum, together, groupRows, renewed, SalvagedHolds}
-use Rattle.salvage.proofs.Tests.{T-true, same-test}
+use Rattle.salvage.proofs.Tests.{same-test}
 use Rattle.salvage.proofs.Filling.{valid-append, fill-runs}
 
 -- runs without rows are no runs, and have no bytes

@@ -18,7 +18,7 @@ use Rattle.format.specs.Rows.{asU64}
 use Rattle.format.specs.Runs.{layout, joined}
 use Rattle.format.specs.Writing.{stored}
 use Rattle.format.proofs.Varints.{shortest-length}
-use Rattle.text.specs.Written.{Written}
+use Rattle.text.specs.Written.{TextWritten}
 use Rattle.text.proofs.Texts.{none-written, then-written}
 use Rattle.util.specs.Varint as Varint
 use Rattle.salvage.specs.Salvage.{Group, kept, fillRun, fillRuns, mended}
@@ -78,13 +78,13 @@ module _ (signed : Bool) (fill : ℤ) (fits : SFits w64 fill) where
 
 -- ---- written
 
-pub varint-written : {x at r : ℕ} {out out′ : List ℕ} → Varint.Written x out at out′ r → Written (shortest x) out at out′ r
+pub varint-written : {x at r : ℕ} {out out′ : List ℕ} → Varint.VarintWritten x out at out′ r → TextWritten (shortest x) out at out′ r
 varint-written w = record { next = w .next; places = w .places }
 
 -- some of the runs are written, and q of 512 rows are left, and then the remainder
 pub record Runs (first n : ℕ) (out₀ : List ℕ) (at : ℕ) (out : List ℕ) (place q : ℕ) : Type 0 where
   pub done : List ℕ
-  pub written : Written done out₀ at out place
+  pub written : TextWritten done out₀ at out place
   pub rest : done ++ runsFor first q (n % 512) ≡ filled first n
   pub same : length out ≡ length out₀
   pub fits : at + length (filled first n) ≤ length out₀
@@ -103,7 +103,7 @@ module _ {first n at : ℕ} {out₀ : List ℕ} where
   runs-full {out} {place} {q = zero} r h = absurd (omega arith)
   runs-full {out} {place} {q = suc q} r h = omega (arith, runs-room r, length-append (runOf first 512) (runsFor first q (n % 512)))
 
-  pub runs-next : {out out′ : List ℕ} {place place′ q : ℕ} → Runs first n out₀ at out place q → 0 < q → Written (runOf first 512) out place out′ place′ → length out′ ≡ length out
+  pub runs-next : {out out′ : List ℕ} {place place′ q : ℕ} → Runs first n out₀ at out place q → 0 < q → TextWritten (runOf first 512) out place out′ place′ → length out′ ≡ length out
       → Runs first n out₀ at out′ place′ (q - 1)
   unfolding runsFor
   runs-next {out} {out′} {place} {place′} {q = zero} r h w s = absurd (omega arith)
@@ -118,7 +118,7 @@ module _ {first n at : ℕ} {out₀ : List ℕ} where
       })
 
   -- no remainder, or its run
-  pub runs-done : {out : List ℕ} {place q : ℕ} → Runs first n out₀ at out place q → q ≡ 0 → n % 512 ≡ 0 → Written (filled first n) out₀ at out place
+  pub runs-done : {out : List ℕ} {place q : ℕ} → Runs first n out₀ at out place q → q ≡ 0 → n % 512 ≡ 0 → TextWritten (filled first n) out₀ at out place
   unfolding runsFor
   runs-done {out} {place} {q = zero} r z e =
       let d : r .done ≡ filled first n = sym (append-nil (r .done)) ∙ (rw (eq-eqb (n % 512) 0 e) at (r .rest)) in
@@ -130,8 +130,8 @@ module _ {first n at : ℕ} {out₀ : List ℕ} where
   runs-rest-room {out} {place} {q = zero} r z e = rw (ne-eqb (n % 512) 0 e) at (runs-room r)
   runs-rest-room {out} {place} {q = suc q} r z e = absurd (omega arith)
 
-  pub runs-rest : {out out′ : List ℕ} {place place′ q : ℕ} → Runs first n out₀ at out place q → q ≡ 0 → n % 512 ≢ 0 → Written (runOf first (n % 512)) out place out′ place′
-      → Written (filled first n) out₀ at out′ place′
+  pub runs-rest : {out out′ : List ℕ} {place place′ q : ℕ} → Runs first n out₀ at out place q → q ≡ 0 → n % 512 ≢ 0 → TextWritten (runOf first (n % 512)) out place out′ place′
+      → TextWritten (filled first n) out₀ at out′ place′
   unfolding runsFor
   runs-rest {out} {out′} {place} {place′} {q = zero} r z e w =
       let d : r .done ++ runOf first (n % 512) ≡ filled first n = rw (ne-eqb (n % 512) 0 e) at (r .rest) in

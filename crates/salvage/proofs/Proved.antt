@@ -36,9 +36,9 @@ salvage-proved signed fill fits = record {
 }
 
 -- how many bytes the new stream has
-abbrev bytesIn : Outcome → ℕ
-bytesIn (Written n) = n .stream .bytes
-bytesIn (Refused f) = 0
+abbrev bytesWritten : Outcome → ℕ
+bytesWritten (Written n) = n .stream .bytes
+bytesWritten (Refused f) = 0
 
 pub salvage-given : SalvageGiven
 salvage-given input starts ns fill signed out out′ lines lines′ r fits bytes s = record {
@@ -52,7 +52,7 @@ salvage-given input starts ns fill signed out out′ lines lines′ r fits bytes
     reads m (written new text) q o e =
         let (right, is, _, _) = call-holds signed fill fits input starts ns (length out) (length lines) .otherwise new text .0 q in
         let h = salvaged-holds signed fill fits (groups input starts ns) (of-bytes input starts ns bytes) in
-        let b : length new ≡ m = ap bytesIn e in
+        let b : length new ≡ m = ap bytesWritten e in
         let t : take m out′ ≡ new = ap (take m) o ∙ take-at new (drop (length new) out) m b in
         (h .runs, ap stream (t ∙ is) ∙ h .reads-whole, h .total ∙ ap sum (make-up input starts ns right .1))
 

@@ -9,20 +9,17 @@ use lib.ListN.{length, drop, length-append}
 use lib.Dec.{ltb, eqb}
 use lib.IntN.{ℤ}
 use borrow.Author.Tests.{ltb-false, eq-eqb, ne-eqb}
-use Rattle.text.specs.Written.{Written}
-use Rattle.text.proofs.Texts.{none-written, then-written}
+use Rattle.text.specs.Written.{TextWritten}
+use Rattle.text.proofs.Texts.{none-written, then-written, from-first}
 use Rattle.salvage.specs.declared.Outcome.{Outcome}
 use Rattle.salvage.specs.Salvage.{startsRight, salvaged, line, report, Call, refused, written, unless, salvaging, writtenOf, refusedWith, Salvaged}
 use Rattle.salvage.specs.Steps.{made, roomFor}
 use Rattle.salvage.specs.Laws.{RightStarts, Room}
-use Rattle.salvage.proofs.Tests.{T-true}
 use Rattle.salvage.proofs.Walking.{groups-end}
 use Rattle.salvage.proofs.Turning.{gs, new, text, Turn, stream-next, lines-next}
+use Rattle.format.proofs.Tests.{T-true}
 
 -- what is written from the first byte on
-from-first : {t out out′ : List ℕ} {r : ℕ} → Written t out 0 out′ r → (r ≡ length t) × (out′ ≡ t ++ drop (length t) out)
-from-first {t} w = let e : 0 + length t ≡ length t = omega arith in (rw e at (w .next), rw e at (w .places))
-
 either : (a b : Bool) → not (a || b) ≡ true → (a ≡ false) × (b ≡ false)
 either true b e = let z : _≡_ {A = ℕ} 0 1 = cc in absurd (omega arith)
 either false true e = let z : _≡_ {A = ℕ} 0 1 = cc in absurd (omega arith)
@@ -41,8 +38,8 @@ module _ (signed : Bool) (fill : ℤ) (bs starts ns : List ℕ) where
     pub bound : i ≤ length starts
     pub done : List ℕ
     pub said : List ℕ
-    pub stream-is : Written done out₀ 0 out stream
-    pub lines-are : Written said lines₀ 0 lines told
+    pub stream-is : TextWritten done out₀ 0 out stream
+    pub lines-are : TextWritten said lines₀ 0 lines told
     pub stream-left : done ++ salvaged signed fill (drop i (gs signed fill bs starts ns)) ≡ new signed fill bs starts ns
     pub lines-left : said ++ report i (drop i (gs signed fill bs starts ns)) ≡ text signed fill bs starts ns
     pub same-out : length out ≡ length out₀
@@ -99,8 +96,8 @@ module _ (signed : Bool) (fill : ℤ) (bs starts ns : List ℕ) where
           length-append (l .said) (line keep i rows),
         )
 
-    pub laid-next : {out′ lines′ : List ℕ} {stream′ told′ : ℕ} → i < length starts → Written (made keep bytes first rows) out stream out′ stream′ → length out′ ≡ length out
-        → Written (line keep i rows) lines told lines′ told′ → length lines′ ≡ length lines → Laid out₀ lines₀ out′ lines′ stream′ told′ (i + 1)
+    pub laid-next : {out′ lines′ : List ℕ} {stream′ told′ : ℕ} → i < length starts → TextWritten (made keep bytes first rows) out stream out′ stream′ → length out′ ≡ length out
+        → TextWritten (line keep i rows) lines told lines′ told′ → length lines′ ≡ length lines → Laid out₀ lines₀ out′ lines′ stream′ told′ (i + 1)
     laid-next h w s v r =
         let e : i + 1 ≡ suc i = omega arith in
         rw e (record {

@@ -7,10 +7,10 @@ use lib.ListN.{length, take, drop, length-append, take-append-drop}
 use lib.Seq.{take-append-seam, drop-append-seam, drop-drop}
 use lib.Dec.{T, ltb, eqb, eqb→eq, ltb→lt}
 use Rattle.format.specs.Digits.{AllBelow}
-use Rattle.format.proofs.Fields.{below-take, below-drop}
+use Rattle.format.proofs.Below.{below-take, below-drop}
+use Rattle.format.proofs.Tests.{and-e}
 use Rattle.salvage.specs.Salvage.{Group, groups, rising, startsRight}
 use Rattle.salvage.specs.Laws.{AllBytes, counts, together, startsFrom, RightStarts}
-use Rattle.salvage.proofs.Tests.{and-e}
 
 pub groups-none : (bs ns : List ℕ) → groups bs [] ns ≡ []
 unfolding groups

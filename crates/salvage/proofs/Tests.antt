@@ -2,24 +2,12 @@
 use mathlib.Core.Path.{_≡_, refl}
 use Prim.Native.Nat.{ℕ}
 use native.Mathlib.Omega.{arith}
-use mathlib.Core.Bool.{Bool, true, false, _&&_}
+use mathlib.Core.Bool.{Bool, true, false}
 use lib.Dec.{T}
-
-pub T-true : (b : Bool) → T b → b ≡ true
-T-true true t = refl
-T-true false t = absurd t
 
 pub true-T : (b : Bool) → b ≡ true → T b
 true-T true e = tt
 true-T false e = let z : _≡_ {A = ℕ} 0 1 = cc in absurd (omega arith)
-
-pub and-e : (a b : Bool) → T (a && b) → T a × T b
-and-e true b t = (tt, t)
-and-e false b t = absurd t
-
-pub and-i : (a b : Bool) → T a → T b → T (a && b)
-and-i true b p q = q
-and-i false b p q = p
 
 -- tests that pass for the same things are equal
 pub same-test : (a b : Bool) → (T a → T b) → (T b → T a) → a ≡ b

@@ -11,8 +11,8 @@ use lib.Dec.{T, ltb, eqb, leb, ltb→lt, leb→le}
 use borrow.Author.Tests.{ne-eqb, lt-ltb, le-ltb}
 use Rattle.salvage.specs.Salvage.{groups, rising, startsRight}
 use Rattle.salvage.specs.Steps.{stopOf, bytesOf, group}
-use Rattle.salvage.proofs.Tests.{and-e}
 use Rattle.salvage.proofs.Starting.{groups-none, groups-last, groups-cons}
+use Rattle.format.proofs.Tests.{and-e}
 
 -- ---- the starts
 

@@ -1,4 +1,4 @@
--- Salvage of a damaged stream (document 02, item 8).
+-- Salvage of a damaged stream (FORMAT.md, "Salvage").
 pub mod Salvage
 pub mod Laws
 pub mod Steps

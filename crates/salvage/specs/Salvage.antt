@@ -1,4 +1,4 @@
--- SALVAGE (document 02, item 8): the groups of a damaged stream, which of them are kept, what stands for the others, and the report.
+-- SALVAGE (FORMAT.md, "Salvage"): the groups of a damaged stream, which of them are kept, what stands for the others, and the report.
 -- Assumes nothing.
 use mathlib.Core.Path.{_≡_}
 use Prim.Native.Nat.{ℕ, suc, _-_, _/_, _%_}

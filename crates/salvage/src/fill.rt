@@ -5,7 +5,7 @@ ghost use lib.ListN.{length};
 ghost use Rattle.format.specs.Rows.{asU64};
 ghost use Rattle.format.specs.Writing as Writing;
 ghost use Rattle.salvage.specs.Steps.{runOf, filled, made};
-ghost use Rattle.text.specs.Written.{Written};
+ghost use Rattle.text.specs.Written.{TextWritten};
 use text::put;
 use text::put_word;
 use util::pattern;
@@ -38,7 +38,7 @@ fn runs_size(rows: u64, first: u64) -> usize
 // One run: the two bytes of its header (kind 3, width code 0, rows less 1), the first row, and delta 0.
 fn put_run(rows: u64, first: u64, out: &mut [u8], at: usize) -> usize
     requires { ⌜ (1 ≤ rows) × (rows ≤ 512) × (at + length (runOf first rows) ≤ length (now out)) ⌝ }
-    ensures { λ r. ⌜ Written (runOf first rows) (now (out .entry)) at (now (out .exit)) r ⌝ }
+    ensures { λ r. ⌜ TextWritten (runOf first rows) (now (out .entry)) at (now (out .exit)) r ⌝ }
 {
     let less = rows - 1;
     let mut next = put((192 + less / 256) as u8, out, at);
@@ -50,7 +50,7 @@ fn put_run(rows: u64, first: u64, out: &mut [u8], at: usize) -> usize
 // The runs of a group that is replaced.
 fn put_runs(rows: u64, first: u64, out: &mut [u8], at: usize) -> usize
     requires { ⌜ at + length (filled first rows) ≤ length (now out) ⌝ }
-    ensures { λ r. ⌜ Written (filled first rows) (now (out .entry)) at (now (out .exit)) r ⌝ }
+    ensures { λ r. ⌜ TextWritten (filled first rows) (now (out .entry)) at (now (out .exit)) r ⌝ }
 {
     let mut place = at;
     let mut runs = rows / 512;
@@ -84,7 +84,7 @@ pub(crate) fn put_group(
     at: usize,
 ) -> usize
     requires { ⌜ at + length (made keep (now bytes) first rows) ≤ length (now out) ⌝ }
-    ensures { λ r. ⌜ Written (made keep (now (bytes .entry)) first rows) (now (out .entry)) at (now (out .exit)) r ⌝ }
+    ensures { λ r. ⌜ TextWritten (made keep (now (bytes .entry)) first rows) (now (out .entry)) at (now (out .exit)) r ⌝ }
 {
     if keep {
         return put_word(bytes, out, at);

@@ -4,7 +4,7 @@ ghost use Prim.Native.Nat.{_+_, _≤_};
 ghost use lib.ListN.{length};
 ghost use Rattle.salvage.specs.Salvage as Salvage;
 ghost use Rattle.text.specs.Decimal.{decimal};
-ghost use Rattle.text.specs.Written.{Written};
+ghost use Rattle.text.specs.Written.{TextWritten};
 use text::put;
 use text::put_decimal;
 use text::put_word;
@@ -39,7 +39,7 @@ pub(crate) fn size(keep: bool, number: u64, rows: u64) -> usize
 
 fn put_verdict(keep: bool, out: &mut [u8], at: usize) -> usize
     requires { ⌜ at + length (Salvage.verdict keep) ≤ length (now out) ⌝ }
-    ensures { λ r. ⌜ Written (Salvage.verdict keep) (now (out .entry)) at (now (out .exit)) r ⌝ }
+    ensures { λ r. ⌜ TextWritten (Salvage.verdict keep) (now (out .entry)) at (now (out .exit)) r ⌝ }
 {
     if keep {
         return put_word(&KEPT, out, at);
@@ -49,7 +49,7 @@ fn put_verdict(keep: bool, out: &mut [u8], at: usize) -> usize
 
 pub(crate) fn put_line(keep: bool, number: u64, rows: u64, out: &mut [u8], at: usize) -> usize
     requires { ⌜ at + length (Salvage.line keep number rows) ≤ length (now out) ⌝ }
-    ensures { λ r. ⌜ Written (Salvage.line keep number rows) (now (out .entry)) at (now (out .exit)) r ⌝ }
+    ensures { λ r. ⌜ TextWritten (Salvage.line keep number rows) (now (out .entry)) at (now (out .exit)) r ⌝ }
 {
     let mut next = put_verdict(keep, out, at);
     next = put_decimal(number, out, next);

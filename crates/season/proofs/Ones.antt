@@ -18,7 +18,7 @@ use Rattle.format.specs.Answers.{cutting}
 use Rattle.season.specs.declared.Count.the-variants.{True, Refused}
 use Rattle.format.specs.Booleans.{ByteRun, repeat, literals, AllValidRuns, runBytes, bits, joinedBytes, booleansOf}
 use Rattle.format.proofs.Digits.{digits-snoc, digits-add, length-digits}
-use Rattle.format.proofs.Fields.{below-append}
+use Rattle.format.proofs.Below.{below-append}
 use Rattle.format.proofs.Rows.{below-replicate}
 use Rattle.format.proofs.Booleans.{needed-enough}
 use Rattle.season.specs.Ones.{trues, onesIn, countTrue}
@@ -51,7 +51,7 @@ first-bits n b h =
     ap (λ (k : ℕ). take n (digits 2 k b)) e ∙ ap (take n) (digits-add 2 n (8 - n) b) ∙ take-at _ _ n (length-digits 2 n (b / 2 ^ (8 - n)))
 
 pub ones-trues : (n : ℕ) (bs : List ℕ) → AllBelow 256 bs → trues (take n (bits bs)) ≡ onesIn n bs
-unfolding bits onesIn trues
+unfolding onesIn trues
 ones-trues n [] h = ap trues (take-nil n)
 ones-trues n (b ∷ bs) h = by (decLe 8 n) (λ m. ones-trues m bs (h .1))
   where

@@ -100,7 +100,7 @@ pub record Told (ls : List Line) : Type 0 where
 abbrev pub CodeTells : Type 0
 CodeTells = (ls : List Line) → I64 ls → Within ls → Told ls
 
--- the numbers of document 01's table, as document 02 leaves it, but for 8, which 512 places never meet
+-- the numbers that a reader of runs gives (FORMAT.md, "Refusals"), but for 8, which 512 places never meet
 pub data Listed : ℕ → Type 0 where
   from-1 : (n : ℕ) → 1 ≤ n → n ≤ 7 → Listed n
   from-12 : (n : ℕ) → 12 ≤ n → n ≤ 14 → Listed n

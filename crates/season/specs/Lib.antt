@@ -1,4 +1,4 @@
--- A season's totals (document 02, item 13): their meaning, the words of the sum, how the code holds them, the count of ones, and the laws.
+-- A season's totals (FORMAT.md, "Totals"): their meaning, the words of the sum, how the code holds them, the count of ones, and the laws.
 pub mod Totals
 pub mod Words
 pub mod Held

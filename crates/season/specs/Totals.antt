@@ -1,4 +1,4 @@
--- TOTALS (document 02, item 13) over lines of the program's input: lines, bad lines, refusals by number, runs by kind, rows, smallest and largest row, and
+-- TOTALS (FORMAT.md, "Totals") over lines of the program's input: lines, bad lines, refusals by number, runs by kind, rows, smallest and largest row, and
 -- the exact sum of all rows.
 -- Assumes nothing.
 use Prim.Native.Nat.{ℕ, _+_, _^_}
@@ -18,7 +18,7 @@ use Rattle.format.specs.Promises.{kindOf}
 use Rattle.season.specs.declared.Extreme.{Extreme}
 use Rattle.season.specs.declared.Extreme.the-variants.{None, Row}
 
--- ---- A LINE'S ANSWER (document 01, "The program"): a bad line, the end, a refusal, or a run with its rows as i64
+-- ---- A LINE'S ANSWER (FORMAT.md, "The programs"): a bad line, the end, a refusal, or a run with its rows as i64
 
 pub data Line : Type 0 where
   bad : Line

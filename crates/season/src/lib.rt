@@ -11,9 +11,11 @@ ghost use Rattle.season.specs.Totals.{run, rowsIn, lower, higher, ofTwo,
 ghost use Rattle.season.specs.Words.{wordsOf, wordsValue, sizeOf, isNegative, IsTenth, addWords};
 ghost use Rattle.season.specs.Held.{slot, lineWith, replyTo, held, counting, eachPlus, together, going, stopped, combined, takeLine};
 ghost use Rattle.season.specs.Ones.{onesIn, countTrue};
+use format::ALL_BITS;
 use format::Answer;
 use format::Kind;
 use format::Refusal;
+use format::TOP_BIT;
 
 // At most so many lines, and at most so many rows.
 pub const LIMIT: u64 = 4294967296;
@@ -88,8 +90,8 @@ impl Words {
     {
         if row < 0 {
             Words {
-                high: 18446744073709551615,
-                low: 18446744073709551615 - ((!row) as u64),
+                high: ALL_BITS,
+                low: ALL_BITS - ((!row) as u64),
             }
         } else {
             Words {
@@ -119,19 +121,19 @@ impl Words {
     pub fn is_negative(self) -> bool
         ensures { λ r. ⌜ r ≡ isNegative (wordsValue self) ⌝ }
     {
-        9223372036854775808 <= self.high
+        TOP_BIT <= self.high
     }
 
     // The size of the whole number, in two words: one below 0 has its bits turned over, and one more.
     pub fn size(self) -> Self
         ensures { λ r. ⌜ sizeOf r ≡ natAbs (wordsValue self) ⌝ }
     {
-        if self.high < 9223372036854775808 {
+        if self.high < TOP_BIT {
             return self;
         }
         let turned = Words {
-            high: 18446744073709551615 - self.high,
-            low: 18446744073709551615 - self.low,
+            high: ALL_BITS - self.high,
+            low: ALL_BITS - self.low,
         };
         turned.plus(Words { high: 0, low: 1 })
     }

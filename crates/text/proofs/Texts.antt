@@ -1,7 +1,7 @@
 -- Texts written one after the other are the joined text; the digits of a number, the characters of a row, and how many they are.
 -- Assumes nothing.
 use mathlib.Core.Path.{_≡_, refl, sym, ap, _∙_}
-use Prim.Native.Nat.{ℕ, zero, suc, _+_, _-_, _*_, _/_, _%_, _^_, _<_, _≤_}
+use Prim.Native.Nat.{ℕ, zero, suc, _+_, _-_, _/_, _%_, _^_, _<_, _≤_}
 use native.Mathlib.Omega.{arith}
 use native.Mathlib.Decide.{decLt}
 use native.Mathlib.Nat.{pow-suc}
@@ -19,17 +19,17 @@ use Rattle.format.specs.Fields.{pick, two64}
 use Rattle.format.specs.Rows.{asU64}
 use Rattle.util.proofs.Grow.{same-is, front-is, kept-by}
 use Rattle.text.specs.Decimal.{decimalIn, decimal, rowText, rowsText}
-use Rattle.text.specs.Written.{Written}
+use Rattle.text.specs.Written.{TextWritten}
 
 -- ---- written texts
 
-pub none-written : (out : List ℕ) (at : ℕ) → Written [] out at out at
+pub none-written : (out : List ℕ) (at : ℕ) → TextWritten [] out at out at
 none-written out at = record { next = omega arith; places = sym (same-is out at) }
 
-pub one-written : (out : List ℕ) (at c : ℕ) → at < length out → Written (c ∷ []) out at (set out at c) (at + 1)
+pub one-written : (out : List ℕ) (at c : ℕ) → at < length out → TextWritten (c ∷ []) out at (set out at c) (at + 1)
 one-written out at c h = record { next = refl; places = rw (set-split out at c h, append-snoc, add-one) }
 
-pub then-written : {t u out out₁ out₂ : List ℕ} {at r s : ℕ} → at ≤ length out → Written t out at out₁ r → Written u out₁ r out₂ s → Written (t ++ u) out at out₂ s
+pub then-written : {t u out out₁ out₂ : List ℕ} {at r s : ℕ} → at ≤ length out → TextWritten t out at out₁ r → TextWritten u out₁ r out₂ s → TextWritten (t ++ u) out at out₂ s
 then-written {t} {u} {out} {out₁} {out₂} {at} {r} {s} h w v =
     let k = length t in
     let n : at + length (t ++ u) ≡ at + k + length u = omega (arith, length-append t u) in
@@ -44,7 +44,7 @@ then-written {t} {u} {out} {out₁} {out₂} {at} {r} {s} h w v =
     }
 
 -- what was written stands within the bytes
-pub written-fits : {t out out′ : List ℕ} {at r : ℕ} → at ≤ length out → Written t out at out′ r → r ≤ length out′
+pub written-fits : {t out out′ : List ℕ} {at r : ℕ} → at ≤ length out → TextWritten t out at out′ r → r ≤ length out′
 written-fits {t} {out} {out′} {at} {r} h w =
     omega (
       arith,
@@ -55,6 +55,10 @@ written-fits {t} {out} {out′} {at} {r} h w =
       length-take-le at out h,
     )
 
+-- a text that stands in the first bytes
+pub from-first : {t out out′ : List ℕ} {r : ℕ} → TextWritten t out 0 out′ r → (r ≡ length t) × (out′ ≡ t ++ drop (length t) out)
+from-first {t} w = let e : 0 + length t ≡ length t = omega arith in (rw e at (w .next), rw e at (w .places))
+
 -- ---- decimal
 
 module _ (k x : ℕ) where
@@ -64,7 +68,7 @@ module _ (k x : ℕ) where
       let e : x % 10 ≡ x = omega arith in
       rw (lt-ltb x 10 h, e)
 
-  decimal-more : 10 ≤ x → decimalIn (suc k) x ≡ decimalIn k (x / 10) ++ ((48 + x % 10) ∷ [])
+  pub decimal-more : 10 ≤ x → decimalIn (suc k) x ≡ decimalIn k (x / 10) ++ ((48 + x % 10) ∷ [])
   unfolding decimalIn
   decimal-more h = rw (le-ltb x 10 h)
 
@@ -94,7 +98,7 @@ module _ (x : ℕ) where
   pub decimal-longer : 10 ≤ x → x < two64 → length (decimal x) ≡ length (decimal (x / 10)) + 1
   decimal-longer h l = ap length (decimal-next h l) ∙ length-append (decimal (x / 10)) ((48 + x % 10) ∷ [])
 
-decimalIn-length : (k x : ℕ) → length (decimalIn k x) ≤ k
+pub decimalIn-length : (k x : ℕ) → length (decimalIn k x) ≤ k
 unfolding decimalIn
 decimalIn-length zero x = omega arith
 decimalIn-length (suc k) x = by (ltb x 10) (decimalIn-length k (x / 10))

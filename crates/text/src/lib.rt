@@ -6,13 +6,15 @@ ghost use mathlib.Core.List.{_∷_, []};
 ghost use Prim.Native.Nat.{_+_, _*_, _%_, _<_, _≤_};
 ghost use lib.ListN.{length, take};
 ghost use Rattle.text.specs.Decimal.{decimal, rowText, rowsText};
-ghost use Rattle.text.specs.Written.{Written};
+ghost use Rattle.text.specs.Written.{TextWritten};
+use format::ALL_BITS;
+use format::TOP_BIT;
 use util::pattern;
 
 // One character.
 pub fn put(c: u8, out: &mut [u8], at: usize) -> usize
     requires { ⌜ at < length (now out) ⌝ }
-    ensures { λ r. ⌜ Written (c ∷ []) (now (out .entry)) at (now (out .exit)) r ⌝ }
+    ensures { λ r. ⌜ TextWritten (c ∷ []) (now (out .entry)) at (now (out .exit)) r ⌝ }
 {
     out[at] = c;
     at + 1
@@ -21,7 +23,7 @@ pub fn put(c: u8, out: &mut [u8], at: usize) -> usize
 // A fixed word.
 pub fn put_word(word: &[u8], out: &mut [u8], at: usize) -> usize
     requires { ⌜ at + length (now word) ≤ length (now out) ⌝ }
-    ensures { λ r. ⌜ Written (now (word .entry)) (now (out .entry)) at (now (out .exit)) r ⌝ }
+    ensures { λ r. ⌜ TextWritten (now (word .entry)) (now (out .entry)) at (now (out .exit)) r ⌝ }
 {
     let mut place = at;
     let mut i = 0;
@@ -42,7 +44,7 @@ fn low_digit(x: u64) -> u8
 // A number in decimal: the digits above its lowest, and then that.
 pub fn put_decimal(x: u64, out: &mut [u8], at: usize) -> usize
     requires { ⌜ at + length (decimal x) ≤ length (now out) ⌝ }
-    ensures { λ r. ⌜ Written (decimal x) (now (out .entry)) at (now (out .exit)) r ⌝ }
+    ensures { λ r. ⌜ TextWritten (decimal x) (now (out .entry)) at (now (out .exit)) r ⌝ }
 {
     let c = low_digit(x);
     if x < 10 {
@@ -55,20 +57,20 @@ pub fn put_decimal(x: u64, out: &mut [u8], at: usize) -> usize
 // A row, a negative one as a minus sign and its magnitude.
 fn put_row(row: i64, out: &mut [u8], at: usize) -> usize
     requires { ⌜ at + length (rowText row) ≤ length (now out) ⌝ }
-    ensures { λ r. ⌜ Written (rowText row) (now (out .entry)) at (now (out .exit)) r ⌝ }
+    ensures { λ r. ⌜ TextWritten (rowText row) (now (out .entry)) at (now (out .exit)) r ⌝ }
 {
     let bits = pattern::to_u64(row);
-    if bits < 9223372036854775808 {
+    if bits < TOP_BIT {
         return put_decimal(bits, out, at);
     }
     let next = put(b'-', out, at);
-    put_decimal(18446744073709551615 - bits + 1, out, next)
+    put_decimal(ALL_BITS - bits + 1, out, next)
 }
 
 // The first n rows, with a space before each. With its space, a row takes 22 characters at most.
 pub fn put_rows(rows: &[i64], n: usize, out: &mut [u8], at: usize) -> usize
     requires { ⌜ (n ≤ length (now rows)) × (at + 22 * n ≤ length (now out)) ⌝ }
-    ensures { λ r. ⌜ Written (rowsText (take n (now (rows .entry)))) (now (out .entry)) at (now (out .exit)) r ⌝ }
+    ensures { λ r. ⌜ TextWritten (rowsText (take n (now (rows .entry)))) (now (out .entry)) at (now (out .exit)) r ⌝ }
 {
     let mut place = at;
     let mut i = 0;

@@ -1,4 +1,4 @@
--- THE PROGRAM totals (document 02, item 13): what it writes for its input, and the same for an input that comes in blocks.
+-- THE PROGRAM totals (FORMAT.md, "The programs"): what it writes for its input, and the same for an input that comes in blocks.
 -- Assumes nothing.
 use mathlib.Core.Path.{_≡_}
 use Prim.Native.Nat.{ℕ, _≤_}
@@ -18,7 +18,7 @@ use Rattle.totals_text.specs.Text.{totalsText}
 use Rattle.totals.specs.declared.taking.Next.{Next}
 use Rattle.totals.specs.declared.taking.Next.the-variants.{Begun, Ended, Stopped, Failed}
 
--- a line's answer, as the program of document 01 reads it: its bytes are none where it is bad
+-- a line's answer, as the program `runs` reads it: its bytes are none where it is bad
 abbrev pub answerTo : List ℕ → Line
 answerTo line = answered (frameOf line)
 

@@ -10,7 +10,7 @@ use lib.ListN.{length, length-append}
 use lib.Arith.{digits-lt}
 use lib.Dec.{ltb, leb→le}
 use lib.IntN.{ℤ, pos, negsuc, natAbs}
-use borrow.Author.Tests.{lt-ltb, le-ltb}
+use borrow.Author.Tests.{lt-ltb}
 use Rattle.format.specs.Fields.{pick, two64}
 use Rattle.format.specs.Digits.{number}
 use Rattle.format.proofs.Digits.{number-snoc}
@@ -19,15 +19,12 @@ use Rattle.text.specs.Decimal.{decimalIn, decimal}
 use Rattle.season.specs.declared.Words.{Words}
 use Rattle.season.specs.Words.{turned, wordsValue, isNegative, sizeOf, IsTenth}
 use Rattle.totals_text.specs.Text.{numberText, wholeText, written, SumText}
+use Rattle.text.proofs.Texts.{decimal-more, decimalIn-length}
 
 module _ (k x : ℕ) where
   low : x < 10 → decimalIn (suc k) x ≡ (48 + x) ∷ []
   unfolding decimalIn
   low h = rw (lt-ltb x 10 h)
-
-  more : 10 ≤ x → decimalIn (suc k) x ≡ decimalIn k (x / 10) ++ ((48 + x % 10) ∷ [])
-  unfolding decimalIn
-  more h = rw (le-ltb x 10 h)
 
 -- places for more digits than a number has change nothing
 enough : (k j x : ℕ) → x < 10 ^ suc k → x < suc j → decimalIn (suc k) x ≡ decimalIn (suc j) x
@@ -37,7 +34,7 @@ enough (suc k) (suc j) x h l = by (decLt x 10) (λ m. enough k j (x / 10) (omega
   where
     by : Dec (x < 10) → (x / 10 < suc j → decimalIn (suc k) (x / 10) ≡ decimalIn (suc j) (x / 10)) → decimalIn (suc (suc k)) x ≡ decimalIn (suc (suc j)) x
     by (yes m) ih = low (suc k) x m ∙ sym (low (suc j) x m)
-    by (no m) ih = more (suc k) x (omega arith) ∙ ap (λ (ds : List ℕ). ds ++ ((48 + x % 10) ∷ [])) (ih (omega arith)) ∙ sym (more (suc j) x (omega arith))
+    by (no m) ih = decimal-more (suc k) x (omega arith) ∙ ap (λ (ds : List ℕ). ds ++ ((48 + x % 10) ∷ [])) (ih (omega arith)) ∙ sym (decimal-more (suc j) x (omega arith))
 
 -- a number has fewer digits than it counts
 below-power : (n : ℕ) → n < 10 ^ suc n
@@ -54,7 +51,7 @@ pub next-digit : (x : ℕ) → 10 ≤ x → numberText x ≡ numberText (x / 10)
 unfolding numberText
 next-digit zero h = absurd (omega arith)
 next-digit (suc x) h =
-    more (suc x) (suc x) h
+    decimal-more (suc x) (suc x) h
     ∙ ap (λ (ds : List ℕ). ds ++ ((48 + suc x % 10) ∷ [])) (sym (enough (suc x / 10) x (suc x / 10) (below-power (suc x / 10)) (omega arith)))
 
 pub digits-longer : (x : ℕ) → 10 ≤ x → length (numberText x) ≡ length (numberText (x / 10)) + 1
@@ -62,18 +59,9 @@ digits-longer x h = ap length (next-digit x h) ∙ length-append (numberText (x 
 
 -- ---- two words have at most 39 digits
 
-digits-most : (k x : ℕ) → length (decimalIn k x) ≤ k
-unfolding decimalIn
-digits-most zero x = omega arith
-digits-most (suc k) x = by (ltb x 10) (digits-most k (x / 10))
-  where
-    by : (t : Bool) → length (decimalIn k (x / 10)) ≤ k → length (pick t ((48 + x) ∷ []) (decimalIn k (x / 10) ++ ((48 + x % 10) ∷ []))) ≤ suc k
-    by true l = omega arith
-    by false l = omega (arith, length-append (decimalIn k (x / 10)) ((48 + x % 10) ∷ []))
-
 within : (x : ℕ) → x < 10 ^ 39 → length (numberText x) ≤ 39
 unfolding numberText
-within x h = rw (sym (enough 38 x x h (le-refl (suc x)))) (digits-most 39 x)
+within x h = rw (sym (enough 38 x x h (le-refl (suc x)))) (decimalIn-length 39 x)
 
 below-all : (h l : ℕ) → h < two64 → l < two64 → h * two64 + l < two64 * two64
 below-all h l p q = digits-lt p q
@@ -159,7 +147,7 @@ write (suc k) x h = by (decLt x 10) (write k (x / 10) (omega (arith, pow-suc 10 
   where
     by : Dec (x < 10) → written (decimalIn (suc k) (x / 10)) ≡ x / 10 → written (decimalIn (suc (suc k)) x) ≡ x
     by (yes m) ih = write-low (suc k) x m
-    by (no m) ih = rw (more (suc k) x (omega arith)) (written-snoc (decimalIn (suc k) (x / 10)) (x % 10) ∙ rw ih (div-add-mod' x 10))
+    by (no m) ih = rw (decimal-more (suc k) x (omega arith)) (written-snoc (decimalIn (suc k) (x / 10)) (x % 10) ∙ rw ih (div-add-mod' x 10))
 
 pub sum-text : SumText
 unfolding numberText

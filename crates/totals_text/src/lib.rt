@@ -2,7 +2,7 @@
 ghost use mathlib.Core.Path.{_≡_};
 ghost use Prim.Native.Nat.{_+_, _≤_};
 ghost use lib.ListN.{length};
-ghost use Rattle.text.specs.Written.{Written};
+ghost use Rattle.text.specs.Written.{TextWritten};
 ghost use Rattle.season.specs.Words.{wordsValue, sizeOf};
 ghost use Rattle.totals_text.specs.Text.{numberText, wholeText, countLine, extremeLine, refusalLine, refusalsText, runsText, sumLine, totalsText, Shown};
 use season::Extreme;
@@ -47,7 +47,7 @@ const NONE: [u8; 5] = *b" none";
 // A number in two words: the digits above its last, and then that. What fits one word is written as such.
 fn put_size(size: Words, out: &mut [u8], at: usize) -> usize
     requires { ⌜ at + length (numberText (sizeOf size)) ≤ length (now out) ⌝ }
-    ensures { λ r. ⌜ Written (numberText (sizeOf size)) (now (out .entry)) at (now (out .exit)) r ⌝ }
+    ensures { λ r. ⌜ TextWritten (numberText (sizeOf size)) (now (out .entry)) at (now (out .exit)) r ⌝ }
 {
     if size.high == 0 {
         return put_decimal(size.low, out, at);
@@ -61,7 +61,7 @@ fn put_size(size: Words, out: &mut [u8], at: usize) -> usize
 // The whole number that two words stand for: one below 0 is a minus sign and its size.
 fn put_whole(words: Words, out: &mut [u8], at: usize) -> usize
     requires { ⌜ at + length (wholeText (wordsValue words)) ≤ length (now out) ⌝ }
-    ensures { λ r. ⌜ Written (wholeText (wordsValue words)) (now (out .entry)) at (now (out .exit)) r ⌝ }
+    ensures { λ r. ⌜ TextWritten (wholeText (wordsValue words)) (now (out .entry)) at (now (out .exit)) r ⌝ }
 {
     let size = words.size();
     if words.is_negative() {
@@ -74,7 +74,8 @@ fn put_whole(words: Words, out: &mut [u8], at: usize) -> usize
 // A word and a count, on a line.
 fn put_count(word: &[u8], count: u64, out: &mut [u8], at: usize) -> usize
     requires { ⌜ at + (length (now word) + 21) ≤ length (now out) ⌝ }
-    ensures { λ r. ⌜ Written (countLine (now (word .entry)) count) (now (out .entry)) at (now (out .exit)) r ⌝ }
+    ensures { λ r. ⌜ TextWritten (countLine (now (word .entry)) count) (now (out .entry)) at (now (out .exit)) r ⌝ }
+    ensures { λ r. ⌜ r ≤ at + (length (now (word .entry)) + 21) ⌝ }
 {
     let mut place = put_word(word, out, at);
     place = put_decimal(count, out, place);
@@ -84,7 +85,8 @@ fn put_count(word: &[u8], count: u64, out: &mut [u8], at: usize) -> usize
 // A word, and a row or none, on a line.
 fn put_extreme(word: &[u8], extreme: Extreme, out: &mut [u8], at: usize) -> usize
     requires { ⌜ at + (length (now word) + 23) ≤ length (now out) ⌝ }
-    ensures { λ r. ⌜ Written (extremeLine (now (word .entry)) extreme) (now (out .entry)) at (now (out .exit)) r ⌝ }
+    ensures { λ r. ⌜ TextWritten (extremeLine (now (word .entry)) extreme) (now (out .entry)) at (now (out .exit)) r ⌝ }
+    ensures { λ r. ⌜ r ≤ at + (length (now (word .entry)) + 23) ⌝ }
 {
     let place = put_word(word, out, at);
     match extreme {
@@ -103,7 +105,8 @@ fn put_extreme(word: &[u8], extreme: Extreme, out: &mut [u8], at: usize) -> usiz
 // A refusal's number and its count, on a line.
 fn put_refusal(number: u64, count: u64, out: &mut [u8], at: usize) -> usize
     requires { ⌜ at + 50 ≤ length (now out) ⌝ }
-    ensures { λ r. ⌜ Written (refusalLine number count) (now (out .entry)) at (now (out .exit)) r ⌝ }
+    ensures { λ r. ⌜ TextWritten (refusalLine number count) (now (out .entry)) at (now (out .exit)) r ⌝ }
+    ensures { λ r. ⌜ r ≤ at + 50 ⌝ }
 {
     let mut place = put_word(&REFUSED, out, at);
     place = put_decimal(number, out, place);
@@ -115,7 +118,8 @@ fn put_refusal(number: u64, count: u64, out: &mut [u8], at: usize) -> usize
 // The refusals by number.
 fn put_refusals(counts: [u64; 15], out: &mut [u8], at: usize) -> usize
     requires { ⌜ at + 500 ≤ length (now out) ⌝ }
-    ensures { λ r. ⌜ Written (refusalsText counts) (now (out .entry)) at (now (out .exit)) r ⌝ }
+    ensures { λ r. ⌜ TextWritten (refusalsText counts) (now (out .entry)) at (now (out .exit)) r ⌝ }
+    ensures { λ r. ⌜ r ≤ at + 500 ⌝ }
 {
     let mut place = put_refusal(1, counts[1], out, at);
     place = put_refusal(2, counts[2], out, place);
@@ -132,7 +136,7 @@ fn put_refusals(counts: [u64; 15], out: &mut [u8], at: usize) -> usize
 // The sum, on a line.
 fn put_sum(sum: Words, out: &mut [u8], at: usize) -> usize
     requires { ⌜ at + 45 ≤ length (now out) ⌝ }
-    ensures { λ r. ⌜ Written (sumLine (wordsValue sum)) (now (out .entry)) at (now (out .exit)) r ⌝ }
+    ensures { λ r. ⌜ TextWritten (sumLine (wordsValue sum)) (now (out .entry)) at (now (out .exit)) r ⌝ }
 {
     let words = Words {
         high: sum.high,
@@ -146,7 +150,8 @@ fn put_sum(sum: Words, out: &mut [u8], at: usize) -> usize
 // The runs by kind, and their rows.
 fn put_runs(runs: [u64; 6], rows: u64, out: &mut [u8], at: usize) -> usize
     requires { ⌜ at + 140 ≤ length (now out) ⌝ }
-    ensures { λ r. ⌜ Written (runsText runs rows) (now (out .entry)) at (now (out .exit)) r ⌝ }
+    ensures { λ r. ⌜ TextWritten (runsText runs rows) (now (out .entry)) at (now (out .exit)) r ⌝ }
+    ensures { λ r. ⌜ r ≤ at + 140 ⌝ }
 {
     let mut place = put_count(&SHORT, runs[0], out, at);
     place = put_count(&DIRECT, runs[1], out, place);
@@ -157,7 +162,7 @@ fn put_runs(runs: [u64; 6], rows: u64, out: &mut [u8], at: usize) -> usize
 
 fn put_totals(totals: Totals, out: &mut [u8]) -> usize
     requires { ⌜ 1024 ≤ length (now out) ⌝ }
-    ensures { λ r. ⌜ Written (totalsText totals) (now (out .entry)) 0 (now (out .exit)) r ⌝ }
+    ensures { λ r. ⌜ TextWritten (totalsText totals) (now (out .entry)) 0 (now (out .exit)) r ⌝ }
 {
     let refusals = totals.refusals;
     let runs = totals.runs;

@@ -1,26 +1,23 @@
 -- What the bytes at a place write, and that the n highest-first bytes of a number are its digits.
 -- Assumes nothing.
-use mathlib.Core.Path.{_≡_, refl, sym, ap, _∙_}
-use Prim.Native.Nat.{ℕ, suc, _+_, _-_, _*_, _/_, _%_, _^_, _<_, _≤_}
+use mathlib.Core.Path.{_≡_, ap, _∙_}
+use Prim.Native.Nat.{ℕ, _+_, _-_, _*_, _%_, _^_, _<_, _≤_}
 use native.Mathlib.Omega.{arith}
 use native.Mathlib.Numerals.{add-one}
-use native.Mathlib.Nat.{mod-eq-of-lt, lt-of-lt-of-le, pow-le-pow-right, zero-lt-suc, zero-add, one-mul}
-use mathlib.Core.List.{List, [], _∷_}
-use lib.ListN.{length, take, drop, getD, length-drop, length-take}
+use native.Mathlib.Nat.{mod-eq-of-lt, lt-of-lt-of-le, zero-add, one-mul}
+use mathlib.Core.List.{List}
+use lib.ListN.{length, take, drop, getD, length-drop}
 use lib.Seq.{getD-drop, length-take-le}
 use lib.Arith.{digits-mod}
-use lib.Pow.{pow-mono, pow-add, pow-pos}
+use lib.Pow.{pow-mono, pow-add}
 use borrow.Author.Tests.{le-leb, lt-leb}
-use Rattle.format.specs.Digits.{AllBelow, number, digits}
-use Rattle.format.specs.Fields.{pick, two64, negative}
+use Rattle.format.specs.Digits.{number}
+use Rattle.format.specs.Fields.{negative}
 use Rattle.format.specs.Rows.{baseValue}
-use Rattle.format.proofs.Digits.{number-lt, number-take-suc, pow-pow}
-use Rattle.format.proofs.Fields.{below-all, below-take, below-drop}
+use Rattle.format.proofs.Digits.{number-lt, number-take-suc, pow-256}
+use Rattle.format.proofs.Below.{below-all, below-take, below-drop}
 
 -- a power of 256 as one of 2
-pub pow-256 : (k : ℕ) → 256 ^ k ≡ 2 ^ (8 * k)
-pow-256 k = pow-pow 2 8 k ∙ ap (λ (n : ℕ). 2 ^ n) (omega arith)
-
 part-length : (s : List ℕ) (at i : ℕ) → at + i ≤ length s → length (take i (drop at s)) ≡ i
 part-length s at i h = length-take-le i (drop at s) (rw length-drop (omega arith))
 

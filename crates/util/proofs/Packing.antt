@@ -10,8 +10,7 @@ use lib.ListN.{length, getD, take, drop, take-append-drop}
 use lib.Pow.{pow-pos, pow-add, shr-shr, shl-shr, shl-lt, shr-lt, shl-exact, field, split, high, low, mod-pow-add}
 use Rattle.format.specs.Digits.{number, digits}
 use Rattle.format.specs.Fields.{bytesFor, padBits, blockBytes}
-use Rattle.format.proofs.Digits.{number-take-suc, digits-add, digits-high, length-digits}
-use Rattle.util.proofs.BigEndian.{pow-256}
+use Rattle.format.proofs.Digits.{number-take-suc, digits-add, digits-high, length-digits, pow-256}
 use Rattle.util.proofs.Grow.{front-is, kept-by, long-by}
 
 -- ---- words of 64 bits

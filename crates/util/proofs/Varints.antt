@@ -15,7 +15,9 @@ use borrow.Author.Tests.{lt-ltb, le-ltb, lt-leb, le-leb}
 use Rattle.format.specs.Digits.{AllBelow}
 use Rattle.format.specs.Fields.{pick, lastBelow, Varint, varintValue}
 use Rattle.format.specs.Parse.{Reason, Parsed, end, got, refused, plain, cut, cutIn, then, unless, varint}
-use Rattle.format.proofs.Fields.{Post, at-got, at-refused, Took, varint-sound, below-all, below-drop}
+use Rattle.format.proofs.Posts.{Post, at-got, at-refused, Took}
+use Rattle.format.proofs.Fields.{varint-sound}
+use Rattle.format.proofs.Below.{below-all, below-drop}
 use Rattle.format.proofs.Varints.{varint-length, varint-lt}
 use Rattle.util.specs.declared.varint.Varint as Answer
 use Rattle.util.specs.declared.varint.Varint.the-variants.{Value, Cut, TooLong}

@@ -1,6 +1,6 @@
 -- What reading packed fields rests on: bits are those of any window of bytes that holds them, and field k of a block is bits k·w to k·w+w-1.
 -- Assumes nothing.
-use mathlib.Core.Path.{_≡_, refl, sym, ap, _∙_}
+use mathlib.Core.Path.{_≡_, sym, ap, _∙_}
 use Prim.Native.Nat.{ℕ, suc, _+_, _-_, _*_, _/_, _%_, _^_, _≤_, _<_}
 use native.Mathlib.Nat.{le-refl, lt-of-not-le, mul-le-mul-right, zero-lt-suc, pow-zero, div-one, mod-eq-of-lt, div-lt-iff-lt-mul}
 use native.Mathlib.Decide.{decLe}
@@ -14,21 +14,13 @@ use lib.Pow.{pow-add, pow-pos, shr-shr, high, ones-split, ones-lt}
 use Rattle.format.specs.Digits.{AllBelow, number, digits, spread}
 use Rattle.format.specs.Fields.{bytesFor, padBits}
 use Rattle.format.specs.Rows.{asI64}
-use Rattle.format.proofs.Digits.{spread-number, digits-add, length-digits, number-low, digits-number, getD-digits, pow-pow}
-use Rattle.format.proofs.Fields.{below-all, below-take, below-drop}
+use Rattle.format.proofs.Digits.{spread-number, digits-add, length-digits, number-low, digits-number, getD-digits, pow-pow, length-spread, spread-append}
+use Rattle.format.proofs.Below.{below-all, below-take, below-drop}
 use Rattle.format.proofs.Widths.{IsWidth}
 use Rattle.util.proofs.BigEndian.{number-bits}
 use Rattle.util.specs.Packed.{fields, bits, fieldAt, Width, Laid, lowFirst, swap}
 
 -- ---- bits
-
-spread-append : (w : ℕ) (s t : List ℕ) → spread 2 w (s ++ t) ≡ spread 2 w s ++ spread 2 w t
-spread-append w [] t = refl
-spread-append w (x ∷ s) t = rw (spread-append w s t, append-assoc)
-
-length-spread : (w : ℕ) (s : List ℕ) → length (spread 2 w s) ≡ length s * w
-length-spread w [] = omega arith
-length-spread w (x ∷ s) = rw (length-append, length-digits, length-spread w s) (omega arith)
 
 -- the bits as a quotient and a remainder
 bits-value : (p w : ℕ) (s : List ℕ) → AllBelow 256 s → p + w ≤ 8 * length s
@@ -51,7 +43,7 @@ bits-within h x r p w lo hi =
     let e : p ≡ length (spread 2 8 h) + q = rw length-spread (omega arith) in
     let l : q + w ≤ length (spread 2 8 x) = rw length-spread (omega arith) in
     ap (λ (n : ℕ). number 2 (take w (drop n (spread 2 8 (h ++ (x ++ r)))))) e
-    ∙ rw (spread-append 8 h, spread-append 8 x r, drop-append-add (spread 2 8 h), drop-append-le q (spread 2 8 x) (spread 2 8 r) (omega arith), take-append-le w (drop q (spread 2 8 x)) (spread 2 8 r) (rw length-drop (omega arith)))
+    ∙ rw (spread-append 2 8 h, spread-append 2 8 x r, drop-append-add (spread 2 8 h), drop-append-le q (spread 2 8 x) (spread 2 8 r) (omega arith), take-append-le w (drop q (spread 2 8 x)) (spread 2 8 r) (rw length-drop (omega arith)))
 
 -- a window of m bytes at i that holds the bits
 pub window : (s : List ℕ) (i m p w : ℕ) → AllBelow 256 s → i + m ≤ length s → 8 * i ≤ p → p + w ≤ 8 * (i + m)
@@ -82,7 +74,7 @@ of-word s i m f h l =
 
 -- ---- fields
 
--- Document 01's words, for any width: field k of n that s begins with is bits k·w to k·w+w-1, highest bit of each byte first.
+-- FORMAT.md's words ("Packed blocks"), for any width: field k of n that s begins with is bits k·w to k·w+w-1, highest bit of each byte first.
 pub field-at : (w n k : ℕ) (s : List ℕ) → AllBelow 256 s → k < n → bytesFor (n * w) ≤ length s → getD (fields w n s) k 0 ≡ fieldAt w k s
 field-at w n k s d h l =
     let m = bytesFor (n * w) in

@@ -1,4 +1,4 @@
--- Packed fields, as they are read out of bytes (document 01, "Packed fields"). Assumes nothing.
+-- Packed fields, as they are read out of bytes (FORMAT.md, "Packed blocks"). Assumes nothing.
 use mathlib.Core.Path.{_≡_}
 use Prim.Native.Nat.{ℕ, _+_, _*_, _/_, _%_, _≤_, _<_}
 use mathlib.Core.List.{List, _++_, map}

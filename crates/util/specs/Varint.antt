@@ -21,6 +21,6 @@ unfoldable pub varintAt : List ℕ → ℕ → Varint
 varintAt s at = told at (varint (cutIn 12 (drop at s)) 10 (drop at s))
 
 -- the shortest varint of x was written at a place, and r is the place after it
-pub record Written (x : ℕ) (out : List ℕ) (at : ℕ) (out′ : List ℕ) (r : ℕ) : Type 0 where
+pub record VarintWritten (x : ℕ) (out : List ℕ) (at : ℕ) (out′ : List ℕ) (r : ℕ) : Type 0 where
   pub next : r ≡ at + length (shortest x)
   pub places : out′ ≡ take at out ++ shortest x ++ drop (at + length (shortest x)) out

@@ -8,12 +8,6 @@ ghost use Rattle.format.specs.Rows.{baseValue};
 use crate::packed;
 use crate::pattern;
 
-fn wide(b: u8) -> u64
-    ensures { λ r. ⌜ r ≡ b ⌝ }
-{
-    b as u64
-}
-
 // Byte k of x, the lowest being byte 0.
 fn byte_of(x: u64, k: usize) -> u8
     requires { ⌜ k < 8 ⌝ }
@@ -30,7 +24,7 @@ pub(crate) fn bytes(s: &[u8], at: usize, n: usize) -> u64
     let mut x: u64 = 0;
     let mut i: usize = 0;
     while i < n {
-        x = x * 256 + wide(s[at + i]);
+        x = x * 256 + packed::wide(s[at + i]);
         i += 1;
     }
     x

@@ -1,4 +1,4 @@
-// What the readers and the writer share: each module is a kind of field of document 01's layouts.
+// What the readers and the writer share: each module is a kind of field of the layouts (docs/FORMAT.md).
 pub mod big_endian;
 pub mod packed;
 pub mod pattern;

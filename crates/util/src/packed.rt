@@ -11,7 +11,8 @@ ghost use Rattle.util.specs.Packed.{fields, bits, fieldAt, Width, Room, 
 use crate::big_endian;
 use crate::pattern;
 
-fn wide(x: u8) -> u64
+// A byte as a number.
+pub(crate) fn wide(x: u8) -> u64
     ensures { λ r. ⌜ (r ≡ x) × (r < 256) ⌝ }
 {
     x as u64

@@ -3,15 +3,17 @@ ghost use mathlib.Core.Path.{_≡_};
 ghost use Prim.Native.Nat.{_+_, _-_, _%_, _^_};
 ghost use Rattle.format.specs.Fields as Fields;
 ghost use Rattle.format.specs.Rows.{asI64, asU64};
+use format::ALL_BITS;
+use format::TOP_BIT;
 
 // The i64 with the same bits. Both arms together are one move: `!` turns all bits over, and asks nothing of them.
 pub fn to_i64(bits: u64) -> i64
     ensures { λ r. ⌜ r ≡ asI64 bits ⌝ }
 {
-    if bits < 9223372036854775808 {
+    if bits < TOP_BIT {
         bits as i64
     } else {
-        !((18446744073709551615 - bits) as i64)
+        !((ALL_BITS - bits) as i64)
     }
 }
 
@@ -20,7 +22,7 @@ pub fn to_u64(x: i64) -> u64
     ensures { λ r. ⌜ r ≡ asU64 x ⌝ }
 {
     if x < 0 {
-        18446744073709551615 - ((!x) as u64)
+        ALL_BITS - ((!x) as u64)
     } else {
         x as u64
     }
@@ -44,21 +46,17 @@ pub fn sub(a: u64, b: u64) -> u64
 pub fn unzigzag(u: u64) -> u64
     ensures { λ r. ⌜ r ≡ Fields.zigzag u ⌝ }
 {
-    if u % 2 == 0 {
-        u / 2
-    } else {
-        18446744073709551615 - u / 2
-    }
+    if u % 2 == 0 { u / 2 } else { ALL_BITS - u / 2 }
 }
 
 // The one u that stands for the row b under zigzag.
 pub fn zigzag_of(b: u64) -> u64
     ensures { λ r. ⌜ r ≡ Fields.zigzagged b ⌝ }
 {
-    if b < 9223372036854775808 {
+    if b < TOP_BIT {
         2 * b
     } else {
-        2 * (18446744073709551615 - b) + 1
+        2 * (ALL_BITS - b) + 1
     }
 }
 

@@ -4,7 +4,7 @@ ghost use mathlib.Core.List.{_++_};
 ghost use Prim.Native.Nat.{_+_, _-_, _*_, _%_, _^_, _<_, _≤_};
 ghost use lib.ListN.{length, take, drop};
 ghost use Rattle.format.specs.Fields.{lastBelow, shortest};
-ghost use Rattle.util.specs.Varint.{varintAt, Written};
+ghost use Rattle.util.specs.Varint.{varintAt, VarintWritten};
 use crate::pattern;
 
 pub enum Varint {
@@ -80,7 +80,7 @@ fn low_group(x: u64) -> u8
 // The shortest varint of x, written at a place: the place after it.
 pub fn write(x: u64, out: &mut [u8], at: usize) -> usize
     requires { ⌜ at + length (shortest x) ≤ length (now out) ⌝ }
-    ensures { λ r. ⌜ Written x (now (out .entry)) at (now (out .exit)) r ⌝ }
+    ensures { λ r. ⌜ VarintWritten x (now (out .entry)) at (now (out .exit)) r ⌝ }
 {
     let mut rest = x;
     let mut place = at;

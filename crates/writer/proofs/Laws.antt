@@ -1,31 +1,23 @@
 -- The laws that the writer's loops and tests cite. Assumes nothing.
 use mathlib.Core.Path.{_≡_, refl, sym, ap, _∙_}
 use Prim.Native.Nat.{ℕ, zero, suc, _+_, _*_, _/_, _^_, _<_, _≤_}
-use native.Mathlib.Nat.{div-lt-iff-lt-mul, mul-le-mul}
+use native.Mathlib.Nat.{div-lt-iff-lt-mul}
 use native.Mathlib.Numerals.{add-one}
 use native.Mathlib.Decide.{decLt}
 use native.Mathlib.Omega.{arith}
 use mathlib.Core.Bool.{Bool, true, false, _&&_}
-use mathlib.Core.List.{List, [], _∷_, _++_, map}
+use mathlib.Core.List.{List, [], _∷_, map}
 use mathlib.Core.Logic.{_↔_}
-use lib.Dec.{leb, ltb, eqb, leb→le}
+use lib.Dec.{ltb, eqb}
 use lib.IntN.{ℤ, pos}
-use lib.ListN.{length, getD, drop, take, List·getD-map, drop-of-length-le, set, length-append}
-use lib.Seq.{slice, slice-cons, slice-empty, drop-cons, getD-drop, take-at, drop-append-add, drop-drop}
+use lib.ListN.{length, getD, drop, take, List·getD-map, drop-of-length-le}
+use lib.Seq.{slice, slice-cons, slice-empty, drop-cons, getD-drop}
 use lib.Pow.{pow-pos}
 use borrow.Author.Tests.{lt-ltb, le-ltb, eq-eqb, ne-eqb}
-use Rattle.format.specs.Fields.{width, bytesFor}
-use Rattle.format.specs.Kept.{isKept}
 use Rattle.format.specs.Rows.{asU64}
-use Rattle.format.specs.Writing.{minus, stepTo, stepsOf, baseDelta, every, between}
-use Rattle.format.proofs.Kept.{kept-code}
-use Rattle.format.proofs.Writing.{between-le, T-true}
-use Rattle.format.proofs.Widths.{and-left, and-right, IsWidth, width-is}
+use Rattle.format.specs.Writing.{minus, stepTo, stepsOf, baseDelta, every}
+use Rattle.format.proofs.Tests.{and-false}
 use Rattle.writer.specs.PatchedBase.{Largest}
-
-pub and-false : (b : Bool) → b && false ≡ false
-and-false true = refl
-and-false false = refl
 
 pub and-true : (b : Bool) → b && true ≡ b
 and-true true = refl
@@ -151,53 +143,3 @@ pub same-at : (l l₀ : List ℕ) (i : ℕ) → drop i l ≡ drop i l₀ → get
 same-at l l₀ i e =
     let z : i + 0 ≡ i = omega arith in
     rw z at (sym (getD-drop i l 0 0) ∙ ap (λ (t : List ℕ). getD t 0 0) e ∙ getD-drop i l₀ 0 0)
-
--- ---- bytes written one piece after another
-
-pub one-set : (l : List ℕ) (a : ℕ) → 1 ≤ length l → set l 0 a ≡ a ∷ drop 1 l
-one-set [] a h = absurd (omega arith)
-one-set (x ∷ l) a h = refl
-
-pub two-set : (l : List ℕ) (a b : ℕ) → 2 ≤ length l → set (set l 0 a) 1 b ≡ a ∷ b ∷ drop 2 l
-two-set [] a b h = absurd (omega arith)
-two-set (x ∷ []) a b h = absurd (omega arith)
-two-set (x ∷ y ∷ l) a b h = refl
-
--- two more bytes, behind two that stand in front
-pub four-set : (p before out : List ℕ) (c d : ℕ) → length p ≡ 2 → 4 ≤ length before → out ≡ p ++ drop 2 before → set (set out 2 c) 3 d ≡ p ++ (c ∷ d ∷ drop 4 before)
-four-set (a ∷ b ∷ []) (x ∷ y ∷ z ∷ w ∷ l) out c d n h e = rw e
-four-set (a ∷ b ∷ []) [] out c d n h e = absurd (omega arith)
-four-set (a ∷ b ∷ []) (x ∷ []) out c d n h e = absurd (omega arith)
-four-set (a ∷ b ∷ []) (x ∷ y ∷ []) out c d n h e = absurd (omega arith)
-four-set (a ∷ b ∷ []) (x ∷ y ∷ z ∷ []) out c d n h e = absurd (omega arith)
-four-set [] l out c d n h e = absurd (omega arith)
-four-set (a ∷ []) l out c d n h e = absurd (omega arith)
-four-set (a ∷ b ∷ c′ ∷ p) l out c d n h e = absurd (omega arith)
-
--- a piece of k bytes, written behind what stands in front
-pub behind : (p q before out out′ : List ℕ) (at k : ℕ) → at ≡ length p → length q ≡ k → out ≡ p ++ drop (length p) before
-    → out′ ≡ take at out ++ q ++ drop (at + k) out → out′ ≡ (p ++ q) ++ drop (length (p ++ q)) before
-behind p q before out out′ at k n l e f =
-    let front : take at out ≡ p = rw e (take-at p (drop (length p) before) at (sym n)) in
-    let back : drop (at + k) out ≡ drop (length (p ++ q)) before =
-    rw (e, n, drop-append-add p (drop (length p) before) k, drop-drop k (length p) before, length-append p q, l) in
-    f ∙ rw (front, back)
-
--- ---- the size of a block
-
-pub width-known : {bits : ℕ} (code : ℕ) → bits ≡ width code → IsWidth bits
-width-known code e = rw e (width-is code)
-
-pub block-small : (n bits : ℕ) → n ≤ 512 → bits ≤ 64 → bytesFor (n * bits) ≤ 4096
-block-small n bits a b = omega (arith, mul-le-mul {n₂ = 512} {m₂ = 64} a b)
-
--- ---- what a form allows, in numbers
-
-pub within : (low high n : ℕ) → between low high n ≡ true → (low ≤ n) × (n ≤ high)
-within low high n e = between-le low high n (rw e tt)
-
--- a packed delta's code
-pub packed-kept : (w : ℕ) → leb 1 w && isKept w ≡ true → (1 ≤ w) × (w ≤ 31) × (isKept w ≡ true)
-packed-kept w e =
-    let k : isKept w ≡ true = T-true (isKept w) (and-right (leb 1 w) (isKept w) (rw e tt)) in
-    (leb→le 1 w (and-left (leb 1 w) (isKept w) (rw e tt)), omega (arith, kept-code w k), k)

@@ -1,6 +1,10 @@
 -- What the proofs of several functions cite.
 pub mod Laws
-pub mod Forms
+pub mod Pieces
+pub mod Promised
+pub mod PackedForms
+pub mod FixedForm
+pub mod ShortForm
 pub mod PatchedLaws
 pub mod PatchedFill
 pub mod PatchedLay

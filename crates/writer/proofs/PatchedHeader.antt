@@ -20,9 +20,9 @@ use Rattle.format.specs.PatchedWriting.{differences, lows, field, codeFor, patc
 use Rattle.format.proofs.Least.{least-passes}
 use Rattle.format.proofs.Widths.{least-holds}
 use Rattle.format.proofs.PatchedWriting.{below-mods, size-low, size-is, code-width, width-56, gap-1, gap-8, gap-holds, es-below, fields-below}
+use Rattle.format.proofs.Tests.{and-false}
 use Rattle.writer.specs.declared.patched_base.Header.{Header}
 use Rattle.writer.specs.PatchedBase.{signMagnitude, headed, Headed, Laid}
-use Rattle.writer.proofs.Laws.{and-false}
 
 -- ---- a field that has no room
 

@@ -16,7 +16,7 @@ use Rattle.format.specs.Writing.{every}
 use Rattle.format.specs.PatchedWriting.{patchesAbove, Entry, field, leastFrom, allFit, codeFor, patchCode, gapWidth, magnitude, baseSize}
 use Rattle.format.proofs.Least.{the-least, least-none, least-same}
 use Rattle.format.proofs.Widths.{least-holds}
-use Rattle.format.proofs.Writing.{below-every, every-below}
+use Rattle.format.proofs.Tests.{below-every, every-below}
 use Rattle.format.proofs.PatchedWriting.{width-mono}
 use Rattle.util.specs.Width.{LeastCode}
 use Rattle.util.proofs.Widths.{bits-le}

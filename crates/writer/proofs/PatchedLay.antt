@@ -18,7 +18,7 @@ use Rattle.format.proofs.Digits.{length-digits}
 use Rattle.format.proofs.Fields.{length-block}
 use Rattle.writer.specs.declared.patched_base.Header.{Header}
 use Rattle.writer.specs.PatchedBase.{signMagnitude, headed, headBytes, Ready, Laid}
-use Rattle.writer.proofs.Laws.{behind}
+use Rattle.writer.proofs.Pieces.{behind}
 
 -- the widths that a header names, and the bytes of both blocks
 pub record Sized (h : Header) (bits entry values list : ℕ) : Type 0 where

@@ -14,6 +14,7 @@ use crate::values;
 use format::Answer;
 use format::Form;
 use format::Kind;
+use format::TOP_BIT;
 use util::packed;
 use util::pattern;
 use util::varint;
@@ -75,7 +76,7 @@ pub(crate) fn write_packed(rows: &[i64], signed: bool, code: u8, out: &mut [u8])
     let bits = width::bits_of(code);
     let step = base_delta(rows);
     let mut magnitudes = values::scratch();
-    values::steps(&rows[1..], 9223372036854775808 <= step, &mut magnitudes);
+    values::steps(&rows[1..], TOP_BIT <= step, &mut magnitudes);
     if !values::all_fit(&magnitudes, n - 2, bits) {
         return Answer::refused(11, 0);
     }

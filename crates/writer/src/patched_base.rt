@@ -12,8 +12,10 @@ ghost use Rattle.writer.specs.PatchedBase.{signMagnitude, headed, headBy
 use crate::head;
 use crate::patch_list;
 use crate::values;
+use format::ALL_BITS;
 use format::Answer;
 use format::Kind;
+use format::TOP_BIT;
 use util::big_endian;
 use util::packed;
 use util::pattern;
@@ -61,10 +63,10 @@ fn is_kept(bits: usize) -> bool
 fn magnitude(base: u64) -> u64
     ensures { λ r. ⌜ r ≡ PatchedWriting.magnitude base ⌝ }
 {
-    if base < 9223372036854775808 {
+    if base < TOP_BIT {
         base
     } else {
-        18446744073709551615 - base + 1
+        ALL_BITS - base + 1
     }
 }
 
@@ -80,7 +82,7 @@ fn sign_magnitude(base: u64, size: usize) -> u64
     requires { ⌜ (1 ≤ size) × (size ≤ 8) × (PatchedWriting.magnitude base < 2 ^ (8 * size - 1)) ⌝ }
     ensures { λ r. ⌜ r ≡ signMagnitude base size ⌝ }
 {
-    if base < 9223372036854775808 {
+    if base < TOP_BIT {
         return base;
     }
     (1 << (8 * size - 1)) + magnitude(base)

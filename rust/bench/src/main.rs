@@ -36,7 +36,7 @@ Nanoseconds a row, the least of 31 samples, the candidates taking turns; less is
   `orc_write_column`.
 - **Rust**: the decoders of WenyXu/orc-rs at 3a197fa636, unchanged, through their iterators, as a
   loader calls them. They have not written the widths 26, 28 and 30, and of booleans they agree with
-  document 01 within the first run only: so that is what is timed of them.
+  the rules within the first run only: so that is what is timed of them.
 - **Copy**: a plain copy of the same output, which no reader beats.
 
 A long buffer has 32,768 rows, in runs of 512 (short repeats: of 10). Of one short run by itself, the Rust's

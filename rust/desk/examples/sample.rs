@@ -7,7 +7,7 @@
 use std::process::ExitCode;
 use std::{env, fs};
 
-/// A run a line, from the layouts of document 01 and the examples of the ORC specification.
+/// A run a line, from the layouts of FORMAT.md and the examples of the ORC specification.
 const RUNS: [&str; 11] = [
     // Delta with one step: 32 windows of half a second, 22,050 samples each, from 0 on.
     "C0 1F 00 C4 D8 02",

@@ -156,7 +156,7 @@ pub fn of_kind(kind: usize, code: usize, rows: usize, random: &mut Random) -> Ve
     }
 }
 
-/// The same, and one that document 01 reads, where the kind, code and rows allow any.
+/// The same, and one that the rules read, where the kind, code and rows allow any.
 pub fn readable(kind: usize, code: usize, rows: usize, random: &mut Random) -> Vec<u8> {
     let reads = |run: &Vec<u8>| matches!(model::read_run(run, 0, false, 512), Answer::Run(_));
     let mut run = of_kind(kind, code, rows, random);

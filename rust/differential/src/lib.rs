@@ -1,4 +1,4 @@
-//! Compares answers: the Rust decoders' (the crate `oracle`), the documents' (the crate `model`), and
+//! Compares answers: the Rust decoders' (the crate `oracle`), the rules' (the crate `model`), and
 //! ours, through the linked library and through the probe program.
 //!
 //! The model is what the other two are held to. Ours must be equal to it: answer, counts, refusal

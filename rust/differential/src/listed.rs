@@ -1,4 +1,4 @@
-//! The rule of comparison: what the Rust may answer where the documents give an answer, and the list
+//! The rule of comparison: what the Rust may answer where the rules give an answer, and the list
 //! of differences. docs/DIFFERENCES.md has the list in words.
 use model::{Answer, Booleans, Faults};
 use oracle::{Outcome, Run};
@@ -30,7 +30,7 @@ pub enum Sort {
     End,
     /// The same rows and bytes: of a run, a stream, booleans or a byte value.
     Same,
-    /// The documents refuse with this number, and the Rust gives an error.
+    /// The rules refuse with this number, and the Rust gives an error.
     Refused(u8),
     Listed(Difference),
 }

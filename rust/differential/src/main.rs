@@ -10,7 +10,7 @@ use differential::tally::Tally;
 const USAGE: &str = "usage: differential [--quick | --full] [--model-only] [--seed N]
   --quick       bounded: under two minutes on one core (the default)
   --full        at least 50 million answers
-  --model-only  the Rust decoders against the model of the documents only: nothing of ours is run
+  --model-only  the Rust decoders against the model of the rules only: nothing of ours is run
   --seed N      another seed for what is random (default 1)
 The probe program is the one beside this program (`cargo build --release --offline -p probe`), or what
 PROBE names.

@@ -14,7 +14,7 @@ use crate::tally::{Hex, Tally};
 /// How many lines one child process is given.
 const BATCH: usize = 20_000;
 
-/// Lines for the program, each with the line that the documents answer by the model.
+/// Lines for the program, each with the line that the rules answer by the model.
 #[derive(Default)]
 pub struct Requests {
     lines: Vec<(String, String)>,
@@ -191,7 +191,7 @@ impl Probe {
                 tally.probe();
             } else {
                 let answer = answer.unwrap_or("no line");
-                tally.unlisted(&format!("probe {line}\n  the documents: {expected}\n  probe: {answer}"));
+                tally.unlisted(&format!("probe {line}\n  the rules: {expected}\n  probe: {answer}"));
             }
         }
         if let Some(line) = answers.next() {

@@ -1,4 +1,4 @@
-//! The programs: what document 01 has `runs` write, by the model, and where they are found. What `totals`
+//! The programs: what the rules have `runs` write, by the model, and where they are found. What `totals`
 //! writes is the model's report.
 use std::env;
 use std::path::PathBuf;

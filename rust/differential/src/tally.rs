@@ -59,7 +59,7 @@ impl Display for Sort {
         match self {
             Sort::End => f.pad("both end"),
             Sort::Same => f.pad("the same rows and bytes"),
-            Sort::Refused(number) => f.pad(&format!("the documents refuse with {number}, the Rust errs")),
+            Sort::Refused(number) => f.pad(&format!("the rules refuse with {number}, the Rust errs")),
             Sort::Listed(difference) => f.pad(&format!("listed: {}", difference.entry().name)),
         }
     }
@@ -110,12 +110,12 @@ impl Tally {
         self.tick();
     }
 
-    /// An answer of the linked library that is the documents'.
+    /// An answer of the linked library that is the rules'.
     pub fn ours(&mut self, answers: u64) {
         self.ours += answers;
     }
 
-    /// An answer of the probe that is the documents'.
+    /// An answer of the probe that is the rules'.
     pub fn probe(&mut self) {
         self.probe += 1;
         self.tick();
@@ -123,7 +123,7 @@ impl Tally {
 
     /// Two answers to a call that differ, and not in a listed way.
     pub fn differs(&mut self, bytes: &[u8], call: Call, paper: &str, who: &str, answer: &str) {
-        self.unlisted(&format!("{} ({call})\n  the documents: {paper}\n  {who}: {answer}", Hex(bytes)));
+        self.unlisted(&format!("{} ({call})\n  the rules: {paper}\n  {who}: {answer}", Hex(bytes)));
     }
 
     /// A difference that is not listed.
@@ -169,8 +169,7 @@ impl Tally {
                 }
             }
         }
-        for (name, answers) in
-            [("the library = the documents", self.ours), ("the probe = the documents", self.probe)]
+        for (name, answers) in [("the library = the rules", self.ours), ("the probe = the rules", self.probe)]
         {
             if answers > 0 {
                 println!("{name:<48} {answers:>12}");

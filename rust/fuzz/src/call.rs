@@ -1,7 +1,11 @@
-//! A call, and what the model of documents 01 and 02 answers it.
+//! A call, and what the model of the rules answers it.
 mod indexed;
 mod outcome;
 mod planned;
+mod questions;
+mod reading;
+mod whole;
+mod writing;
 
 use differential::frames;
 use differential::random::Random;
@@ -10,13 +14,11 @@ use differential::stages::convert;
 use differential::stages::count;
 use differential::stages::index;
 use differential::stages::labels::{self, Asked};
-use differential::stages::patched_runs::any_patched_rows;
 use differential::stages::salvage;
 use menakovitsy::exported::{
-    case, CHECK_WORDS, COLUMN_WORDS, CONVERT_WORDS, COUNT_WORDS, LABEL_WORDS, PART_WORDS, SALVAGE_WORDS,
+    CHECK_WORDS, COLUMN_WORDS, CONVERT_WORDS, COUNT_WORDS, LABEL_WORDS, PART_WORDS, SALVAGE_WORDS,
     STATE_WORDS, STREAM_WORDS, TOO_FEW_WORDS, WORDS,
 };
-use model::{Answer, Booleans, Converted, Form, Label, Ones, Refusal, Salvaged, Stream, Value, Written};
 
 use crate::parts;
 
@@ -80,9 +82,9 @@ impl Call {
                 let n = if random.once_in(8) { random.any() } else { random.below(most) as u64 };
                 Call::Value { at: frames::any_position(input.len(), random), input, n }
             }
-            12..=14 => Self::any_writing(flag, random),
+            12..=14 => writing::any(flag, random),
             15..=16 => Call::Label(labels::any(random)),
-            17..=18 => Self::any_patched(random),
+            17..=18 => writing::any_patched(random),
             19..=20 => Call::Part(parts::any(flag, random)),
             21 => Call::PartStart { state: random.pick(&[0, 6, 7, 8]) },
             22..=23 => {
@@ -90,7 +92,7 @@ impl Call {
                 Call::Count { input, n }
             }
             24..=26 => Call::Index(index::any(random)),
-            27..=28 => Self::any_salvage(flag, random),
+            27..=28 => whole::any_salvage(flag, random),
             29..=30 => Call::Convert(convert::Asked { flag, ..convert::any(random) }),
             31..=34 => planned::any(flag, random),
             _ => {
@@ -98,43 +100,6 @@ impl Call {
                 Call::Narrowest { number: random.any() >> shift }
             }
         }
-    }
-
-    fn any_writing(flag: u64, random: &mut Random) -> Self {
-        let (rows, form, width) = frames::any_rows(random);
-        let form = match form {
-            _ if random.once_in(32) => random.any(),
-            Form::ShortRepeat => 0,
-            Form::Direct => 1,
-            Form::FixedDelta => 2,
-            Form::PackedDelta => 3,
-        };
-        let width = if random.once_in(32) { random.any() >> random.below(64) } else { u64::from(width) };
-        Call::Write { rows, flag, form, width, places: random.pick(&[0, 2, 9, 40, MOST]) }
-    }
-
-    fn any_patched(random: &mut Random) -> Self {
-        let (rows, base, width) = match random.below(32) {
-            0 => (vec![7; random.pick(&[0, 513])], 5, 64),
-            _ => any_patched_rows(random),
-        };
-        let width = if random.once_in(32) { random.any() >> random.below(64) } else { width as u64 };
-        Call::Patched { rows, base, width, places: random.pick(&[0, 5, 9, 40, MOST]) }
-    }
-
-    /// Any salvage: its two columns may have unequal lengths here.
-    fn any_salvage(flag: u64, random: &mut Random) -> Self {
-        let mut asked = salvage::Asked { flag, ..salvage::any(random) };
-        if random.once_in(16) {
-            asked.counts.push(1);
-        }
-        asked.places = asked.places.min(MOST);
-        let report = match asked.answer(usize::MAX) {
-            Salvaged::Written { report, .. } => report.len(),
-            Salvaged::Refused(_) => 100,
-        };
-        let report = random.pick(&[report, report, report, report + 9, report.saturating_sub(1), 0]);
-        Call::Salvage(asked, report)
     }
 
     /// The function's name.
@@ -237,64 +202,29 @@ impl Call {
             return Outcome { returned: TOO_FEW_WORDS, ..Outcome::default() };
         }
         match self {
-            Call::Run { input, flag, bytes } => packed(&model::read_run(input, 0, *flag != 0, bytes / 8)),
-            Call::RunAt { input, at, flag, places } => {
-                match model::read_run(input, *at as usize, *flag != 0, *places) {
-                    Answer::End => Outcome::of([0; WORDS]),
-                    Answer::Refused(refusal) => Outcome::refused(refusal),
-                    Answer::Run(run) => Outcome { rows: run.rows.clone(), ..Outcome::read(run.info()) },
-                }
-            }
+            Call::Run { input, flag, bytes } => reading::packed(input, *flag != 0, bytes / 8),
+            Call::RunAt { input, at, flag, places } => reading::run(input, *at as usize, *flag != 0, *places),
             Call::Stream { input, at, flag, places } => {
-                match model::read_stream(input, *at as usize, *flag != 0, *places) {
-                    Stream::Whole { rows, consumed, last } => Outcome::stream(None, rows, consumed, last),
-                    Stream::Refused { refusal, rows, consumed, last } => {
-                        Outcome::stream(Some(refusal), rows, consumed, last)
-                    }
-                }
+                reading::stream(input, *at as usize, *flag != 0, *places)
             }
             Call::Booleans { input, at, n, places } => {
-                let answer = model::read_booleans(input, *at as usize, *n as usize, *places);
-                match (&answer, answer.info()) {
-                    (Booleans::Given { values, .. }, Some(info)) => {
-                        let bytes = values.iter().map(|value| u8::from(*value)).collect();
-                        Outcome { bytes, ..Outcome::read(info) }
-                    }
-                    (Booleans::Refused(refusal), _) => Outcome::refused(*refusal),
-                    (Booleans::Given { .. }, None) => unreachable!("what is given is named"),
-                }
+                reading::booleans(input, *at as usize, *n as usize, *places)
             }
-            Call::Value { input, at, n } => {
-                let answer = model::read_value(input, *at as usize, *n as usize);
-                match (&answer, answer.info()) {
-                    (_, Some(info)) => Outcome::read(info),
-                    (Value::Refused(refusal), _) => Outcome::refused(*refusal),
-                    (Value::Given(_), None) => unreachable!("what is given is named"),
-                }
-            }
+            Call::Value { input, at, n } => reading::value(input, *at as usize, *n as usize),
             Call::Write { rows, flag, form, width, places } => {
-                written(rows, *flag != 0, *form, *width, *places)
+                writing::written(rows, *flag != 0, *form, *width, *places)
             }
-            Call::Patched { rows, base, width, places } => {
-                let width = usize::try_from(*width).unwrap_or(usize::MAX);
-                of_written(&model::write_patched(rows, *base, width, *places))
-            }
-            Call::Label(asked) => label(asked),
+            Call::Patched { rows, base, width, places } => writing::patched(rows, *base, *width, *places),
+            Call::Label(asked) => questions::label(asked),
             Call::Part(asked) => asked.expected(words).0,
             Call::PartStart { state } => {
                 let returned = if *state < STATE_WORDS { TOO_FEW_WORDS } else { 0 };
                 Outcome { returned, ..Outcome::default() }
             }
-            Call::Count { input, n } => counted(input, *n),
+            Call::Count { input, n } => questions::counted(input, *n),
             Call::Index(asked) => indexed::outcome(asked),
-            Call::Salvage(asked, report) => match asked.answer(*report) {
-                Salvaged::Written { report, bytes } => {
-                    let words = [case::READ, 0, 0, bytes.len() as u64, report.len() as u64];
-                    Outcome { bytes, report: report.into_bytes(), ..Outcome::done(&words) }
-                }
-                Salvaged::Refused(refusal) => Outcome::done(&[case::REFUSED, refusal.number.into(), 0, 0, 0]),
-            },
-            Call::Convert(asked) => converted(asked),
+            Call::Salvage(asked, report) => whole::salvaged(asked, *report),
+            Call::Convert(asked) => whole::converted(asked),
             Call::Column(asked) => planned::written(asked),
             Call::CheckColumn(asked, room) => planned::checked(asked, *room),
             // What it proposes has no one right value: `Session` holds it to its safety.
@@ -303,76 +233,5 @@ impl Call {
                 Outcome { returned: u64::from(model::narrowest_code(*number)), ..Outcome::default() }
             }
         }
-    }
-}
-
-/// The words of a conversion: a cut field's stand behind its own.
-fn converted(asked: &convert::Asked) -> Outcome {
-    match model::convert(&asked.input, asked.flag != 0, asked.places.min(MOST)) {
-        Converted::Written { altered, bytes } => {
-            let words = [case::READ, 0, 0, altered as u64, bytes.len() as u64, 0, 0];
-            Outcome { bytes, ..Outcome::done(&words) }
-        }
-        Converted::Refused(Refusal { number, place, cut }) => {
-            let (has, at) = (u64::from(cut.is_some()), cut.unwrap_or(0) as u64);
-            Outcome::done(&[case::REFUSED, number.into(), place as u64, 0, 0, has, at])
-        }
-    }
-}
-
-/// The words of a label: where a name begins is by its place in the block.
-fn label(asked: &Asked) -> Outcome {
-    let words = match model::label(asked.row, asked.dictionary(), &asked.fallback) {
-        Label::Name(part) => {
-            let start = part.as_ptr() as usize - asked.block.as_ptr() as usize;
-            [case::READ, 0, 0, start as u64, part.len() as u64]
-        }
-        Label::Fallback(part) => [case::FALLBACK, 0, 0, 0, part.len() as u64],
-        Label::Refused(refusal) => [case::REFUSED, refusal.number.into(), 0, 0, 0],
-    };
-    Outcome { returned: words[1], words: words.to_vec(), ..Outcome::default() }
-}
-
-/// The words of a count.
-fn counted(input: &[u8], n: u64) -> Outcome {
-    let words = match model::count_true(input, n) {
-        Ones::True(count) => [case::READ, 0, 0, count, 0, 0],
-        Ones::Refused(Refusal { number, place, cut }) => {
-            [case::REFUSED, number.into(), place as u64, 0, cut.is_some().into(), cut.unwrap_or(0) as u64]
-        }
-    };
-    Outcome { returned: words[1], words: words.to_vec(), ..Outcome::default() }
-}
-
-/// The one number of `orc_read_run`, and the rows as bytes.
-fn packed(answer: &Answer) -> Outcome {
-    match answer {
-        Answer::End => Outcome::default(),
-        Answer::Refused(refusal) => Outcome { returned: refusal.number.into(), ..Outcome::default() },
-        Answer::Run(run) => Outcome {
-            returned: 65_536 * run.consumed as u64 + run.rows.len() as u64,
-            bytes: run.rows.iter().flat_map(|row| row.to_le_bytes()).collect(),
-            ..Outcome::default()
-        },
-    }
-}
-
-/// A form that is none is refused with 10, whatever the rows; a width above 255 is none of any form's.
-fn written(rows: &[i64], signed: bool, form: u64, width: u64, places: usize) -> Outcome {
-    let form = match form {
-        0 => Form::ShortRepeat,
-        1 => Form::Direct,
-        2 => Form::FixedDelta,
-        3 => Form::PackedDelta,
-        _ => return Outcome::refused(Refusal::whole(10, 0)),
-    };
-    of_written(&model::write_run(rows, signed, form, u8::try_from(width).unwrap_or(255), places))
-}
-
-fn of_written(answer: &Written) -> Outcome {
-    match (answer, answer.info()) {
-        (Written::Run { bytes, .. }, Some(info)) => Outcome { bytes: bytes.clone(), ..Outcome::read(info) },
-        (Written::Refused(refusal), _) => Outcome::refused(*refusal),
-        (Written::Run { .. }, None) => unreachable!("what is written is named"),
     }
 }

@@ -1,5 +1,5 @@
 //! Random calls of the exported functions, as the loader links them, each held to the model of
-//! documents 01 and 02: what is returned, every word, every row and byte, and what must keep its content.
+//! the rules: what is returned, every word, every row and byte, and what must keep its content.
 //! (The planner, whose proposal has no one right value, is held to what it may touch and count.)
 //!
 //! Each slice that a call is lent stands against a page that nobody may touch ([`fence`]), so a call

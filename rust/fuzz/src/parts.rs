@@ -1,5 +1,5 @@
 //! Calls of the reader in parts: one call from any state, also from one that no start leads to, and what
-//! document 02, item 4, says that it comes to.
+//! FORMAT.md, "Reader in parts", says that it comes to.
 use differential::frames;
 use differential::random::Random;
 use menakovitsy::exported::{case, MAX_ROWS, MAX_RUN_BYTES, PART_WORDS, STATE_WORDS, TOO_FEW_WORDS};

@@ -1,6 +1,6 @@
-/* A flag column, an integer column and a cut copy of it, from C.
+/* A flag column, an integer column and a cut copy of it, from C. In a release's folder:
  *
- *     cc -std=c11 -Wall -Wextra -Werror -pedantic -I.. flags.c libloader.a -o flags
+ *     cc -std=c11 -Wall -Wextra -Werror -pedantic -I. rust/menakovitsy/examples/flags.c libmenakovitsy.a -o flags
  */
 #include <inttypes.h>
 #include <stdio.h>
@@ -18,7 +18,7 @@ int main(void)
     int64_t rows[512];
 
     if (orc_version() != ORC_VERSION) {
-        fprintf(stderr, "libloader.a is not of this header's version\n");
+        fprintf(stderr, "libmenakovitsy.a is not of this header's version\n");
         return 1;
     }
 

@@ -36,14 +36,17 @@
 //!
 //! # Building
 //!
-//! The build script proves and builds the library in its own output folder (`rt staticlib loader`).
-//! Where `MENAKOVITSY_LIB_DIR` is set, it takes `libloader.a` from that folder and runs nothing. The
-//! library is for x86-64. Programs in C link the same one: see `menakovitsy.h` beside this crate.
+//! In a release's folder the build script takes the library that stands there, `libmenakovitsy.a`. In a checkout it
+//! proves and builds it in its own output folder (`rt staticlib loader`). Where `MENAKOVITSY_LIB_DIR` is set, it
+//! takes what that folder holds, of a release or of `target/staticlib`, and runs nothing. The library is for x86-64.
+//! Programs in C link the same one, by `menakovitsy.h`.
 #![warn(missing_docs)]
 
 // Which processor the library is for, the build script finds in it.
 #[cfg(not(all(target_endian = "little", target_pointer_width = "64")))]
-compile_error!("libloader.a is for a little-endian processor with 64-bit pointers (x86-64): build for one");
+compile_error!(
+    "libmenakovitsy.a is for a little-endian processor with 64-bit pointers (x86-64): build for one"
+);
 
 mod answers;
 mod column;

@@ -38,7 +38,7 @@ impl fmt::Display for OtherVersion {
         let OtherVersion { wrapper, library } = self;
         write!(
             f,
-            "libloader.a is of version {library}, and this wrapper is for version {wrapper} (build both from \
+            "libmenakovitsy.a is of version {library}, and this wrapper is for version {wrapper} (build both from \
              one revision; where MENAKOVITSY_LIB_DIR is set, it may name an old library)"
         )
     }
@@ -55,6 +55,6 @@ mod tests {
         assert_eq!(check_version(), Ok(()));
         let other = compared(VERSION + 1).unwrap_err();
         assert_eq!((other.wrapper, other.library), (VERSION, VERSION + 1));
-        assert!(other.to_string().starts_with(&format!("libloader.a is of version {}, ", VERSION + 1)));
+        assert!(other.to_string().starts_with(&format!("libmenakovitsy.a is of version {}, ", VERSION + 1)));
     }
 }

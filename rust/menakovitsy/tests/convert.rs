@@ -1,4 +1,4 @@
-//! Document 02, item 11: the converter, by the wrapper; and the widths that writers no longer make.
+//! FORMAT.md, "Converter": the converter, by the wrapper; and the widths that writers no longer make.
 use menakovitsy::{convert, narrowest_code, write_run, ByteOffset, Column, Form, Kind, Refusal, Sign};
 
 #[path = "../../desk/examples/widths.rs"]

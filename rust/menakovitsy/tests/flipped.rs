@@ -1,6 +1,6 @@
-//! Document 02, item 14: what one flipped byte can change, by the linked library. Every byte of the packed
+//! FORMAT.md, "One flipped byte": what it can change, by the linked library. Every byte of the packed
 //! block of sample runs is replaced by every other, at every width; which rows it may change is told by
-//! document 01's "field k of width w is bits k·w to k·w+w-1".
+//! "Packed blocks": field k of width w is bits k·w to k·w+w-1.
 use menakovitsy::{read_run, ByteOffset, Sign, MAX_ROWS};
 
 const WIDTHS: [usize; 32] = [

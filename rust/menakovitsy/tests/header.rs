@@ -124,7 +124,7 @@ fn compiled(source: &Path, language: &[&str]) -> PathBuf {
         .arg(here)
         .arg(source)
         .args(["-x", "none"])
-        .arg(Path::new(env!("MENAKOVITSY_LINKED")).join("libloader.a"))
+        .arg(Path::new(env!("MENAKOVITSY_LINKED")).join("libmenakovitsy.a"))
         .arg("-o")
         .arg(&program)
         .output()

@@ -1,4 +1,4 @@
-//! Document 02, items 6 and 14: the index beside a column, by the wrapper. Lines written out by hand.
+//! FORMAT.md, "Index": the index beside a column, by the wrapper. Lines written out by hand.
 use menakovitsy::{ByteOffset, Index, Refusal, Refused, RowNumber, Sign};
 
 /// Five rows 300, then 1, 2, 3, then 10, 12, 14, 16, 18.

@@ -1,4 +1,4 @@
-//! Document 02, item 12: what a row is called, by the wrapper. Lines written out by hand.
+//! FORMAT.md, "Labels": what a row is called, by the wrapper. Lines written out by hand.
 use menakovitsy::{label, Dictionary, Label, Refusal, RowNumber};
 
 /// The names "drums", "", "bass" and "vox"; four rows of seven have one.

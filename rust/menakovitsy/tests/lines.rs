@@ -1,4 +1,4 @@
-//! Document 01's lines through the linked library, and what the wrapper adds.
+//! FORMAT.md's sample runs through the linked library, and what the wrapper adds.
 use menakovitsy::*;
 
 const START: ByteOffset = ByteOffset(0);
@@ -74,7 +74,7 @@ fn lines_of_document_01() {
     refused("86031F21", Refusal::EntryOver64, None);
 }
 
-/// Document 02, item 1: which field is cut, and where it begins.
+/// FORMAT.md, "Places and cut bytes": which field is cut, and where it begins.
 #[test]
 fn cut_fields() {
     use Refusal::*;
@@ -110,8 +110,8 @@ fn cut_fields() {
     );
 }
 
-/// Document 02, item 2: two values of 30 bits, 1 and 2, over a base of 10, with a patch field of 40
-/// bits and gaps of 1; then one value of 64 bits.
+/// FORMAT.md, "Patch lists": two values of 30 bits, 1 and 2, over a base of 10, with a patch field of
+/// 40 bits and gaps of 1; then one value of 64 bits.
 #[test]
 fn patches_that_fit() {
     let run = |entries: &[&str]| format!("B4011C{:02X}0A0000000400000020{}", entries.len(), entries.concat());
@@ -135,7 +135,7 @@ fn patches_that_fit() {
     rows("BE001E00000000000000000007", Sign::Unsigned, Kind::PatchedBase, 64, &[7]);
 }
 
-/// Document 02, item 7: ten bytes as the first row, and as the base delta behind the row 7. The tenth is
+/// FORMAT.md, "Varints": ten bytes as the first row, and as the base delta behind the row 7. The tenth is
 /// judged before what is missing behind it.
 #[test]
 fn tenth_bytes() {
@@ -215,7 +215,7 @@ fn booleans_of_document_01() {
     }
 }
 
-/// Document 02, item 3: the last run read, of a whole stream and before a refused run.
+/// FORMAT.md, "Stream reader": the last run read, of a whole stream and before a refused run.
 #[test]
 fn the_last_run_of_a_stream() {
     let stream = bytes("0A012CC0040A0446021230");

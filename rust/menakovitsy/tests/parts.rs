@@ -1,5 +1,5 @@
-//! Document 02, item 4, through the safe reader: however a column is cut, the answers are the same, and
-//! those of the whole column.
+//! FORMAT.md, "Reader in parts", through the safe reader: however a column is cut, the answers are the
+//! same, and those of the whole column.
 use menakovitsy::{ByteOffset, Column, PartReader, Refusal, Refused, Sign};
 
 /// What a reading came to: each run's first byte and rows, and how it ended.

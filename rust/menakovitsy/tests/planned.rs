@@ -1,11 +1,11 @@
-//! Document 02, item 10: columns by a proposal and by the planner, through the wrapper.
+//! FORMAT.md, "Column writer": columns by a proposal and by the planner, through the wrapper.
 use menakovitsy::*;
 
 /// Five rows 300, then 1, 2, 3, then 10, 12, 14, 16, 18, then 101, 102, 183, 104, then 100, 97, 96, 92.
 const ROWS: [i64; 21] =
     [300, 300, 300, 300, 300, 1, 2, 3, 10, 12, 14, 16, 18, 101, 102, 183, 104, 100, 97, 96, 92];
 
-/// What the five runs are, by the lines of document 01 and of item 9.
+/// What the five runs are, by FORMAT.md, "Run writer" and "Patched writer".
 const PLANNED: [u8; 24] = [
     0x0A, 0x01, 0x2C, 0x46, 0x02, 0x12, 0x30, 0xC0, 0x04, 0x0A, 0x04, 0x86, 0x03, 0x02, 0x21, 0x64, 0x12,
     0x34, 0xA8, 0xC6, 0x03, 0x64, 0x05, 0x14,

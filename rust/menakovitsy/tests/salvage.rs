@@ -1,4 +1,4 @@
-//! Document 02, item 8: salvage, by the wrapper. Lines written out by hand, and every damage of a sample.
+//! FORMAT.md, "Salvage": salvage, by the wrapper. Lines written out by hand, and every damage of a sample.
 use menakovitsy::{salvage, ByteOffset, Column, Group, Refusal, RowNumber, Salvaged, Sign};
 
 #[path = "../../desk/examples/groups.rs"]

@@ -1,4 +1,4 @@
-//! The converter (document 02, item 11).
+//! The converter (FORMAT.md, "Converter").
 use crate::writer::next_kept_code;
 use crate::{read_run, write_run, Answer, Form, Kind, Refusal, Run, Written};
 

@@ -1,4 +1,4 @@
-//! The index beside an integer stream (document 02, items 6 and 14): three columns, an entry a run.
+//! The index beside an integer stream (FORMAT.md, "Index"): three columns, an entry a run.
 use crate::{read_run, read_stream, Answer, Refusal, Stream};
 
 /// An entry: the number of the run's first row, its first byte, and how many rows it has.

@@ -1,4 +1,4 @@
-//! Labels from an ORC dictionary (document 02, item 12).
+//! Labels from an ORC dictionary (FORMAT.md, "Labels").
 use crate::Refusal;
 
 /// A dictionary and a column of names: "one byte block, a column of lengths, a column of numbers, and a

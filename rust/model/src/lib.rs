@@ -1,8 +1,10 @@
-//! A model of documents 01 and 02, written bit by bit from their text: neither from the proved code
-//! nor from the Rust decoders, so that it is a third opinion where those two are compared.
+//! A model of the rules that docs/FORMAT.md states, written bit by bit from their text: neither from the
+//! proved code nor from the Rust decoders, so that it is a third opinion where those two are compared.
+//! (Sentences in quotation marks are of the pages that the rules were ordered by; FORMAT.md says the same
+//! in its own words.)
 //!
 //! It is slow and plain on purpose. Every reader takes the whole input and a position, and how many
-//! places the caller lends; it answers what the documents say the call answers, with the rows as a
+//! places the caller lends; it answers what the rules say the call answers, with the rows as a
 //! list of its own.
 //!
 //! ```

@@ -1,4 +1,4 @@
-//! The reader that takes its input in parts (document 02, item 4).
+//! The reader that takes its input in parts (FORMAT.md, "Reader in parts").
 //!
 //! It is modelled by what it does with a whole list of parts, each given in as many calls as it takes
 //! until it is taken or refused, and then the closing call: no state is carried from call to call.

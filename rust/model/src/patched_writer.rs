@@ -1,5 +1,5 @@
-//! The writer of patched runs (document 02, item 9), by brute force: of all header fields, in the order
-//! in which the document chooses them, the first that describe the rows.
+//! The writer of patched runs (FORMAT.md, "Patched writer"), by brute force: of all header fields, in the
+//! order in which the rules choose them, the first that describe the rows.
 use crate::bits::{Put, WIDTHS};
 use crate::{read_run, Answer, Kind, Refusal, Written, KEPT};
 
@@ -18,7 +18,7 @@ pub fn write_patched(rows: &[i64], base: i64, width: usize, places: usize) -> Wr
     if !(1..=512).contains(&rows.len()) {
         return refused(9);
     }
-    // Item 11: a width that is not kept is refused, whatever the rows.
+    // A width that is not kept is refused, whatever the rows.
     match chosen(rows, base, width).filter(|_| KEPT.contains(&width)) {
         None => refused(10),
         Some(bytes) if bytes.len() > places => refused(8),

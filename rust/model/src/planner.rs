@@ -1,4 +1,4 @@
-//! The check in front of the column writer (document 02, item 10). The planner itself is free in what
+//! The check in front of the column writer (FORMAT.md, "Column writer"). The planner itself is free in what
 //! it proposes: whoever proposes, this says what is written.
 use crate::{write_patched, write_run, Form, Refusal, Written};
 

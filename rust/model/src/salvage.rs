@@ -1,4 +1,4 @@
-//! Salvage of a damaged stream (document 02, item 8).
+//! Salvage of a damaged stream (FORMAT.md, "Salvage").
 use crate::{read_stream, write_run, Form, Refusal, Stream, Written};
 
 /// What salvage answers.

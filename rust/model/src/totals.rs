@@ -1,4 +1,4 @@
-//! Totals over the lines of the program's input, and the count of ones (document 02, item 13).
+//! Totals over the lines of the program's input, and the count of ones (FORMAT.md, "Totals").
 use std::collections::BTreeMap;
 use std::fmt::Write;
 

@@ -1,7 +1,7 @@
-//! Document 02, item 1: a line for every field of every layout, cut at every byte.
+//! FORMAT.md, "Places and cut bytes": a line for every field of every layout, cut at every byte.
 //!
-//! A line is a run field by field, written out from document 01's layouts, each field with the number
-//! that item 1 gives where the input ends inside it (or before its first byte): `12:64` is a varint of
+//! A line is a run field by field, written out from the layouts, each field with the number that is
+//! given where the input ends inside it (or before its first byte): `12:64` is a varint of
 //! the one byte 64. The byte that goes with 6, 12, 13 and 14 is the field's first; 1 has none.
 use model::*;
 

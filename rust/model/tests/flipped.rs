@@ -1,6 +1,6 @@
-//! Document 02, item 14: what one flipped byte can change. Every byte of the packed block is replaced
-//! by every other, at every width; the rows that it may change are told by document 01's "field k of
-//! width w is bits k·w to k·w+w-1".
+//! FORMAT.md, "One flipped byte": what one can change. Every byte of the packed block is replaced
+//! by every other, at every width; the rows that it may change are told by "Packed blocks": field k
+//! of width w is bits k·w to k·w+w-1.
 use model::*;
 
 fn read(run: &[u8], signed: bool) -> Vec<i64> {

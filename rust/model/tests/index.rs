@@ -1,4 +1,4 @@
-//! Document 02, items 6 and 14: building an index, looking a row up, reading from it. Lines written
+//! FORMAT.md, "Index": building an index, looking a row up, reading from it. Lines written
 //! out by hand.
 use model::*;
 

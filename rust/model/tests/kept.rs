@@ -1,4 +1,4 @@
-//! Document 02, item 11: the widths that are written, and the converter. Lines written out by hand.
+//! FORMAT.md, "Kept widths": the widths that are written, and the converter. Lines written out by hand.
 use model::*;
 
 fn bytes(hex: &str) -> Vec<u8> {

@@ -1,4 +1,4 @@
-//! Document 02, item 12: names from a dictionary. Lines written out by hand.
+//! FORMAT.md, "Labels": names from a dictionary. Lines written out by hand.
 use model::*;
 
 /// The names "drums", "", "bass", "vox"; four rows have one.

@@ -1,4 +1,4 @@
-//! Document 01's own lines, the ORC specification's examples, and the limits.
+//! FORMAT.md's sample runs, the ORC specification's examples, and the limits.
 use model::*;
 
 fn bytes(hex: &str) -> Vec<u8> {

@@ -1,4 +1,4 @@
-//! Document 02, item 3: every answer names the run, by its kind, value width, rows and bytes; the
+//! FORMAT.md, "Answers": every answer names the run, by its kind, value width, rows and bytes; the
 //! stream reader's names the last run read, or none.
 use model::*;
 

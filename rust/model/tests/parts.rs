@@ -1,4 +1,4 @@
-//! Document 02, item 4: however the bytes are cut, the rows, starts and refusal are the whole
+//! FORMAT.md, "Reader in parts": however the bytes are cut, the rows, starts and refusal are the whole
 //! stream's; what is taken is written out by hand.
 use model::*;
 

@@ -1,4 +1,4 @@
-//! Document 02, item 9: the patched writer's choices. Runs written out by hand.
+//! FORMAT.md, "Patched writer": the patched writer's choices. Runs written out by hand.
 use model::*;
 
 fn bytes(hex: &str) -> Vec<u8> {
@@ -154,7 +154,7 @@ fn refusals_in_their_order() {
     let refused = |number| Written::Refused(Refusal::whole(number, 0));
     assert_eq!(write_patched(&[], i64::MIN, 0, 0), refused(9));
     assert_eq!(write_patched(&[5; 513], 5, 4, 9000), refused(9));
-    // Widths that are none of the table's; then (item 11) those that are not kept.
+    // Widths that are none of the table's; then those that are not kept.
     for width in [0, 25, 27, 29, 31, 33, 63, 65, 255] {
         assert_eq!(write_patched(&[5], 5, width, 0), refused(10), "{width}");
     }

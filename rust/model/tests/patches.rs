@@ -1,5 +1,5 @@
-//! Document 02, item 2: a patch that fits is read, whatever the width of its field; one of 2^(64-W) or
-//! more is refused with 3. Lines written out by hand.
+//! FORMAT.md, "Patch lists": a patch that fits is read, whatever the width of its field; one of
+//! 2^(64-W) or more is refused with 3. Lines written out by hand.
 use model::*;
 
 fn bytes(hex: &str) -> Vec<u8> {

@@ -1,4 +1,4 @@
-//! Document 02, item 10: which proposals are accepted, and what is written instead. Lines written out
+//! FORMAT.md, "Column writer": which proposals are accepted, and what is written instead. Lines written out
 //! by hand.
 use model::*;
 

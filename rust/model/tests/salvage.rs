@@ -1,4 +1,4 @@
-//! Document 02, item 8: what is kept, what is replaced by what, and the report. Lines written out by
+//! FORMAT.md, "Salvage": what is kept, what is replaced by what, and the report. Lines written out by
 //! hand.
 use model::*;
 

@@ -1,4 +1,4 @@
-//! Document 02, item 13: totals over lines, and the count of ones. Lines written out by hand.
+//! FORMAT.md, "Totals": totals over lines, and the count of ones. Lines written out by hand.
 use model::*;
 
 fn report(text: &str) -> String {

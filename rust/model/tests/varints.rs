@@ -1,4 +1,4 @@
-//! Document 02, item 7: a varint whose tenth byte is above 1 is refused with 5, at the tenth byte.
+//! FORMAT.md, "Varints": a varint whose tenth byte is above 1 is refused with 5, at the tenth byte.
 //! Lines written out by hand.
 use model::*;
 

@@ -2,8 +2,9 @@
 //! `line FLAG (byte ∷ .. ∷ []) ANSWER`, the answer being `nothing`, `(refusal N)` or
 //! `(run (row ∷ .. ∷ []) BYTES)`, rows as patterns of 64 bits.
 //!
-//! They were written before document 02. Where they say 6, its item 1 gives 6, 12, 13 or 14; and three
-//! of the runs that they read have a varint whose tenth byte is above 1, which its item 7 refuses.
+//! They were written before the changes of docs/CHANGES.md. Where they say 6, the first of these gives 6,
+//! 12, 13 or 14; and three of the runs that they read have a varint whose tenth byte is above 1, which is
+//! refused now.
 use model::{read_run, Answer, Refusal};
 
 const VECTORS: &str = include_str!("vectors.txt");

@@ -2,7 +2,7 @@
 //!
 //! The eight decoder files are compiled from a checkout outside this repository (see `build.rs`).
 //! They name two crates, `snafu` and `zigzag`, and their own `error` module, which draws in a whole
-//! file reader; the few items that they use of those stand in [`error`] and [`standins`]. So what
+//! file reader; the few items that they use of those stand in [`error`] and `standins`. So what
 //! is compared is rows, bytes taken, and whether a call gave an error or panicked. The texts of
 //! errors are stand-ins and are not compared.
 //!

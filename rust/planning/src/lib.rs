@@ -1,4 +1,4 @@
-//! The column planner (document 02, item 10): its algorithm as a prototype that allocates nothing, and
+//! The column planner (FORMAT.md, "Planner"): its algorithm as a prototype that allocates nothing, and
 //! the yardsticks that it is held to, docs/PLANNER.md among them. The proved planner is written from it.
 #![forbid(unsafe_code)]
 // Loops by row number, as the proved planner has them.

@@ -98,7 +98,7 @@ pub fn text(figures: &[Figures]) -> String {
     let (all, few) = sums(figures);
     let mut text = format!(
         "# What the planner makes of {} columns\n\n\
-         Document 02, item 10. {PLANNER} `cargo run --release --offline -p planning` in `rust/` writes this \
+         The rules are in [FORMAT.md](FORMAT.md), \"Column writer\" and \"Planner\". {PLANNER} `cargo run --release --offline -p planning` in `rust/` writes this \
          page; a test of that crate says when it is stale. The columns are those of \
          `rust/planning/src/columns.rs`, the same on every machine. Each proposal is one \
          that the model of the check accepts, and the bytes are those that the model of the writer makes.\n\n\

@@ -17,30 +17,6 @@ Inv-loop input₀ from end n i₀ input i =
 abbrev μ-loop : tie.MeasureT-loop
 μ-loop input₀ from end n i₀ input i = n - i
 
-sub-least : tie.Need-sub-least Inv-loop μ-loop
-sub-least c = omega arith
-
-least-requires : tie.Need-least-requires Inv-loop μ-loop
-least-requires c κs = search needs
-
-loop-holds : tie.Need-loop-holds Inv-loop μ-loop
-loop-holds c = (omega arith, refl, refl, refl)
-
-add-input : tie.Need-add-input Inv-loop μ-loop
-add-input c = omega arith
-
-slice-read-input : tie.Need-slice-read-input Inv-loop μ-loop
-slice-read-input c = omega arith
-
-slice-write-input : tie.Need-slice-write-input Inv-loop μ-loop
-slice-write-input c = omega arith
-
-add-i : tie.Need-add-i Inv-loop μ-loop
-add-i c = omega arith
-
-loop-less : tie.Need-loop-less Inv-loop μ-loop
-loop-less c = omega arith
-
 loop-again : tie.Need-loop-again Inv-loop μ-loop
 loop-again c =
     let l = c .before .before .loop in
@@ -51,9 +27,6 @@ loop-again c =
       moved-front (l .input) (now (a .input)) (a .from) (l .i) h (l .inv .1) (l .inv .2) (l .inv .3),
       unmoved (l .input) (now (a .input)) (l .i) _ (l .inv .3),
     )
-
-same-length : tie.Need-same-length Inv-loop μ-loop
-same-length c = c .before .loop .inv .1
 
 returns : tie.Need-returns Inv-loop μ-loop
 returns c =
@@ -69,18 +42,5 @@ returns c =
 
 pub keep-spec : {M : Type 1} → statement M
 keep-spec =
-    tie.close
-    (tie.spec
-    Inv-loop
-    μ-loop
-    sub-least
-    least-requires
-    loop-holds
-    add-input
-    slice-read-input
-    slice-write-input
-    add-i
-    loop-less
-    loop-again
-    same-length
-    returns)
+    tie.close (tie.spec Inv-loop μ-loop (λ c. omega arith) (λ c κs. search needs) (λ c. (omega arith, refl, refl, refl)) (λ c. omega arith) (λ c. omega arith)
+    (λ c. omega arith) (λ c. omega arith) (λ c. omega arith) loop-again (λ c. c .before .loop .inv .1) returns)

@@ -13,9 +13,6 @@ use Rattle.blocks.proofs.Turns.{kept-le, came-is, held-le, room-is, sto
 use Rattle.blocks.proofs.read_on.Statement.{statement}
 use Rattle.blocks.proofs.read_on.Tie as tie
 
-keep-requires : tie.Need-keep-requires
-keep-requires c κs = omega arith
-
 sub-read : tie.Need-sub-read
 sub-read c =
     let k = c .before .before in
@@ -27,12 +24,6 @@ part-read-start c =
     let k = c .before .before in
     let s = k .before .before .before in
     omega (arith, kept-le _ _ _ _ (k .keep .ensures) (s .pre .2) (k .keep .kept .0))
-
-part-read-end : tie.Need-part-read-end
-part-read-end c = search needs
-
-read-requires : tie.Need-read-requires
-read-requires c κs = search needs
 
 sub-count : tie.Need-sub-count
 sub-count c =
@@ -47,18 +38,6 @@ part-count-start c =
     let k = r .before .before .before .before in
     let s = k .before .before .before in
     omega (arith, held-le _ _ _ (r .read .last .1 .0) _ (k .keep .ensures) (s .pre .2) (k .keep .kept .0) (r .read .kept .1 .0))
-
-part-count-end : tie.Need-part-count-end
-part-count-end c = search needs
-
-count-requires : tie.Need-count-requires
-count-requires c κs = search needs
-
-add-stop : tie.Need-add-stop
-add-stop c = search needs
-
-same-length : tie.Need-same-length
-same-length c = search needs
 
 returns : tie.Need-returns
 returns c =
@@ -79,17 +58,5 @@ returns c =
 
 pub read-on-spec : {M : Type 1} → statement M
 read-on-spec =
-    tie.close
-    (tie.spec
-    keep-requires
-    sub-read
-    part-read-start
-    part-read-end
-    read-requires
-    sub-count
-    part-count-start
-    part-count-end
-    count-requires
-    add-stop
-    same-length
-    returns)
+    tie.close (tie.spec (λ c κs. omega arith) sub-read part-read-start (λ c. search needs) (λ c κs. search needs) sub-count part-count-start (λ c. search needs)
+    (λ c κs. search needs) (λ c. search needs) (λ c. search needs) returns)

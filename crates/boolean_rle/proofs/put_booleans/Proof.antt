@@ -9,7 +9,9 @@ use denote.Ref.{now}
 use lib.ListN.{length, drop}
 use Rattle.format.specs.Parse.{got}
 use Rattle.format.specs.Booleans.{ByteRun, booleans}
-use Rattle.boolean_rle.proofs.Laws.{Here, here, bytes-are, Going, going-from, going-on, going-whole, going-done}
+use Rattle.boolean_rle.proofs.FirstPass.{Here, here}
+use Rattle.boolean_rle.proofs.RunBytes.{bytes-are}
+use Rattle.boolean_rle.proofs.SecondPass.{Going, going-from, going-on, going-whole, going-done}
 use Rattle.boolean_rle.proofs.put_booleans.Statement.{statement}
 use Rattle.boolean_rle.proofs.put_booleans.Tie as tie
 
@@ -23,8 +25,8 @@ abbrev μ-loop : tie.MeasureT-loop
 
 -- the run that was found
 run-here : (c : tie.After-known-told Inv-loop μ-loop)
-    → (d : ByteRun) × Here (now (c .before .before .before .before .before .before .before .before .args .input))
-    (c .before .before .before .before .before .loop .place) (c .before .run .given .0 .0) d
+    → let l = c .before .before .before .before .before in
+    (d : ByteRun) × Here (now (l .before .before .before .args .input)) (l .loop .place) (c .before .run .given .0 .0) d
 run-here c =
     let r = c .before in
     let l = r .before .before .before .before in
@@ -35,15 +37,6 @@ loop-holds : tie.Need-loop-holds Inv-loop μ-loop
 loop-holds c =
     let a = c .before .before .args in
     (omega arith, refl, λ ds rest e. going-from (now (a .input)) (a .n) ds rest (now (a .out)) (a .at) e)
-
-run-at-requires : tie.Need-run-at-requires Inv-loop μ-loop
-run-at-requires c κs = tt
-
-enum-known-run : tie.Need-enum-known-run Inv-loop μ-loop
-enum-known-run c = search needs
-
-enum-told : tie.Need-enum-told Inv-loop μ-loop
-enum-told c = search needs
 
 same-length : tie.Need-same-length Inv-loop μ-loop
 same-length c = c .before .before .before .before .loop .inv .1
@@ -87,9 +80,6 @@ loop-again c =
           (rw (bytes-are s (l .loop .place) e d h) at (p .put-run .ensures .1)) (l .loop .inv .2 ds rest q),
     )
 
-same-length-2 : tie.Need-same-length-2 Inv-loop μ-loop
-same-length-2 c = c .before .loop .inv .1
-
 returns-2 : tie.Need-returns-2 Inv-loop μ-loop
 returns-2 c ds rest e =
     let l = c .before .loop in
@@ -98,19 +88,5 @@ returns-2 c ds rest e =
 
 pub put-booleans-spec : {M : Type 1} → statement M
 put-booleans-spec =
-    tie.close
-    (tie.spec
-    Inv-loop
-    μ-loop
-    loop-holds
-    run-at-requires
-    enum-known-run
-    enum-told
-    same-length
-    returns
-    put-run-requires
-    add-place
-    loop-less
-    loop-again
-    same-length-2
-    returns-2)
+    tie.close (tie.spec Inv-loop μ-loop loop-holds (λ c κs. tt) (λ c. search needs) (λ c. search needs) same-length returns put-run-requires add-place loop-less
+    loop-again (λ c. c .before .loop .inv .1) returns-2)

@@ -5,7 +5,7 @@ use native.Mathlib.Omega.{arith}
 use lib.ListN.{length, length-set}
 use Rattle.format.specs.Digits.{digits}
 use Rattle.boolean_rle.specs.Found.{Wrote}
-use Rattle.boolean_rle.proofs.Laws.{wrote-none, bit-more}
+use Rattle.boolean_rle.proofs.RunBytes.{wrote-none, bit-more}
 use Rattle.boolean_rle.proofs.ByteBits.{Left, bit-here, left-next}
 use Rattle.boolean_rle.proofs.put_byte.Statement.{statement}
 use Rattle.boolean_rle.proofs.put_byte.Tie as tie
@@ -16,28 +16,10 @@ Inv-loop byte out₀ k left₀ j₀ out left j = (j ≤ 8) × (length out ≡ le
 abbrev μ-loop : tie.MeasureT-loop
 μ-loop byte out₀ k left₀ j₀ out left j = 8 - j
 
-spread-requires : tie.Need-spread-requires Inv-loop μ-loop
-spread-requires c κs = tt
-
 loop-holds : tie.Need-loop-holds Inv-loop μ-loop
 loop-holds c =
     let a = c .before .before .args in
     (omega arith, refl, c .spread .ensures, wrote-none (a .k) (digits 2 8 (a .byte)) (a .out .now))
-
-cast-out : tie.Need-cast-out Inv-loop μ-loop
-cast-out c = omega arith
-
-add-out : tie.Need-add-out Inv-loop μ-loop
-add-out c = omega arith
-
-slice-write-out : tie.Need-slice-write-out Inv-loop μ-loop
-slice-write-out c = omega arith
-
-add-j : tie.Need-add-j Inv-loop μ-loop
-add-j c = omega arith
-
-loop-less : tie.Need-loop-less Inv-loop μ-loop
-loop-less c = omega arith
 
 loop-again : tie.Need-loop-again Inv-loop μ-loop
 loop-again c =
@@ -50,9 +32,6 @@ loop-again c =
       rw b (bit-more (a .byte) (a .k) (l .j) (a .out .now) (l .out) (omega arith) (omega arith) (l .inv .3)),
     )
 
-same-length : tie.Need-same-length Inv-loop μ-loop
-same-length c = c .before .loop .inv .1
-
 returns : tie.Need-returns Inv-loop μ-loop
 returns c =
     let e : c .before .loop .j ≡ 8 = omega arith in
@@ -60,17 +39,5 @@ returns c =
 
 pub put-byte-spec : {M : Type 1} → statement M
 put-byte-spec =
-    tie.close
-    (tie.spec
-    Inv-loop
-    μ-loop
-    spread-requires
-    loop-holds
-    cast-out
-    add-out
-    slice-write-out
-    add-j
-    loop-less
-    loop-again
-    same-length
-    returns)
+    tie.close (tie.spec Inv-loop μ-loop (λ c κs. tt) loop-holds (λ c. omega arith) (λ c. omega arith) (λ c. omega arith) (λ c. omega arith) (λ c. omega arith) loop-again
+    (λ c. c .before .loop .inv .1) returns)

@@ -5,50 +5,11 @@ use native.Mathlib.Omega.{arith}
 use denote.Ref.{now}
 use lib.ListN.{length, drop}
 use Rattle.format.specs.Booleans.{byteRun}
-use Rattle.boolean_rle.specs.Found.{bytesIn}
-use Rattle.boolean_rle.proofs.Laws.{length-bytes, byte-more}
+use Rattle.boolean_rle.specs.Found.{runBytesIn}
+use Rattle.boolean_rle.proofs.RunBytes.{length-bytes, byte-more}
 use borrow.Author.Needs.{needs}
 use Rattle.boolean_rle.proofs.put_run.Statement.{statement}
 use Rattle.boolean_rle.proofs.put_run.Tie as tie
-
-sub-whole : tie.Need-sub-whole
-sub-whole c = search needs
-
-put-bytes-requires : tie.Need-put-bytes-requires
-put-bytes-requires c κs = search needs
-
-mul-result : tie.Need-mul-result
-mul-result c = search needs
-
-add-result : tie.Need-add-result
-add-result c = search needs
-
-same-length : tie.Need-same-length
-same-length c = search needs
-
-returns : tie.Need-returns
-returns c = search needs
-
-put-bytes-requires-2 : tie.Need-put-bytes-requires-2
-put-bytes-requires-2 c κs = search needs
-
-run-byte-requires : tie.Need-run-byte-requires
-run-byte-requires c κs = search needs
-
-sub-put-bits : tie.Need-sub-put-bits
-sub-put-bits c = search needs
-
-mul-put-bits : tie.Need-mul-put-bits
-mul-put-bits c = search needs
-
-add-put-bits : tie.Need-add-put-bits
-add-put-bits c = search needs
-
-put-bits-requires : tie.Need-put-bits-requires
-put-bits-requires c κs = search needs
-
-same-length-2 : tie.Need-same-length-2
-same-length-2 c = search needs
 
 returns-2 : tie.Need-returns-2
 returns-2 c =
@@ -59,27 +20,13 @@ returns-2 c =
     let a = s .args in
     let m = byteRun (drop (a .at) (now (a .input))) in
     let q = (a .n - a .k) / 8 in
-    let h : q < length (bytesIn m) = omega (arith, length-bytes (length (now (a .input))) m (a .run) (s .pre .0)) in
+    let h : q < length (runBytesIn m) = omega (arith, length-bytes (length (now (a .input))) m (a .run) (s .pre .0)) in
     let z : a .k + 8 * q + (a .n - a .k) % 8 ≡ a .n = omega arith in (
       omega arith,
-      rw z at (byte-more (bytesIn m) (a .k) q ((a .n - a .k) % 8) (now (a .out)) _ _ h (w .put-bytes2 .ensures) (rw (b .run-byte .ensures) at (p .put-bits .ensures))),
+      rw z at (byte-more (runBytesIn m) (a .k) q ((a .n - a .k) % 8) (now (a .out)) _ _ h (w .put-bytes2 .ensures) (rw (b .run-byte .ensures) at (p .put-bits .ensures))),
     )
 
 pub put-run-spec : {M : Type 1} → statement M
 put-run-spec =
-    tie.close
-    (tie.spec
-    sub-whole
-    put-bytes-requires
-    mul-result
-    add-result
-    same-length
-    returns
-    put-bytes-requires-2
-    run-byte-requires
-    sub-put-bits
-    mul-put-bits
-    add-put-bits
-    put-bits-requires
-    same-length-2
-    returns-2)
+    tie.close (tie.spec (λ c. search needs) (λ c κs. search needs) (λ c. search needs) (λ c. search needs) (λ c. search needs) (λ c. search needs) (λ c κs. search needs)
+    (λ c κs. search needs) (λ c. search needs) (λ c. search needs) (λ c. search needs) (λ c κs. search needs) (λ c. search needs) returns-2)

@@ -1,25 +1,10 @@
 -- `boolean_rle::read_booleans` meets its promise, for refused inputs too: by what the first pass finds. Assumes nothing.
 use mathlib.Core.Path.{sym, _∙_}
 use denote.Ref.{now}
-use Rattle.boolean_rle.proofs.Laws.{reads-cut, reads-8, reads-all}
+use Rattle.boolean_rle.proofs.SecondPass.{reads-cut, reads-8, reads-all}
 use borrow.Author.Needs.{needs}
 use Rattle.boolean_rle.proofs.read_booleans.Statement.{statement}
 use Rattle.boolean_rle.proofs.read_booleans.Tie as tie
-
-span-from-requires : tie.Need-span-from-requires
-span-from-requires c κs = search needs
-
-enum-known-consumed : tie.Need-enum-known-consumed
-enum-known-consumed c = search needs
-
-enum-known-number : tie.Need-enum-known-number
-enum-known-number c = search needs
-
-later-requires : tie.Need-later-requires
-later-requires c κs = search needs
-
-cut-requires : tie.Need-cut-requires
-cut-requires c κs = search needs
 
 returns : tie.Need-returns
 returns c =
@@ -29,9 +14,6 @@ returns c =
     rw (c .cut .ensures, c .before .later .ensures)
     (reads-cut (now (a .input)) (a .at .bytes) (a .n .rows) (now (a .out)) (b .number .given .0 .0) (b .number .given .0 .1 .0) (sym (f .span-from .ensures) ∙ b .number .given .1))
 
-refused-requires : tie.Need-refused-requires
-refused-requires c κs = search needs
-
 returns-2 : tie.Need-returns-2
 returns-2 c =
     let w = c .before .before .before in
@@ -39,15 +21,6 @@ returns-2 c =
     let a = f .before .before .before .args in
     rw (c .refused .ensures)
     (reads-8 (now (a .input)) (a .at .bytes) (a .n .rows) (now (a .out)) _ (sym (f .span-from .ensures) ∙ w .consumed .given .1) (c .before .if1 .taken))
-
-put-booleans-requires : tie.Need-put-booleans-requires
-put-booleans-requires c κs = search needs
-
-run-requires : tie.Need-run-requires
-run-requires c κs = search needs
-
-same-length : tie.Need-same-length
-same-length c = search needs
 
 returns-3 : tie.Need-returns-3
 returns-3 c =
@@ -61,17 +34,5 @@ returns-3 c =
 
 pub read-booleans-spec : {M : Type 1} → statement M
 read-booleans-spec =
-    tie.close
-    (tie.spec
-    span-from-requires
-    enum-known-consumed
-    enum-known-number
-    later-requires
-    cut-requires
-    returns
-    refused-requires
-    returns-2
-    put-booleans-requires
-    run-requires
-    same-length
-    returns-3)
+    tie.close (tie.spec (λ c κs. search needs) (λ c. search needs) (λ c. search needs) (λ c κs. search needs) (λ c κs. search needs) returns (λ c κs. search needs)
+    returns-2 (λ c κs. search needs) (λ c κs. search needs) (λ c. search needs) returns-3)

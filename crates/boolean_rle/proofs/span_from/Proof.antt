@@ -6,9 +6,9 @@ use borrow.Author.Needs.{needs}
 use denote.Ref.{now}
 use lib.ListN.{length, drop, length-drop}
 use Rattle.format.specs.Booleans.{ByteRun, joinedRuns, booleans}
-use Rattle.format.proofs.Booleans.{runs-none}
+use Rattle.format.proofs.ByteRuns.{runs-none}
 use Rattle.boolean_rle.specs.Found.{spanOf}
-use Rattle.boolean_rle.proofs.Laws.{Here, here, further-zero, span-cut, Passed, pass}
+use Rattle.boolean_rle.proofs.FirstPass.{Here, here, further-zero, span-cut, Passed, pass}
 use Rattle.boolean_rle.proofs.span_from.Statement.{statement}
 use Rattle.boolean_rle.proofs.span_from.Tie as tie
 
@@ -20,16 +20,13 @@ abbrev μ-loop : tie.MeasureT-loop
 
 -- the run that was found
 run-here : (c : tie.After-struct-known Inv-loop μ-loop)
-    → (d : ByteRun) × Here (now (c .before .before .before .before .before .before .before .before .before .args .input))
-    (c .before .before .before .before .before .before .loop .end) (c .before .before .run .given .0 .0) d
+    → let l = c .before .before .before .before .before .before in
+    (d : ByteRun) × Here (now (l .before .before .before .args .input)) (l .loop .end) (c .before .before .run .given .0 .0) d
 run-here c =
     let r = c .before .before in
     let l = r .before .before .before .before in
     here (now (l .before .before .before .args .input)) (l .loop .end) (r .run .given .0 .0) (λ i. l .before .before .shared-slice-known .given i .fits)
     (sym (r .before .before .run-at .ensures) ∙ r .run .given .1)
-
-bytes-for-requires : tie.Need-bytes-for-requires Inv-loop μ-loop
-bytes-for-requires c κs = tt
 
 loop-holds : tie.Need-loop-holds Inv-loop μ-loop
 unfolding booleans
@@ -43,30 +40,16 @@ loop-holds c =
       ),
     )
 
-run-at-requires : tie.Need-run-at-requires Inv-loop μ-loop
-run-at-requires c κs = tt
-
-enum-known-run : tie.Need-enum-known-run Inv-loop μ-loop
-enum-known-run c = search needs
-
-add-end : tie.Need-add-end Inv-loop μ-loop
-add-end c = omega (arith, run-here c .1 .inside)
-
-less-requires : tie.Need-less-requires Inv-loop μ-loop
-less-requires c κs = tt
-
 loop-less : tie.Need-loop-less Inv-loop μ-loop
 loop-less c = omega (arith, run-here (c .before) .1 .some)
 
 loop-again : tie.Need-loop-again Inv-loop μ-loop
 loop-again c =
+    let back-6 = c .before .before .before .before .before .before in
     let h = run-here (c .before) in
-    let l = c .before .before .before .before .before .before .before in
+    let l = back-6 .before in
     rw (c .less .ensures)
     (pass (now (l .before .before .before .args .input)) _ _ (l .loop .end) (l .loop .left) _ (h .0) (h .1) (omega arith) (l .loop .inv))
-
-enum-known-number : tie.Need-enum-known-number Inv-loop μ-loop
-enum-known-number c = search needs
 
 returns : tie.Need-returns Inv-loop μ-loop
 returns c =
@@ -76,9 +59,6 @@ returns c =
     let i = l .inv .1 in
     let s = now (r .before .before .before .before .before .args .input) in
     sym (i .2 ∙ rw (span-cut (length s) (i .0) (l .left) (drop (l .end) s) (b .number .given .0 .0) (b .number .given .0 .1 .0) (r .before .loop-test .taken) (rw length-drop (i .1)) (sym (r .run-at .ensures) ∙ b .number .given .1)))
-
-sub-t11 : tie.Need-sub-t11 Inv-loop μ-loop
-sub-t11 c = c .before .loop .inv .0
 
 returns-2 : tie.Need-returns-2 Inv-loop μ-loop
 unfolding joinedRuns
@@ -90,19 +70,5 @@ returns-2 c =
 
 pub span-from-spec : {M : Type 1} → statement M
 span-from-spec =
-    tie.close
-    (tie.spec
-    Inv-loop
-    μ-loop
-    bytes-for-requires
-    loop-holds
-    run-at-requires
-    enum-known-run
-    add-end
-    less-requires
-    loop-less
-    loop-again
-    enum-known-number
-    returns
-    sub-t11
-    returns-2)
+    tie.close (tie.spec Inv-loop μ-loop (λ c κs. tt) loop-holds (λ c κs. tt) (λ c. search needs) (λ c. omega (arith, run-here c .1 .inside)) (λ c κs. tt) loop-less
+    loop-again (λ c. search needs) returns (λ c. c .before .loop .inv .0) returns-2)

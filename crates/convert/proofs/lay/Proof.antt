@@ -1,5 +1,4 @@
 -- `lay` meets its contract. Assumes nothing.
-use native.Mathlib.Omega.{arith}
 use denote.Ref.{now}
 use borrow.Author.Needs.{needs}
 use Rattle.convert.proofs.Lays.{lays-full, lays-over, lays-more}
@@ -12,21 +11,12 @@ returns c =
     let a = s .args in
     lays-full (now (a .run)) (a .n) (a .at) (a .room) (now (a .out)) (s .pre .0) (c .if1 .taken)
 
-sub-if2 : tie.Need-sub-if2
-sub-if2 c = search needs
-
 returns-2 : tie.Need-returns-2
 returns-2 c =
     let e = c .before .before in
     let s = e .before .before .before in
     let a = s .args in
     lays-over (now (a .run)) (a .n) (a .at) (a .room) (now (a .out)) (s .pre .0) (e .if1 .left) (c .if2 .taken)
-
-put-requires : tie.Need-put-requires
-put-requires c κs = search needs
-
-add-t7 : tie.Need-add-t7
-add-t7 c = search needs
 
 same-length : tie.Need-same-length
 same-length c = search needs
@@ -41,4 +31,4 @@ returns-3 c =
     lays-more (now (a .run)) (a .n) (a .at) (a .room) (now (a .out)) (s .pre .0) (e .if1 .left) (l .if2 .left) (s .pre .1) _ (p .put .ensures) (same-length c)
 
 pub lay-spec : {M : Type 1} → statement M
-lay-spec = tie.close (tie.spec returns sub-if2 returns-2 put-requires add-t7 same-length returns-3)
+lay-spec = tie.close (tie.spec returns (λ c. search needs) returns-2 (λ c κs. search needs) (λ c. search needs) same-length returns-3)

@@ -1,9 +1,9 @@
--- `walk` meets its contract: each turn converts one run more, or ends with what document 02 says. Assumes nothing.
+-- `walk` meets its contract: each turn converts one run more, or ends with what the definition says. Assumes nothing.
 use Prim.Native.Nat.{_-_}
 use native.Mathlib.Omega.{arith}
 use lib.ListN.{length, drop-of-length-le}
 use denote.Ref.{now}
-use Rattle.format.proofs.Fields.{below-all}
+use Rattle.format.proofs.Below.{below-all}
 use Rattle.format.proofs.Runs.{layout-pos}
 use borrow.Author.Needs.{needs}
 use Rattle.convert.specs.Turn.{Turned}
@@ -18,94 +18,67 @@ abbrev μ-loop : tie.MeasureT-loop
 μ-loop input signed room out₀ p₀ altered₀ at₀ out p altered at = length input - p
 
 -- the run of a turn
-turned : (m : tie.After-step Inv-loop μ-loop) → let x = m .before .before .before in let l = x .before .before .before .before .loop in let a = x .before .before .before .before .before .before .before .args in
+turned : (m : tie.After-step Inv-loop μ-loop) → let back-6 = m .before .before .before .before .before .before in let x = m .before .before .before in let l = x .before .before .before .before .loop in let a = back-6 .before .before .before .before .args in
     Turned (a .signed) (now (a .input)) (l .p) (x .convert-run .last .1 .1 .1 .0) (m .step .given .0 .0)
 turned m = rw (m .step .given .1) at (m .before .before .before .convert-run .ensures)
-
-loop-holds : tie.Need-loop-holds Inv-loop μ-loop
-loop-holds c = along-first _ _ _ _
-
-bytes-room-requires : tie.Need-bytes-room-requires Inv-loop μ-loop
-bytes-room-requires c κs = search needs
-
-slice-aggregate-convert-run : tie.Need-slice-aggregate-convert-run Inv-loop μ-loop
-slice-aggregate-convert-run c = search needs
-
-convert-run-requires : tie.Need-convert-run-requires Inv-loop μ-loop
-convert-run-requires c κs = search needs
-
-enum-known-step : tie.Need-enum-known-step Inv-loop μ-loop
-enum-known-step c = search needs
-
-slice-aggregate-lay : tie.Need-slice-aggregate-lay Inv-loop μ-loop
-slice-aggregate-lay c = search needs
 
 lay-requires : tie.Need-lay-requires Inv-loop μ-loop
 lay-requires c κs =
     let m = c .before .before .before in
-    (omega (arith, turned m .small), m .before .before .before .before .before .before .before .loop .inv .fill .end-in)
-
-count-requires : tie.Need-count-requires Inv-loop μ-loop
-count-requires c κs = search needs
+    (omega (arith, turned m .small), (let back-6 = c .before .before .before .before .before .before in back-6 .before .before .before .before .loop .inv .fill .end-in))
 
 add-altered : tie.Need-add-altered Inv-loop μ-loop
 add-altered c =
-    let m = c .before .before .before .before .before .before .before in
-    omega (arith, c .count .ensures, counted-le (m .step .given .0 .0 .odd), m .before .before .before .before .before .before .before .loop .inv .few, m .before .before .before .before .before .before .loop-test .taken)
+    let m = (let back-6 = c .before .before .before .before .before .before in back-6 .before) in
+    omega (arith, c .count .ensures, counted-le (m .step .given .0 .0 .odd), (let back-6 = c .before .before .before .before .before .before in let back-12 = back-6 .before .before .before .before .before .before in back-12 .before .before .loop .inv .few), m .before .before .before .before .before .before .loop-test .taken)
 
 add-p : tie.Need-add-p Inv-loop μ-loop
-add-p c = omega (arith, turned (c .before .before .before .before .before .before .before .before) .within)
+add-p c =
+    omega (arith, turned (let back-6 = c .before .before .before .before .before .before in back-6 .before .before) .within)
 
 loop-less : tie.Need-loop-less Inv-loop μ-loop
 loop-less c =
-    let m = c .before .before .before .before .before .before .before .before in
+    let m = (let back-6 = c .before .before .before .before .before .before in back-6 .before .before) in
     let u = turned m in
     omega (arith, u .within, u .taken-is, layout-pos (u .which), m .before .before .before .before .before .before .loop-test .taken)
 
 loop-again : tie.Need-loop-again Inv-loop μ-loop
 loop-again c =
-    let m = c .before .before .before .before .before .before .before .before in
-    let l = m .before .before .before .before .before .before .before .loop in
-    let a = m .before .before .before .before .before .before .before .before .before .before .args in
+    let back-6 = c .before .before .before .before .before .before in
+    let back-12 = back-6 .before .before .before .before .before .before in
+    let m = back-6 .before .before in
+    let l = back-12 .before .before .before .loop in
+    let a = back-12 .before .before .before .before .before .before .args in
     rw (c .before .count .ensures)
     (along-next (a .signed) (now (a .input)) (a .room) (now (a .out)) (l .out) (l .p) (l .altered) (l .at) (l .inv) _ _ _ _ (turned m) (c .before .before .before .before .lay .ensures))
 
-enum-known-step-2 : tie.Need-enum-known-step-2 Inv-loop μ-loop
-enum-known-step-2 c = search needs
-
 same-length : tie.Need-same-length Inv-loop μ-loop
-same-length c = c .before .before .before .before .before .before .before .before .loop .inv .long
+same-length c =
+    let back-6 = c .before .before .before .before .before .before in
+    back-6 .before .before .loop .inv .long
 
 returns : tie.Need-returns Inv-loop μ-loop
 returns c =
+    let back-6 = c .before .before .before .before .before .before in
     let x = c .before .before .before .before in
     let l = x .before .before .before .before .loop in
-    let a = x .before .before .before .before .before .before .before .args in
+    let a = back-6 .before .before .before .before .before .args in
     along-refused (a .signed) (now (a .input)) (a .room) (now (a .out)) (l .out) (l .p) (l .altered) (l .at) (l .inv) _
     (below-all 256 (now (a .input)) (λ i. x .before .before .before .before .before .before .shared-slice-known .given i .fits)) (rw (c .before .step2 .given .1) at (x .convert-run .ensures))
 
-enum-told : tie.Need-enum-told Inv-loop μ-loop
-enum-told c = search needs
-
-finish-requires : tie.Need-finish-requires Inv-loop μ-loop
-finish-requires c κs = search needs
-
 same-length-2 : tie.Need-same-length-2 Inv-loop μ-loop
-same-length-2 c = c .before .before .before .before .before .before .before .before .loop .inv .long
+same-length-2 c =
+    let back-6 = c .before .before .before .before .before .before in
+    back-6 .before .before .loop .inv .long
 
 returns-2 : tie.Need-returns-2 Inv-loop μ-loop
 returns-2 c =
+    let back-6 = c .before .before .before .before .before .before in
     let x = c .before .before .before .before in
     let l = x .before .before .before .before .loop in
-    let a = x .before .before .before .before .before .before .before .args in
+    let a = back-6 .before .before .before .before .before .args in
     rw (c .finish .ensures)
     (along-end (a .signed) (now (a .input)) (a .room) (now (a .out)) (l .out) (l .p) (l .altered) (l .at) (l .inv) (rw (c .before .enum-told .given .1) at (x .convert-run .ensures)))
-
-finish-requires-2 : tie.Need-finish-requires-2 Inv-loop μ-loop
-finish-requires-2 c κs = search needs
-
-same-length-3 : tie.Need-same-length-3 Inv-loop μ-loop
-same-length-3 c = c .before .before .loop .inv .long
 
 returns-3 : tie.Need-returns-3 Inv-loop μ-loop
 returns-3 c =
@@ -116,29 +89,6 @@ returns-3 c =
 
 pub walk-spec : {M : Type 1} → statement M
 walk-spec =
-    tie.close
-    (tie.spec
-    Inv-loop
-    μ-loop
-    loop-holds
-    bytes-room-requires
-    slice-aggregate-convert-run
-    convert-run-requires
-    enum-known-step
-    slice-aggregate-lay
-    lay-requires
-    count-requires
-    add-altered
-    add-p
-    loop-less
-    loop-again
-    enum-known-step-2
-    same-length
-    returns
-    enum-told
-    finish-requires
-    same-length-2
-    returns-2
-    finish-requires-2
-    same-length-3
-    returns-3)
+    tie.close (tie.spec Inv-loop μ-loop (λ c. along-first _ _ _ _) (λ c κs. search needs) (λ c. search needs) (λ c κs. search needs) (λ c. search needs)
+    (λ c. search needs) lay-requires (λ c κs. search needs) add-altered add-p loop-less loop-again (λ c. search needs) same-length returns (λ c. search needs)
+    (λ c κs. search needs) same-length-2 returns-2 (λ c κs. search needs) (λ c. c .before .before .loop .inv .long) returns-3)

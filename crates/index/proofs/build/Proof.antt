@@ -1,57 +1,30 @@
 -- What the walk found is answered, and the columns are filled where there is room for all of it. Assumes nothing.
-use mathlib.Core.Path.{_≡_, sym, _∙_}
 use borrow.Author.Needs.{needs}
-use Rattle.format.proofs.Fields.{below-all}
+use Rattle.format.proofs.Below.{below-all}
 use Rattle.index.proofs.Builds.{Found, what-found, Whole, unequal-offsets, unequal-counts, own-so, past-so, few-so, roomy-so, built-so}
 use Rattle.index.proofs.build.Statement.{statement}
 use Rattle.index.proofs.build.Tie as tie
 
 -- what the walk found, and the case of a whole stream
-found : (x : tie.After-whole-of) → let a = x .before .before .before .before .before .before .before .args in Found (a .input .now) (x .whole-of .result)
+found : (x : tie.After-whole-of) → let back-6 = x .before .before .before .before .before .before in let a = back-6 .before .args in Found (a .input .now) (x .whole-of .result)
 found x =
     let k = x .before .before .before .before .before .before in
     let a = k .before .args in
     what-found (a .input .now) _ (below-all 256 (a .input .now) (λ i. k .shared-slice-known .given i .fits)) (x .whole-of .ensures)
 
-whole : (m : tie.After-runs) → let a = m .before .before .before .before .before .before .before .before .before .args in Whole (a .input .now) (m .runs .given .0 .0) (m .runs .given .0 .1 .0)
+whole : (m : tie.After-runs) → let back-6 = m .before .before .before .before .before .before in let a = back-6 .before .before .before .args in Whole (a .input .now) (m .runs .given .0 .0) (m .runs .given .0 .1 .0)
 whole m = rw (m .runs .given .1) at (found (m .before .before))
-
-refused-requires : tie.Need-refused-requires
-refused-requires c κs = search needs
 
 returns : tie.Need-returns
 returns c =
     let a = c .before .before .before .before .before .before .args in
     rw (c .refused .ensures) (unequal-offsets (a .input .now) (a .first .now) (a .at .now) (a .counts .now) (c .before .if1 .taken))
 
-refused-requires-2 : tie.Need-refused-requires-2
-refused-requires-2 c κs = search needs
-
 returns-2 : tie.Need-returns-2
 returns-2 c =
-    let a = c .before .before .before .before .before .before .before .args in
+    let back-6 = c .before .before .before .before .before .before in
+    let a = back-6 .before .args in
     rw (c .refused2 .ensures) (unequal-counts (a .input .now) (a .first .now) (a .at .now) (a .counts .now) (c .before .if2 .taken))
-
-whole-of-requires : tie.Need-whole-of-requires
-whole-of-requires c κs = search needs
-
-enum-known-f : tie.Need-enum-known-f
-enum-known-f c = search needs
-
-enum-known-runs : tie.Need-enum-known-runs
-enum-known-runs c = search needs
-
-enum-told : tie.Need-enum-told
-enum-told c = search needs
-
-refused-requires-3 : tie.Need-refused-requires-3
-refused-requires-3 c κs = search needs
-
-enum-known-total : tie.Need-enum-known-total
-enum-known-total c = search needs
-
-refused-requires-4 : tie.Need-refused-requires-4
-refused-requires-4 c κs = search needs
 
 returns-3 : tie.Need-returns-3
 returns-3 c =
@@ -69,9 +42,6 @@ fill-requires c κs =
     let a = e .before .before .before .before .before .before .args in
     roomy-so (a .input .now) (a .first .now) (a .at .now) (a .counts .now) (e .before .if1 .left) (e .if2 .left) _ _ (whole m) _ (t .total .given .1) (o .if3 .left)
 
-index-requires : tie.Need-index-requires
-index-requires c κs = search needs
-
 returns-4 : tie.Need-returns-4
 returns-4 c =
     let x = c .before .before .before in
@@ -86,18 +56,10 @@ returns-5 c =
     let a = e .before .before .before .before .before .before .args in
     rw (c .refused3 .ensures) (past-so (a .input .now) (a .first .now) (a .at .now) (a .counts .now) (e .before .if1 .left) (e .if2 .left) _ _ (whole m) (c .before .enum-told .given .1))
 
-same-length : tie.Need-same-length
-same-length c = search needs
-
-same-length-2 : tie.Need-same-length-2
-same-length-2 c = search needs
-
-same-length-3 : tie.Need-same-length-3
-same-length-3 c = search needs
-
 returns-6 : tie.Need-returns-6
 returns-6 c =
-    let f = c .before .before .before .before .before .before .before in
+    let back-6 = c .before .before .before .before .before .before in
+    let f = back-6 .before in
     let o = f .before .before .before .before in
     let t = o .before .before in
     let m = t .before .before .before in
@@ -108,25 +70,6 @@ returns-6 c =
 
 pub build-spec : {M : Type 1} → statement M
 build-spec =
-    tie.close
-    (tie.spec
-    refused-requires
-    returns
-    refused-requires-2
-    returns-2
-    whole-of-requires
-    enum-known-f
-    enum-known-runs
-    enum-told
-    refused-requires-3
-    enum-known-total
-    refused-requires-4
-    returns-3
-    fill-requires
-    index-requires
-    returns-4
-    returns-5
-    same-length
-    same-length-2
-    same-length-3
-    returns-6)
+    tie.close (tie.spec (λ c κs. search needs) returns (λ c κs. search needs) returns-2 (λ c κs. search needs) (λ c. search needs) (λ c. search needs) (λ c. search needs)
+    (λ c κs. search needs) (λ c. search needs) (λ c κs. search needs) returns-3 fill-requires (λ c κs. search needs) returns-4 returns-5 (λ c. search needs)
+    (λ c. search needs) (λ c. search needs) returns-6)

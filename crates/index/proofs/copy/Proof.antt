@@ -2,10 +2,10 @@
 use mathlib.Core.Path.{_≡_, _∙_}
 use Prim.Native.Nat.{_+_, _-_, _≤_}
 use native.Mathlib.Omega.{arith}
-use mathlib.Core.List.{[], _++_}
+use mathlib.Core.List.{_++_}
 use lib.ListN.{length, take, drop, length-set}
 use mir.Facts.{toZ-ofZ}
-use borrow.Author.Needs.{needs, sfits-of}
+use borrow.Author.Needs.{sfits-of}
 use Rattle.util.proofs.Grow.{kept}
 use Rattle.index.proofs.Lists.{copy-first, copy-next, copy-last}
 use Rattle.index.proofs.copy.Statement.{statement}
@@ -21,27 +21,6 @@ abbrev μ-loop : tie.MeasureT-loop
 loop-holds : tie.Need-loop-holds Inv-loop μ-loop
 loop-holds c = let a = c .args in copy-first (a .rows .now) (a .out .now) (a .skip) (a .n)
 
-add-r : tie.Need-add-r Inv-loop μ-loop
-add-r c = omega arith
-
-mul-r : tie.Need-mul-r Inv-loop μ-loop
-mul-r c = omega arith
-
-shared-slice-copy-out-r : tie.Need-shared-slice-copy-out-r Inv-loop μ-loop
-shared-slice-copy-out-r c = omega arith
-
-mul-r-2 : tie.Need-mul-r-2 Inv-loop μ-loop
-mul-r-2 c = omega arith
-
-slice-set-from-r : tie.Need-slice-set-from-r Inv-loop μ-loop
-slice-set-from-r c = omega arith
-
-add-i : tie.Need-add-i Inv-loop μ-loop
-add-i c = omega arith
-
-loop-less : tie.Need-loop-less Inv-loop μ-loop
-loop-less c = omega arith
-
 loop-again : tie.Need-loop-again Inv-loop μ-loop
 loop-again c =
     let l = c .before .before .loop in
@@ -53,9 +32,6 @@ loop-again c =
       kept (l .out) (a .out .now) (l .i) _ (l .inv .3),
     )
 
-same-length : tie.Need-same-length Inv-loop μ-loop
-same-length c = c .before .loop .inv .1
-
 returns : tie.Need-returns Inv-loop μ-loop
 returns c =
     let l = c .before .loop in
@@ -64,18 +40,5 @@ returns c =
 
 pub copy-spec : {M : Type 1} → statement M
 copy-spec =
-    tie.close
-    (tie.spec
-    Inv-loop
-    μ-loop
-    loop-holds
-    add-r
-    mul-r
-    shared-slice-copy-out-r
-    mul-r-2
-    slice-set-from-r
-    add-i
-    loop-less
-    loop-again
-    same-length
-    returns)
+    tie.close (tie.spec Inv-loop μ-loop loop-holds (λ c. omega arith) (λ c. omega arith) (λ c. omega arith) (λ c. omega arith) (λ c. omega arith) (λ c. omega arith)
+    (λ c. omega arith) loop-again (λ c. c .before .loop .inv .1) returns)

@@ -1,5 +1,5 @@
 -- The run's rows are read aside, those from the row on are copied, and the runs behind it are read behind them. Assumes nothing.
-use mathlib.Core.Path.{_≡_, sym, ap, _∙_}
+use mathlib.Core.Path.{_≡_, ap}
 use Prim.Native.Nat.{ℕ, _+_, _-_}
 use mathlib.Core.List.{_++_}
 use native.Mathlib.Omega.{arith}
@@ -13,14 +13,14 @@ use Rattle.index.proofs.lay.Statement.{statement}
 use Rattle.index.proofs.lay.Tie as tie
 
 -- what the run reader gave
-rows : (m : tie.After-a) → let b = m .before .before .before .before .before .before .before in m .a .given .0 .0 .rows .rows ≡ rowCount (b .pre .run)
+rows : (m : tie.After-a) → let back-6 = m .before .before .before .before .before .before in let b = back-6 .before in m .a .given .0 .0 .rows .rows ≡ rowCount (b .pre .run)
 rows m =
     let x = m .before .before .before in
     let b = x .before .before .before .before in
     let a = b .args in
     rows-are (a .input .now) (a .at) (a .skip) (a .signed) (a .out .now) (b .pre) _ _ _ (x .before .before .scratch .ensures) (x .read-run .ensures) _ (m .a .given .1)
 
-consumed : (m : tie.After-a) → let b = m .before .before .before .before .before .before .before in m .a .given .0 .0 .consumed .bytes ≡ length (layout (b .pre .run))
+consumed : (m : tie.After-a) → let back-6 = m .before .before .before .before .before .before in let b = back-6 .before in m .a .given .0 .0 .consumed .bytes ≡ length (layout (b .pre .run))
 consumed m =
     let x = m .before .before .before in
     let b = x .before .before .before .before in
@@ -34,23 +34,10 @@ held x =
     let a = b .args in
     held-is (a .input .now) (a .at) (a .skip) (a .signed) (a .out .now) (b .pre) _ _ _ (x .before .before .scratch .ensures) (x .read-run .ensures)
 
-scratch-requires : tie.Need-scratch-requires
-scratch-requires c κs = search needs
-
-slice-aggregate-read-run : tie.Need-slice-aggregate-read-run
-slice-aggregate-read-run c = search needs
-
-read-run-requires : tie.Need-read-run-requires
-read-run-requires c κs = search needs
-
-enum-known-a : tie.Need-enum-known-a
-enum-known-a c = search needs
-
 sub-n : tie.Need-sub-n
-sub-n c = let m = c .before .before .before .before in let b = m .before .before .before .before .before .before .before in omega (arith, rows m, b .pre .skips)
-
-slice-aggregate-copy : tie.Need-slice-aggregate-copy
-slice-aggregate-copy c = search needs
+sub-n c =
+    let back-6 = c .before .before .before .before .before .before in
+    let m = c .before .before .before .before in let b = back-6 .before .before .before .before .before in omega (arith, rows m, b .pre .skips)
 
 copy-requires : tie.Need-copy-requires
 copy-requires c κs =
@@ -64,7 +51,8 @@ copy-requires c κs =
 
 add-read-stream : tie.Need-add-read-stream
 add-read-stream c =
-    let m = c .before .before .before .before .before .before .before .before .before in
+    let back-6 = c .before .before .before .before .before .before in
+    let m = back-6 .before .before .before in
     let x = m .before .before .before in
     let b = x .before .before .before .before in
     let a = b .args in
@@ -72,7 +60,8 @@ add-read-stream c =
 
 mul-read-stream : tie.Need-mul-read-stream
 mul-read-stream c =
-    let m = c .before .before .before .before .before .before .before .before .before in
+    let back-6 = c .before .before .before .before .before .before in
+    let m = back-6 .before .before .before in
     let x = m .before .before .before in
     let b = x .before .before .before .before in
     let a = b .args in
@@ -80,7 +69,8 @@ mul-read-stream c =
 
 sub-read-stream : tie.Need-sub-read-stream
 sub-read-stream c =
-    let m = c .before .before .before .before .before .before .before .before .before in
+    let back-6 = c .before .before .before .before .before .before in
+    let m = back-6 .before .before .before in
     let x = m .before .before .before in
     let b = x .before .before .before .before in
     let a = b .args in
@@ -88,31 +78,18 @@ sub-read-stream c =
 
 part-read-stream-start : tie.Need-part-read-stream-start
 part-read-stream-start c =
-    let m = c .before .before .before .before .before .before .before .before .before in
+    let back-6 = c .before .before .before .before .before .before in
+    let m = back-6 .before .before .before in
     let x = m .before .before .before in
     let b = x .before .before .before .before in
     let a = b .args in
     omega (arith, rows m, rows-within (a .input .now) (a .at) (a .skip) (a .signed) (a .out .now) (b .pre), c .before .before .copy .kept .1 .1 .1 .0)
 
-part-read-stream-end : tie.Need-part-read-stream-end
-part-read-stream-end c = search needs
-
-read-stream-requires : tie.Need-read-stream-requires
-read-stream-requires c κs = search needs
-
-enum-told : tie.Need-enum-told
-enum-told c = search needs
-
-enum-told-2 : tie.Need-enum-told-2
-enum-told-2 c = search needs
-
-same-length : tie.Need-same-length
-same-length c = search needs
-
 returns : tie.Need-returns
 returns c =
+    let back-6 = c .before .before .before .before .before .before in
     let p = c .before .before .before .before .before in
-    let m = p .before .before .before .before .before .before .before in
+    let m = back-6 .before .before .before .before .before .before in
     let x = m .before .before .before in
     let b = x .before .before .before .before in
     let a = b .args in
@@ -137,24 +114,6 @@ returns-3 c =
 
 pub lay-spec : {M : Type 1} → statement M
 lay-spec =
-    tie.close
-    (tie.spec
-    scratch-requires
-    slice-aggregate-read-run
-    read-run-requires
-    enum-known-a
-    sub-n
-    slice-aggregate-copy
-    copy-requires
-    add-read-stream
-    mul-read-stream
-    sub-read-stream
-    part-read-stream-start
-    part-read-stream-end
-    read-stream-requires
-    enum-told
-    enum-told-2
-    same-length
-    returns
-    returns-2
-    returns-3)
+    tie.close (tie.spec (λ c κs. search needs) (λ c. search needs) (λ c κs. search needs) (λ c. search needs) sub-n (λ c. search needs) copy-requires add-read-stream
+    mul-read-stream sub-read-stream part-read-stream-start (λ c. search needs) (λ c κs. search needs) (λ c. search needs) (λ c. search needs) (λ c. search needs) returns
+    returns-2 returns-3)

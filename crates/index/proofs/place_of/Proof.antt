@@ -15,41 +15,19 @@ Inv-loop first counts row i₀ i = (i ≤ length first) × (placeOf row first co
 abbrev μ-loop : tie.MeasureT-loop
 μ-loop first counts row i₀ i = length first - i
 
-loop-holds : tie.Need-loop-holds Inv-loop μ-loop
-loop-holds c = (omega arith, place-first _ _ _)
-
-mul-holds : tie.Need-mul-holds Inv-loop μ-loop
-mul-holds c = search needs
-
-shared-slice-read-holds : tie.Need-shared-slice-read-holds Inv-loop μ-loop
-shared-slice-read-holds c = omega arith
-
-mul-holds-2 : tie.Need-mul-holds-2 Inv-loop μ-loop
-mul-holds-2 c = search needs
-
-shared-slice-read-holds-2 : tie.Need-shared-slice-read-holds-2 Inv-loop μ-loop
-shared-slice-read-holds-2 c = omega arith
-
-holds-requires : tie.Need-holds-requires Inv-loop μ-loop
-holds-requires c κs = search needs
-
 returns : tie.Need-returns Inv-loop μ-loop
 returns c =
+    let back-6 = c .before .before .before .before .before .before in
     let l = c .before .before .before .before .before .loop in
-    let b = c .before .before .before .before .before .before .before .before in
+    let b = back-6 .before .before in
     let a = b .args in
     place-here (a .row) (a .first .now) (a .counts .now) (l .i) (l .inv .1) (omega arith) (b .pre) (c .before .holds .result) (c .before .holds .ensures) (c .if1 .taken)
 
-add-i : tie.Need-add-i Inv-loop μ-loop
-add-i c = omega arith
-
-loop-less : tie.Need-loop-less Inv-loop μ-loop
-loop-less c = omega arith
-
 loop-again : tie.Need-loop-again Inv-loop μ-loop
 loop-again c =
+    let back-6 = c .before .before .before .before .before .before in
     let l = c .before .before .before .before .before .loop in
-    let b = c .before .before .before .before .before .before .before .before in
+    let b = back-6 .before .before in
     let a = b .args in (
       omega arith,
       place-next (a .row) (a .first .now) (a .counts .now) (l .i) (l .inv .1) (omega arith) (b .pre) (c .before .holds .result) (c .before .holds .ensures) (c .if1 .left),
@@ -63,18 +41,5 @@ returns-2 c =
 
 pub place-of-spec : {M : Type 1} → statement M
 place-of-spec =
-    tie.close
-    (tie.spec
-    Inv-loop
-    μ-loop
-    loop-holds
-    mul-holds
-    shared-slice-read-holds
-    mul-holds-2
-    shared-slice-read-holds-2
-    holds-requires
-    returns
-    add-i
-    loop-less
-    loop-again
-    returns-2)
+    tie.close (tie.spec Inv-loop μ-loop (λ c. (omega arith, place-first _ _ _)) (λ c. search needs) (λ c. omega arith) (λ c. search needs) (λ c. omega arith)
+    (λ c κs. search needs) returns (λ c. omega arith) (λ c. omega arith) loop-again returns-2)

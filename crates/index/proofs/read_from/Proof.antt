@@ -1,10 +1,10 @@
 -- What looking up answered, how many rows are left, and the rows laid. Assumes nothing.
-use mathlib.Core.Path.{_≡_, sym, _∙_}
+use mathlib.Core.Path.{sym, _∙_}
 use Prim.Native.Nat.{_-_}
 use native.Mathlib.Omega.{arith}
 use lib.ListN.{length, getD}
 use borrow.Author.Needs.{needs}
-use Rattle.format.proofs.Fields.{below-all}
+use Rattle.format.proofs.Below.{below-all}
 use Rattle.index.specs.declared.Found.the-variants as found
 use Rattle.index.proofs.Looked.{Through, After, what-looked}
 use Rattle.index.proofs.Previews.{left-many, left-rows, some, n-long, last-is, row-below, ready, eight-so, rows-so}
@@ -17,71 +17,52 @@ after x =
     let a = k .before .args in
     what-looked (a .input .now) (a .first .now) (a .at .now) (a .counts .now) (a .row .rows) _ (below-all 256 (a .input .now) (λ i. k .shared-slice-known .given i .fits)) (x .look-up .ensures)
 
-through : (m : tie.After-e) → let a = m .before .before .before .before .before .before .before .args in Through (a .input .now) (a .first .now) (a .at .now) (a .counts .now) (a .row .rows) (m .e .given .0 .0 .first .rows) (m .e .given .0 .0 .at .bytes)
+through : (m : tie.After-e) → let back-6 = m .before .before .before .before .before .before in let a = back-6 .before .args in Through (a .input .now) (a .first .now) (a .at .now) (a .counts .now) (a .row .rows) (m .e .given .0 .0 .first .rows) (m .e .given .0 .0 .at .bytes)
 through m = rw (m .e .given .1) at (after (m .before .before))
-
-look-up-requires : tie.Need-look-up-requires
-look-up-requires c κs = search needs
-
-enum-known-f : tie.Need-enum-known-f
-enum-known-f c = search needs
-
-enum-known-e : tie.Need-enum-known-e
-enum-known-e c = search needs
 
 sub-last : tie.Need-sub-last
 sub-last c =
+    let back-6 = c .before .before .before .before .before .before in
     let m = c .before .before .before in
-    let a = m .before .before .before .before .before .before .before .args in
+    let a = back-6 .before .before .before .before .args in
     some (a .input .now) (a .first .now) (a .at .now) (a .counts .now) (a .row .rows) (m .e .given .0 .0 .first .rows) (m .e .given .0 .0 .at .bytes) (through m)
-
-mul-left-from : tie.Need-mul-left-from
-mul-left-from c = search needs
 
 shared-slice-read-left-from : tie.Need-shared-slice-read-left-from
 shared-slice-read-left-from c =
+    let back-6 = c .before .before .before .before .before .before in
     let m = c .before .before .before .before in
-    let a = m .before .before .before .before .before .before .before .args in
+    let a = back-6 .before .before .before .before .before .args in
     omega (arith, some (a .input .now) (a .first .now) (a .at .now) (a .counts .now) (a .row .rows) (m .e .given .0 .0 .first .rows) (m .e .given .0 .0 .at .bytes) (through m))
-
-mul-left-from-2 : tie.Need-mul-left-from-2
-mul-left-from-2 c = search needs
 
 shared-slice-read-left-from-2 : tie.Need-shared-slice-read-left-from-2
 shared-slice-read-left-from-2 c =
+    let back-6 = c .before .before .before .before .before .before in
     let m = c .before .before .before .before .before in
-    let a = m .before .before .before .before .before .before .before .args in
+    let a = back-6 .before .before .before .before .before .before .args in
     omega (arith, some (a .input .now) (a .first .now) (a .at .now) (a .counts .now) (a .row .rows) (m .e .given .0 .0 .first .rows) (m .e .given .0 .0 .at .bytes) (through m), n-long (a .input .now) (a .first .now) (a .at .now) (a .counts .now) (a .row .rows) (m .e .given .0 .0 .first .rows) (m .e .given .0 .0 .at .bytes) (through m))
 
 left-from-requires : tie.Need-left-from-requires
 left-from-requires c κs =
+    let back-6 = c .before .before .before .before .before .before in
     let m = c .before .before .before .before .before in
-    let a = m .before .before .before .before .before .before .before .args in
+    let a = back-6 .before .before .before .before .before .before .args in
     row-below (a .input .now) (a .first .now) (a .at .now) (a .counts .now) (a .row .rows) (m .e .given .0 .0 .first .rows) (m .e .given .0 .0 .at .bytes) (through m)
 
-enum-told : tie.Need-enum-told
-enum-told c = search needs
-
-refused-requires : tie.Need-refused-requires
-refused-requires c κs = search needs
-
-enum-known-n : tie.Need-enum-known-n
-enum-known-n c = search needs
-
 sub-lay : tie.Need-sub-lay
-sub-lay c = through (c .before .before .before .before .before .before .before .before .before .before) .from
+sub-lay c =
+    let back-6 = c .before .before .before .before .before .before in
+    through (back-6 .before .before .before .before) .from
 
 lay-requires : tie.Need-lay-requires
 lay-requires c κs =
+    let back-6 = c .before .before .before .before .before .before in
+    let back-12 = back-6 .before .before .before .before .before .before in
     let n = c .before .before .before in
     let l = n .before .before in
     let m = l .before .before .before .before .before .before in
-    let a = m .before .before .before .before .before .before .before .args in
+    let a = back-12 .before .before .before .before .before .before .args in
     let (k, q) = left-rows (getD (a .first .now) (length (a .first .now) - 1) 0) (getD (a .counts .now) (length (a .first .now) - 1) 0) (a .row .rows) (length (a .out .now)) (n .n .given .0 .0) (sym (n .n .given .1) ∙ l .left-from .ensures) in
     ready (a .input .now) (a .first .now) (a .at .now) (a .counts .now) (a .row .rows) (m .e .given .0 .0 .first .rows) (m .e .given .0 .0 .at .bytes) (through m) _ (omega (arith, k, q, last-is (a .input .now) (a .first .now) (a .at .now) (a .counts .now) (a .row .rows) (m .e .given .0 .0 .first .rows) (m .e .given .0 .0 .at .bytes) (through m)))
-
-rows-requires : tie.Need-rows-requires
-rows-requires c κs = search needs
 
 returns : tie.Need-returns
 returns c =
@@ -92,45 +73,29 @@ returns c =
 
 returns-2 : tie.Need-returns-2
 returns-2 c =
+    let back-6 = c .before .before .before .before .before .before in
+    let back-12 = back-6 .before .before .before .before .before .before in
     let l = c .before .before .before in
     let m = l .before .before .before .before .before .before in
-    let a = m .before .before .before .before .before .before .before .args in
+    let a = back-12 .before .before .before .before .args in
     let k = left-many (getD (a .first .now) (length (a .first .now) - 1) 0) (getD (a .counts .now) (length (a .first .now) - 1) 0) (a .row .rows) (length (a .out .now)) (sym (c .before .enum-told .given .1) ∙ l .left-from .ensures) in
     rw (c .refused .ensures) (eight-so (a .input .now) (a .first .now) (a .at .now) (a .counts .now) (a .row .rows) (m .e .given .0 .0 .first .rows) (m .e .given .0 .0 .at .bytes) (through m) (a .signed) (a .out .now) (omega (arith, k, last-is (a .input .now) (a .first .now) (a .at .now) (a .counts .now) (a .row .rows) (m .e .given .0 .0 .first .rows) (m .e .given .0 .0 .at .bytes) (through m))))
 
-same-length : tie.Need-same-length
-same-length c = search needs
-
 returns-3 : tie.Need-returns-3
 returns-3 c =
+    let back-6 = c .before .before .before .before .before .before in
+    let back-12 = back-6 .before .before .before .before .before .before in
+    let back-18 = back-12 .before .before .before .before .before .before in
     let n = c .before .before .before .before .before .before in
     let l = n .before .before in
     let m = l .before .before .before .before .before .before in
-    let a = m .before .before .before .before .before .before .before .args in
+    let a = back-18 .before .before .before .args in
     let (k, q) = left-rows (getD (a .first .now) (length (a .first .now) - 1) 0) (getD (a .counts .now) (length (a .first .now) - 1) 0) (a .row .rows) (length (a .out .now)) (n .n .given .0 .0) (sym (n .n .given .1) ∙ l .left-from .ensures) in
     rw (c .rows .ensures)
     (rows-so (a .input .now) (a .first .now) (a .at .now) (a .counts .now) (a .row .rows) (m .e .given .0 .0 .first .rows) (m .e .given .0 .0 .at .bytes) (through m) (a .signed) (a .out .now) _ (omega (arith, k, last-is (a .input .now) (a .first .now) (a .at .now) (a .counts .now) (a .row .rows) (m .e .given .0 .0 .first .rows) (m .e .given .0 .0 .at .bytes) (through m))) q _ (c .before .before .lay .ensures))
 
 pub read-from-spec : {M : Type 1} → statement M
 read-from-spec =
-    tie.close
-    (tie.spec
-    look-up-requires
-    enum-known-f
-    enum-known-e
-    sub-last
-    mul-left-from
-    shared-slice-read-left-from
-    mul-left-from-2
-    shared-slice-read-left-from-2
-    left-from-requires
-    enum-told
-    refused-requires
-    enum-known-n
-    sub-lay
-    lay-requires
-    rows-requires
-    returns
-    returns-2
-    same-length
-    returns-3)
+    tie.close (tie.spec (λ c κs. search needs) (λ c. search needs) (λ c. search needs) sub-last (λ c. search needs) shared-slice-read-left-from (λ c. search needs)
+    shared-slice-read-left-from-2 left-from-requires (λ c. search needs) (λ c κs. search needs) (λ c. search needs) sub-lay lay-requires (λ c κs. search needs) returns
+    returns-2 (λ c. search needs) returns-3)

@@ -20,15 +20,6 @@ abbrev μ-loop : tie.MeasureT-loop
 loop-holds : tie.Need-loop-holds Inv-loop μ-loop
 loop-holds c = let a = c .before .args in (omega arith, omega arith, begin (now (a .lengths)) (now (a .block)))
 
-entry-requires : tie.Need-entry-requires Inv-loop μ-loop
-entry-requires c κs = omega arith
-
-enum-known-size : tie.Need-enum-known-size Inv-loop μ-loop
-enum-known-size c = search needs
-
-enum-told : tie.Need-enum-told Inv-loop μ-loop
-enum-told c = search needs
-
 returns : tie.Need-returns Inv-loop μ-loop
 returns c =
     let e = c .before .before in
@@ -36,24 +27,12 @@ returns c =
     let a = e .before .before .before .before .args in
     sym (l .inv .2 ∙ left-spoilt (now (a .lengths)) (l .i) (omega arith) (l .sum) _ (sym (e .entry .ensures) ∙ c .enum-told .given .1))
 
-sub-if1 : tie.Need-sub-if1 Inv-loop μ-loop
-sub-if1 c = omega arith
-
 returns-2 : tie.Need-returns-2 Inv-loop μ-loop
 returns-2 c =
     let e = c .before .before .before .before in
     let l = e .before .before .loop in
     let a = e .before .before .before .before .args in
     sym (l .inv .2 ∙ left-passed (now (a .lengths)) (l .i) (omega arith) (l .sum) _ _ (sym (e .entry .ensures) ∙ c .before .before .size .given .1) (omega arith))
-
-add-sum : tie.Need-add-sum Inv-loop μ-loop
-add-sum c = omega arith
-
-add-i : tie.Need-add-i Inv-loop μ-loop
-add-i c = omega arith
-
-loop-less : tie.Need-loop-less Inv-loop μ-loop
-loop-less c = omega arith
 
 loop-again : tie.Need-loop-again Inv-loop μ-loop
 loop-again c =
@@ -74,19 +53,5 @@ returns-3 c =
 
 pub add-up-spec : {M : Type 1} → statement M
 add-up-spec =
-    tie.close
-    (tie.spec
-    Inv-loop
-    μ-loop
-    loop-holds
-    entry-requires
-    enum-known-size
-    enum-told
-    returns
-    sub-if1
-    returns-2
-    add-sum
-    add-i
-    loop-less
-    loop-again
-    returns-3)
+    tie.close (tie.spec Inv-loop μ-loop loop-holds (λ c κs. omega arith) (λ c. search needs) (λ c. search needs) returns (λ c. omega arith) returns-2 (λ c. omega arith)
+    (λ c. omega arith) (λ c. omega arith) loop-again returns-3)

@@ -10,15 +10,6 @@ use Rattle.labels.specs.Whole.{wholeOf}
 use Rattle.labels.proofs.entry.Statement.{statement}
 use Rattle.labels.proofs.entry.Tie as tie
 
-mul-as-whole : tie.Need-mul-as-whole
-mul-as-whole c = search needs
-
-shared-slice-copy-out-as-whole : tie.Need-shared-slice-copy-out-as-whole
-shared-slice-copy-out-as-whole c = search needs
-
-as-whole-requires : tie.Need-as-whole-requires
-as-whole-requires c κs = search needs
-
 returns : tie.Need-returns
 returns c =
     let a = c .before .before .args in
@@ -26,5 +17,4 @@ returns c =
     c .as-whole .ensures ∙ ap wholeOf (toZ-ofZ {w = w64} {z = z} (sfits-of (c .before .as-whole-arg .given)))
 
 pub entry-spec : {M : Type 1} → statement M
-entry-spec =
-    tie.close (tie.spec mul-as-whole shared-slice-copy-out-as-whole as-whole-requires returns)
+entry-spec = tie.close (tie.spec (λ c. search needs) (λ c. search needs) (λ c κs. search needs) returns)

@@ -2,45 +2,28 @@
 use mathlib.Core.Path.{sym, ap, _∙_}
 use mathlib.Core.Bool.{not}
 use borrow.Author.Needs.{needs}
-use Rattle.labels.proofs.Columns.{no-row, not-added, without, with-name, added-up}
+use borrow.Author.Tests.{not-false}
+use Rattle.labels.proofs.Columns.{no-row, not-added, without, with-name}
 use Rattle.labels.proofs.label_of.Statement.{statement}
 use Rattle.labels.proofs.label_of.Tie as tie
 
-refused-requires : tie.Need-refused-requires
-refused-requires c κs = search needs
-
 returns : tie.Need-returns
 returns c = record { answer = c .refused .ensures ∙ sym (no-row _ _ _ _ _ _ (c .before .if1 .taken)) }
-
-add-up-requires : tie.Need-add-up-requires
-add-up-requires c κs = search needs
-
-refused-requires-2 : tie.Need-refused-requires-2
-refused-requires-2 c κs = search needs
 
 returns-2 : tie.Need-returns-2
 returns-2 c =
     let t = c .before .before in
     record { answer = c .refused2 .ensures ∙ sym (not-added _ _ _ _ _ _ (t .before .if1 .left) (ap not (sym (t .add-up .ensures)) ∙ c .before .if2 .taken)) }
 
-shared-slice-read-if3 : tie.Need-shared-slice-read-if3
-shared-slice-read-if3 c = search needs
-
-fallback-requires : tie.Need-fallback-requires
-fallback-requires c κs = search needs
-
 returns-3 : tie.Need-returns-3
 returns-3 c =
     let t = c .before .before .before .before in
     record { answer = c .fallback .ensures ∙ sym (without _ _ _ _ _ _ (t .before .if1 .left) (ap not (sym (t .add-up .ensures)) ∙ c .before .before .before .if2 .left) (c .before .if3 .taken)) }
 
-entry-of-requires : tie.Need-entry-of-requires
-entry-of-requires c κs = search needs
-
 named-requires : tie.Need-named-requires
 named-requires c κs =
     let t = c .before .before .before .before in
-    sym (t .add-up .ensures) ∙ added-up _ (c .before .before .before .if2 .left)
+    sym (t .add-up .ensures) ∙ not-false _ (c .before .before .before .if2 .left)
 
 returns-4 : tie.Need-returns-4
 returns-4 c =
@@ -52,16 +35,5 @@ returns-4 c =
 
 pub label-of-spec : {M : Type 1} → statement M
 label-of-spec =
-    tie.close
-    (tie.spec
-    refused-requires
-    returns
-    add-up-requires
-    refused-requires-2
-    returns-2
-    shared-slice-read-if3
-    fallback-requires
-    returns-3
-    entry-of-requires
-    named-requires
-    returns-4)
+    tie.close (tie.spec (λ c κs. search needs) returns (λ c κs. search needs) (λ c κs. search needs) returns-2 (λ c. search needs) (λ c κs. search needs) returns-3
+    (λ c κs. search needs) named-requires returns-4)

@@ -6,60 +6,25 @@ use Rattle.labels.proofs.Columns.{missing, below, outside, inside, adds
 use Rattle.labels.proofs.named.Statement.{statement}
 use Rattle.labels.proofs.named.Tie as tie
 
-refused-requires : tie.Need-refused-requires
-refused-requires c κs = search needs
-
 returns : tie.Need-returns
 returns c = c .refused .ensures ∙ sym (missing _ _ _ (c .before .if1 .taken))
-
-entry-requires : tie.Need-entry-requires
-entry-requires c κs = search needs
-
-enum-known-k : tie.Need-enum-known-k
-enum-known-k c = search needs
-
-enum-told : tie.Need-enum-told
-enum-told c = search needs
-
-refused-requires-2 : tie.Need-refused-requires-2
-refused-requires-2 c κs = search needs
 
 returns-2 : tie.Need-returns-2
 returns-2 c =
     let e = c .before .before .before in
     c .refused2 .ensures ∙ sym (below _ _ _ (e .before .if1 .left) (sym (e .entry .ensures) ∙ c .before .enum-told .given .1))
 
-refused-requires-3 : tie.Need-refused-requires-3
-refused-requires-3 c κs = search needs
-
 returns-3 : tie.Need-returns-3
 returns-3 c =
     let e = c .before .before .before .before .before in
     c .refused3 .ensures ∙ sym (outside _ _ _ (e .before .if1 .left) _ (sym (e .entry .ensures) ∙ c .before .before .before .k .given .1) (c .before .if2 .taken))
 
-entry-requires-2 : tie.Need-entry-requires-2
-entry-requires-2 c κs = search needs
-
-enum-known-size : tie.Need-enum-known-size
-enum-known-size c = search needs
-
-enum-told-2 : tie.Need-enum-told-2
-enum-told-2 c = search needs
-
-refused-requires-4 : tie.Need-refused-requires-4
-refused-requires-4 c κs = search needs
-
 returns-4 : tie.Need-returns-4
 returns-4 c =
+    let back-6 = c .before .before .before .before .before .before in
     let e = c .before .before .before in
-    let a = e .before .before .before .before .before .before .before .before in
+    let a = back-6 .before .before .before .before .before in
     absurd (adds-whole _ (now (a .args .block)) _ (a .pre) (e .before .if2 .left) (sym (e .entry2 .ensures) ∙ c .before .enum-told2 .given .1))
-
-start-of-requires : tie.Need-start-of-requires
-start-of-requires c κs = search needs
-
-name-requires : tie.Need-name-requires
-name-requires c κs = search needs
 
 returns-5 : tie.Need-returns-5
 returns-5 c =
@@ -73,22 +38,6 @@ returns-5 c =
 
 pub named-spec : {M : Type 1} → statement M
 named-spec =
-    tie.close
-    (tie.spec
-    refused-requires
-    returns
-    entry-requires
-    enum-known-k
-    enum-told
-    refused-requires-2
-    returns-2
-    refused-requires-3
-    returns-3
-    entry-requires-2
-    enum-known-size
-    enum-told-2
-    refused-requires-4
-    returns-4
-    start-of-requires
-    name-requires
-    returns-5)
+    tie.close (tie.spec (λ c κs. search needs) returns (λ c κs. search needs) (λ c. search needs) (λ c. search needs) (λ c κs. search needs) returns-2
+    (λ c κs. search needs) returns-3 (λ c κs. search needs) (λ c. search needs) (λ c. search needs) (λ c κs. search needs) returns-4 (λ c κs. search needs)
+    (λ c κs. search needs) returns-5)

@@ -14,22 +14,10 @@ use Rattle.labels.proofs.part_of.Tie as tie
 inside-block : (c : tie.After-said) → c .said .given .0 .0 .start .bytes + c .said .given .0 .0 .size .bytes ≤ length (now (c .before .before .before .before .before .before .args .block))
 inside-block c = name-inside _ _ _ _ _ _ _ (sym (c .before .before .label-of .ensures .answer) ∙ c .said .given .1)
 
-label-of-requires : tie.Need-label-of-requires
-label-of-requires c κs = search needs
-
-enum-known-said : tie.Need-enum-known-said
-enum-known-said c = search needs
-
 add-to : tie.Need-add-to
 add-to c =
     let n = c .before .before .before .before in
     omega (arith, inside-block n)
-
-sub-result : tie.Need-sub-result
-sub-result c = search needs
-
-part-result-start : tie.Need-part-result-start
-part-result-start c = search needs
 
 part-result-end : tie.Need-part-result-end
 part-result-end c = omega (arith, inside-block (c .before .before .before .before))
@@ -42,17 +30,8 @@ returns c =
           (sym (ap (partOf _ _) (sym (n .before .before .label-of .ensures .answer) ∙ n .said .given .1)));
     }
 
-enum-told : tie.Need-enum-told
-enum-told c = search needs
-
 returns-2 : tie.Need-returns-2
 returns-2 c = record { part-is = sym (ap (partOf _ _) (sym (c .before .before .label-of .ensures .answer) ∙ c .enum-told .given .1)) }
-
-enum-told-2 : tie.Need-enum-told-2
-enum-told-2 c = search needs
-
-slice-aggregate-result : tie.Need-slice-aggregate-result
-slice-aggregate-result c = search needs
 
 returns-3 : tie.Need-returns-3
 returns-3 c =
@@ -61,17 +40,5 @@ returns-3 c =
 
 pub part-of-spec : {M : Type 1} → statement M
 part-of-spec =
-    tie.close
-    (tie.spec
-    label-of-requires
-    enum-known-said
-    add-to
-    sub-result
-    part-result-start
-    part-result-end
-    returns
-    enum-told
-    returns-2
-    enum-told-2
-    slice-aggregate-result
-    returns-3)
+    tie.close (tie.spec (λ c κs. search needs) (λ c. search needs) add-to (λ c. search needs) (λ c. search needs) part-result-end returns (λ c. search needs) returns-2
+    (λ c. search needs) (λ c. search needs) returns-3)

@@ -16,7 +16,7 @@ abbrev μ-loop : tie.MeasureT-loop
 μ-loop lengths block k sum₀ i₀ sum i = k - i
 
 -- the sum with the length that was read
-more : (c : tie.After-known-told Inv-loop μ-loop) → startOf (now (c .before .before .before .before .before .before .before .args .lengths)) (c .before .before .before .before .before .loop .i + 1)
+more : (c : tie.After-known-told Inv-loop μ-loop) → let back-6 = c .before .before .before .before .before .before in startOf (now (back-6 .before .args .lengths)) (c .before .before .before .before .before .loop .i + 1)
     ≡ c .before .before .before .before .before .loop .sum + c .before .size .given .0 .0
 more c =
     let e = c .before .before .before in
@@ -28,15 +28,6 @@ loop-holds : tie.Need-loop-holds Inv-loop μ-loop
 unfolding startOf total
 loop-holds c = (omega arith, refl)
 
-entry-requires : tie.Need-entry-requires Inv-loop μ-loop
-entry-requires c κs = omega arith
-
-enum-known-size : tie.Need-enum-known-size Inv-loop μ-loop
-enum-known-size c = search needs
-
-enum-told : tie.Need-enum-told Inv-loop μ-loop
-enum-told c = search needs
-
 returns : tie.Need-returns Inv-loop μ-loop
 returns c =
     let e = c .before .before in
@@ -45,33 +36,14 @@ returns c =
     absurd (adds-whole (now (a .args .lengths)) (now (a .args .block)) (l .i) (a .pre .0) (omega arith) (sym (e .entry .ensures) ∙ c .enum-told .given .1))
 
 add-sum : tie.Need-add-sum Inv-loop μ-loop
-add-sum c = omega (arith, more c, adds-start _ _ (c .before .before .before .before .before .loop .i + 1) (c .before .before .before .before .before .before .before .pre .0))
-
-add-i : tie.Need-add-i Inv-loop μ-loop
-add-i c = omega arith
-
-loop-less : tie.Need-loop-less Inv-loop μ-loop
-loop-less c = omega arith
-
-loop-again : tie.Need-loop-again Inv-loop μ-loop
-loop-again c = (omega arith, sym (more c))
+add-sum c =
+    let back-6 = c .before .before .before .before .before .before in
+    omega (arith, more c, adds-start _ _ (c .before .before .before .before .before .loop .i + 1) (back-6 .before .pre .0))
 
 returns-2 : tie.Need-returns-2 Inv-loop μ-loop
 returns-2 c = let e : c .before .loop .i ≡ c .before .before .before .args .k = omega arith in c .before .loop .inv .1 ∙ ap (startOf _) e
 
 pub start-of-spec : {M : Type 1} → statement M
 start-of-spec =
-    tie.close
-    (tie.spec
-    Inv-loop
-    μ-loop
-    loop-holds
-    entry-requires
-    enum-known-size
-    enum-told
-    returns
-    add-sum
-    add-i
-    loop-less
-    loop-again
-    returns-2)
+    tie.close (tie.spec Inv-loop μ-loop loop-holds (λ c κs. omega arith) (λ c. search needs) (λ c. search needs) returns add-sum (λ c. omega arith) (λ c. omega arith)
+    (λ c. (omega arith, sym (more c))) returns-2)

@@ -11,24 +11,6 @@ returns c =
     let a = c .before .before .before .args in
     answered-none (now (a .line)) (now (a .out)) (now (a .out)) (c .if1 .taken)
 
-frame-places-requires : tie.Need-frame-places-requires
-frame-places-requires c κs = search needs
-
-slice-aggregate-frame-of : tie.Need-slice-aggregate-frame-of
-slice-aggregate-frame-of c = search needs
-
-frame-of-requires : tie.Need-frame-of-requires
-frame-of-requires c κs = search needs
-
-slice-aggregate-put-word : tie.Need-slice-aggregate-put-word
-slice-aggregate-put-word c = search needs
-
-put-word-requires : tie.Need-put-word-requires
-put-word-requires c κs = search needs
-
-same-length : tie.Need-same-length
-same-length c = search needs
-
 returns-2 : tie.Need-returns-2
 returns-2 c =
     let p = c .before .before in
@@ -52,9 +34,6 @@ put-frame-requires c κs =
     let f = c .before .before .before .before in
     (omega (arith, frame-long _ _ _ (f .frame-of .ensures)), omega arith)
 
-same-length-2 : tie.Need-same-length-2
-same-length-2 c = search needs
-
 returns-3 : tie.Need-returns-3
 returns-3 c =
     let p = c .before .before in
@@ -66,18 +45,5 @@ returns-3 c =
 
 pub answer-line-spec : {M : Type 1} → statement M
 answer-line-spec =
-    tie.close
-    (tie.spec
-    returns
-    frame-places-requires
-    slice-aggregate-frame-of
-    frame-of-requires
-    slice-aggregate-put-word
-    put-word-requires
-    same-length
-    returns-2
-    array-share-prefix-frame
-    slice-aggregate-put-frame
-    put-frame-requires
-    same-length-2
-    returns-3)
+    tie.close (tie.spec returns (λ c κs. search needs) (λ c. search needs) (λ c κs. search needs) (λ c. search needs) (λ c κs. search needs) (λ c. search needs) returns-2
+    array-share-prefix-frame slice-aggregate-put-frame put-frame-requires (λ c. search needs) returns-3)

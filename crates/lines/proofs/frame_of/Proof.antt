@@ -2,8 +2,9 @@
 use mathlib.Core.Path.{sym, _∙_}
 use denote.Ref.{now}
 use native.Mathlib.Omega.{arith}
-use Rattle.lines.proofs.Frames.{bad-empty, bad-odd, bad-long, bad-digit, bad-flag, framed, off, on}
+use Rattle.lines.proofs.Frames.{bad-empty, bad-odd, bad-long, bad-digit, bad-flag, framed}
 use borrow.Author.Needs.{needs}
+use borrow.Author.Tests.{not-true, not-false}
 use Rattle.lines.proofs.frame_of.Statement.{statement}
 use Rattle.lines.proofs.frame_of.Tie as tie
 
@@ -22,56 +23,30 @@ returns-3 c =
     let a = c .before .before .before .before .before .args in
     bad-long (now (a .line)) (now (a .frame)) (c .before .before .if1 .left) (c .before .if2 .left) (c .if3 .taken)
 
-bytes-requires : tie.Need-bytes-requires
-bytes-requires c κs = search needs
-
-same-length : tie.Need-same-length
-same-length c = search needs
-
 returns-4 : tie.Need-returns-4
 returns-4 c =
     let b = c .before .before .before in
     let i = b .before .before in
     let a = i .before .before .before .before .before .args in
-    bad-digit (now (a .line)) _ (i .before .before .if1 .left) (i .before .if2 .left) (i .if3 .left) (sym (b .bytes .ensures .0) ∙ off _ (c .if4 .taken))
-
-slice-read-if5 : tie.Need-slice-read-if5
-slice-read-if5 c = search needs
-
-same-length-2 : tie.Need-same-length-2
-same-length-2 c = search needs
+    bad-digit (now (a .line)) _ (i .before .before .if1 .left) (i .before .if2 .left) (i .if3 .left) (sym (b .bytes .ensures .0) ∙ not-true _ (c .if4 .taken))
 
 returns-5 : tie.Need-returns-5
 returns-5 c =
     let b = c .before .before .before .before .before in
     let i = b .before .before in
     let a = i .before .before .before .before .before .args in
-    let t = on _ (c .before .before .if4 .left) in
+    let t = not-false _ (c .before .before .if4 .left) in
     bad-flag (now (a .line)) _ (i .before .before .if1 .left) (i .before .if2 .left) (i .if3 .left) (sym (b .bytes .ensures .0) ∙ t) (b .bytes .ensures .1 t) (omega (arith, b .bytes .kept .1 .1 .0)) (c .if5 .taken)
-
-same-length-3 : tie.Need-same-length-3
-same-length-3 c = search needs
 
 returns-6 : tie.Need-returns-6
 returns-6 c =
     let b = c .before .before .before .before .before in
     let i = b .before .before in
     let a = i .before .before .before .before .before .args in
-    let t = on _ (c .before .before .if4 .left) in
+    let t = not-false _ (c .before .before .if4 .left) in
     framed (now (a .line)) _ (i .before .before .if1 .left) (i .before .if2 .left) (i .if3 .left) (sym (b .bytes .ensures .0) ∙ t) (b .bytes .ensures .1 t) (omega (arith, b .bytes .kept .1 .1 .0)) (c .if5 .left)
 
 pub frame-of-spec : {M : Type 1} → statement M
 frame-of-spec =
-    tie.close
-    (tie.spec
-    returns
-    returns-2
-    returns-3
-    bytes-requires
-    same-length
-    returns-4
-    slice-read-if5
-    same-length-2
-    returns-5
-    same-length-3
-    returns-6)
+    tie.close (tie.spec returns returns-2 returns-3 (λ c κs. search needs) (λ c. search needs) returns-4 (λ c. search needs) (λ c. search needs) returns-5
+    (λ c. search needs) returns-6)

@@ -8,18 +8,6 @@ use borrow.Author.Needs.{needs}
 use Rattle.lines.proofs.put_frame.Statement.{statement}
 use Rattle.lines.proofs.put_frame.Tie as tie
 
-row-places-requires : tie.Need-row-places-requires
-row-places-requires c κs = search needs
-
-slice-aggregate-read-frame : tie.Need-slice-aggregate-read-frame
-slice-aggregate-read-frame c = search needs
-
-read-frame-requires : tie.Need-read-frame-requires
-read-frame-requires c κs = search needs
-
-slice-aggregate-put-answer : tie.Need-slice-aggregate-put-answer
-slice-aggregate-put-answer c = search needs
-
 put-answer-requires : tie.Need-put-answer-requires
 put-answer-requires c κs =
     let r = c .before .before .before in
@@ -37,9 +25,6 @@ put-requires c κs =
     reads (now (s .args .frame)) _ _ _ _ (r .before .before .row-places .ensures) (r .read-frame .ensures) in
     omega (arith, s .pre, p .put-answer .ensures .next, p .put-answer .kept .1 .1 .0, words-length (r .read-frame .result) _ (r .read-frame .last .1 .0) (h .few))
 
-same-length : tie.Need-same-length
-same-length c = search needs
-
 returns : tie.Need-returns
 returns c =
     let q = c .before .before in
@@ -52,13 +37,4 @@ returns c =
 
 pub put-frame-spec : {M : Type 1} → statement M
 put-frame-spec =
-    tie.close
-    (tie.spec
-    row-places-requires
-    slice-aggregate-read-frame
-    read-frame-requires
-    slice-aggregate-put-answer
-    put-answer-requires
-    put-requires
-    same-length
-    returns)
+    tie.close (tie.spec (λ c κs. search needs) (λ c. search needs) (λ c κs. search needs) (λ c. search needs) put-answer-requires put-requires (λ c. search needs) returns)

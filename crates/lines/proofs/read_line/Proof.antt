@@ -6,15 +6,6 @@ use Rattle.lines.proofs.Readings.{read-bad, read-run}
 use Rattle.lines.proofs.read_line.Statement.{statement}
 use Rattle.lines.proofs.read_line.Tie as tie
 
-frame-places-requires : tie.Need-frame-places-requires
-frame-places-requires c κs = search needs
-
-slice-aggregate-frame-of : tie.Need-slice-aggregate-frame-of
-slice-aggregate-frame-of c = search needs
-
-frame-of-requires : tie.Need-frame-of-requires
-frame-of-requires c κs = search needs
-
 returns : tie.Need-returns
 returns c = read-bad _ _ _ _ (c .before .before .frame-of .ensures) (c .if1 .taken)
 
@@ -27,9 +18,6 @@ slice-aggregate-read-frame c = frame-long _ _ _ (c .before .before .before .fram
 read-frame-requires : tie.Need-read-frame-requires
 read-frame-requires c κs = let f = c .before .before .before .before in omega (arith, frame-long _ _ _ (f .frame-of .ensures))
 
-same-length : tie.Need-same-length
-same-length c = search needs
-
 returns-2 : tie.Need-returns-2
 returns-2 c =
     let p = c .before in
@@ -39,14 +27,5 @@ returns-2 c =
 
 pub read-line-spec : {M : Type 1} → statement M
 read-line-spec =
-    tie.close
-    (tie.spec
-    frame-places-requires
-    slice-aggregate-frame-of
-    frame-of-requires
-    returns
-    array-share-prefix-frame
-    slice-aggregate-read-frame
-    read-frame-requires
-    same-length
-    returns-2)
+    tie.close (tie.spec (λ c κs. search needs) (λ c. search needs) (λ c κs. search needs) returns array-share-prefix-frame slice-aggregate-read-frame read-frame-requires
+    (λ c. search needs) returns-2)

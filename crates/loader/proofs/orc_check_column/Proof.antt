@@ -5,18 +5,6 @@ use borrow.Author.Needs.{needs}
 use Rattle.loader.proofs.orc_check_column.Statement.{statement}
 use Rattle.loader.proofs.orc_check_column.Tie as tie
 
-returns : tie.Need-returns
-returns c = few check-long (omega arith)
-
-check-requires : tie.Need-check-requires
-check-requires c κs = search needs
-
-put-checked-requires : tie.Need-put-checked-requires
-put-checked-requires c κs = search needs
-
-same-length : tie.Need-same-length
-same-length c = search needs
-
 returns-2 : tie.Need-returns-2
 returns-2 c =
     let p = c .before .before in
@@ -24,5 +12,4 @@ returns-2 c =
     put check-long (a .check .ensures) (a .before .if1 .left) (p .put-checked .ensures)
 
 pub orc-check-column-spec : {M : Type 1} → statement M
-orc-check-column-spec =
-    tie.close (tie.spec returns check-requires put-checked-requires same-length returns-2)
+orc-check-column-spec = tie.close (tie.spec (λ c. few check-long (omega arith)) (λ c κs. search needs) (λ c κs. search needs) (λ c. search needs) returns-2)

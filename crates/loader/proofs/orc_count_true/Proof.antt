@@ -5,18 +5,6 @@ use Rattle.loader.proofs.Telling.{count-long, few, put}
 use Rattle.loader.proofs.orc_count_true.Statement.{statement}
 use Rattle.loader.proofs.orc_count_true.Tie as tie
 
-returns : tie.Need-returns
-returns c = few count-long (omega arith)
-
-count-true-requires : tie.Need-count-true-requires
-count-true-requires c κs = search needs
-
-put-count-requires : tie.Need-put-count-requires
-put-count-requires c κs = search needs
-
-same-length : tie.Need-same-length
-same-length c = search needs
-
 returns-2 : tie.Need-returns-2
 returns-2 c =
     let p = c .before .before in
@@ -24,4 +12,4 @@ returns-2 c =
     put count-long (a .count-true .ensures) (a .before .if1 .left) (p .put-count .ensures)
 
 pub orc-count-true-spec : {M : Type 1} → statement M
-orc-count-true-spec = tie.close (tie.spec returns count-true-requires put-count-requires same-length returns-2)
+orc-count-true-spec = tie.close (tie.spec (λ c. few count-long (omega arith)) (λ c κs. search needs) (λ c κs. search needs) (λ c. search needs) returns-2)

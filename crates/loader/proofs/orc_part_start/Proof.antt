@@ -6,18 +6,6 @@ use Rattle.loader.proofs.PartWords.{state-long}
 use Rattle.loader.proofs.orc_part_start.Statement.{statement}
 use Rattle.loader.proofs.orc_part_start.Tie as tie
 
-returns : tie.Need-returns
-returns c = few state-long (omega arith)
-
-start-requires : tie.Need-start-requires
-start-requires c κs = search needs
-
-put-reader-requires : tie.Need-put-reader-requires
-put-reader-requires c κs = search needs
-
-same-length : tie.Need-same-length
-same-length c = search needs
-
 returns-2 : tie.Need-returns-2
 returns-2 c =
     let p = c .before .before in
@@ -25,5 +13,4 @@ returns-2 c =
     put state-long (a .start .ensures) (a .before .if1 .left) (p .put-reader .ensures)
 
 pub orc-part-start-spec : {M : Type 1} → statement M
-orc-part-start-spec =
-    tie.close (tie.spec returns start-requires put-reader-requires same-length returns-2)
+orc-part-start-spec = tie.close (tie.spec (λ c. few state-long (omega arith)) (λ c κs. search needs) (λ c κs. search needs) (λ c. search needs) returns-2)

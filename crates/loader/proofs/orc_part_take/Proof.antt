@@ -15,27 +15,6 @@ returns-2 c =
     let a = c .before .before .before .before .before .before .args in
     part-few (few-words (now (a .state)) (now (a .words)) (c .before .if1 .left) (c .if2 .taken))
 
-reader-of-requires : tie.Need-reader-of-requires
-reader-of-requires c κs = search needs
-
-take-requires : tie.Need-take-requires
-take-requires c κs = search needs
-
-put-taken-requires : tie.Need-put-taken-requires
-put-taken-requires c κs = search needs
-
-same-length : tie.Need-same-length
-same-length c = search needs
-
-same-length-2 : tie.Need-same-length-2
-same-length-2 c = search needs
-
-same-length-3 : tie.Need-same-length-3
-same-length-3 c = search needs
-
-same-length-4 : tie.Need-same-length-4
-same-length-4 c = search needs
-
 returns-3 : tie.Need-returns-3
 returns-3 c =
     let p = c .before .before .before .before in
@@ -47,15 +26,5 @@ returns-3 c =
 
 pub orc-part-take-spec : {M : Type 1} → statement M
 orc-part-take-spec =
-    tie.close
-    (tie.spec
-    returns
-    returns-2
-    reader-of-requires
-    take-requires
-    put-taken-requires
-    same-length
-    same-length-2
-    same-length-3
-    same-length-4
-    returns-3)
+    tie.close (tie.spec returns returns-2 (λ c κs. search needs) (λ c κs. search needs) (λ c κs. search needs) (λ c. search needs) (λ c. search needs) (λ c. search needs)
+    (λ c. search needs) returns-3)

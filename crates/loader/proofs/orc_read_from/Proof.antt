@@ -5,21 +5,6 @@ use Rattle.loader.proofs.Telling.{preview-long, few-of, put-of}
 use Rattle.loader.proofs.orc_read_from.Statement.{statement}
 use Rattle.loader.proofs.orc_read_from.Tie as tie
 
-returns : tie.Need-returns
-returns c = few-of preview-long (omega arith)
-
-read-from-requires : tie.Need-read-from-requires
-read-from-requires c κs = search needs
-
-put-preview-requires : tie.Need-put-preview-requires
-put-preview-requires c κs = search needs
-
-same-length : tie.Need-same-length
-same-length c = search needs
-
-same-length-2 : tie.Need-same-length-2
-same-length-2 c = search needs
-
 returns-2 : tie.Need-returns-2
 returns-2 c =
     let p = c .before .before in
@@ -27,4 +12,5 @@ returns-2 c =
     put-of preview-long (a .read-from .ensures .answer) (a .before .before .if1 .left) (a .read-from .ensures .places) (p .put-preview .ensures)
 
 pub orc-read-from-spec : {M : Type 1} → statement M
-orc-read-from-spec = tie.close (tie.spec returns read-from-requires put-preview-requires same-length same-length-2 returns-2)
+orc-read-from-spec =
+    tie.close (tie.spec (λ c. few-of preview-long (omega arith)) (λ c κs. search needs) (λ c κs. search needs) (λ c. search needs) (λ c. search needs) returns-2)

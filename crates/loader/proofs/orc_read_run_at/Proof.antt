@@ -5,21 +5,6 @@ use Rattle.loader.proofs.Telling.{answer-long, few-of, put-of}
 use Rattle.loader.proofs.orc_read_run_at.Statement.{statement}
 use Rattle.loader.proofs.orc_read_run_at.Tie as tie
 
-returns : tie.Need-returns
-returns c = few-of answer-long (omega arith)
-
-read-run-requires : tie.Need-read-run-requires
-read-run-requires c κs = search needs
-
-put-answer-requires : tie.Need-put-answer-requires
-put-answer-requires c κs = search needs
-
-same-length : tie.Need-same-length
-same-length c = search needs
-
-same-length-2 : tie.Need-same-length-2
-same-length-2 c = search needs
-
 returns-2 : tie.Need-returns-2
 returns-2 c =
     let p = c .before .before in
@@ -27,4 +12,5 @@ returns-2 c =
     put-of answer-long (a .read-run .ensures .answer) (a .before .before .if1 .left) (a .read-run .ensures .places) (p .put-answer .ensures)
 
 pub orc-read-run-at-spec : {M : Type 1} → statement M
-orc-read-run-at-spec = tie.close (tie.spec returns read-run-requires put-answer-requires same-length same-length-2 returns-2)
+orc-read-run-at-spec =
+    tie.close (tie.spec (λ c. few-of answer-long (omega arith)) (λ c κs. search needs) (λ c κs. search needs) (λ c. search needs) (λ c. search needs) returns-2)

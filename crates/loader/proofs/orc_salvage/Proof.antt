@@ -9,27 +9,14 @@ use Rattle.loader.proofs.orc_salvage.Tie as tie
 returns : tie.Need-returns
 returns c = record { stream-told = few-of salvage-long (omega arith); report-told = few-of salvage-long (omega arith) }
 
-salvage-requires : tie.Need-salvage-requires
-salvage-requires c κs = search needs
-
-put-outcome-requires : tie.Need-put-outcome-requires
-put-outcome-requires c κs = search needs
-
-same-length : tie.Need-same-length
-same-length c = search needs
-
-same-length-2 : tie.Need-same-length-2
-same-length-2 c = search needs
-
-same-length-3 : tie.Need-same-length-3
-same-length-3 c = search needs
-
 returns-2 : tie.Need-returns-2
 returns-2 c =
+    let back-6 = c .before .before .before .before .before .before in
+    let back-12 = back-6 .before .before .before .before .before .before in
     let p = c .before .before in
     let a = p .before .before .before .before .before .before in
     let e = a .before .before .before in
-    let s = e .before .before .before .before .before .before .before in
+    let s = back-12 .before .before .before .before .before .before in
     let w = rw (toZ-ofZ (s .fits .fill)) at (a .salvage .ensures) in
     record {
       stream-told = put-of salvage-long (w .answer) (e .if1 .left) (w .new-stream) (p .put-outcome .ensures);
@@ -37,13 +24,4 @@ returns-2 c =
     }
 
 pub orc-salvage-spec : {M : Type 1} → statement M
-orc-salvage-spec =
-    tie.close
-    (tie.spec
-    returns
-    salvage-requires
-    put-outcome-requires
-    same-length
-    same-length-2
-    same-length-3
-    returns-2)
+orc-salvage-spec = tie.close (tie.spec returns (λ c κs. search needs) (λ c κs. search needs) (λ c. search needs) (λ c. search needs) (λ c. search needs) returns-2)

@@ -5,21 +5,6 @@ use borrow.Author.Needs.{needs}
 use Rattle.loader.proofs.orc_write_column.Statement.{statement}
 use Rattle.loader.proofs.orc_write_column.Tie as tie
 
-returns : tie.Need-returns
-returns c = few-of column-long (omega arith)
-
-write-column-requires : tie.Need-write-column-requires
-write-column-requires c κs = search needs
-
-put-column-requires : tie.Need-put-column-requires
-put-column-requires c κs = search needs
-
-same-length : tie.Need-same-length
-same-length c = search needs
-
-same-length-2 : tie.Need-same-length-2
-same-length-2 c = search needs
-
 returns-2 : tie.Need-returns-2
 returns-2 c =
     let p = c .before .before in
@@ -28,11 +13,4 @@ returns-2 c =
 
 pub orc-write-column-spec : {M : Type 1} → statement M
 orc-write-column-spec =
-    tie.close
-    (tie.spec
-    returns
-    write-column-requires
-    put-column-requires
-    same-length
-    same-length-2
-    returns-2)
+    tie.close (tie.spec (λ c. few-of column-long (omega arith)) (λ c κs. search needs) (λ c κs. search needs) (λ c. search needs) (λ c. search needs) returns-2)

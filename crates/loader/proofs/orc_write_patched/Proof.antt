@@ -6,21 +6,6 @@ use Rattle.loader.proofs.Telling.{answer-long, few-of, put-of}
 use Rattle.loader.proofs.orc_write_patched.Statement.{statement}
 use Rattle.loader.proofs.orc_write_patched.Tie as tie
 
-returns : tie.Need-returns
-returns c = few-of answer-long (omega arith)
-
-write-patched-requires : tie.Need-write-patched-requires
-write-patched-requires c κs = search needs
-
-put-answer-requires : tie.Need-put-answer-requires
-put-answer-requires c κs = search needs
-
-same-length : tie.Need-same-length
-same-length c = search needs
-
-same-length-2 : tie.Need-same-length-2
-same-length-2 c = search needs
-
 returns-2 : tie.Need-returns-2
 returns-2 c =
     let p = c .before .before in
@@ -29,4 +14,5 @@ returns-2 c =
     put-of answer-long (w .answer) (a .before .before .if1 .left) (w .places) (p .put-answer .ensures)
 
 pub orc-write-patched-spec : {M : Type 1} → statement M
-orc-write-patched-spec = tie.close (tie.spec returns write-patched-requires put-answer-requires same-length same-length-2 returns-2)
+orc-write-patched-spec =
+    tie.close (tie.spec (λ c. few-of answer-long (omega arith)) (λ c κs. search needs) (λ c κs. search needs) (λ c. search needs) (λ c. search needs) returns-2)

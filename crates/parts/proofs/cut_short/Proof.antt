@@ -4,12 +4,6 @@ use Rattle.parts.specs.Steps.{cutShort}
 use Rattle.parts.proofs.cut_short.Statement.{statement}
 use Rattle.parts.proofs.cut_short.Tie as tie
 
-enum-told : tie.Need-enum-told
-enum-told c = search needs
-
-enum-told-2 : tie.Need-enum-told-2
-enum-told-2 c = search needs
-
 returns : tie.Need-returns
 unfolding cutShort
 returns c = rw (c .enum-told .given .1)
@@ -19,4 +13,4 @@ unfolding cutShort
 returns-2 c = rw (c .enum-told2 .given .1)
 
 pub cut-short-spec : {M : Type 1} → statement M
-cut-short-spec = tie.close (tie.spec enum-told enum-told-2 returns returns-2)
+cut-short-spec = tie.close (tie.spec (λ c. search needs) (λ c. search needs) returns returns-2)

@@ -3,11 +3,8 @@ use borrow.Author.Needs.{needs}
 use Rattle.parts.proofs.hand.Statement.{statement}
 use Rattle.parts.proofs.hand.Tie as tie
 
-wrapping-add-usize-requires : tie.Need-wrapping-add-usize-requires
-wrapping-add-usize-requires c κs = search needs
-
 returns : tie.Need-returns
 returns c = rw (c .before .wrapping-add-usize .ensures)
 
 pub hand-spec : {M : Type 1} → statement M
-hand-spec = tie.close (tie.spec wrapping-add-usize-requires returns)
+hand-spec = tie.close (tie.spec (λ c κs. search needs) returns)

@@ -8,9 +8,6 @@ use Rattle.planner.proofs.Checking.{unequal}
 use Rattle.planner.proofs.check.Statement.{statement}
 use Rattle.planner.proofs.check.Tie as tie
 
-are-equal-requires : tie.Need-are-equal-requires
-are-equal-requires c κs = search needs
-
 returns : tie.Need-returns
 returns c =
     let s = c .before .before .before .before in
@@ -21,8 +18,5 @@ returns c =
 walk-requires : tie.Need-walk-requires
 walk-requires c κs = sym (c .before .are-equal .ensures) ∙ not-false _ (c .if1 .left)
 
-returns-2 : tie.Need-returns-2
-returns-2 c = search needs
-
 pub check-spec : {M : Type 1} → statement M
-check-spec = tie.close (tie.spec are-equal-requires returns walk-requires returns-2)
+check-spec = tie.close (tie.spec (λ c κs. search needs) returns walk-requires (λ c. search needs))

@@ -12,12 +12,6 @@ use Rattle.planner.proofs.Columns.{was-accepted, wide-test, wrote-plann
 use Rattle.planner.proofs.write_column.Statement.{statement}
 use Rattle.planner.proofs.write_column.Tie as tie
 
-check-requires : tie.Need-check-requires
-check-requires c κs = search needs
-
-enum-known-c : tie.Need-enum-known-c
-enum-known-c c = search needs
-
 planned-requires : tie.Need-planned-requires
 planned-requires c κs =
     let m = c .before .before in
@@ -25,15 +19,6 @@ planned-requires c κs =
     let s = k .before .before .before .before in
     let a = s .before .before .before .args in
     was-accepted (a .signed) (now (a .rows)) (proposal (now (a .first)) (now (a .counts)) (now (a .forms)) (now (a .widths)) (now (a .bases))) (length (now (a .out))) (m .c .given .0 .0) (sym (m .c .given .1) ∙ k .check .ensures) .0
-
-enum-told : tie.Need-enum-told
-enum-told c = search needs
-
-wide-fits-requires : tie.Need-wide-fits-requires
-wide-fits-requires c κs = search needs
-
-new-requires : tie.Need-new-requires
-new-requires c κs = search needs
 
 returns : tie.Need-returns
 returns c =
@@ -54,12 +39,6 @@ fits e =
     let a = s .before .before .before .args in
     sym (wide-test (a .signed) (now (a .rows)) (proposal (now (a .first)) (now (a .counts)) (now (a .forms)) (now (a .widths)) (now (a .bases))) (length (now (a .out))) _ (x .wide-fits .ensures)) ∙ not-false _ (e .if1 .left)
 
-wide-requires : tie.Need-wide-requires
-wide-requires c κs = leb-true _ _ (fits (c .before))
-
-same-length : tie.Need-same-length
-same-length c = search needs
-
 returns-2 : tie.Need-returns-2
 returns-2 c =
     let p = c .before .before in
@@ -68,9 +47,6 @@ returns-2 c =
     let s = k .before .before .before .before in
     let a = s .before .before .before .args in
     wrote-planned (a .signed) (now (a .rows)) (proposal (now (a .first)) (now (a .counts)) (now (a .forms)) (now (a .widths)) (now (a .bases))) (now (a .out)) _ (m .c .given .0 .0) (sym (m .c .given .1) ∙ k .check .ensures) (p .planned .ensures)
-
-same-length-2 : tie.Need-same-length-2
-same-length-2 c = search needs
 
 returns-3 : tie.Need-returns-3
 returns-3 c =
@@ -83,17 +59,5 @@ returns-3 c =
 
 pub write-column-spec : {M : Type 1} → statement M
 write-column-spec =
-    tie.close
-    (tie.spec
-    check-requires
-    enum-known-c
-    planned-requires
-    enum-told
-    wide-fits-requires
-    new-requires
-    returns
-    wide-requires
-    same-length
-    returns-2
-    same-length-2
-    returns-3)
+    tie.close (tie.spec (λ c κs. search needs) (λ c. search needs) planned-requires (λ c. search needs) (λ c κs. search needs) (λ c κs. search needs) returns
+    (λ c κs. leb-true _ _ (fits (c .before))) (λ c. search needs) returns-2 (λ c. search needs) returns-3)

@@ -6,22 +6,11 @@ use borrow.Author.Needs.{needs}
 use Rattle.rle_v2.proofs.in_places.Statement.{statement}
 use Rattle.rle_v2.proofs.in_places.Tie as tie
 
-enum-known-measured : tie.Need-enum-known-measured
-enum-known-measured c = search needs
-
-refused-requires : tie.Need-refused-requires
-refused-requires c κs = search needs
-
 returns : tie.Need-returns
 returns c =
-    let a = c .before .before .before .before .before .before .before .args in
+    let back-6 = c .before .before .before .before .before .before in
+    let a = back-6 .before .args in
     λ total m e. rw (c .refused .ensures) (placed-8 (a .at) total (a .places) m _ (sym (c .before .before .before .before .before .measured .given .1) ∙ e) (c .before .if1 .taken))
-
-enum-known-measured-2 : tie.Need-enum-known-measured-2
-enum-known-measured-2 c = search needs
-
-enum-told : tie.Need-enum-told
-enum-told c = search needs
 
 returns-2 : tie.Need-returns-2
 returns-2 c =
@@ -39,14 +28,4 @@ returns-4 c =
     λ total m e. placed-none (a .at) total (a .places) m answer.End tt (sym (c .enum-told .given .1) ∙ e)
 
 pub in-places-spec : {M : Type 1} → statement M
-in-places-spec =
-    tie.close
-    (tie.spec
-    enum-known-measured
-    refused-requires
-    returns
-    enum-known-measured-2
-    enum-told
-    returns-2
-    returns-3
-    returns-4)
+in-places-spec = tie.close (tie.spec (λ c. search needs) (λ c κs. search needs) returns (λ c. search needs) (λ c. search needs) returns-2 returns-3 returns-4)

@@ -1,4 +1,4 @@
--- Each turn counts one run more, or ends with what document 01 says. Assumes nothing.
+-- Each turn counts one run more, or ends with what the definition says. Assumes nothing.
 use mathlib.Core.Path.{_≡_, _∙_}
 use Prim.Native.Nat.{_-_}
 use native.Mathlib.Omega.{arith}
@@ -6,9 +6,10 @@ use mathlib.Core.List.{[]}
 use lib.ListN.{length, drop, drop-of-length-le}
 use borrow.Author.Needs.{needs}
 use Rattle.format.specs.Fields.{two64}
-use Rattle.format.proofs.Fields.{below-all}
+use Rattle.format.proofs.Below.{below-all}
 use Rattle.format.proofs.Runs.{layout-pos}
-use Rattle.rle_v2.proofs.StreamWalk.{OneRun, NoRun, Step, step-is, Counted, counted-first, counted-run, counted-whole, counted-refused}
+use Rattle.rle_v2.proofs.OneRun.{OneRun, NoRun, Step, step-is}
+use Rattle.rle_v2.proofs.StreamWalk.{Counted, counted-first, counted-run, counted-whole, counted-refused}
 use Rattle.rle_v2.proofs.measure_stream.Statement.{statement}
 use Rattle.rle_v2.proofs.measure_stream.Tie as tie
 
@@ -26,82 +27,58 @@ step x =
     step-is (a .input .now) (l .place) (two64 - 1 - l .count) (x .in-places .result) (below-all 256 (a .input .now) (λ i. x .before .before .before .before .shared-slice-known .given i .fits))
     (x .in-places .ensures _ _ (x .before .measure .ensures))
 
-ran-is : (m : tie.After-a Inv-loop μ-loop) → let l = m .before .before .before .before .before .loop in let a = m .before .before .before .before .before .before .before .args in OneRun (a .input .now) (l .place) (two64 - 1 - l .count) (m .a .given .0 .0)
+ran-is : (m : tie.After-a Inv-loop μ-loop) → let back-6 = m .before .before .before .before .before .before in let l = m .before .before .before .before .before .loop in let a = back-6 .before .args in OneRun (a .input .now) (l .place) (two64 - 1 - l .count) (m .a .given .0 .0)
 ran-is m = rw (m .a .given .1) at (step (m .before .before))
 
-refused-is : (m : tie.After-a2 Inv-loop μ-loop) → let l = m .before .before .before .before .before .loop in let a = m .before .before .before .before .before .before .before .args in NoRun (a .input .now) (l .place) (two64 - 1 - l .count) (m .a2 .given .0 .0)
+refused-is : (m : tie.After-a2 Inv-loop μ-loop) → let back-6 = m .before .before .before .before .before .before in let l = m .before .before .before .before .before .loop in let a = back-6 .before .args in NoRun (a .input .now) (l .place) (two64 - 1 - l .count) (m .a2 .given .0 .0)
 refused-is m = rw (m .a2 .given .1) at (step (m .before .before))
 
-ended-is : (m : tie.After-enum-told Inv-loop μ-loop) → let l = m .before .before .before .before .before .loop in let a = m .before .before .before .before .before .before .before .args in drop (l .place) (a .input .now) ≡ []
+ended-is : (m : tie.After-enum-told Inv-loop μ-loop) → let back-6 = m .before .before .before .before .before .before in let l = m .before .before .before .before .before .loop in let a = back-6 .before .args in drop (l .place) (a .input .now) ≡ []
 ended-is m = rw (m .enum-told .given .1) at (step (m .before .before))
 
-loop-holds : tie.Need-loop-holds Inv-loop μ-loop
-loop-holds c = counted-first _ _ _
-
-measure-requires : tie.Need-measure-requires Inv-loop μ-loop
-measure-requires c κs = search needs
-
-sub-in-places : tie.Need-sub-in-places Inv-loop μ-loop
-sub-in-places c = c .before .before .loop .inv .fits
-
-in-places-requires : tie.Need-in-places-requires Inv-loop μ-loop
-in-places-requires c κs = search needs
-
-enum-known-a : tie.Need-enum-known-a Inv-loop μ-loop
-enum-known-a c = search needs
-
 add-count : tie.Need-add-count Inv-loop μ-loop
-add-count c = omega (arith, ran-is (c .before .before .before .before) .fits, c .before .before .before .before .before .before .before .before .before .loop .inv .fits)
+add-count c =
+    let back-6 = c .before .before .before .before .before .before in
+    omega (arith, ran-is (c .before .before .before .before) .fits, back-6 .before .before .before .loop .inv .fits)
 
 add-place : tie.Need-add-place Inv-loop μ-loop
 add-place c = omega (arith, ran-is (c .before .before .before .before .before) .within)
 
 loop-less : tie.Need-loop-less Inv-loop μ-loop
 loop-less c =
+    let back-6 = c .before .before .before .before .before .before in
     let o = ran-is (c .before .before .before .before .before) in
-    omega (arith, o .within, o .bytes-are, layout-pos (o .run), c .before .before .before .before .before .before .before .before .before .loop-test .taken)
+    omega (arith, o .within, o .bytes-are, layout-pos (o .run), back-6 .before .before .before .loop-test .taken)
 
 loop-again : tie.Need-loop-again Inv-loop μ-loop
 loop-again c =
-    let l = c .before .before .before .before .before .before .before .before .before .before .loop in
-    let a = c .before .before .before .before .before .before .before .before .before .before .before .before .args in
-    counted-run (a .input .now) (a .at .bytes) (two64 - 1) (l .place) (l .count) (l .last) (l .inv) _ (c .before .before .before .before .before .before .before .before .before .loop-test .taken) (ran-is (c .before .before .before .before .before))
-
-enum-known-a-2 : tie.Need-enum-known-a-2 Inv-loop μ-loop
-enum-known-a-2 c = search needs
+    let back-6 = c .before .before .before .before .before .before in
+    let l = back-6 .before .before .before .before .loop in
+    let a = back-6 .before .before .before .before .before .before .args in
+    counted-run (a .input .now) (a .at .bytes) (two64 - 1) (l .place) (l .count) (l .last) (l .inv) _ (back-6 .before .before .before .loop-test .taken) (ran-is (c .before .before .before .before .before))
 
 sub-refused : tie.Need-sub-refused Inv-loop μ-loop
 sub-refused c = omega (arith, c .before .before .before .before .before .before .loop .inv .bytes)
 
-refused-requires : tie.Need-refused-requires Inv-loop μ-loop
-refused-requires c κs = search needs
-
 returns : tie.Need-returns Inv-loop μ-loop
 returns c =
-    let l = c .before .before .before .before .before .before .before .loop in
-    let a = c .before .before .before .before .before .before .before .before .before .args in
+    let back-6 = c .before .before .before .before .before .before in
+    let l = back-6 .before .loop in
+    let a = back-6 .before .before .before .args in
     c .refused .ensures ∙ counted-refused (a .input .now) (a .at .bytes) (two64 - 1) (l .place) (l .count) (l .last) (l .inv) _ (refused-is (c .before .before))
-
-enum-told : tie.Need-enum-told Inv-loop μ-loop
-enum-told c = search needs
 
 sub-whole : tie.Need-sub-whole Inv-loop μ-loop
 sub-whole c = omega (arith, c .before .before .before .before .before .loop .inv .bytes)
 
-whole-requires : tie.Need-whole-requires Inv-loop μ-loop
-whole-requires c κs = search needs
-
 returns-2 : tie.Need-returns-2 Inv-loop μ-loop
 returns-2 c =
+    let back-6 = c .before .before .before .before .before .before in
     let l = c .before .before .before .before .before .before .loop in
-    let a = c .before .before .before .before .before .before .before .before .args in
+    let a = back-6 .before .before .args in
     c .whole .ensures ∙ counted-whole (a .input .now) (a .at .bytes) (two64 - 1) (l .place) (l .count) (l .last) (l .inv) (ended-is (c .before))
 
 sub-whole-2 : tie.Need-sub-whole-2 Inv-loop μ-loop
 sub-whole-2 c = omega (arith, c .before .loop .inv .bytes)
-
-whole-requires-2 : tie.Need-whole-requires-2 Inv-loop μ-loop
-whole-requires-2 c κs = search needs
 
 returns-3 : tie.Need-returns-3 Inv-loop μ-loop
 returns-3 c =
@@ -111,27 +88,6 @@ returns-3 c =
 
 pub measure-stream-spec : {M : Type 1} → statement M
 measure-stream-spec =
-    tie.close
-    (tie.spec
-    Inv-loop
-    μ-loop
-    loop-holds
-    measure-requires
-    sub-in-places
-    in-places-requires
-    enum-known-a
-    add-count
-    add-place
-    loop-less
-    loop-again
-    enum-known-a-2
-    sub-refused
-    refused-requires
-    returns
-    enum-told
-    sub-whole
-    whole-requires
-    returns-2
-    sub-whole-2
-    whole-requires-2
-    returns-3)
+    tie.close (tie.spec Inv-loop μ-loop (λ c. counted-first _ _ _) (λ c κs. search needs) (λ c. c .before .before .loop .inv .fits) (λ c κs. search needs)
+    (λ c. search needs) add-count add-place loop-less loop-again (λ c. search needs) sub-refused (λ c κs. search needs) returns (λ c. search needs) sub-whole
+    (λ c κs. search needs) returns-2 sub-whole-2 (λ c κs. search needs) returns-3)

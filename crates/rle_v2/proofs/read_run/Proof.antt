@@ -8,20 +8,8 @@ use borrow.Author.Needs.{needs}
 use Rattle.rle_v2.proofs.read_run.Statement.{statement}
 use Rattle.rle_v2.proofs.read_run.Tie as tie
 
-end-requires : tie.Need-end-requires
-end-requires c κs = search needs
-
 returns : tie.Need-returns
 returns c = let a = c .before .before .before .args in rw (c .end .ensures) (gives-none (a .at .bytes) _ (a .signed) _ (now (a .out)) answer.End tt (rw (nothing-there (now (a .input)) (a .at .bytes) (c .before .if1 .taken))))
-
-shared-slice-read-kind : tie.Need-shared-slice-read-kind
-shared-slice-read-kind c = search needs
-
-read-requires : tie.Need-read-requires
-read-requires c κs = search needs
-
-same-length : tie.Need-same-length
-same-length c = search needs
 
 returns-2 : tie.Need-returns-2
 returns-2 c =
@@ -30,12 +18,6 @@ returns-2 c =
     let a = e .before .before .args in
     rw (is-short (now (a .input)) (a .at .bytes) (e .if1 .left) (t .if2 .taken)) (c .before .read .ensures)
 
-read-requires-2 : tie.Need-read-requires-2
-read-requires-2 c κs = search needs
-
-same-length-2 : tie.Need-same-length-2
-same-length-2 c = search needs
-
 returns-3 : tie.Need-returns-3
 returns-3 c =
     let t = c .before .before .before in
@@ -43,24 +25,12 @@ returns-3 c =
     let a = e .before .before .args in
     rw (is-direct (now (a .input)) (a .at .bytes) (e .if1 .left) (t .if3 .taken)) (c .before .read2 .ensures)
 
-read-requires-3 : tie.Need-read-requires-3
-read-requires-3 c κs = search needs
-
-same-length-3 : tie.Need-same-length-3
-same-length-3 c = search needs
-
 returns-4 : tie.Need-returns-4
 returns-4 c =
     let t = c .before .before .before in
     let e = t .before .before .before .before in
     let a = e .before .before .args in
     rw (is-patched (now (a .input)) (a .at .bytes) (e .if1 .left) (t .if4 .taken)) (c .before .read3 .ensures)
-
-read-requires-4 : tie.Need-read-requires-4
-read-requires-4 c κs = search needs
-
-same-length-4 : tie.Need-same-length-4
-same-length-4 c = search needs
 
 returns-5 : tie.Need-returns-5
 returns-5 c =
@@ -72,20 +42,5 @@ returns-5 c =
 
 pub read-run-spec : {M : Type 1} → statement M
 read-run-spec =
-    tie.close
-    (tie.spec
-    end-requires
-    returns
-    shared-slice-read-kind
-    read-requires
-    same-length
-    returns-2
-    read-requires-2
-    same-length-2
-    returns-3
-    read-requires-3
-    same-length-3
-    returns-4
-    read-requires-4
-    same-length-4
-    returns-5)
+    tie.close (tie.spec (λ c κs. search needs) returns (λ c. search needs) (λ c κs. search needs) (λ c. search needs) returns-2 (λ c κs. search needs) (λ c. search needs)
+    returns-3 (λ c κs. search needs) (λ c. search needs) returns-4 (λ c κs. search needs) (λ c. search needs) returns-5)

@@ -1,15 +1,15 @@
--- The stream reader keeps its promise: each turn reads one run more, or ends with what document 01 says. Assumes nothing.
+-- The stream reader keeps its promise: each turn reads one run more, or ends with what the definition says. Assumes nothing.
 use Prim.Native.Nat.{_-_}
 use mathlib.Core.Path.{_≡_, _∙_, ap}
 use mathlib.Core.List.{[], _++_}
 use Rattle.format.specs.Parse.{parse}
 use Rattle.format.specs.Promises.{Gives}
 use lib.ListN.{length, take, drop, drop-of-length-le}
-use denote.Ref.{now}
-use Rattle.format.proofs.Fields.{below-all}
+use Rattle.format.proofs.Below.{below-all}
 use Rattle.format.proofs.Runs.{layout-pos}
 use Rattle.util.proofs.Grow.{rest-is}
-use Rattle.rle_v2.proofs.StreamWalk.{OneRun, NoRun, Step, Walked, walked-first, walked-step, walked-run, back-refused, back-ended, walked-whole, walked-refused}
+use Rattle.rle_v2.proofs.OneRun.{OneRun, NoRun, Step}
+use Rattle.rle_v2.proofs.StreamPlaces.{Walked, walked-first, walked-step, walked-run, back-refused, back-ended, walked-whole, walked-refused}
 use borrow.Author.Needs.{needs}
 use native.Mathlib.Omega.{arith}
 use Rattle.rle_v2.proofs.read_stream.Statement.{statement}
@@ -65,27 +65,6 @@ back-3 m =
     let a = x .before .before .before .before .before .args in
     back-ended (a .input .now) (a .at .bytes) (a .signed) (a .out .now) (l .out) (l .p) (l .k) (l .last) (l .inv) _ _ (given x) (ended-is m)
 
-loop-holds : tie.Need-loop-holds Inv-loop μ-loop
-loop-holds c = walked-first _ _ _ _
-
-mul-read-run : tie.Need-mul-read-run Inv-loop μ-loop
-mul-read-run c = omega arith
-
-sub-read-run : tie.Need-sub-read-run Inv-loop μ-loop
-sub-read-run c = omega arith
-
-part-read-run-start : tie.Need-part-read-run-start Inv-loop μ-loop
-part-read-run-start c = omega arith
-
-part-read-run-end : tie.Need-part-read-run-end Inv-loop μ-loop
-part-read-run-end c = omega arith
-
-read-run-requires : tie.Need-read-run-requires Inv-loop μ-loop
-read-run-requires c κs = search needs
-
-enum-known-a : tie.Need-enum-known-a Inv-loop μ-loop
-enum-known-a c = search needs
-
 add-k : tie.Need-add-k Inv-loop μ-loop
 add-k c =
     let m = c .before .before .before .before in
@@ -109,15 +88,6 @@ loop-again c =
     let a = x .before .before .before .before .before .args in
     walked-run (a .input .now) (a .at .bytes) (a .signed) (a .out .now) (l .out) (l .p) (l .k) (l .last) (l .inv) _ _ (given x) _ (x .before .before .loop-test .taken) (ran-is m)
 
-enum-known-a-2 : tie.Need-enum-known-a-2 Inv-loop μ-loop
-enum-known-a-2 c = search needs
-
-sub-refused : tie.Need-sub-refused Inv-loop μ-loop
-sub-refused c = omega arith
-
-refused-requires : tie.Need-refused-requires Inv-loop μ-loop
-refused-requires c κs = search needs
-
 same-length : tie.Need-same-length Inv-loop μ-loop
 same-length c = let m = c .before .before in ap length (back-2 m) ∙ m .before .before .before .before .before .before .loop .inv .long
 
@@ -129,15 +99,6 @@ returns c =
     let a = x .before .before .before .before .before .args in
     rw (c .refused .ensures, back-2 m)
     (walked-refused (a .input .now) (a .at .bytes) (a .signed) (a .out .now) (l .out) (l .p) (l .k) (l .last) (l .inv) _ (refused-is m))
-
-enum-told : tie.Need-enum-told Inv-loop μ-loop
-enum-told c = search needs
-
-sub-whole : tie.Need-sub-whole Inv-loop μ-loop
-sub-whole c = omega arith
-
-whole-requires : tie.Need-whole-requires Inv-loop μ-loop
-whole-requires c κs = search needs
 
 same-length-2 : tie.Need-same-length-2 Inv-loop μ-loop
 same-length-2 c = let m = c .before in ap length (back-3 m) ∙ m .before .before .before .before .before .before .loop .inv .long
@@ -151,15 +112,6 @@ returns-2 c =
     rw (c .whole .ensures, back-3 m)
     (walked-whole (a .input .now) (a .at .bytes) (a .signed) (a .out .now) (l .out) (l .p) (l .k) (l .last) (l .inv) (ended-is m))
 
-sub-whole-2 : tie.Need-sub-whole-2 Inv-loop μ-loop
-sub-whole-2 c = omega arith
-
-whole-requires-2 : tie.Need-whole-requires-2 Inv-loop μ-loop
-whole-requires-2 c κs = search needs
-
-same-length-3 : tie.Need-same-length-3 Inv-loop μ-loop
-same-length-3 c = c .before .before .loop .inv .long
-
 returns-3 : tie.Need-returns-3 Inv-loop μ-loop
 returns-3 c =
     let l = c .before .before .loop in
@@ -169,32 +121,6 @@ returns-3 c =
 
 pub read-stream-spec : {M : Type 1} → statement M
 read-stream-spec =
-    tie.close
-    (tie.spec
-    Inv-loop
-    μ-loop
-    loop-holds
-    mul-read-run
-    sub-read-run
-    part-read-run-start
-    part-read-run-end
-    read-run-requires
-    enum-known-a
-    add-k
-    add-p
-    loop-less
-    loop-again
-    enum-known-a-2
-    sub-refused
-    refused-requires
-    same-length
-    returns
-    enum-told
-    sub-whole
-    whole-requires
-    same-length-2
-    returns-2
-    sub-whole-2
-    whole-requires-2
-    same-length-3
-    returns-3)
+    tie.close (tie.spec Inv-loop μ-loop (λ c. walked-first _ _ _ _) (λ c. omega arith) (λ c. omega arith) (λ c. omega arith) (λ c. omega arith) (λ c κs. search needs)
+    (λ c. search needs) add-k add-p loop-less loop-again (λ c. search needs) (λ c. omega arith) (λ c κs. search needs) same-length returns (λ c. search needs)
+    (λ c. omega arith) (λ c κs. search needs) same-length-2 returns-2 (λ c. omega arith) (λ c κs. search needs) (λ c. c .before .before .loop .inv .long) returns-3)

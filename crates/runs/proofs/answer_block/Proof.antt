@@ -24,18 +24,6 @@ loop-holds : tie.Need-loop-holds Inv-loop μ-loop
 unfolding begunFrom
 loop-holds c = (omega arith, refl, refl)
 
-sub-answer-lines : tie.Need-sub-answer-lines Inv-loop μ-loop
-sub-answer-lines c = omega arith
-
-part-answer-lines-start : tie.Need-part-answer-lines-start Inv-loop μ-loop
-part-answer-lines-start c = omega arith
-
-part-answer-lines-end : tie.Need-part-answer-lines-end Inv-loop μ-loop
-part-answer-lines-end c = omega arith
-
-answer-lines-requires : tie.Need-answer-lines-requires Inv-loop μ-loop
-answer-lines-requires c κs = tt
-
 same-length : tie.Need-same-length Inv-loop μ-loop
 same-length c = let k = c .before .before .before in k .answer-lines .kept .1 .0 ∙ k .before .before .before .loop .inv .1
 
@@ -58,12 +46,6 @@ add-next c =
     let a = k .before .before .before .before .before .before .args in
     let t = rw (rest-is (now (a .input)) (l .from)) at (k .answer-lines .ensures) in
     omega (arith, t .within, length-drop (l .from) (now (a .input)))
-
-sub-say : tie.Need-sub-say Inv-loop μ-loop
-sub-say c = omega arith
-
-part-say-start : tie.Need-part-say-start Inv-loop μ-loop
-part-say-start c = omega arith
 
 part-say-end : tie.Need-part-say-end Inv-loop μ-loop
 part-say-end c =
@@ -100,14 +82,13 @@ say-requires c κs =
     rw z (t .text ∙ sym (whole-text (take n (drop (l .from) (now (a .input)))) (t .whole)))
 
 same-length-2 : tie.Need-same-length-2 Inv-loop μ-loop
-same-length-2 c = let k = c .before .before .before .before .before .before .before in k .answer-lines .kept .1 .0 ∙ k .before .before .before .loop .inv .1
-
-returns-2 : tie.Need-returns-2 Inv-loop μ-loop
-returns-2 c = tt
+same-length-2 c =
+    let back-6 = c .before .before .before .before .before .before in
+    let k = back-6 .before in k .answer-lines .kept .1 .0 ∙ k .before .before .before .loop .inv .1
 
 loop-less : tie.Need-loop-less Inv-loop μ-loop
 loop-less c =
-    let k = c .before .before .before .before .before .before .before in
+    let k = (let back-6 = c .before .before .before .before .before .before in back-6 .before) in
     let l = k .before .before .before .loop in
     let a = k .before .before .before .before .before .before .args in
     let t = rw (rest-is (now (a .input)) (l .from)) at (k .answer-lines .ensures) in
@@ -115,7 +96,7 @@ loop-less c =
 
 loop-again : tie.Need-loop-again Inv-loop μ-loop
 loop-again c =
-    let k = c .before .before .before .before .before .before .before in
+    let k = (let back-6 = c .before .before .before .before .before .before in back-6 .before) in
     let l = k .before .before .before .loop in
     let a = k .before .before .before .before .before .before .args in
     let t = rw (rest-is (now (a .input)) (l .from)) at (k .answer-lines .ensures) in (
@@ -126,25 +107,5 @@ loop-again c =
 
 pub answer-block-spec : {M : Type 1} → statement M
 answer-block-spec =
-    tie.close
-    (tie.spec
-    Inv-loop
-    μ-loop
-    loop-holds
-    sub-answer-lines
-    part-answer-lines-start
-    part-answer-lines-end
-    answer-lines-requires
-    same-length
-    returns
-    add-next
-    sub-say
-    part-say-start
-    part-say-end
-    slice-reshare-prefix-say
-    slice-aggregate-say
-    say-requires
-    same-length-2
-    returns-2
-    loop-less
-    loop-again)
+    tie.close (tie.spec Inv-loop μ-loop loop-holds (λ c. omega arith) (λ c. omega arith) (λ c. omega arith) (λ c κs. tt) same-length returns add-next (λ c. omega arith)
+    (λ c. omega arith) part-say-end slice-reshare-prefix-say slice-aggregate-say say-requires same-length-2 (λ c. tt) loop-less loop-again)

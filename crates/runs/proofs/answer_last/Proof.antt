@@ -7,12 +7,6 @@ use Rattle.runs.proofs.Pieces.{last-text}
 use Rattle.runs.proofs.answer_last.Statement.{statement}
 use Rattle.runs.proofs.answer_last.Tie as tie
 
-returns : tie.Need-returns
-returns c = search needs
-
-answer-line-requires : tie.Need-answer-line-requires
-answer-line-requires c κs = search needs
-
 slice-reshare-prefix-say : tie.Need-slice-reshare-prefix-say
 slice-reshare-prefix-say c = answered-le _ _ _ _ (c .before .before .answer-line .ensures)
 
@@ -26,20 +20,6 @@ say-requires c κs =
     let h = e .before .before .before .pre in
     last-text _ _ _ _ (k .answer-line .ensures) (h .1) (h .0) (e .if1 .left)
 
-same-length : tie.Need-same-length
-same-length c = search needs
-
-returns-2 : tie.Need-returns-2
-returns-2 c = search needs
-
 pub answer-last-spec : {M : Type 1} → statement M
 answer-last-spec =
-    tie.close
-    (tie.spec
-    returns
-    answer-line-requires
-    slice-reshare-prefix-say
-    slice-aggregate-say
-    say-requires
-    same-length
-    returns-2)
+    tie.close (tie.spec (λ c. search needs) (λ c κs. search needs) slice-reshare-prefix-say slice-aggregate-say say-requires (λ c. search needs) (λ c. search needs))

@@ -14,23 +14,8 @@ Inv-loop input₀ output₀ left₀ turns₀ input output left turns = (74337 �
 abbrev μ-loop : tie.MeasureT-loop
 μ-loop input₀ output₀ left₀ turns₀ input output left turns = turns
 
-input-places-requires : tie.Need-input-places-requires Inv-loop μ-loop
-input-places-requires c κs = tt
-
-large-buffer-requires : tie.Need-large-buffer-requires Inv-loop μ-loop
-large-buffer-requires c κs = tt
-
 loop-holds : tie.Need-loop-holds Inv-loop μ-loop
 loop-holds c = (sym (c .before .input-places .ensures), c .large-buffer .ensures, (omega arith, omega arith, tt))
-
-enum-known-left : tie.Need-enum-known-left Inv-loop μ-loop
-enum-known-left c = search needs
-
-enum-told : tie.Need-enum-told Inv-loop μ-loop
-enum-told c = search needs
-
-returns : tie.Need-returns Inv-loop μ-loop
-returns c = tt
 
 slice-aggregate-turn : tie.Need-slice-aggregate-turn Inv-loop μ-loop
 slice-aggregate-turn c = c .before .before .before .before .before .loop .inv .0
@@ -44,41 +29,18 @@ turn-requires c κs =
     let r = rw (c .before .before .before .left .given .1) at (l .inv .2) in
     (r .0, r .1, omega arith, omega arith, r .2)
 
-sub-turns : tie.Need-sub-turns Inv-loop μ-loop
-sub-turns c = omega arith
-
-loop-less : tie.Need-loop-less Inv-loop μ-loop
-loop-less c = omega arith
-
 loop-again : tie.Need-loop-again Inv-loop μ-loop
 loop-again c =
+    let back-6 = c .before .before .before .before .before .before in
     let t = c .before .before in
-    let l = t .before .before .before .before .before .before .before .loop in
+    let l = back-6 .before .before .before .loop in
     let g = t .before .before .before .before .left .given .0 in (
       l .inv .0 ∙ sym (t .turn .kept .0),
       l .inv .1 ∙ sym (t .turn .kept .1 .1 .1 .0),
       turned-ready (part (g .0) (g .1 .0) (l .input)) (t .turn .last .0) (t .turn .result) (t .turn .ensures),
     )
 
-returns-2 : tie.Need-returns-2 Inv-loop μ-loop
-returns-2 c = tt
-
 pub main-spec : {M : Type 1} → statement M
 main-spec =
-    tie.close
-    (tie.spec
-    Inv-loop
-    μ-loop
-    input-places-requires
-    large-buffer-requires
-    loop-holds
-    enum-known-left
-    enum-told
-    returns
-    slice-aggregate-turn
-    slice-aggregate-turn-2
-    turn-requires
-    sub-turns
-    loop-less
-    loop-again
-    returns-2)
+    tie.close (tie.spec Inv-loop μ-loop (λ c κs. tt) (λ c κs. tt) loop-holds (λ c. search needs) (λ c. search needs) (λ c. tt) slice-aggregate-turn slice-aggregate-turn-2
+    turn-requires (λ c. omega arith) (λ c. omega arith) loop-again (λ c. tt))

@@ -12,12 +12,6 @@ use Rattle.runs.proofs.Turns.{turned}
 use Rattle.runs.proofs.turn.Statement.{statement}
 use Rattle.runs.proofs.turn.Tie as tie
 
-read-on-requires : tie.Need-read-on-requires
-read-on-requires c κs = search needs
-
-slice-reshare-prefix-answer-came : tie.Need-slice-reshare-prefix-answer-came
-slice-reshare-prefix-answer-came c = search needs
-
 slice-aggregate-answer-came : tie.Need-slice-aggregate-answer-came
 slice-aggregate-answer-came c = sym (length-take-le _ _ (c .before .before .before .read-on .ensures .within))
 
@@ -28,12 +22,6 @@ answer-came-requires c κs =
     let e = toZ-ofZ {w = w64} {z = r .read-on .result .got} (record { sfits = c .struct-told .given .1 .1 .0 .1 }) in
     (stop-long _ _ _ _ _ (r .read-on .ensures) ∙ ap (λ (z : ℤ). r .read-on .result .held + came z) (sym e), held-open _ _ _ _ _ (r .read-on .ensures) (s .pre .4), s .pre .3)
 
-same-length : tie.Need-same-length
-same-length c = search needs
-
-same-length-2 : tie.Need-same-length-2
-same-length-2 c = search needs
-
 returns : tie.Need-returns
 returns c =
     let q = c .before .before in
@@ -42,12 +30,4 @@ returns c =
 
 pub turn-spec : {M : Type 1} → statement M
 turn-spec =
-    tie.close
-    (tie.spec
-    read-on-requires
-    slice-reshare-prefix-answer-came
-    slice-aggregate-answer-came
-    answer-came-requires
-    same-length
-    same-length-2
-    returns)
+    tie.close (tie.spec (λ c κs. search needs) (λ c. search needs) slice-aggregate-answer-came answer-came-requires (λ c. search needs) (λ c. search needs) returns)

@@ -11,47 +11,30 @@ use Rattle.salvage.proofs.salvage.Statement.{statement}
 use Rattle.salvage.proofs.salvage.Tie as tie
 
 -- the starts and counts are in order
-right : (e : tie.Else2) → let a = e .before .before .before .before .before .before .before .before .args in RightStarts (a .input .now) (a .starts .now) (a .counts .now)
+right : (e : tie.Else2) → let back-6 = e .before .before .before .before .before .before in let a = back-6 .before .before .args in RightStarts (a .input .now) (a .starts .now) (a .counts .now)
 right e = record { lengths = omega arith; right = true-T _ (sym (e .before .starts-right .ensures) ∙ not-false _ (e .if2 .left)) }
-
-refused-requires : tie.Need-refused-requires
-refused-requires c κs = search needs
 
 returns : tie.Need-returns
 returns c =
-    let a = c .before .before .before .before .before .before .before .args in
+    let back-6 = c .before .before .before .before .before .before in
+    let a = back-6 .before .args in
     was-refused (a .signed) (a .fill) (a .input .now) (a .starts .now) (a .counts .now) 17 (other-lengths (a .signed) (a .fill) (a .input .now) (a .starts .now) (a .counts .now) _ _ (λ e. omega (arith, e))) (c .refused .ensures)
-
-starts-right-requires : tie.Need-starts-right-requires
-starts-right-requires c κs = search needs
-
-refused-requires-2 : tie.Need-refused-requires-2
-refused-requires-2 c κs = search needs
 
 returns-2 : tie.Need-returns-2
 returns-2 c =
+    let back-6 = c .before .before .before .before .before .before in
     let t = c .before .before in
-    let a = t .before .before .before .before .before .before .before .args in
+    let a = back-6 .before .before .before .args in
     was-refused (a .signed) (a .fill) (a .input .now) (a .starts .now) (a .counts .now) 17
     (wrong-starts (a .signed) (a .fill) (a .input .now) (a .starts .now) (a .counts .now) _ _ (sym (t .starts-right .ensures) ∙ not-true _ (c .before .if2 .taken))) (c .refused2 .ensures)
 
-has-room-requires : tie.Need-has-room-requires
-has-room-requires c κs = right (c .before .before)
-
-refused-requires-3 : tie.Need-refused-requires-3
-refused-requires-3 c κs = search needs
-
-same-length : tie.Need-same-length
-same-length c = search needs
-
-same-length-2 : tie.Need-same-length-2
-same-length-2 c = search needs
-
 returns-3 : tie.Need-returns-3
 returns-3 c =
+    let back-6 = c .before .before .before .before .before .before in
+    let back-12 = back-6 .before .before .before .before .before .before in
     let h = c .before .before in
     let e = h .before .before .before in
-    let s = e .before .before .before .before .before .before .before .before in
+    let s = back-12 .before in
     let a = s .args in
     was-refused (a .signed) (a .fill) (a .input .now) (a .starts .now) (a .counts .now) 8
     (no-room (a .signed) (a .fill) (a .input .now) (a .starts .now) (a .counts .now) _ _ (right e) (sym (rw (toZ-ofZ (s .fits .fill)) at (h .has-room .ensures)) ∙ not-true _ (c .before .if3 .taken))) (c .refused3 .ensures)
@@ -59,30 +42,14 @@ returns-3 c =
 write-all-requires : tie.Need-write-all-requires
 write-all-requires c κs = let h = c .before .before .before in (right (h .before .before .before), rw (h .has-room .ensures) at (not-false (h .has-room .result) (c .before .before .if3 .left)))
 
-same-length-3 : tie.Need-same-length-3
-same-length-3 c = search needs
-
-same-length-4 : tie.Need-same-length-4
-same-length-4 c = search needs
-
 returns-4 : tie.Need-returns-4
-returns-4 c = let s = c .before .before .before .before .before .before .before .before .before .before .before .before .before .before .before .before .before .before .before in rw (toZ-ofZ (s .fits .fill)) at (c .before .before .before .before .write-all .ensures)
+returns-4 c =
+    let back-6 = c .before .before .before .before .before .before in
+    let back-12 = back-6 .before .before .before .before .before .before in
+    let back-18 = back-12 .before .before .before .before .before .before in
+    let s = back-18 .before in rw (toZ-ofZ (s .fits .fill)) at (c .before .before .before .before .write-all .ensures)
 
 pub salvage-spec : {M : Type 1} → statement M
 salvage-spec =
-    tie.close
-    (tie.spec
-    refused-requires
-    returns
-    starts-right-requires
-    refused-requires-2
-    returns-2
-    has-room-requires
-    refused-requires-3
-    same-length
-    same-length-2
-    returns-3
-    write-all-requires
-    same-length-3
-    same-length-4
-    returns-4)
+    tie.close (tie.spec (λ c κs. search needs) returns (λ c κs. search needs) (λ c κs. search needs) returns-2 (λ c κs. right (c .before .before)) (λ c κs. search needs)
+    (λ c. search needs) (λ c. search needs) returns-3 write-all-requires (λ c. search needs) (λ c. search needs) returns-4)

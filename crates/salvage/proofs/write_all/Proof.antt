@@ -28,80 +28,53 @@ turn-of k =
     turn (a .signed) (toZ w64 (ofZ w64 (a .fill))) (a .input .now) (a .starts .now) (a .counts .now) (rw (toZ-ofZ (z .fits .fill)) (z .fits .fill)) (l .i) (k .before .before .before .loop-test .taken) (z .pre .0 .lengths) _ (k .before .bytes-of .ensures) _ (k .is-kept .ensures) _
     (s .stored .ensures)
 
-stored-requires : tie.Need-stored-requires Inv-loop μ-loop
-stored-requires c κs = search needs
-
 loop-holds : tie.Need-loop-holds Inv-loop μ-loop
 loop-holds c = let s = c .before .before .before .before .before .before in let a = s .args in laid-none (a .signed) (toZ w64 (ofZ w64 (a .fill))) (a .input .now) (a .starts .now) (a .counts .now) (a .out .now) (a .report .now) (rw (toZ-ofZ (s .fits .fill)) (s .pre .1))
 
-mul-rows : tie.Need-mul-rows Inv-loop μ-loop
-mul-rows c = omega arith
-
 shared-slice-read-rows : tie.Need-shared-slice-read-rows Inv-loop μ-loop
-shared-slice-read-rows c = let s = c .before .before .before .before .before .before .before .before .before in omega (arith, s .pre .0 .lengths)
+shared-slice-read-rows c =
+    let back-6 = c .before .before .before .before .before .before in
+    let s = back-6 .before .before .before in omega (arith, s .pre .0 .lengths)
 
 bytes-of-requires : tie.Need-bytes-of-requires Inv-loop μ-loop
-bytes-of-requires c κs = let s = c .before .before .before .before .before .before .before .before .before in (s .pre .0 .right, omega arith)
-
-is-kept-requires : tie.Need-is-kept-requires Inv-loop μ-loop
-is-kept-requires c κs = search needs
+bytes-of-requires c κs =
+    let back-6 = c .before .before .before .before .before .before in
+    let s = back-6 .before .before .before in (s .pre .0 .right, omega arith)
 
 put-group-requires : tie.Need-put-group-requires Inv-loop μ-loop
-put-group-requires c κs = let k = c .before in let a = k .before .before .before .before .before .before .before .before .before .before .before .args in stream-room (a .signed) (toZ w64 (ofZ w64 (a .fill))) (a .input .now) (a .starts .now) (a .counts .now) (k .before .before .before .before .loop .inv) (turn-of k)
+put-group-requires c κs =
+    let back-6 = c .before .before .before .before .before .before in
+    let k = c .before in let a = back-6 .before .before .before .before .before .before .args in stream-room (a .signed) (toZ w64 (ofZ w64 (a .fill))) (a .input .now) (a .starts .now) (a .counts .now) (k .before .before .before .before .loop .inv) (turn-of k)
 
 put-line-requires : tie.Need-put-line-requires Inv-loop μ-loop
-put-line-requires c κs = let k = c .before .before .before .before .before in let a = k .before .before .before .before .before .before .before .before .before .before .before .args in lines-room (a .signed) (toZ w64 (ofZ w64 (a .fill))) (a .input .now) (a .starts .now) (a .counts .now) (k .before .before .before .before .loop .inv) (turn-of k)
-
-add-i : tie.Need-add-i Inv-loop μ-loop
-add-i c = omega arith
-
-loop-less : tie.Need-loop-less Inv-loop μ-loop
-loop-less c = omega arith
+put-line-requires c κs =
+    let back-6 = c .before .before .before .before .before .before in
+    let back-12 = back-6 .before .before .before .before .before .before in
+    let k = c .before .before .before .before .before in let a = back-12 .before .before .before .before .args in lines-room (a .signed) (toZ w64 (ofZ w64 (a .fill))) (a .input .now) (a .starts .now) (a .counts .now) (k .before .before .before .before .loop .inv) (turn-of k)
 
 loop-again : tie.Need-loop-again Inv-loop μ-loop
 loop-again c =
+    let back-6 = c .before .before .before .before .before .before in
+    let back-12 = back-6 .before .before .before .before .before .before in
+    let back-18 = back-12 .before .before .before .before .before .before in
     let y = c .before .before in
     let z = y .before .before .before .before in
     let k = z .before .before in
-    let a = k .before .before .before .before .before .before .before .before .before .before .before .args in
+    let a = back-18 .before .args in
     laid-next (a .signed) (toZ w64 (ofZ w64 (a .fill))) (a .input .now) (a .starts .now) (a .counts .now) (k .before .before .before .before .loop .inv) (turn-of k) (omega arith)
     (z .put-group .ensures) (z .put-group .kept .1 .1 .1 .1 .0) (y .put-line .ensures) (y .put-line .kept .1 .1 .1 .0)
 
-written-requires : tie.Need-written-requires Inv-loop μ-loop
-written-requires c κs = search needs
-
-same-length : tie.Need-same-length Inv-loop μ-loop
-same-length c = c .before .before .loop .inv .same-out
-
-same-length-2 : tie.Need-same-length-2 Inv-loop μ-loop
-same-length-2 c = c .before .before .loop .inv .same-lines
-
 returns : tie.Need-returns Inv-loop μ-loop
 returns c =
+    let back-6 = c .before .before .before .before .before .before in
     let l = c .before .before .loop in
-    let s = c .before .before .before .before .before .before .before .before .before in
+    let s = back-6 .before .before .before in
     let a = s .args in
     rw (toZ-ofZ (s .fits .fill)) at
     (was-written (a .signed) (toZ w64 (ofZ w64 (a .fill))) (a .input .now) (a .starts .now) (a .counts .now) (s .pre .0) (rw (toZ-ofZ (s .fits .fill)) (s .pre .1)) (l .inv) (omega arith) (c .written .ensures))
 
 pub write-all-spec : {M : Type 1} → statement M
 write-all-spec =
-    tie.close
-    (tie.spec
-    Inv-loop
-    μ-loop
-    stored-requires
-    loop-holds
-    mul-rows
-    shared-slice-read-rows
-    bytes-of-requires
-    is-kept-requires
-    put-group-requires
-    put-line-requires
-    add-i
-    loop-less
-    loop-again
-    written-requires
-    same-length
-    same-length-2
-    returns)
+    tie.close (tie.spec Inv-loop μ-loop (λ c κs. search needs) loop-holds (λ c. omega arith) shared-slice-read-rows bytes-of-requires (λ c κs. search needs)
+    put-group-requires put-line-requires (λ c. omega arith) (λ c. omega arith) loop-again (λ c κs. search needs) (λ c. c .before .before .loop .inv .same-out)
+    (λ c. c .before .before .loop .inv .same-lines) returns)

@@ -1,7 +1,7 @@
 -- `count_true` meets its contract. Assumes nothing.
-use Prim.Native.Nat.{ℕ, _+_, _*_, _/_, _%_, _<_, _≤_}
+use Prim.Native.Nat.{ℕ, _+_, _*_, _/_, _%_, _≤_}
 use mathlib.Core.Path.{_≡_, sym, ap, _∙_}
-use lib.ListN.{length, getD}
+use lib.ListN.{getD}
 use denote.Ref.{now}
 use Rattle.season.specs.declared.Count.the-variants.{True, Refused}
 use Rattle.season.specs.Ones.{onesIn}
@@ -11,16 +11,10 @@ use native.Mathlib.Omega.{arith}
 use Rattle.season.proofs.count_true.Statement.{statement}
 use Rattle.season.proofs.count_true.Tie as tie
 
-cut-requires : tie.Need-cut-requires
-cut-requires c κs = search needs
-
 returns : tie.Need-returns
 returns c =
     let a = c .before .before .before .args in
     ap Refused (c .cut .ensures) ∙ sym (too-few (a .n) (now (a .bytes)) (omega arith))
-
-ones-in-requires : tie.Need-ones-in-requires
-ones-in-requires c κs = search needs
 
 returns-2 : tie.Need-returns-2
 returns-2 c =
@@ -29,19 +23,10 @@ returns-2 c =
     let e : 8 * (a .n / 8) ≡ a .n = omega arith in
     ap True (c .before .ones-in .ensures ∙ ap (λ (m : ℕ). onesIn m (now (a .bytes))) e) ∙ sym (enough (a .n) (now (a .bytes)) (omega arith))
 
-cut-requires-2 : tie.Need-cut-requires-2
-cut-requires-2 c κs = search needs
-
 returns-3 : tie.Need-returns-3
 returns-3 c =
     let a = c .before .before .before .before .before .before .args in
     ap Refused (c .cut2 .ensures) ∙ sym (too-few (a .n) (now (a .bytes)) (omega arith))
-
-shared-slice-read-ones-of : tie.Need-shared-slice-read-ones-of
-shared-slice-read-ones-of c = search needs
-
-ones-of-requires : tie.Need-ones-of-requires
-ones-of-requires c κs = search needs
 
 add-t12 : tie.Need-add-t12
 add-t12 c =
@@ -68,15 +53,5 @@ returns-4 c =
 
 pub count-true-spec : {M : Type 1} → statement M
 count-true-spec =
-    tie.close
-    (tie.spec
-    cut-requires
-    returns
-    ones-in-requires
-    returns-2
-    cut-requires-2
-    returns-3
-    shared-slice-read-ones-of
-    ones-of-requires
-    add-t12
-    returns-4)
+    tie.close (tie.spec (λ c κs. search needs) returns (λ c κs. search needs) returns-2 (λ c κs. search needs) returns-3 (λ c. search needs) (λ c κs. search needs)
+    add-t12 returns-4)

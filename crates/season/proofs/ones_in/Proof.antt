@@ -1,7 +1,7 @@
 -- `ones_in` meets its contract. Assumes nothing.
 use Prim.Native.Nat.{ℕ, _+_, _*_, _/_, _-_, _<_, _≤_}
 use mathlib.Core.Path.{_≡_, sym, ap, _∙_}
-use lib.ListN.{length, getD}
+use lib.ListN.{getD}
 use lib.Count.{ones, ones-le}
 use denote.Ref.{now}
 use Rattle.season.specs.Ones.{onesIn}
@@ -32,22 +32,10 @@ more c =
 loop-holds : tie.Need-loop-holds Inv-loop μ-loop
 loop-holds c = (omega arith, omega arith, sym (ones-whole _ (λ j. c .shared-slice-known .given j .fits)))
 
-shared-slice-read-ones-of : tie.Need-shared-slice-read-ones-of Inv-loop μ-loop
-shared-slice-read-ones-of c = omega arith
-
-ones-of-requires : tie.Need-ones-of-requires Inv-loop μ-loop
-ones-of-requires c κs = omega arith
-
 add-ones : tie.Need-add-ones Inv-loop μ-loop
 add-ones c =
     let m = more c in
     omega arith
-
-add-i : tie.Need-add-i Inv-loop μ-loop
-add-i c = omega arith
-
-loop-less : tie.Need-loop-less Inv-loop μ-loop
-loop-less c = omega arith
 
 loop-again : tie.Need-loop-again Inv-loop μ-loop
 loop-again c =
@@ -62,16 +50,4 @@ returns c =
     l .inv .2 ∙ ap (λ (n : ℕ). onesIn (8 * n) (now (c .before .before .before .args .bytes))) e
 
 pub ones-in-spec : {M : Type 1} → statement M
-ones-in-spec =
-    tie.close
-    (tie.spec
-    Inv-loop
-    μ-loop
-    loop-holds
-    shared-slice-read-ones-of
-    ones-of-requires
-    add-ones
-    add-i
-    loop-less
-    loop-again
-    returns)
+ones-in-spec = tie.close (tie.spec Inv-loop μ-loop loop-holds (λ c. omega arith) (λ c κs. omega arith) add-ones (λ c. omega arith) (λ c. omega arith) loop-again returns)

@@ -33,12 +33,6 @@ returns c =
     let e = empty-list (now (c .before .args .rows)) (c .if1 .taken) in
     (rw e, rw e)
 
-shared-slice-copy-out-smallest : tie.Need-shared-slice-copy-out-smallest Inv-loop μ-loop
-shared-slice-copy-out-smallest c = omega arith
-
-shared-slice-copy-out-largest : tie.Need-shared-slice-copy-out-largest Inv-loop μ-loop
-shared-slice-copy-out-largest c = search needs
-
 loop-holds : tie.Need-loop-holds Inv-loop μ-loop
 loop-holds c =
     let s = c .before .before .before in
@@ -48,34 +42,11 @@ loop-holds c =
     let h : 0 < length rows = omega arith in
     (omega arith, rw (taken-row z f) (one-row _ lower lowers rows h), rw (taken-row z f) (one-row _ higher highers rows h))
 
-mul-lower-row : tie.Need-mul-lower-row Inv-loop μ-loop
-mul-lower-row c = search needs
-
-shared-slice-copy-out-lower-row : tie.Need-shared-slice-copy-out-lower-row Inv-loop μ-loop
-shared-slice-copy-out-lower-row c = omega arith
-
-lower-row-requires : tie.Need-lower-row-requires Inv-loop μ-loop
-lower-row-requires c κs = search needs
-
-mul-higher-row : tie.Need-mul-higher-row Inv-loop μ-loop
-mul-higher-row c = search needs
-
-shared-slice-copy-out-higher-row : tie.Need-shared-slice-copy-out-higher-row Inv-loop μ-loop
-shared-slice-copy-out-higher-row c = omega arith
-
-higher-row-requires : tie.Need-higher-row-requires Inv-loop μ-loop
-higher-row-requires c κs = search needs
-
-add-i : tie.Need-add-i Inv-loop μ-loop
-add-i c = omega arith
-
-loop-less : tie.Need-loop-less Inv-loop μ-loop
-loop-less c = omega arith
-
 loop-again : tie.Need-loop-again Inv-loop μ-loop
 loop-again c =
+    let back-6 = c .before .before .before .before .before .before in
     let l = c .before .before .before .before .before .loop in
-    let rows = now (c .before .before .before .before .before .before .before .before .before .args .rows) in
+    let rows = now (back-6 .before .before .before .args .rows) in
     let z : ℤ = getD rows (l .i) (pos 0) in
     let f : SFits w64 z = sfits-of (c .before .before .before .lower-row-arg .given) in
     let low : c .before .before .lower-row .result ≡ lower (toZ w64 (l .smallest)) z = c .before .before .lower-row .ensures ∙ ap (lower (toZ w64 (l .smallest))) (taken-row z f) in
@@ -94,21 +65,5 @@ returns-2 c =
 
 pub range-of-spec : {M : Type 1} → statement M
 range-of-spec =
-    tie.close
-    (tie.spec
-    Inv-loop
-    μ-loop
-    returns
-    shared-slice-copy-out-smallest
-    shared-slice-copy-out-largest
-    loop-holds
-    mul-lower-row
-    shared-slice-copy-out-lower-row
-    lower-row-requires
-    mul-higher-row
-    shared-slice-copy-out-higher-row
-    higher-row-requires
-    add-i
-    loop-less
-    loop-again
-    returns-2)
+    tie.close (tie.spec Inv-loop μ-loop returns (λ c. omega arith) (λ c. search needs) loop-holds (λ c. search needs) (λ c. omega arith) (λ c κs. search needs)
+    (λ c. search needs) (λ c. omega arith) (λ c κs. search needs) (λ c. omega arith) (λ c. omega arith) loop-again returns-2)

@@ -4,11 +4,11 @@ use lib.ListN.{length, getD}
 use lib.IntN.{ℤ, pos}
 use mir.Syntax.{w64}
 use mir.Val.{SFits}
-use mathlib.Core.Path.{_≡_, ap, _∙_}
+use mathlib.Core.Path.{ap, _∙_}
 use lib.Seq.{take-all}
 use borrow.Author.Needs.{sfits-of}
 use denote.Ref.{now}
-use Rattle.season.specs.Words.{wordsOf, addWords}
+use Rattle.season.specs.Words.{wordsOf}
 use Rattle.season.specs.Totals.{sumOf}
 use Rattle.season.proofs.Order.{taken-row}
 use Rattle.season.proofs.Sums.{Summed, summed-none, summed-more}
@@ -22,27 +22,6 @@ Inv-loop rows sum₀ i₀ sum i = (i ≤ length rows) × Summed rows i sum
 
 abbrev μ-loop : tie.MeasureT-loop
 μ-loop rows sum₀ i₀ sum i = length rows - i
-
-loop-holds : tie.Need-loop-holds Inv-loop μ-loop
-loop-holds c = (omega arith, summed-none _)
-
-mul-of-row : tie.Need-mul-of-row Inv-loop μ-loop
-mul-of-row c = search needs
-
-shared-slice-copy-out-of-row : tie.Need-shared-slice-copy-out-of-row Inv-loop μ-loop
-shared-slice-copy-out-of-row c = omega arith
-
-of-row-requires : tie.Need-of-row-requires Inv-loop μ-loop
-of-row-requires c κs = search needs
-
-plus-requires : tie.Need-plus-requires Inv-loop μ-loop
-plus-requires c κs = search needs
-
-add-i : tie.Need-add-i Inv-loop μ-loop
-add-i c = omega arith
-
-loop-less : tie.Need-loop-less Inv-loop μ-loop
-loop-less c = omega arith
 
 loop-again : tie.Need-loop-again Inv-loop μ-loop
 loop-again c =
@@ -59,16 +38,5 @@ returns c =
 
 pub sum-of-spec : {M : Type 1} → statement M
 sum-of-spec =
-    tie.close
-    (tie.spec
-    Inv-loop
-    μ-loop
-    loop-holds
-    mul-of-row
-    shared-slice-copy-out-of-row
-    of-row-requires
-    plus-requires
-    add-i
-    loop-less
-    loop-again
-    returns)
+    tie.close (tie.spec Inv-loop μ-loop (λ c. (omega arith, summed-none _)) (λ c. search needs) (λ c. omega arith) (λ c κs. search needs) (λ c κs. search needs)
+    (λ c. omega arith) (λ c. omega arith) loop-again returns)

@@ -19,8 +19,5 @@ rest a b h = by (decLt limit (a + b))
 returns : tie.Need-returns
 returns c = sym (lt-ltb limit (c .before .args .a + c .before .args .b) (omega arith))
 
-returns-2 : tie.Need-returns-2
-returns-2 c = rest _ _ (c .if1 .left)
-
 pub too-many-spec : {M : Type 1} → statement M
-too-many-spec = tie.close (tie.spec returns returns-2)
+too-many-spec = tie.close (tie.spec returns (λ c. rest _ _ (c .if1 .left)))

@@ -1,13 +1,11 @@
 -- `text::put_decimal` meets its contract. It calls itself, on fewer digits: the measure is the number. Assumes nothing.
-use mathlib.Core.Path.{_≡_, refl, ap, _∙_}
-use Prim.Native.Nat.{ℕ, _<_, _/_, _%_, _+_}
-use mathlib.Core.List.{[], _∷_}
+use mathlib.Core.Path.{ap}
+use Prim.Native.Nat.{ℕ, _<_}
 use native.Mathlib.Omega.{arith}
 use borrow.Author.Needs.{needs}
 use lib.ListN.{length}
 use borrow.Fn.Kinds.{In}
 use borrow.Fn.PlainCycle.{Measures, is, falls, and}
-use Rattle.text.specs.Decimal.{decimal}
 use Rattle.text.proofs.Texts.{decimal-one, decimal-next, decimal-longer, then-written}
 use Rattle.text.proofs.put_decimal.Reads as put-decimal
 use Rattle.text.proofs.put_decimal.Kinds as put-decimal-kinds

@@ -8,18 +8,12 @@ use borrow.Author.Needs.{needs}
 use Rattle.text.proofs.put_row.Statement.{statement}
 use Rattle.text.proofs.put_row.Tie as tie
 
-to-u64-requires : tie.Need-to-u64-requires
-to-u64-requires c κs = search needs
-
 put-decimal-requires : tie.Need-put-decimal-requires
 put-decimal-requires c κs =
     let u = c .before .before in
     let s = u .before .before in
     let e = row-low (s .args .row) _ (s .fits .row) (rw (toZ-ofZ (s .fits .row)) at (u .to-u64 .ensures)) (c .before .if1 .taken) in
     omega (arith, s .pre, ap length e)
-
-same-length : tie.Need-same-length
-same-length c = search needs
 
 returns : tie.Need-returns
 returns c =
@@ -35,12 +29,6 @@ put-requires c κs =
     let e = row-high (s .args .row) _ (s .fits .row) (rw (toZ-ofZ (s .fits .row)) at (u .to-u64 .ensures)) (c .before .if1 .left) in
     omega (arith, s .pre, ap length e)
 
-sub-put-decimal : tie.Need-sub-put-decimal
-sub-put-decimal c = search needs
-
-add-put-decimal : tie.Need-add-put-decimal
-add-put-decimal c = search needs
-
 put-decimal-requires-2 : tie.Need-put-decimal-requires-2
 put-decimal-requires-2 c κs =
     let p = c .before .before .before in
@@ -48,9 +36,6 @@ put-decimal-requires-2 c κs =
     let s = u .before .before in
     let e = row-high (s .args .row) _ (s .fits .row) (rw (toZ-ofZ (s .fits .row)) at (u .to-u64 .ensures)) (p .before .before .if1 .left) in
     omega (arith, s .pre, ap length e, p .put .ensures .next, p .put .kept .1 .0)
-
-same-length-2 : tie.Need-same-length-2
-same-length-2 c = search needs
 
 returns-2 : tie.Need-returns-2
 returns-2 c =
@@ -63,15 +48,5 @@ returns-2 c =
 
 pub put-row-spec : {M : Type 1} → statement M
 put-row-spec =
-    tie.close
-    (tie.spec
-    to-u64-requires
-    put-decimal-requires
-    same-length
-    returns
-    put-requires
-    sub-put-decimal
-    add-put-decimal
-    put-decimal-requires-2
-    same-length-2
-    returns-2)
+    tie.close (tie.spec (λ c κs. search needs) put-decimal-requires (λ c. search needs) returns put-requires (λ c. search needs) (λ c. search needs)
+    put-decimal-requires-2 (λ c. search needs) returns-2)

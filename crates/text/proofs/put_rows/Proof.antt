@@ -10,14 +10,14 @@ use lib.ListN.{length, take, getD}
 use lib.IntN.{pos}
 use mir.Facts.{toZ-ofZ}
 use Rattle.text.specs.Decimal.{rowsText}
-use Rattle.text.specs.Written.{Written}
+use Rattle.text.specs.Written.{TextWritten}
 use Rattle.text.proofs.Texts.{none-written, then-written, row-length, rows-next}
 use Rattle.text.proofs.put_rows.Statement.{statement}
 use Rattle.text.proofs.put_rows.Tie as tie
 
 abbrev Inv-loop : tie.InvT-loop
 Inv-loop rows n out₀ at place₀ i₀ out place i =
-    (i ≤ n) × (place ≤ at + 22 * i) × (length out ≡ length out₀) × Written (rowsText (take i rows)) out₀ at out place
+    (i ≤ n) × (place ≤ at + 22 * i) × (length out ≡ length out₀) × TextWritten (rowsText (take i rows)) out₀ at out place
 
 abbrev μ-loop : tie.MeasureT-loop
 μ-loop rows n out₀ at place₀ i₀ out place i = n - i
@@ -26,23 +26,8 @@ loop-holds : tie.Need-loop-holds Inv-loop μ-loop
 unfolding rowsText
 loop-holds c = let a = c .before .args in (omega arith, omega arith, refl, none-written (now (a .out)) (a .at))
 
-put-requires : tie.Need-put-requires Inv-loop μ-loop
-put-requires c κs = omega arith
-
-mul-put-row : tie.Need-mul-put-row Inv-loop μ-loop
-mul-put-row c = omega arith
-
-shared-slice-copy-out-put-row : tie.Need-shared-slice-copy-out-put-row Inv-loop μ-loop
-shared-slice-copy-out-put-row c = omega arith
-
 put-row-requires : tie.Need-put-row-requires Inv-loop μ-loop
 put-row-requires c κs = let p = c .before .before .before .before in omega (arith, row-length (toZ w64 (ofZ w64 (getD (now (p .before .before .before .before .before .args .rows)) (p .before .before .before .loop .i) (pos 0)))), p .put .ensures .next, p .put .kept .1 .0)
-
-add-i : tie.Need-add-i Inv-loop μ-loop
-add-i c = omega arith
-
-loop-less : tie.Need-loop-less Inv-loop μ-loop
-loop-less c = omega arith
 
 loop-again : tie.Need-loop-again Inv-loop μ-loop
 loop-again c =
@@ -60,9 +45,6 @@ loop-again c =
       rw (rows-next rows (l .i) (omega arith)) (then-written (omega arith) (then-written (omega arith) (l .inv .3) (p .put .ensures)) w),
     )
 
-same-length : tie.Need-same-length Inv-loop μ-loop
-same-length c = c .before .loop .inv .2
-
 returns : tie.Need-returns Inv-loop μ-loop
 returns c =
     let e : c .before .loop .i ≡ c .before .before .before .args .n = omega arith in
@@ -70,17 +52,5 @@ returns c =
 
 pub put-rows-spec : {M : Type 1} → statement M
 put-rows-spec =
-    tie.close
-    (tie.spec
-    Inv-loop
-    μ-loop
-    loop-holds
-    put-requires
-    mul-put-row
-    shared-slice-copy-out-put-row
-    put-row-requires
-    add-i
-    loop-less
-    loop-again
-    same-length
-    returns)
+    tie.close (tie.spec Inv-loop μ-loop loop-holds (λ c κs. omega arith) (λ c. omega arith) (λ c. omega arith) put-row-requires (λ c. omega arith) (λ c. omega arith)
+    loop-again (λ c. c .before .loop .inv .2) returns)

@@ -6,14 +6,14 @@ use native.Mathlib.Numerals.{add-one}
 use denote.Ref.{now}
 use lib.ListN.{length, take}
 use lib.Seq.{take-suc, take-length}
-use Rattle.text.specs.Written.{Written}
+use Rattle.text.specs.Written.{TextWritten}
 use Rattle.text.proofs.Texts.{none-written, then-written}
 use Rattle.text.proofs.put_word.Statement.{statement}
 use Rattle.text.proofs.put_word.Tie as tie
 
 abbrev Inv-loop : tie.InvT-loop
 Inv-loop word out₀ at place₀ i₀ out place i =
-    (i ≤ length word) × (place ≡ at + i) × (length out ≡ length out₀) × Written (take i word) out₀ at out place
+    (i ≤ length word) × (place ≡ at + i) × (length out ≡ length out₀) × TextWritten (take i word) out₀ at out place
 
 abbrev μ-loop : tie.MeasureT-loop
 μ-loop word out₀ at place₀ i₀ out place i = length word - i
@@ -21,32 +21,18 @@ abbrev μ-loop : tie.MeasureT-loop
 loop-holds : tie.Need-loop-holds Inv-loop μ-loop
 loop-holds c = let a = c .before .before .args in (omega arith, omega arith, refl, none-written (now (a .out)) (a .at))
 
-shared-slice-read-put : tie.Need-shared-slice-read-put Inv-loop μ-loop
-shared-slice-read-put c = omega arith
-
-put-requires : tie.Need-put-requires Inv-loop μ-loop
-put-requires c κs = omega arith
-
-add-i : tie.Need-add-i Inv-loop μ-loop
-add-i c = omega arith
-
-loop-less : tie.Need-loop-less Inv-loop μ-loop
-loop-less c = omega arith
-
 loop-again : tie.Need-loop-again Inv-loop μ-loop
 loop-again c =
+    let back-6 = c .before .before .before .before .before .before in
     let p = c .before .before in
     let l = p .before .before .before .before .loop in
-    let s = p .before .before .before .before .before .before .before in
+    let s = back-6 .before .before .before in
     let w = then-written (omega arith) (l .inv .3) (p .put .ensures) in (
       omega arith,
       omega (arith, p .put .ensures .next),
       p .put .kept .1 .0 ∙ l .inv .2,
       rw (add-one, take-suc (now (s .args .word)) (l .i) 0 (omega arith)) w,
     )
-
-same-length : tie.Need-same-length Inv-loop μ-loop
-same-length c = c .before .loop .inv .2
 
 returns : tie.Need-returns Inv-loop μ-loop
 returns c =
@@ -56,15 +42,5 @@ returns c =
 
 pub put-word-spec : {M : Type 1} → statement M
 put-word-spec =
-    tie.close
-    (tie.spec
-    Inv-loop
-    μ-loop
-    loop-holds
-    shared-slice-read-put
-    put-requires
-    add-i
-    loop-less
-    loop-again
-    same-length
-    returns)
+    tie.close (tie.spec Inv-loop μ-loop loop-holds (λ c. omega arith) (λ c κs. omega arith) (λ c. omega arith) (λ c. omega arith) loop-again
+    (λ c. c .before .loop .inv .2) returns)

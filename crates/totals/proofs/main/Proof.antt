@@ -15,26 +15,11 @@ Inv-loop input₀ rows₀ totals₀ next₀ turns₀ input rows totals next turn
 abbrev μ-loop : tie.MeasureT-loop
 μ-loop input₀ rows₀ totals₀ next₀ turns₀ input rows totals next turns = turns
 
-input-places-requires : tie.Need-input-places-requires Inv-loop μ-loop
-input-places-requires c κs = tt
-
-row-places-requires : tie.Need-row-places-requires Inv-loop μ-loop
-row-places-requires c κs = tt
-
-empty-requires : tie.Need-empty-requires Inv-loop μ-loop
-empty-requires c κs = tt
-
 loop-holds : tie.Need-loop-holds Inv-loop μ-loop
 loop-holds c = (sym (c .before .before .input-places .ensures), sym (c .before .row-places .ensures), ready-first (c .empty .result) (c .before .before .input-places .result) (c .empty .ensures))
 
-enum-known-next : tie.Need-enum-known-next Inv-loop μ-loop
-enum-known-next c = search needs
-
 finish-requires : tie.Need-finish-requires Inv-loop μ-loop
 finish-requires c κs = let l = c .before .before .loop in ready-finished (l .totals) (l .input) (l .next) (l .inv .2)
-
-returns : tie.Need-returns Inv-loop μ-loop
-returns c = tt
 
 slice-aggregate-turn : tie.Need-slice-aggregate-turn Inv-loop μ-loop
 slice-aggregate-turn c = c .before .before .before .before .before .loop .inv .0
@@ -48,16 +33,11 @@ turn-requires c κs =
     let r = rw (c .before .before .before .next .given .1) at (l .inv .2) in
     (r .0, r .1, omega (arith, l .inv .0), sym (l .inv .1), r .2)
 
-sub-turns : tie.Need-sub-turns Inv-loop μ-loop
-sub-turns c = omega arith
-
-loop-less : tie.Need-loop-less Inv-loop μ-loop
-loop-less c = omega arith
-
 loop-again : tie.Need-loop-again Inv-loop μ-loop
 loop-again c =
+    let back-6 = c .before .before .before .before .before .before in
     let t = c .before .before .before in
-    let l = t .before .before .before .before .before .before .before .loop in
+    let l = back-6 .before .before .before .before .loop in
     let n = t .before .before .before .before .next in
     let g = n .given .0 in
     let r = rw (n .given .1) at (l .inv .2) in (
@@ -66,26 +46,7 @@ loop-again c =
       turned-ready (l .totals) (part (g .0) (g .1 .0) (l .input)) (t .turn .last .1 .0) (t .turn .result .totals) (t .turn .result .next) (r .3) (t .turn .ensures),
     )
 
-returns-2 : tie.Need-returns-2 Inv-loop μ-loop
-returns-2 c = tt
-
 pub main-spec : {M : Type 1} → statement M
 main-spec =
-    tie.close
-    (tie.spec
-    Inv-loop
-    μ-loop
-    input-places-requires
-    row-places-requires
-    empty-requires
-    loop-holds
-    enum-known-next
-    finish-requires
-    returns
-    slice-aggregate-turn
-    slice-aggregate-turn-2
-    turn-requires
-    sub-turns
-    loop-less
-    loop-again
-    returns-2)
+    tie.close (tie.spec Inv-loop μ-loop (λ c κs. tt) (λ c κs. tt) (λ c κs. tt) loop-holds (λ c. search needs) finish-requires (λ c. tt) slice-aggregate-turn
+    slice-aggregate-turn-2 turn-requires (λ c. omega arith) (λ c. omega arith) loop-again (λ c. tt))

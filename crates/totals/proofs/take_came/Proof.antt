@@ -7,23 +7,11 @@ use Rattle.totals.proofs.Turns.{last-held, rest-none}
 use Rattle.totals.proofs.take_came.Statement.{statement}
 use Rattle.totals.proofs.take_came.Tie as tie
 
-take-block-requires : tie.Need-take-block-requires
-take-block-requires c κs = search needs
-
-same-length : tie.Need-same-length
-same-length c = search needs
-
-returns : tie.Need-returns
-returns c = c .before .take-block .ensures _
-
 take-last-requires : tie.Need-take-last-requires
 take-last-requires c κs =
     let e = c .before .before in
     let s = e .before .before in
     (held-all (now (s .args .input)) (s .args .held) (s .args .got) (s .pre .0) (rw (toZ-ofZ (s .fits .got)) at (e .if1 .left)) (s .pre .1) .1, s .pre .2)
-
-same-length-2 : tie.Need-same-length-2
-same-length-2 c = search needs
 
 returns-2 : tie.Need-returns-2
 returns-2 c =
@@ -32,15 +20,6 @@ returns-2 c =
     let s = e .before .before in
     let (l, h) = held-all (now (s .args .input)) (s .args .held) (s .args .got) (s .pre .0) (rw (toZ-ofZ (s .fits .got)) at (e .if1 .left)) (s .pre .1) in
     last-held (s .args .before) (s .args .held) (now (s .args .input)) (q .take-last .result .totals) (q .take-last .result .next) l (q .take-last .ensures)
-
-slice-aggregate-is-not-ready : tie.Need-slice-aggregate-is-not-ready
-slice-aggregate-is-not-ready c = search needs
-
-is-not-ready-requires : tie.Need-is-not-ready-requires
-is-not-ready-requires c κs = search needs
-
-returns-3 : tie.Need-returns-3
-returns-3 c = search needs
 
 returns-4 : tie.Need-returns-4
 returns-4 c =
@@ -51,15 +30,5 @@ returns-4 c =
 
 pub take-came-spec : {M : Type 1} → statement M
 take-came-spec =
-    tie.close
-    (tie.spec
-    take-block-requires
-    same-length
-    returns
-    take-last-requires
-    same-length-2
-    returns-2
-    slice-aggregate-is-not-ready
-    is-not-ready-requires
-    returns-3
-    returns-4)
+    tie.close (tie.spec (λ c κs. search needs) (λ c. search needs) (λ c. c .before .take-block .ensures _) take-last-requires (λ c. search needs) returns-2
+    (λ c. search needs) (λ c κs. search needs) (λ c. search needs) returns-4)

@@ -12,12 +12,6 @@ use Rattle.totals.proofs.Turns.{turned}
 use Rattle.totals.proofs.turn.Statement.{statement}
 use Rattle.totals.proofs.turn.Tie as tie
 
-read-on-requires : tie.Need-read-on-requires
-read-on-requires c κs = search needs
-
-slice-reshare-prefix-take-came : tie.Need-slice-reshare-prefix-take-came
-slice-reshare-prefix-take-came c = search needs
-
 slice-aggregate-take-came : tie.Need-slice-aggregate-take-came
 slice-aggregate-take-came c = sym (length-take-le _ _ (c .before .before .before .read-on .ensures .within))
 
@@ -28,12 +22,6 @@ take-came-requires c κs =
     let e = toZ-ofZ {w = w64} {z = r .read-on .result .got} (record { sfits = c .struct-told .given .1 .1 .0 .1 }) in
     (stop-long _ _ _ _ _ (r .read-on .ensures) ∙ ap (λ (z : ℤ). r .read-on .result .held + came z) (sym e), held-open _ _ _ _ _ (r .read-on .ensures) (s .pre .4), s .pre .3)
 
-same-length : tie.Need-same-length
-same-length c = search needs
-
-same-length-2 : tie.Need-same-length-2
-same-length-2 c = search needs
-
 returns : tie.Need-returns
 returns c =
     let q = c .before in
@@ -41,13 +29,4 @@ returns c =
     turned _ _ _ _ _ _ (r .read-on .ensures) (q .take-came .result .totals) (q .take-came .result .next) (q .take-came .ensures)
 
 pub turn-spec : {M : Type 1} → statement M
-turn-spec =
-    tie.close
-    (tie.spec
-    read-on-requires
-    slice-reshare-prefix-take-came
-    slice-aggregate-take-came
-    take-came-requires
-    same-length
-    same-length-2
-    returns)
+turn-spec = tie.close (tie.spec (λ c κs. search needs) (λ c. search needs) slice-aggregate-take-came take-came-requires (λ c. search needs) (λ c. search needs) returns)

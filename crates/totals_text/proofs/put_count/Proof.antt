@@ -1,13 +1,12 @@
 -- `put_count` meets its contract. Assumes nothing.
 use Rattle.text.proofs.Texts.{then-written, decimal-length}
+use denote.Ref.{now}
 use Rattle.totals_text.specs.Text.{countLine}
+use Rattle.totals_text.proofs.Lengths.{count-length}
 use borrow.Author.Needs.{needs}
 use native.Mathlib.Omega.{arith}
 use Rattle.totals_text.proofs.put_count.Statement.{statement}
 use Rattle.totals_text.proofs.put_count.Tie as tie
-
-put-word-requires : tie.Need-put-word-requires
-put-word-requires c κs = search needs
 
 put-decimal-requires : tie.Need-put-decimal-requires
 put-decimal-requires c κs =
@@ -22,9 +21,6 @@ put-requires c κs =
     let s = x1 .before .before .before .before in
     omega (arith, s .pre, x1 .put-word .ensures .next, x1 .put-word .kept .1 .0, x2 .put-decimal .ensures .next, x2 .put-decimal .kept .1 .0, decimal-length (s .args .count))
 
-same-length : tie.Need-same-length
-same-length c = search needs
-
 returns : tie.Need-returns
 unfolding countLine
 returns c =
@@ -32,8 +28,8 @@ returns c =
     let x2 = x3 .before .before .before .before in
     let x1 = x2 .before .before .before .before in
     let s = x1 .before .before .before .before in
-    then-written (omega arith) (then-written (omega arith) (x1 .put-word .ensures) (x2 .put-decimal .ensures)) (x3 .put .ensures)
+    let w = then-written (omega arith) (then-written (omega arith) (x1 .put-word .ensures) (x2 .put-decimal .ensures)) (x3 .put .ensures) in
+    (w, omega (arith, w .next, count-length (now (s .args .word)) (s .args .count)))
 
 pub put-count-spec : {M : Type 1} → statement M
-put-count-spec =
-    tie.close (tie.spec put-word-requires put-decimal-requires put-requires same-length returns)
+put-count-spec = tie.close (tie.spec (λ c κs. search needs) put-decimal-requires put-requires (λ c. search needs) returns)

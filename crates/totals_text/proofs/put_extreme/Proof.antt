@@ -1,40 +1,17 @@
 -- `put_extreme` meets its contract. Assumes nothing.
-use mathlib.Core.Path.{_∙_}
+use denote.Ref.{now}
 use lib.IntN.{ℤ}
 use mir.Syntax.{w64}
 use mir.Val.{SFits, toZ, ofZ}
 use mir.Facts.{toZ-ofZ}
 use Rattle.text.proofs.Texts.{then-written}
+use Rattle.season.specs.declared.Extreme.the-variants.{None, Row}
 use Rattle.totals_text.specs.Text.{extremeText, extremeLine}
-use Rattle.totals_text.proofs.Lengths.{row-line}
+use Rattle.totals_text.proofs.Lengths.{row-line, extreme-length}
 use borrow.Author.Needs.{needs, sfits-of}
 use native.Mathlib.Omega.{arith}
 use Rattle.totals_text.proofs.put_extreme.Statement.{statement}
 use Rattle.totals_text.proofs.put_extreme.Tie as tie
-
-put-word-requires : tie.Need-put-word-requires
-put-word-requires c κs = search needs
-
-enum-told : tie.Need-enum-told
-enum-told c = search needs
-
-slice-aggregate-put-word : tie.Need-slice-aggregate-put-word
-slice-aggregate-put-word c = search needs
-
-put-word-requires-2 : tie.Need-put-word-requires-2
-put-word-requires-2 c κs = search needs
-
-put-requires : tie.Need-put-requires
-put-requires c κs = search needs
-
-enum-known-extreme : tie.Need-enum-known-extreme
-enum-known-extreme c = search needs
-
-slice-aggregate-put-rows : tie.Need-slice-aggregate-put-rows
-slice-aggregate-put-rows c = search needs
-
-put-rows-requires : tie.Need-put-rows-requires
-put-rows-requires c κs = search needs
 
 put-requires-2 : tie.Need-put-requires-2
 put-requires-2 c κs =
@@ -44,9 +21,6 @@ put-requires-2 c κs =
     let s = w .before .before .before .before in
     omega (arith, s .pre, w .put-word .ensures .next, w .put-word .kept .1 .0, r .put-rows .ensures .next, r .put-rows .kept .1 .1 .0, row-line (toZ w64 (ofZ w64 (x .extreme .given .0 .0))))
 
-same-length : tie.Need-same-length
-same-length c = search needs
-
 returns : tie.Need-returns
 unfolding extremeLine extremeText
 returns c =
@@ -55,11 +29,8 @@ returns c =
     let e = n .before .before .before in
     let w = e .before .before .before .before in
     let s = w .before .before .before .before in
-    rw (e .enum-told .given .1)
-    (then-written (omega arith) (then-written (omega arith) (w .put-word .ensures) (n .put-word2 .ensures)) (p .put .ensures))
-
-same-length-2 : tie.Need-same-length-2
-same-length-2 c = search needs
+    let t = then-written (omega arith) (then-written (omega arith) (w .put-word .ensures) (n .put-word2 .ensures)) (p .put .ensures) in
+    rw (e .enum-told .given .1) (t, omega (arith, t .next, extreme-length (now (s .args .word)) None))
 
 returns-2 : tie.Need-returns-2
 unfolding extremeLine extremeText
@@ -72,23 +43,10 @@ returns-2 c =
     let s = w .before .before .before .before in
     let z : ℤ = x .extreme .given .0 .0 in
     let f : SFits w64 z = sfits-of (k .known-told .given .0 .1) in
-    rw (x .extreme .given .1)
-    (then-written (omega arith) (then-written (omega arith) (w .put-word .ensures) (rw (toZ-ofZ f) at (r .put-rows .ensures))) (p .put2 .ensures))
+    let t = then-written (omega arith) (then-written (omega arith) (w .put-word .ensures) (rw (toZ-ofZ f) at (r .put-rows .ensures))) (p .put2 .ensures) in
+    rw (x .extreme .given .1) (t, omega (arith, t .next, extreme-length (now (s .args .word)) (Row z)))
 
 pub put-extreme-spec : {M : Type 1} → statement M
 put-extreme-spec =
-    tie.close
-    (tie.spec
-    put-word-requires
-    enum-told
-    slice-aggregate-put-word
-    put-word-requires-2
-    put-requires
-    enum-known-extreme
-    slice-aggregate-put-rows
-    put-rows-requires
-    put-requires-2
-    same-length
-    returns
-    same-length-2
-    returns-2)
+    tie.close (tie.spec (λ c κs. search needs) (λ c. search needs) (λ c. search needs) (λ c κs. search needs) (λ c κs. search needs) (λ c. search needs)
+    (λ c. search needs) (λ c κs. search needs) put-requires-2 (λ c. search needs) returns (λ c. search needs) returns-2)

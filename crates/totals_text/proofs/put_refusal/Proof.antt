@@ -1,16 +1,11 @@
 -- `put_refusal` meets its contract. Assumes nothing.
 use Rattle.text.proofs.Texts.{then-written, decimal-length}
 use Rattle.totals_text.specs.Text.{refusalLine}
+use Rattle.totals_text.proofs.Lengths.{refusal-length}
 use borrow.Author.Needs.{needs}
 use native.Mathlib.Omega.{arith}
 use Rattle.totals_text.proofs.put_refusal.Statement.{statement}
 use Rattle.totals_text.proofs.put_refusal.Tie as tie
-
-slice-aggregate-put-word : tie.Need-slice-aggregate-put-word
-slice-aggregate-put-word c = search needs
-
-put-word-requires : tie.Need-put-word-requires
-put-word-requires c κs = search needs
 
 put-decimal-requires : tie.Need-put-decimal-requires
 put-decimal-requires c κs =
@@ -42,9 +37,6 @@ put-requires-2 c κs =
     let s = x1 .before .before .before .before in
     omega (arith, s .pre, x1 .put-word .ensures .next, x1 .put-word .kept .1 .0, x2 .put-decimal .ensures .next, x2 .put-decimal .kept .1 .0, x3 .put .ensures .next, x3 .put .kept .1 .0, x4 .put-decimal2 .ensures .next, x4 .put-decimal2 .kept .1 .0, decimal-length (s .args .number), decimal-length (s .args .count))
 
-same-length : tie.Need-same-length
-same-length c = search needs
-
 returns : tie.Need-returns
 unfolding refusalLine
 returns c =
@@ -54,17 +46,9 @@ returns c =
     let x2 = x3 .before .before .before .before in
     let x1 = x2 .before .before .before .before in
     let s = x1 .before .before .before .before in
-    then-written (omega arith) (then-written (omega arith) (then-written (omega arith) (then-written (omega arith) (x1 .put-word .ensures) (x2 .put-decimal .ensures)) (x3 .put .ensures)) (x4 .put-decimal2 .ensures)) (x5 .put2 .ensures)
+    let w = then-written (omega arith) (then-written (omega arith) (then-written (omega arith) (then-written (omega arith) (x1 .put-word .ensures) (x2 .put-decimal .ensures)) (x3 .put .ensures)) (x4 .put-decimal2 .ensures)) (x5 .put2 .ensures) in
+    (w, omega (arith, w .next, refusal-length (s .args .number) (s .args .count)))
 
 pub put-refusal-spec : {M : Type 1} → statement M
 put-refusal-spec =
-    tie.close
-    (tie.spec
-    slice-aggregate-put-word
-    put-word-requires
-    put-decimal-requires
-    put-requires
-    put-decimal-requires-2
-    put-requires-2
-    same-length
-    returns)
+    tie.close (tie.spec (λ c. search needs) (λ c κs. search needs) put-decimal-requires put-requires put-decimal-requires-2 put-requires-2 (λ c. search needs) returns)

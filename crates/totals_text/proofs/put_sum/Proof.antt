@@ -8,12 +8,6 @@ use native.Mathlib.Omega.{arith}
 use Rattle.totals_text.proofs.put_sum.Statement.{statement}
 use Rattle.totals_text.proofs.put_sum.Tie as tie
 
-slice-aggregate-put-word : tie.Need-slice-aggregate-put-word
-slice-aggregate-put-word c = search needs
-
-put-word-requires : tie.Need-put-word-requires
-put-word-requires c κs = search needs
-
 put-whole-requires : tie.Need-put-whole-requires
 put-whole-requires c κs =
     let x1 = c .before .before .before in
@@ -44,12 +38,4 @@ returns c =
     then-written (omega arith) (then-written (omega arith) (x1 .put-word .ensures) (x2 .put-whole .ensures)) (x3 .put .ensures)
 
 pub put-sum-spec : {M : Type 1} → statement M
-put-sum-spec =
-    tie.close
-    (tie.spec
-    slice-aggregate-put-word
-    put-word-requires
-    put-whole-requires
-    put-requires
-    same-length
-    returns)
+put-sum-spec = tie.close (tie.spec (λ c. search needs) (λ c κs. search needs) put-whole-requires put-requires same-length returns)

@@ -1,46 +1,11 @@
 -- `put_totals` meets its contract. Assumes nothing.
 use mathlib.Core.Path.{_∙_}
 use Rattle.text.proofs.Texts.{then-written}
-use Rattle.text.specs.Ascii.{ascii}
 use Rattle.totals_text.specs.Text.{totalsText}
-use Rattle.totals_text.proofs.Lengths.{count-length, refusals-length, runs-length, extreme-length}
 use borrow.Author.Needs.{needs}
 use native.Mathlib.Omega.{arith}
 use Rattle.totals_text.proofs.put_totals.Statement.{statement}
 use Rattle.totals_text.proofs.put_totals.Tie as tie
-
-slice-aggregate-put-count : tie.Need-slice-aggregate-put-count
-slice-aggregate-put-count c = search needs
-
-put-count-requires : tie.Need-put-count-requires
-put-count-requires c κs = search needs
-
-slice-aggregate-put-count-2 : tie.Need-slice-aggregate-put-count-2
-slice-aggregate-put-count-2 c = search needs
-
-put-count-requires-2 : tie.Need-put-count-requires-2
-put-count-requires-2 c κs =
-    let x1 = c .before .before .before .before in
-    let s = x1 .before .before .before .before .before .before .before in
-    omega (arith, s .pre, x1 .put-count .ensures .next, x1 .put-count .kept .1 .1 .0, count-length (ascii "lines ") (s .args .totals .lines), count-length (ascii "bad ") (s .args .totals .bads))
-
-slice-aggregate-put-count-3 : tie.Need-slice-aggregate-put-count-3
-slice-aggregate-put-count-3 c = search needs
-
-put-count-requires-3 : tie.Need-put-count-requires-3
-put-count-requires-3 c κs =
-    let x2 = c .before .before .before .before in
-    let x1 = x2 .before .before .before .before .before in
-    let s = x1 .before .before .before .before .before .before .before in
-    omega (arith, s .pre, x1 .put-count .ensures .next, x1 .put-count .kept .1 .1 .0, count-length (ascii "lines ") (s .args .totals .lines), x2 .put-count2 .ensures .next, x2 .put-count2 .kept .1 .1 .0, count-length (ascii "bad ") (s .args .totals .bads), count-length (ascii "end ") (s .args .totals .ends))
-
-put-refusals-requires : tie.Need-put-refusals-requires
-put-refusals-requires c κs =
-    let x3 = c .before .before .before in
-    let x2 = x3 .before .before .before .before .before in
-    let x1 = x2 .before .before .before .before .before in
-    let s = x1 .before .before .before .before .before .before .before in
-    omega (arith, s .pre, x1 .put-count .ensures .next, x1 .put-count .kept .1 .1 .0, count-length (ascii "lines ") (s .args .totals .lines), x2 .put-count2 .ensures .next, x2 .put-count2 .kept .1 .1 .0, count-length (ascii "bad ") (s .args .totals .bads), x3 .put-count3 .ensures .next, x3 .put-count3 .kept .1 .1 .0, count-length (ascii "end ") (s .args .totals .ends), refusals-length (s .args .totals .refusals))
 
 put-runs-requires : tie.Need-put-runs-requires
 put-runs-requires c κs =
@@ -48,11 +13,9 @@ put-runs-requires c κs =
     let x3 = x4 .before .before .before .before in
     let x2 = x3 .before .before .before .before .before in
     let x1 = x2 .before .before .before .before .before in
-    let s = x1 .before .before .before .before .before .before .before in
-    omega (arith, s .pre, x1 .put-count .ensures .next, x1 .put-count .kept .1 .1 .0, count-length (ascii "lines ") (s .args .totals .lines), x2 .put-count2 .ensures .next, x2 .put-count2 .kept .1 .1 .0, count-length (ascii "bad ") (s .args .totals .bads), x3 .put-count3 .ensures .next, x3 .put-count3 .kept .1 .1 .0, count-length (ascii "end ") (s .args .totals .ends), x4 .put-refusals .ensures .next, x4 .put-refusals .kept .1 .0, refusals-length (s .args .totals .refusals), runs-length (s .args .totals .runs) (s .args .totals .rows))
-
-slice-aggregate-put-extreme : tie.Need-slice-aggregate-put-extreme
-slice-aggregate-put-extreme c = search needs
+    let t = x1 .before .before .before in
+    let s = t .before .before .before .before in
+    omega (arith, s .pre, x1 .put-count .ensures .1, x1 .put-count .kept .1 .1 .0, x2 .put-count2 .ensures .1, x2 .put-count2 .kept .1 .1 .0, x3 .put-count3 .ensures .1, x3 .put-count3 .kept .1 .1 .0, x4 .put-refusals .ensures .1, x4 .put-refusals .kept .1 .0)
 
 put-extreme-requires : tie.Need-put-extreme-requires
 put-extreme-requires c κs =
@@ -61,11 +24,9 @@ put-extreme-requires c κs =
     let x3 = x4 .before .before .before .before in
     let x2 = x3 .before .before .before .before .before in
     let x1 = x2 .before .before .before .before .before in
-    let s = x1 .before .before .before .before .before .before .before in
-    omega (arith, s .pre, x1 .put-count .ensures .next, x1 .put-count .kept .1 .1 .0, count-length (ascii "lines ") (s .args .totals .lines), x2 .put-count2 .ensures .next, x2 .put-count2 .kept .1 .1 .0, count-length (ascii "bad ") (s .args .totals .bads), x3 .put-count3 .ensures .next, x3 .put-count3 .kept .1 .1 .0, count-length (ascii "end ") (s .args .totals .ends), x4 .put-refusals .ensures .next, x4 .put-refusals .kept .1 .0, refusals-length (s .args .totals .refusals), x5 .put-runs .ensures .next, x5 .put-runs .kept .1 .1 .0, runs-length (s .args .totals .runs) (s .args .totals .rows), extreme-length (ascii "smallest") (s .args .totals .smallest))
-
-slice-aggregate-put-extreme-2 : tie.Need-slice-aggregate-put-extreme-2
-slice-aggregate-put-extreme-2 c = search needs
+    let t = x1 .before .before .before in
+    let s = t .before .before .before .before in
+    omega (arith, s .pre, x1 .put-count .ensures .1, x1 .put-count .kept .1 .1 .0, x2 .put-count2 .ensures .1, x2 .put-count2 .kept .1 .1 .0, x3 .put-count3 .ensures .1, x3 .put-count3 .kept .1 .1 .0, x4 .put-refusals .ensures .1, x4 .put-refusals .kept .1 .0, x5 .put-runs .ensures .1, x5 .put-runs .kept .1 .1 .0)
 
 put-extreme-requires-2 : tie.Need-put-extreme-requires-2
 put-extreme-requires-2 c κs =
@@ -75,8 +36,9 @@ put-extreme-requires-2 c κs =
     let x3 = x4 .before .before .before .before in
     let x2 = x3 .before .before .before .before .before in
     let x1 = x2 .before .before .before .before .before in
-    let s = x1 .before .before .before .before .before .before .before in
-    omega (arith, s .pre, x1 .put-count .ensures .next, x1 .put-count .kept .1 .1 .0, count-length (ascii "lines ") (s .args .totals .lines), x2 .put-count2 .ensures .next, x2 .put-count2 .kept .1 .1 .0, count-length (ascii "bad ") (s .args .totals .bads), x3 .put-count3 .ensures .next, x3 .put-count3 .kept .1 .1 .0, count-length (ascii "end ") (s .args .totals .ends), x4 .put-refusals .ensures .next, x4 .put-refusals .kept .1 .0, refusals-length (s .args .totals .refusals), x5 .put-runs .ensures .next, x5 .put-runs .kept .1 .1 .0, runs-length (s .args .totals .runs) (s .args .totals .rows), x6 .put-extreme .ensures .next, x6 .put-extreme .kept .1 .1 .0, extreme-length (ascii "smallest") (s .args .totals .smallest), extreme-length (ascii "largest") (s .args .totals .largest))
+    let t = x1 .before .before .before in
+    let s = t .before .before .before .before in
+    omega (arith, s .pre, x1 .put-count .ensures .1, x1 .put-count .kept .1 .1 .0, x2 .put-count2 .ensures .1, x2 .put-count2 .kept .1 .1 .0, x3 .put-count3 .ensures .1, x3 .put-count3 .kept .1 .1 .0, x4 .put-refusals .ensures .1, x4 .put-refusals .kept .1 .0, x5 .put-runs .ensures .1, x5 .put-runs .kept .1 .1 .0, x6 .put-extreme .ensures .1, x6 .put-extreme .kept .1 .1 .0)
 
 put-sum-requires : tie.Need-put-sum-requires
 put-sum-requires c κs =
@@ -87,8 +49,9 @@ put-sum-requires c κs =
     let x3 = x4 .before .before .before .before in
     let x2 = x3 .before .before .before .before .before in
     let x1 = x2 .before .before .before .before .before in
-    let s = x1 .before .before .before .before .before .before .before in
-    omega (arith, s .pre, x1 .put-count .ensures .next, x1 .put-count .kept .1 .1 .0, count-length (ascii "lines ") (s .args .totals .lines), x2 .put-count2 .ensures .next, x2 .put-count2 .kept .1 .1 .0, count-length (ascii "bad ") (s .args .totals .bads), x3 .put-count3 .ensures .next, x3 .put-count3 .kept .1 .1 .0, count-length (ascii "end ") (s .args .totals .ends), x4 .put-refusals .ensures .next, x4 .put-refusals .kept .1 .0, refusals-length (s .args .totals .refusals), x5 .put-runs .ensures .next, x5 .put-runs .kept .1 .1 .0, runs-length (s .args .totals .runs) (s .args .totals .rows), x6 .put-extreme .ensures .next, x6 .put-extreme .kept .1 .1 .0, extreme-length (ascii "smallest") (s .args .totals .smallest), x7 .put-extreme2 .ensures .next, x7 .put-extreme2 .kept .1 .1 .0, extreme-length (ascii "largest") (s .args .totals .largest))
+    let t = x1 .before .before .before in
+    let s = t .before .before .before .before in
+    omega (arith, s .pre, x1 .put-count .ensures .1, x1 .put-count .kept .1 .1 .0, x2 .put-count2 .ensures .1, x2 .put-count2 .kept .1 .1 .0, x3 .put-count3 .ensures .1, x3 .put-count3 .kept .1 .1 .0, x4 .put-refusals .ensures .1, x4 .put-refusals .kept .1 .0, x5 .put-runs .ensures .1, x5 .put-runs .kept .1 .1 .0, x6 .put-extreme .ensures .1, x6 .put-extreme .kept .1 .1 .0, x7 .put-extreme2 .ensures .1, x7 .put-extreme2 .kept .1 .1 .0)
 
 same-length : tie.Need-same-length
 same-length c =
@@ -113,25 +76,11 @@ returns c =
     let x3 = x4 .before .before .before .before in
     let x2 = x3 .before .before .before .before .before in
     let x1 = x2 .before .before .before .before .before in
-    let s = x1 .before .before .before .before .before .before .before in
-    then-written (omega arith) (then-written (omega arith) (then-written (omega arith) (then-written (omega arith) (then-written (omega arith) (then-written (omega arith) (then-written (omega arith) (x1 .put-count .ensures) (x2 .put-count2 .ensures)) (x3 .put-count3 .ensures)) (x4 .put-refusals .ensures)) (x5 .put-runs .ensures)) (x6 .put-extreme .ensures)) (x7 .put-extreme2 .ensures)) (x8 .put-sum .ensures)
+    let t = x1 .before .before .before in
+    let s = t .before .before .before .before in
+    then-written (omega arith) (then-written (omega arith) (then-written (omega arith) (then-written (omega arith) (then-written (omega arith) (then-written (omega arith) (then-written (omega arith) (x1 .put-count .ensures .0) (x2 .put-count2 .ensures .0)) (x3 .put-count3 .ensures .0)) (x4 .put-refusals .ensures .0)) (x5 .put-runs .ensures .0)) (x6 .put-extreme .ensures .0)) (x7 .put-extreme2 .ensures .0)) (x8 .put-sum .ensures)
 
 pub put-totals-spec : {M : Type 1} → statement M
 put-totals-spec =
-    tie.close
-    (tie.spec
-    slice-aggregate-put-count
-    put-count-requires
-    slice-aggregate-put-count-2
-    put-count-requires-2
-    slice-aggregate-put-count-3
-    put-count-requires-3
-    put-refusals-requires
-    put-runs-requires
-    slice-aggregate-put-extreme
-    put-extreme-requires
-    slice-aggregate-put-extreme-2
-    put-extreme-requires-2
-    put-sum-requires
-    same-length
-    returns)
+    tie.close (tie.spec (λ c. search needs) (λ c κs. search needs) (λ c. search needs) (λ c κs. omega arith) (λ c. search needs) (λ c κs. omega arith)
+    (λ c κs. omega arith) put-runs-requires (λ c. search needs) put-extreme-requires (λ c. search needs) put-extreme-requires-2 put-sum-requires same-length returns)

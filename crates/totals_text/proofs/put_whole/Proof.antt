@@ -1,8 +1,6 @@
 -- `put_whole` meets its contract. Assumes nothing.
-use Prim.Native.Nat.{ℕ, _+_}
 use mathlib.Core.Path.{_≡_, sym, ap, _∙_}
-use mathlib.Core.Bool.{true, false}
-use mathlib.Core.List.{List, [], _∷_, _++_}
+use mathlib.Core.List.{[], _∷_, _++_}
 use lib.ListN.{length}
 use Rattle.text.proofs.Texts.{then-written}
 use Rattle.season.specs.Words.{wordsValue, sizeOf}
@@ -19,12 +17,6 @@ minus c = with-minus _ _ (c .before .before .size .ensures) (sym (c .before .is-
 no-minus : (c : tie.Else1) → wholeText (wordsValue (c .before .before .before .before .args .words)) ≡ numberText (sizeOf (c .before .before .size .result))
 no-minus c = without-minus _ _ (c .before .before .size .ensures) (sym (c .before .is-negative .ensures) ∙ c .if1 .left)
 
-size-requires : tie.Need-size-requires
-size-requires c κs = search needs
-
-is-negative-requires : tie.Need-is-negative-requires
-is-negative-requires c κs = search needs
-
 put-requires : tie.Need-put-requires
 put-requires c κs = omega (arith, c .before .before .before .before .before .pre, ap length (minus (c .before)))
 
@@ -33,9 +25,6 @@ put-size-requires c κs =
     let p = c .before .before .before in
     let t = p .before .before in
     omega (arith, t .before .before .before .before .pre, ap length (minus t), p .put .ensures .next, p .put .kept .1 .0)
-
-same-length : tie.Need-same-length
-same-length c = search needs
 
 returns : tie.Need-returns
 returns c =
@@ -46,9 +35,6 @@ returns c =
 put-size-requires-2 : tie.Need-put-size-requires-2
 put-size-requires-2 c κs = omega (arith, c .before .before .before .before .before .pre, ap length (no-minus (c .before)))
 
-same-length-2 : tie.Need-same-length-2
-same-length-2 c = search needs
-
 returns-2 : tie.Need-returns-2
 returns-2 c =
     let q = c .before .before in
@@ -56,14 +42,5 @@ returns-2 c =
 
 pub put-whole-spec : {M : Type 1} → statement M
 put-whole-spec =
-    tie.close
-    (tie.spec
-    size-requires
-    is-negative-requires
-    put-requires
-    put-size-requires
-    same-length
-    returns
-    put-size-requires-2
-    same-length-2
+    tie.close (tie.spec (λ c κs. search needs) (λ c κs. search needs) put-requires put-size-requires (λ c. search needs) returns put-size-requires-2 (λ c. search needs)
     returns-2)

@@ -3,10 +3,10 @@ use lib.ListN.{length}
 use denote.Ref.{now}
 use borrow.Author.Tests.{lt-ltb, le-ltb}
 use Rattle.totals_text.specs.Text.{shownIn}
-use Rattle.totals_text.proofs.Lengths.{at-first}
 use borrow.Author.Needs.{needs}
 use Rattle.totals_text.proofs.show.Statement.{statement}
 use Rattle.totals_text.proofs.show.Tie as tie
+use Rattle.text.proofs.Texts.{from-first}
 
 returns : tie.Need-returns
 unfolding shownIn
@@ -14,19 +14,13 @@ returns c =
     let e = lt-ltb (length (now (c .before .before .args .out))) 1024 (c .if1 .taken) in
     record { count = rw e; places = rw e }
 
-put-totals-requires : tie.Need-put-totals-requires
-put-totals-requires c κs = search needs
-
-same-length : tie.Need-same-length
-same-length c = search needs
-
 returns-2 : tie.Need-returns-2
 unfolding shownIn
 returns-2 c =
     let p = c .before .before in
     let s = p .before .before .before .before in
     let e = le-ltb (length (now (s .args .out))) 1024 (p .before .before .if1 .left) in
-    record { count = rw e (at-first (p .put-totals .ensures) .0); places = rw e (at-first (p .put-totals .ensures) .1) }
+    record { count = rw e (from-first (p .put-totals .ensures) .0); places = rw e (from-first (p .put-totals .ensures) .1) }
 
 pub show-spec : {M : Type 1} → statement M
-show-spec = tie.close (tie.spec returns put-totals-requires same-length returns-2)
+show-spec = tie.close (tie.spec returns (λ c κs. search needs) (λ c. search needs) returns-2)

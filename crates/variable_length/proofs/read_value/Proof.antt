@@ -9,18 +9,6 @@ use borrow.Author.Needs.{needs}
 use Rattle.variable_length.proofs.read_value.Statement.{statement}
 use Rattle.variable_length.proofs.read_value.Tie as tie
 
-rest-requires : tie.Need-rest-requires
-rest-requires c κs = search needs
-
-sub-if1 : tie.Need-sub-if1
-sub-if1 c = search needs
-
-run-requires : tie.Need-run-requires
-run-requires c κs = search needs
-
-cut-requires : tie.Need-cut-requires
-cut-requires c κs = search needs
-
 returns : tie.Need-returns
 returns c = let f = c .before .before in let a = f .before .before .args in record { answer = rw (← (f .rest .ensures .1), bytes-here (now (a .input)) (f .rest .result) 6 (a .n) (c .before .if1 .taken)) (c .run .ensures) }
 
@@ -33,5 +21,4 @@ returns-2 c =
     record { answer = rw (← (f .rest .ensures .1), bytes-cut s (f .rest .result) 6 (a .n) (c .before .if1 .left), f .rest .ensures .1, length-drop, e) (c .cut .ensures) }
 
 pub read-value-spec : {M : Type 1} → statement M
-read-value-spec =
-    tie.close (tie.spec rest-requires sub-if1 run-requires cut-requires returns returns-2)
+read-value-spec = tie.close (tie.spec (λ c κs. search needs) (λ c. search needs) (λ c κs. search needs) (λ c κs. search needs) returns returns-2)

@@ -9,11 +9,8 @@ use borrow.Author.Needs.{needs}
 use Rattle.variable_length.proofs.rest.Statement.{statement}
 use Rattle.variable_length.proofs.rest.Tie as tie
 
-returns : tie.Need-returns
-returns c = search needs
-
 returns-2 : tie.Need-returns-2
 returns-2 c = let s = now (c .before .args .input) in (le-refl _, drop-length s ∙ sym (drop-of-length-le s {i = c .before .args .at} (omega arith)))
 
 pub rest-spec : {M : Type 1} → statement M
-rest-spec = tie.close (tie.spec returns returns-2)
+rest-spec = tie.close (tie.spec (λ c. search needs) returns-2)

@@ -4,14 +4,8 @@ use Rattle.format.proofs.Kept.{narrowest-next}
 use Rattle.writer.proofs.narrowest_code.Statement.{statement}
 use Rattle.writer.proofs.narrowest_code.Tie as tie
 
-narrowest-code-requires : tie.Need-narrowest-code-requires
-narrowest-code-requires c κs = search needs
-
-next-kept-requires : tie.Need-next-kept-requires
-next-kept-requires c κs = c .narrowest-code .ensures .isCode
-
 returns : tie.Need-returns
 returns c = rw (c .next-kept .ensures) (narrowest-next _ _ (c .before .narrowest-code .ensures))
 
 pub narrowest-code-spec : {M : Type 1} → statement M
-narrowest-code-spec = tie.close (tie.spec narrowest-code-requires next-kept-requires returns)
+narrowest-code-spec = tie.close (tie.spec (λ c κs. search needs) (λ c κs. c .narrowest-code .ensures .isCode) returns)

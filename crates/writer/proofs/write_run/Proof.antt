@@ -6,17 +6,11 @@ use borrow.Author.Tests.{not-true, not-false, eqb-true}
 use denote.Ref.{now}
 use Rattle.format.specs.Rows.{asU64}
 use Rattle.format.proofs.Kept.{kept-code}
-use Rattle.writer.proofs.Laws.{within, packed-kept}
-use Rattle.writer.proofs.Forms.{bad-count, bad-width}
+use Rattle.writer.proofs.Pieces.{within, packed-kept}
+use Rattle.writer.proofs.Promised.{bad-count, bad-width}
 use borrow.Author.Needs.{needs}
 use Rattle.writer.proofs.write_run.Statement.{statement}
 use Rattle.writer.proofs.write_run.Tie as tie
-
-count-requires : tie.Need-count-requires
-count-requires c κs = search needs
-
-refused-requires : tie.Need-refused-requires
-refused-requires c κs = search needs
 
 returns : tie.Need-returns
 returns c =
@@ -24,12 +18,6 @@ returns c =
     bad-count (now (a .rows)) (a .signed) (a .form) (a .width) (now (a .out)) (c .refused .result)
     (rw (length-map (now (a .rows)) asU64) (sym (c .before .before .count .ensures) ∙ not-true _ (c .before .if1 .taken)))
     (c .refused .ensures)
-
-width-requires : tie.Need-width-requires
-width-requires c κs = search needs
-
-refused-requires-2 : tie.Need-refused-requires-2
-refused-requires-2 c κs = search needs
 
 returns-2 : tie.Need-returns-2
 returns-2 c =
@@ -39,97 +27,56 @@ returns-2 c =
     (sym (c .before .before .width .ensures) ∙ not-true _ (c .before .if2 .taken))
     (c .refused2 .ensures)
 
-enum-told : tie.Need-enum-told
-enum-told c = search needs
-
 write-requires : tie.Need-write-requires
 write-requires c κs =
-    let a = c .before .before .before .before .before .before .before .before .args in
+    let back-6 = c .before .before .before .before .before .before in
+    let a = back-6 .before .before .args in
     let e = c .before .enum-told .given .1 in
     let n = within 3 10 (length (now (a .rows))) (rw e at (sym (c .before .before .before .before .before .before .count .ensures) ∙ not-false _ (c .before .before .before .before .before .if1 .left))) in
     let w = within 1 8 (a .width) (rw e at (sym (c .before .before .before .before .width .ensures) ∙ not-false _ (c .before .before .before .if2 .left))) in
     (n .0, n .1, w .0, w .1)
 
-enum-told-2 : tie.Need-enum-told-2
-enum-told-2 c = search needs
-
 write-requires-2 : tie.Need-write-requires-2
 write-requires-2 c κs =
-    let a = c .before .before .before .before .before .before .before .before .args in
+    let back-6 = c .before .before .before .before .before .before in
+    let a = back-6 .before .before .args in
     let e = c .before .enum-told2 .given .1 in
     let n = within 1 512 (length (now (a .rows))) (rw e at (sym (c .before .before .before .before .before .before .count .ensures) ∙ not-false _ (c .before .before .before .before .before .if1 .left))) in
     let w = rw e at (sym (c .before .before .before .before .width .ensures) ∙ not-false _ (c .before .before .before .if2 .left)) in
     let k = kept-code (a .width) w in
     ((n .0, n .1, omega arith), w)
 
-enum-told-3 : tie.Need-enum-told-3
-enum-told-3 c = search needs
-
 write-fixed-requires : tie.Need-write-fixed-requires
 write-fixed-requires c κs =
-    let a = c .before .before .before .before .before .before .before .before .args in
+    let back-6 = c .before .before .before .before .before .before in
+    let a = back-6 .before .before .args in
     let e = c .before .enum-told3 .given .1 in
     let n = within 1 512 (length (now (a .rows))) (rw e at (sym (c .before .before .before .before .before .before .count .ensures) ∙ not-false _ (c .before .before .before .before .before .if1 .left))) in
     (n .0, n .1, eqb-true (a .width) 0 (rw e at (sym (c .before .before .before .before .width .ensures) ∙ not-false _ (c .before .before .before .if2 .left))))
 
-enum-told-4 : tie.Need-enum-told-4
-enum-told-4 c = search needs
-
 write-packed-requires : tie.Need-write-packed-requires
 write-packed-requires c κs =
-    let a = c .before .before .before .before .before .before .before .before .args in
+    let back-6 = c .before .before .before .before .before .before in
+    let a = back-6 .before .before .args in
     let e = c .before .enum-told4 .given .1 in
     let n = within 2 512 (length (now (a .rows))) (rw e at (sym (c .before .before .before .before .before .before .count .ensures) ∙ not-false _ (c .before .before .before .before .before .if1 .left))) in
     let w = packed-kept (a .width) (rw e at (sym (c .before .before .before .before .width .ensures) ∙ not-false _ (c .before .before .before .if2 .left))) in
     ((n .0, n .1, w .0, w .1), w .2)
 
-same-length : tie.Need-same-length
-same-length c = search needs
-
 returns-3 : tie.Need-returns-3
 returns-3 c = rw (c .before .before .before .before .enum-told .given .1) (c .before .before .write .ensures)
-
-same-length-2 : tie.Need-same-length-2
-same-length-2 c = search needs
 
 returns-4 : tie.Need-returns-4
 returns-4 c = rw (c .before .before .before .before .enum-told2 .given .1) (c .before .before .write2 .ensures)
 
-same-length-3 : tie.Need-same-length-3
-same-length-3 c = search needs
-
 returns-5 : tie.Need-returns-5
 returns-5 c = rw (c .before .before .before .before .enum-told3 .given .1) (c .before .before .write-fixed .ensures)
-
-same-length-4 : tie.Need-same-length-4
-same-length-4 c = search needs
 
 returns-6 : tie.Need-returns-6
 returns-6 c = rw (c .before .before .before .before .enum-told4 .given .1) (c .before .before .write-packed .ensures)
 
 pub write-run-spec : {M : Type 1} → statement M
 write-run-spec =
-    tie.close
-    (tie.spec
-    count-requires
-    refused-requires
-    returns
-    width-requires
-    refused-requires-2
-    returns-2
-    enum-told
-    write-requires
-    enum-told-2
-    write-requires-2
-    enum-told-3
-    write-fixed-requires
-    enum-told-4
-    write-packed-requires
-    same-length
-    returns-3
-    same-length-2
-    returns-4
-    same-length-3
-    returns-5
-    same-length-4
-    returns-6)
+    tie.close (tie.spec (λ c κs. search needs) (λ c κs. search needs) returns (λ c κs. search needs) (λ c κs. search needs) returns-2 (λ c. search needs) write-requires
+    (λ c. search needs) write-requires-2 (λ c. search needs) write-fixed-requires (λ c. search needs) write-packed-requires (λ c. search needs) returns-3
+    (λ c. search needs) returns-4 (λ c. search needs) returns-5 (λ c. search needs) returns-6)

@@ -1,6 +1,6 @@
 //! `runs_list FOLDER`: writes the sample of the program, FOLDER/stdin and FOLDER/stdout.
 //!
-//! The answers are the model's, which is an independent reading of documents 01 and 02: nothing of ours is
+//! The answers are the model's, which is an independent reading of the rules: nothing of ours is
 //! asked. The input is several blocks long, and wherever a block ends a line goes on behind it.
 //!
 //! ```text
@@ -14,7 +14,7 @@ use differential::random::Random;
 use differential::tally::Hex;
 use differential::{frames, program};
 
-/// Document 01's lines, each refusal, and lines that are bad.
+/// The README's lines, each refusal, and lines that are bad.
 const SHORT: [&str; 54] = [
     "000A012C",
     "0046021230",

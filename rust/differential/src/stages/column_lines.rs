@@ -1,4 +1,4 @@
-//! Document 02, item 10: the fixed lines of the probe. Their answers are the model's; of the planner, whose
+//! FORMAT.md, "Column writer": the fixed lines of the probe. Their answers are the model's; of the planner, whose
 //! proposal has no one right value, there are only those where it proposes nothing.
 use model::Segment;
 

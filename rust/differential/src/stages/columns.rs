@@ -1,4 +1,4 @@
-//! Document 02, item 10: columns by proposals, right ones and damaged ones; through the library, in lines
+//! FORMAT.md, "Column writer": columns by proposals, right ones and damaged ones; through the library, in lines
 //! for the probe, and read back by the Rust.
 use std::fmt::Write as _;
 

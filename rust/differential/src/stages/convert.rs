@@ -1,4 +1,4 @@
-//! Document 02, item 11: the converter of odd widths, in lines for the probe.
+//! FORMAT.md, "Converter": the converter of odd widths, in lines for the probe.
 use model::{Converted, Stream, WIDTHS};
 
 use crate::frames;

@@ -1,4 +1,4 @@
-//! Document 02, item 13: the count of ones, in lines for the probe.
+//! FORMAT.md, "Totals": the count of ones, in lines for the probe.
 use crate::probe::Requests;
 use crate::random::Random;
 

@@ -1,4 +1,4 @@
-//! Document 02, items 6 and 14: the index beside a stream, in lines for the probe.
+//! FORMAT.md, "Index": the index beside a stream, in lines for the probe.
 use std::fmt::Write as _;
 
 use model::{Answer, Entry, Index, Lookup, Rows};

@@ -1,4 +1,4 @@
-//! Document 02, item 12: labels, in lines for the probe.
+//! FORMAT.md, "Labels": labels, in lines for the probe.
 use model::Dictionary;
 
 use crate::probe::Requests;

@@ -1,4 +1,4 @@
-//! Document 02, item 4: streams that arrive in parts, in lines for the probe.
+//! FORMAT.md, "Reader in parts": streams that arrive in parts, in lines for the probe.
 use crate::frames;
 use crate::probe::Requests;
 use crate::random::Random;

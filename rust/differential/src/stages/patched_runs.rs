@@ -1,4 +1,4 @@
-//! Document 02, item 9: patched runs, written by the model and by ours, and read back by the Rust.
+//! FORMAT.md, "Patched writer": patched runs, written by the model and by ours, and read back by the Rust.
 use model::{Written, KEPT};
 use oracle::Run;
 
@@ -60,7 +60,7 @@ impl Session {
             Ok(answers) => self.tally.ours(answers),
             Err(answer) => {
                 let call = format!("patched, base {base}, {width} bits, rows {rows:?}");
-                self.tally.unlisted(&format!("{call}\n  the documents: {paper:?}\n  ours: {answer}"));
+                self.tally.unlisted(&format!("{call}\n  the rules: {paper:?}\n  ours: {answer}"));
             }
         }
     }
@@ -80,7 +80,7 @@ fn rare(count: usize, places: &[usize]) -> Vec<i64> {
     rows
 }
 
-/// Each limit of item 9.
+/// Each limit of the patched writer.
 pub fn fixed_lines(requests: &mut Requests) {
     let mut write = |rows: &[i64], base: i64, width: u8| {
         for signed in [false, true] {

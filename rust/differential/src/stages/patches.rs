@@ -1,4 +1,4 @@
-//! Document 02, item 2: patched runs whose value and patch width are over 64 bits together.
+//! FORMAT.md, "Patch lists": patched runs whose value and patch width are over 64 bits together.
 use model::WIDTHS;
 
 use super::Session;

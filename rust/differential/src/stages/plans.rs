@@ -1,4 +1,4 @@
-//! Document 02, item 10: what the planner proposes. It has no one right value: it is held to what every
+//! FORMAT.md, "Planner": what the planner proposes. It has no one right value: it is held to what every
 //! proposal of the planner's must be, and, while both are one algorithm, to the prototype's.
 use model::Segment;
 use planning::columns::{other_columns, stretches, Dice, Named};

@@ -1,4 +1,4 @@
-//! Document 02, item 8: salvage, in lines for the probe.
+//! FORMAT.md, "Salvage": salvage, in lines for the probe.
 use std::fmt::Write as _;
 
 use model::{Groups, Salvaged, Stream};

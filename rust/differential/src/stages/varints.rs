@@ -1,4 +1,4 @@
-//! Document 02, item 7: varints of ten bytes and more, as the first row and as the base delta.
+//! FORMAT.md, "Varints": varints of ten bytes and more, as the first row and as the base delta.
 use super::Session;
 use crate::probe::Requests;
 use crate::random::Random;

@@ -1,4 +1,4 @@
-//! Document 02, items 8, 10 and 11: streams that the model writes, read back by the Rust.
+//! Streams that the model writes (FORMAT.md, "Salvage", "Column writer" and "Converter"), read back by the Rust.
 use model::{Column, Converted, Groups, Salvaged, Segment, Stream, KEPT};
 use oracle::Stopped;
 

@@ -9,12 +9,9 @@ returns : tie.Need-returns
 unfolding oddFirst
 returns c = rw (c .if1 .taken)
 
-is-kept-requires : tie.Need-is-kept-requires
-is-kept-requires c κs = search needs
-
 returns-2 : tie.Need-returns-2
 unfolding oddFirst
 returns-2 c = rw (ne-eqb _ 0 (c .before .if1 .left), c .is-kept .ensures)
 
 pub is-odd-spec : {M : Type 1} → statement M
-is-odd-spec = tie.close (tie.spec returns is-kept-requires returns-2)
+is-odd-spec = tie.close (tie.spec returns (λ c κs. search needs) returns-2)

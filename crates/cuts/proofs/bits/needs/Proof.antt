@@ -4,14 +4,5 @@ use borrow.Author.Needs.{needs}
 use Rattle.cuts.proofs.bits.needs.Statement.{statement}
 use Rattle.cuts.proofs.bits.needs.Tie as tie
 
-sub-result : tie.Need-sub-result
-sub-result c = leading-le 64 _
-
-cast-result : tie.Need-cast-result
-cast-result c = search needs
-
-returns : tie.Need-returns
-returns c = search needs
-
 pub needs-spec : {M : Type 1} → statement M
-needs-spec = tie.close (tie.spec sub-result cast-result returns)
+needs-spec = tie.close (tie.spec (λ c. leading-le 64 _) (λ c. search needs) (λ c. search needs))

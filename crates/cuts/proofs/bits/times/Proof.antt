@@ -12,8 +12,5 @@ mul-result c =
     let b : c .args .b % 65536 ≤ 65536 = omega arith in
     omega (arith, mul-le-mul {n₂ = 65536} {m₂ = 65536} a b)
 
-returns : tie.Need-returns
-returns c = search needs
-
 pub times-spec : {M : Type 1} → statement M
-times-spec = tie.close (tie.spec mul-result returns)
+times-spec = tie.close (tie.spec mul-result (λ c. search needs))

@@ -5,7 +5,7 @@ use native.Mathlib.Omega.{arith}
 use mathlib.Core.List.{[]}
 use lib.ListN.{length, drop, drop-of-length-le}
 use borrow.Author.Needs.{needs}
-use Rattle.format.proofs.Fields.{below-all}
+use Rattle.format.proofs.Below.{below-all}
 use Rattle.index.proofs.Turns.{Step, step-is, OneRun, NoRun}
 use Rattle.index.proofs.Fills.{Filling, filling-first, Room, has-room, filling-run, filling-refused, filling-end}
 use Rattle.index.proofs.walk.fill.Statement.{statement}
@@ -18,27 +18,21 @@ abbrev μ-loop : tie.MeasureT-loop
 μ-loop input first₀ at₀ counts₀ place₀ row₀ i₀ first at counts place row i = length input - place
 
 -- what a turn's run comes to, and its three cases
-step : (x : tie.After-measure Inv-loop μ-loop) → let l = x .before .before .loop in let a = x .before .before .before .before .before .before .before .args in Step (a .input .now) (l .place) (x .measure .result)
+step : (x : tie.After-measure Inv-loop μ-loop) → let back-6 = x .before .before .before .before .before .before in let l = x .before .before .loop in let a = back-6 .before .args in Step (a .input .now) (l .place) (x .measure .result)
 step x =
     let k = x .before .before .before .before .before .before in
     let a = k .before .args in
     step-is (a .input .now) (x .before .before .loop .place) _ (below-all 256 (a .input .now) (λ i. k .shared-slice-known .given i .fits)) (x .measure .ensures)
 
-ran-is : (m : tie.After-a Inv-loop μ-loop) → let l = m .before .before .before .before .loop in let a = m .before .before .before .before .before .before .before .before .before .args in OneRun (a .input .now) (l .place) (m .a .given .0 .0)
+ran-is : (m : tie.After-a Inv-loop μ-loop) → let back-6 = m .before .before .before .before .before .before in let l = m .before .before .before .before .loop in let a = back-6 .before .before .before .args in OneRun (a .input .now) (l .place) (m .a .given .0 .0)
 ran-is m = rw (m .a .given .1) at (step (m .before .before))
 
-roomy : (m : tie.After-a Inv-loop μ-loop) → let l = m .before .before .before .before .loop in let a = m .before .before .before .before .before .before .before .before .before .args in
+roomy : (m : tie.After-a Inv-loop μ-loop) → let back-6 = m .before .before .before .before .before .before in let l = m .before .before .before .before .loop in let a = back-6 .before .before .before .args in
     Room (a .input .now) (a .first .now) (a .at .now) (a .counts .now) (l .first) (l .at) (l .counts) (l .place) (l .row) (l .i) (l .inv) (m .a .given .0 .0) (ran-is m)
 roomy m = has-room _ _ _ _ _ _ _ _ _ _ _ _ _
 
 loop-holds : tie.Need-loop-holds Inv-loop μ-loop
 loop-holds c = filling-first _ _ _ _ (c .before .before .before .before .pre)
-
-measure-requires : tie.Need-measure-requires Inv-loop μ-loop
-measure-requires c κs = search needs
-
-enum-known-a : tie.Need-enum-known-a Inv-loop μ-loop
-enum-known-a c = search needs
 
 mul-first : tie.Need-mul-first Inv-loop μ-loop
 mul-first c = let y = roomy (c .before .before .before) in omega (arith, y .in-first₀)
@@ -48,9 +42,6 @@ slice-write-first c = roomy (c .before .before .before) .in-first
 
 mul-at : tie.Need-mul-at Inv-loop μ-loop
 mul-at c = let y = roomy (c .before .before .before) in omega (arith, y .in-at₀)
-
-slice-write-at : tie.Need-slice-write-at Inv-loop μ-loop
-slice-write-at c = roomy (c .before .before .before) .in-at
 
 mul-counts : tie.Need-mul-counts Inv-loop μ-loop
 mul-counts c = let y = roomy (c .before .before .before) in omega (arith, y .in-counts₀)
@@ -74,13 +65,12 @@ loop-less c =
 
 loop-again : tie.Need-loop-again Inv-loop μ-loop
 loop-again c =
+    let back-6 = c .before .before .before .before .before .before in
+    let back-12 = back-6 .before .before .before .before .before .before in
     let m = c .before .before .before .before .before in
     let l = m .before .before .before .before .loop in
-    let a = m .before .before .before .before .before .before .before .before .before .args in
+    let a = back-12 .before .before .args in
     filling-run (a .input .now) (a .first .now) (a .at .now) (a .counts .now) (l .first) (l .at) (l .counts) (l .place) (l .row) (l .i) (l .inv) (m .a .given .0 .0) (ran-is m)
-
-enum-told : tie.Need-enum-told Inv-loop μ-loop
-enum-told c = search needs
 
 same-length : tie.Need-same-length Inv-loop μ-loop
 same-length c = c .before .before .before .before .loop .inv .long-first
@@ -93,14 +83,12 @@ same-length-3 c = c .before .before .before .before .loop .inv .long-counts
 
 returns : tie.Need-returns Inv-loop μ-loop
 returns c =
+    let back-6 = c .before .before .before .before .before .before in
     let x = c .before .before in
     let l = x .before .before .loop in
-    let a = x .before .before .before .before .before .before .before .args in
+    let a = back-6 .before .before .before .args in
     let q : NoRun (a .input .now) (l .place) (c .enum-told .given .0 .0) = rw (c .enum-told .given .1) at (step x) in
     absurd (filling-refused (a .input .now) (a .first .now) (a .at .now) (a .counts .now) (l .first) (l .at) (l .counts) (l .place) (l .row) (l .i) (l .inv) _ q)
-
-enum-told-2 : tie.Need-enum-told-2 Inv-loop μ-loop
-enum-told-2 c = search needs
 
 same-length-4 : tie.Need-same-length-4 Inv-loop μ-loop
 same-length-4 c = c .before .before .before .before .loop .inv .long-first
@@ -113,20 +101,12 @@ same-length-6 c = c .before .before .before .before .loop .inv .long-counts
 
 returns-2 : tie.Need-returns-2 Inv-loop μ-loop
 returns-2 c =
+    let back-6 = c .before .before .before .before .before .before in
     let x = c .before .before in
     let l = x .before .before .loop in
-    let a = x .before .before .before .before .before .before .before .args in
+    let a = back-6 .before .before .before .args in
     let z : drop (l .place) (a .input .now) ≡ [] = rw (c .enum-told2 .given .1) at (step x) in
     filling-end (a .input .now) (a .first .now) (a .at .now) (a .counts .now) (l .first) (l .at) (l .counts) (l .place) (l .row) (l .i) (l .inv) z
-
-same-length-7 : tie.Need-same-length-7 Inv-loop μ-loop
-same-length-7 c = c .before .loop .inv .long-first
-
-same-length-8 : tie.Need-same-length-8 Inv-loop μ-loop
-same-length-8 c = c .before .loop .inv .long-at
-
-same-length-9 : tie.Need-same-length-9 Inv-loop μ-loop
-same-length-9 c = c .before .loop .inv .long-counts
 
 returns-3 : tie.Need-returns-3 Inv-loop μ-loop
 returns-3 c =
@@ -137,35 +117,7 @@ returns-3 c =
 
 pub fill-spec : {M : Type 1} → statement M
 fill-spec =
-    tie.close
-    (tie.spec
-    Inv-loop
-    μ-loop
-    loop-holds
-    measure-requires
-    enum-known-a
-    mul-first
-    slice-write-first
-    mul-at
-    slice-write-at
-    mul-counts
-    slice-write-counts
-    add-row
-    add-place
-    add-i
-    loop-less
-    loop-again
-    enum-told
-    same-length
-    same-length-2
-    same-length-3
-    returns
-    enum-told-2
-    same-length-4
-    same-length-5
-    same-length-6
-    returns-2
-    same-length-7
-    same-length-8
-    same-length-9
-    returns-3)
+    tie.close (tie.spec Inv-loop μ-loop loop-holds (λ c κs. search needs) (λ c. search needs) mul-first slice-write-first mul-at
+    (λ c. roomy (c .before .before .before) .in-at) mul-counts slice-write-counts add-row add-place add-i loop-less loop-again (λ c. search needs) same-length
+    same-length-2 same-length-3 returns (λ c. search needs) same-length-4 same-length-5 same-length-6 returns-2 (λ c. c .before .loop .inv .long-first)
+    (λ c. c .before .loop .inv .long-at) (λ c. c .before .loop .inv .long-counts) returns-3)

@@ -1,22 +1,15 @@
 -- One place of the columns, number by number. Assumes nothing.
 use mathlib.Core.Path.{sym, _∙_}
 use borrow.Author.Needs.{needs}
-use native.Mathlib.Omega.{arith}
 use Rattle.index.proofs.Totals.{other-first, other-offset, same-so-far, past-other}
 use Rattle.index.proofs.walk.is_entry.Statement.{statement}
 use Rattle.index.proofs.walk.is_entry.Tie as tie
-
-enum-known-total : tie.Need-enum-known-total
-enum-known-total c = search needs
 
 returns : tie.Need-returns
 returns c m e = let a = c .before .before .before .before .args in other-first (a .first) (a .at) (a .count) m (a .place) (a .rows) _ (sym (c .before .before .total .given .1) ∙ e) (c .if1 .taken)
 
 returns-2 : tie.Need-returns-2
 returns-2 c m e = let a = c .before .before .before .before .before .args in other-offset (a .first) (a .at) (a .count) m (a .place) (a .rows) _ (sym (c .before .before .before .total .given .1) ∙ e) (c .before .if1 .left) (c .if2 .taken)
-
-enum-told : tie.Need-enum-told
-enum-told c = search needs
 
 returns-3 : tie.Need-returns-3
 returns-3 c m e = let a = c .before .before .before .before .before .args in same-so-far (a .first) (a .at) (a .count) m (a .place) (a .rows) _ (sym (c .before .before .before .total .given .1) ∙ e) (c .before .if1 .left) (c .if2 .left)
@@ -25,4 +18,4 @@ returns-4 : tie.Need-returns-4
 returns-4 c m e = let a = c .before .before .args in past-other (a .first) (a .at) (a .count) m (a .place) (a .rows) (sym (c .enum-told .given .1) ∙ e) (c .before .before .fits .first .fits)
 
 pub is-entry-spec : {M : Type 1} → statement M
-is-entry-spec = tie.close (tie.spec enum-known-total returns returns-2 enum-told returns-3 returns-4)
+is-entry-spec = tie.close (tie.spec (λ c. search needs) returns returns-2 (λ c. search needs) returns-3 returns-4)

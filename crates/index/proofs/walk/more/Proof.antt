@@ -6,20 +6,8 @@ use Rattle.index.proofs.Totals.{past-more, rows-past, rows-more}
 use Rattle.index.proofs.walk.more.Statement.{statement}
 use Rattle.index.proofs.walk.more.Tie as tie
 
-enum-known-total : tie.Need-enum-known-total
-enum-known-total c = search needs
-
-sub-if1 : tie.Need-sub-if1
-sub-if1 c = search needs
-
 returns : tie.Need-returns
 returns c m e = rows-past m _ _ (sym (c .before .before .total .given .1) ∙ e) (omega arith)
-
-add-t5 : tie.Need-add-t5
-add-t5 c = search needs
-
-enum-told : tie.Need-enum-told
-enum-told c = search needs
 
 returns-2 : tie.Need-returns-2
 returns-2 c m e = rows-more m _ _ (sym (c .before .before .total .given .1) ∙ e) (omega arith)
@@ -28,4 +16,4 @@ returns-3 : tie.Need-returns-3
 returns-3 c m e = past-more m _ (sym (c .enum-told .given .1) ∙ e)
 
 pub more-spec : {M : Type 1} → statement M
-more-spec = tie.close (tie.spec enum-known-total sub-if1 returns add-t5 enum-told returns-2 returns-3)
+more-spec = tie.close (tie.spec (λ c. search needs) (λ c. search needs) returns (λ c. search needs) (λ c. search needs) returns-2 returns-3)

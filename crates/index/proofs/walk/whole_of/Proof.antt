@@ -5,7 +5,7 @@ use native.Mathlib.Omega.{arith}
 use mathlib.Core.List.{[]}
 use lib.ListN.{length, drop, drop-of-length-le}
 use borrow.Author.Needs.{needs}
-use Rattle.format.proofs.Fields.{below-all}
+use Rattle.format.proofs.Below.{below-all}
 use Rattle.index.proofs.Turns.{Step, step-is, OneRun, NoRun}
 use Rattle.index.proofs.Walks.{Surveyed, surveyed-first, surveyed-run, surveyed-whole, surveyed-refused}
 use Rattle.index.proofs.walk.whole_of.Statement.{statement}
@@ -31,18 +31,6 @@ refused-is m = rw (m .a2 .given .1) at (step (m .before .before))
 ended-is : (m : tie.After-enum-told Inv-loop μ-loop) → let l = m .before .before .before .before .loop in let a = m .before .before .before .before .before .before .args in drop (l .place) (a .input .now) ≡ []
 ended-is m = rw (m .enum-told .given .1) at (step (m .before .before))
 
-loop-holds : tie.Need-loop-holds Inv-loop μ-loop
-loop-holds c = surveyed-first _
-
-measure-requires : tie.Need-measure-requires Inv-loop μ-loop
-measure-requires c κs = search needs
-
-enum-known-a : tie.Need-enum-known-a Inv-loop μ-loop
-enum-known-a c = search needs
-
-more-requires : tie.Need-more-requires Inv-loop μ-loop
-more-requires c κs = search needs
-
 add-place : tie.Need-add-place Inv-loop μ-loop
 add-place c = omega (arith, ran-is (c .before .before .before .before .before) .within)
 
@@ -63,16 +51,10 @@ loop-again c =
     let l = m .before .before .before .before .loop in
     surveyed-run _ (l .place) (l .runs) (l .total) (l .inv) (m .a .given .0 .0) (c .before .more .result) (ran-is m) (c .before .more .ensures)
 
-enum-known-a-2 : tie.Need-enum-known-a-2 Inv-loop μ-loop
-enum-known-a-2 c = search needs
-
 returns : tie.Need-returns Inv-loop μ-loop
 returns c =
     let l = c .before .before .before .before .before .loop in
     surveyed-refused _ (l .place) (l .runs) (l .total) (l .inv) _ (refused-is (c .before))
-
-enum-told : tie.Need-enum-told Inv-loop μ-loop
-enum-told c = search needs
 
 returns-2 : tie.Need-returns-2 Inv-loop μ-loop
 returns-2 c =
@@ -84,20 +66,5 @@ returns-3 c = let l = c .before .loop in surveyed-whole _ (l .place) (l .runs) (
 
 pub whole-of-spec : {M : Type 1} → statement M
 whole-of-spec =
-    tie.close
-    (tie.spec
-    Inv-loop
-    μ-loop
-    loop-holds
-    measure-requires
-    enum-known-a
-    more-requires
-    add-place
-    add-runs
-    loop-less
-    loop-again
-    enum-known-a-2
-    returns
-    enum-told
-    returns-2
-    returns-3)
+    tie.close (tie.spec Inv-loop μ-loop (λ c. surveyed-first _) (λ c κs. search needs) (λ c. search needs) (λ c κs. search needs) add-place add-runs loop-less loop-again
+    (λ c. search needs) returns (λ c. search needs) returns-2 returns-3)

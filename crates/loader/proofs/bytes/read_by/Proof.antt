@@ -5,26 +5,14 @@ use native.Mathlib.Omega.{arith}
 use lib.ListN.{length, take, drop, length-append}
 use lib.Seq.{length-take-le}
 use Rattle.format.specs.Answers.{answerPacked}
-use Rattle.format.proofs.Fields.{below-all}
+use Rattle.format.proofs.Below.{below-all}
 use Rattle.loader.proofs.Reading.{Reads, reads}
 use borrow.Author.Needs.{needs}
 use Rattle.loader.proofs.bytes.read_by.Statement.{statement}
 use Rattle.loader.proofs.bytes.read_by.Tie as tie
 
-least-requires : tie.Need-least-requires
-least-requires c κs = search needs
-
-new-requires : tie.Need-new-requires
-new-requires c κs = search needs
-
-slice-relend-prefix-read-run : tie.Need-slice-relend-prefix-read-run
-slice-relend-prefix-read-run c = search needs
-
 slice-aggregate-read-run : tie.Need-slice-aggregate-read-run
 slice-aggregate-read-run c = let a = c .before .before .before .before .before .args in sym (length-take-le (c .before .before .least .result) (a .rows .now) (omega arith))
-
-read-run-requires : tie.Need-read-run-requires
-read-run-requires c κs = search needs
 
 -- what is known once the run is read
 told : (x : tie.After-read-run) → let k = x .before .before .before .least .result in let a = x .before .before .before .before .before .before .args in
@@ -42,9 +30,6 @@ told x =
     (x .read-run .ensures)
     (drop k (a .rows .now))
 
-rows-requires : tie.Need-rows-requires
-rows-requires c κs = search needs
-
 put-rows-requires : tie.Need-put-rows-requires
 put-rows-requires c κs =
     let x = c .before .before .before .before in
@@ -56,14 +41,8 @@ put-rows-requires c κs =
 
 packed-requires : tie.Need-packed-requires
 packed-requires c κs =
-    let t = told (c .before .before .before .before .before .before .before) in
+    let t = told (let back-6 = c .before .before .before .before .before .before in back-6 .before) in
     (omega (arith, t .few), omega (arith, t .short))
-
-same-length : tie.Need-same-length
-same-length c = search needs
-
-same-length-2 : tie.Need-same-length-2
-same-length-2 c = search needs
 
 returns : tie.Need-returns
 returns c =
@@ -76,16 +55,5 @@ returns c =
 
 pub read-by-spec : {M : Type 1} → statement M
 read-by-spec =
-    tie.close
-    (tie.spec
-    least-requires
-    new-requires
-    slice-relend-prefix-read-run
-    slice-aggregate-read-run
-    read-run-requires
-    rows-requires
-    put-rows-requires
-    packed-requires
-    same-length
-    same-length-2
-    returns)
+    tie.close (tie.spec (λ c κs. search needs) (λ c κs. search needs) (λ c. search needs) slice-aggregate-read-run (λ c κs. search needs) (λ c κs. search needs)
+    put-rows-requires packed-requires (λ c. search needs) (λ c. search needs) returns)

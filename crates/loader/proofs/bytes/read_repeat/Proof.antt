@@ -1,5 +1,5 @@
 -- `read_repeat` meets its contract: what the measure named is laid down as bytes where there is room. Assumes nothing.
-use mathlib.Core.Path.{_≡_, sym, _∙_}
+use mathlib.Core.Path.{sym, _∙_}
 use native.Mathlib.Omega.{arith}
 use denote.Ref.{now}
 use Rattle.format.specs.declared.Answer.the-variants as answer
@@ -32,12 +32,6 @@ end-told c =
     let a = m .before .before .before .args in
     nothing (now (a .input)) (a .signed) (now (a .out)) _ (λ r e. run-not-end r (sym e ∙ c .enum-told2 .given .1)) (m .measure .ensures)
 
-measure-requires : tie.Need-measure-requires
-measure-requires c κs = search needs
-
-enum-known-measured : tie.Need-enum-known-measured
-enum-known-measured c = search needs
-
 returns : tie.Need-returns
 returns c =
     let m = c .before .before .before .before in
@@ -45,36 +39,24 @@ returns c =
     no-room (now (t .args .input)) (t .args .signed) (now (t .args .out)) (t .pre .0) (t .pre .1) _ (run-told m) (c .if1 .taken)
 
 read-requires : tie.Need-read-requires
-read-requires c κs = let m = told (c .before .before .before .before .before) in omega (arith, m .size-is, m .there, c .before .before .before .before .before .before .before .before .before .before .pre .1)
-
-row-requires : tie.Need-row-requires
-row-requires c κs = search needs
-
-put-repeat-requires : tie.Need-put-repeat-requires
-put-repeat-requires c κs = search needs
+read-requires c κs =
+    let m = told (c .before .before .before .before .before) in omega (arith, m .size-is, m .there, (let back-6 = c .before .before .before .before .before .before in back-6 .before .before .before .before .pre .1))
 
 packed-requires : tie.Need-packed-requires
-packed-requires c κs = let m = told (c .before .before .before .before .before .before .before .before .before .before .before) in (omega (arith, m .rows-are), omega (arith, m .bytes-are, m .there))
-
-enum-told : tie.Need-enum-told
-enum-told c = search needs
+packed-requires c κs =
+    let m = told (let back-6 = c .before .before .before .before .before .before in back-6 .before .before .before .before .before) in (omega (arith, m .rows-are), omega (arith, m .bytes-are, m .there))
 
 packed-requires-2 : tie.Need-packed-requires-2
 packed-requires-2 c κs = let n = refused-told c in (rw (n .rows) (omega arith), rw (n .bytes) (omega arith))
 
-enum-told-2 : tie.Need-enum-told-2
-enum-told-2 c = search needs
-
 packed-requires-3 : tie.Need-packed-requires-3
 packed-requires-3 c κs = let n = end-told c in (rw (n .rows) (omega arith), rw (n .bytes) (omega arith))
 
-same-length : tie.Need-same-length
-same-length c = search needs
-
 returns-2 : tie.Need-returns-2
 returns-2 c =
+    let back-6 = c .before .before .before .before .before .before in
     let w = c .before .before .before .before .before in
-    let m = w .before .before .before .before .before .before .before in
+    let m = back-6 .before .before .before .before .before .before in
     let t = m .before .before .before .before .before in
     let v = rw (w .before .read .ensures) at (w .row .ensures) in
     rw (c .packed .ensures)
@@ -88,20 +70,5 @@ returns-4 c = rw (c .packed3 .ensures) (end-told (c .before) .loaded)
 
 pub read-repeat-spec : {M : Type 1} → statement M
 read-repeat-spec =
-    tie.close
-    (tie.spec
-    measure-requires
-    enum-known-measured
-    returns
-    read-requires
-    row-requires
-    put-repeat-requires
-    packed-requires
-    enum-told
-    packed-requires-2
-    enum-told-2
-    packed-requires-3
-    same-length
-    returns-2
-    returns-3
-    returns-4)
+    tie.close (tie.spec (λ c κs. search needs) (λ c. search needs) returns read-requires (λ c κs. search needs) (λ c κs. search needs) packed-requires (λ c. search needs)
+    packed-requires-2 (λ c. search needs) packed-requires-3 (λ c. search needs) returns-2 returns-3 returns-4)

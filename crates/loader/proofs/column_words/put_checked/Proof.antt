@@ -9,33 +9,6 @@ use borrow.Author.Needs.{needs}
 use Rattle.loader.proofs.column_words.put_checked.Statement.{statement}
 use Rattle.loader.proofs.column_words.put_checked.Tie as tie
 
-check-case-requires : tie.Need-check-case-requires
-check-case-requires c κs = search needs
-
-slice-write-lent : tie.Need-slice-write-lent
-slice-write-lent c = search needs
-
-check-runs-requires : tie.Need-check-runs-requires
-check-runs-requires c κs = search needs
-
-slice-write-lent-2 : tie.Need-slice-write-lent-2
-slice-write-lent-2 c = simp length-set (omega arith)
-
-check-rows-requires : tie.Need-check-rows-requires
-check-rows-requires c κs = search needs
-
-slice-write-lent-3 : tie.Need-slice-write-lent-3
-slice-write-lent-3 c = simp length-set (omega arith)
-
-check-bytes-requires : tie.Need-check-bytes-requires
-check-bytes-requires c κs = search needs
-
-slice-write-lent-4 : tie.Need-slice-write-lent-4
-slice-write-lent-4 c = simp length-set (omega arith)
-
-same-length : tie.Need-same-length
-same-length c = simp length-set
-
 returns : tie.Need-returns
 unfolding checkWords
 returns c =
@@ -50,15 +23,5 @@ returns c =
 
 pub put-checked-spec : {M : Type 1} → statement M
 put-checked-spec =
-    tie.close
-    (tie.spec
-    check-case-requires
-    slice-write-lent
-    check-runs-requires
-    slice-write-lent-2
-    check-rows-requires
-    slice-write-lent-3
-    check-bytes-requires
-    slice-write-lent-4
-    same-length
-    returns)
+    tie.close (tie.spec (λ c κs. search needs) (λ c. search needs) (λ c κs. search needs) (λ c. simp length-set (omega arith)) (λ c κs. search needs)
+    (λ c. simp length-set (omega arith)) (λ c κs. search needs) (λ c. simp length-set (omega arith)) (λ c. simp length-set) returns)

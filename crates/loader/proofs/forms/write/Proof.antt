@@ -10,25 +10,10 @@ use Rattle.loader.proofs.FormNumbers.{width-least}
 use Rattle.loader.proofs.forms.write.Statement.{statement}
 use Rattle.loader.proofs.forms.write.Tie as tie
 
-refused-requires : tie.Need-refused-requires
-refused-requires c κs = search needs
-
 returns : tie.Need-returns
 returns c =
     let e = lt-ltb 3 (c .before .before .before .args .form) (c .before .if1 .taken) in
     record { answer = rw e (c .refused .ensures); places = rw e }
-
-form-of-requires : tie.Need-form-of-requires
-form-of-requires c κs = search needs
-
-byte-width-requires : tie.Need-byte-width-requires
-byte-width-requires c κs = search needs
-
-write-run-requires : tie.Need-write-run-requires
-write-run-requires c κs = search needs
-
-same-length : tie.Need-same-length
-same-length c = search needs
 
 returns-2 : tie.Need-returns-2
 returns-2 c =
@@ -42,13 +27,4 @@ returns-2 c =
     record { answer = rw (e, ← l) (g .answer); places = rw (e, ← l) (g .places) }
 
 pub write-spec : {M : Type 1} → statement M
-write-spec =
-    tie.close
-    (tie.spec
-    refused-requires
-    returns
-    form-of-requires
-    byte-width-requires
-    write-run-requires
-    same-length
-    returns-2)
+write-spec = tie.close (tie.spec (λ c κs. search needs) returns (λ c κs. search needs) (λ c κs. search needs) (λ c κs. search needs) (λ c. search needs) returns-2)

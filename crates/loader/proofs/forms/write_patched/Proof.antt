@@ -9,15 +9,6 @@ use Rattle.loader.proofs.FormNumbers.{patched-least}
 use Rattle.loader.proofs.forms.write_patched.Statement.{statement}
 use Rattle.loader.proofs.forms.write_patched.Tie as tie
 
-byte-width-requires : tie.Need-byte-width-requires
-byte-width-requires c κs = search needs
-
-write-patched-requires : tie.Need-write-patched-requires
-write-patched-requires c κs = search needs
-
-same-length : tie.Need-same-length
-same-length c = search needs
-
 returns : tie.Need-returns
 returns c =
     let w = c .before .before in
@@ -29,4 +20,4 @@ returns c =
     record { answer = rw (← l) (g .answer); places = rw (← l) (g .places) }
 
 pub write-patched-spec : {M : Type 1} → statement M
-write-patched-spec = tie.close (tie.spec byte-width-requires write-patched-requires same-length returns)
+write-patched-spec = tie.close (tie.spec (λ c κs. search needs) (λ c κs. search needs) (λ c. search needs) returns)

@@ -7,18 +7,9 @@ use Rattle.loader.proofs.PartWords.{stands-closed}
 use Rattle.loader.proofs.part_words.standing_of.Statement.{statement}
 use Rattle.loader.proofs.part_words.standing_of.Tie as tie
 
-shared-slice-read-if1 : tie.Need-shared-slice-read-if1
-shared-slice-read-if1 c = search needs
-
 returns : tie.Need-returns
 unfolding standingOf
 returns c = rw (c .if1 .taken)
-
-shared-slice-read-if2 : tie.Need-shared-slice-read-if2
-shared-slice-read-if2 c = search needs
-
-refusal-of-requires : tie.Need-refusal-of-requires
-refusal-of-requires c κs = search needs
 
 returns-2 : tie.Need-returns-2
 unfolding standingOf
@@ -31,6 +22,4 @@ returns-3 c =
     stands-closed (getD ws 0 0) (refusalOf ws) (e .if1 .left) (c .if2 .left)
 
 pub standing-of-spec : {M : Type 1} → statement M
-standing-of-spec =
-    tie.close
-    (tie.spec shared-slice-read-if1 returns shared-slice-read-if2 refusal-of-requires returns-2 returns-3)
+standing-of-spec = tie.close (tie.spec (λ c. search needs) returns (λ c. search needs) (λ c κs. search needs) returns-2 returns-3)

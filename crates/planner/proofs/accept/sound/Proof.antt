@@ -16,69 +16,49 @@ slice-aggregate-walk c =
 
 slice-aggregate-walk-2 : tie.Need-slice-aggregate-walk-2
 slice-aggregate-walk-2 c =
-    let s = c .before .before .before .before .before .before .before in
+    let back-6 = c .before .before .before .before .before .before in
+    let s = back-6 .before in
     sym (length-take-le (s .args .k) (now (s .args .counts)) (s .pre .in-counts))
 
 slice-aggregate-walk-3 : tie.Need-slice-aggregate-walk-3
 slice-aggregate-walk-3 c =
-    let s = c .before .before .before .before .before .before .before .before in
+    let back-6 = c .before .before .before .before .before .before in
+    let s = back-6 .before .before in
     sym (length-take-le (s .args .k) (now (s .args .forms)) (s .pre .in-forms))
 
 slice-aggregate-walk-4 : tie.Need-slice-aggregate-walk-4
 slice-aggregate-walk-4 c =
-    let s = c .before .before .before .before .before .before .before .before .before in
+    let back-6 = c .before .before .before .before .before .before in
+    let s = back-6 .before .before .before in
     sym (length-take-le (s .args .k) (now (s .args .widths)) (s .pre .in-widths))
 
 slice-aggregate-walk-5 : tie.Need-slice-aggregate-walk-5
 slice-aggregate-walk-5 c =
-    let s = c .before .before .before .before .before .before .before .before .before .before in
+    let back-6 = c .before .before .before .before .before .before in
+    let s = back-6 .before .before .before .before in
     sym (length-take-le (s .args .k) (now (s .args .bases)) (s .pre .in-bases))
 
 walk-requires : tie.Need-walk-requires
 walk-requires c κs =
-    let s = c .before .before .before .before .before .before .before .before .before .before in
+    let back-6 = c .before .before .before .before .before .before in
+    let s = back-6 .before .before .before .before in
     let a = s .args in
     first-equal (a .signed) (now (a .rows)) (proposal (now (a .first)) (now (a .counts)) (now (a .forms)) (now (a .widths)) (now (a .bases))) (a .k) (s .pre)
 
-enum-known-c : tie.Need-enum-known-c
-enum-known-c c = search needs
-
-is-longer-requires : tie.Need-is-longer-requires
-is-longer-requires c κs = search needs
-
-returns : tie.Need-returns
-returns c = none
-
-enum-told : tie.Need-enum-told
-enum-told c = search needs
-
 returns-2 : tie.Need-returns-2
 returns-2 c =
+    let back-6 = c .before .before .before .before .before .before in
+    let back-12 = back-6 .before .before .before .before .before .before in
     let long = c .before in
     let told = long .before .before in
     let w = told .before .before in
-    let s = w .before .before .before .before .before .before .before .before .before .before .before in
+    let s = back-12 .before .before .before .before in
     let a = s .args in
     let given = told .c .given in
     proposes (a .signed) (now (a .rows)) (proposal (now (a .first)) (now (a .counts)) (now (a .forms)) (now (a .widths)) (now (a .bases))) (a .k) (s .pre)
     (given .0 .0) 18446744073709551615 (sym (given .1) ∙ w .walk .ensures) (sym (long .is-longer .ensures) ∙ c .if1 .left)
 
-returns-3 : tie.Need-returns-3
-returns-3 c = none
-
 pub sound-spec : {M : Type 1} → statement M
 sound-spec =
-    tie.close
-    (tie.spec
-    slice-aggregate-walk
-    slice-aggregate-walk-2
-    slice-aggregate-walk-3
-    slice-aggregate-walk-4
-    slice-aggregate-walk-5
-    walk-requires
-    enum-known-c
-    is-longer-requires
-    returns
-    enum-told
-    returns-2
-    returns-3)
+    tie.close (tie.spec slice-aggregate-walk slice-aggregate-walk-2 slice-aggregate-walk-3 slice-aggregate-walk-4 slice-aggregate-walk-5 walk-requires (λ c. search needs)
+    (λ c κs. search needs) (λ c. none) (λ c. search needs) returns-2 (λ c. none))

@@ -18,9 +18,6 @@ Inv-loop rows signed first counts forms widths bases room run₀ k₀ row₀ byt
 abbrev μ-loop : tie.MeasureT-loop
 μ-loop rows signed first counts forms widths bases room run₀ k₀ row₀ bytes₀ run k row bytes = length first - k
 
-bytes-room-requires : tie.Need-bytes-room-requires Inv-loop μ-loop
-bytes-room-requires c κs = search needs
-
 loop-holds : tie.Need-loop-holds Inv-loop μ-loop
 loop-holds c = (search needs, along-first _ _ _ _ (c .before .before .before .before .before .before .pre))
 
@@ -55,9 +52,6 @@ returns-2 c =
     let l = i .before .loop in
     along-full _ _ _ _ (l .k) (l .row) (l .bytes) (l .inv .1) (i .loop-test .taken) (x .before .before .at .result) (x .before .before .at .ensures) _ _ _ (l .inv .0) (x .step .ensures) (c .before .if1 .left) (c .if2 .taken)
 
-add-k : tie.Need-add-k Inv-loop μ-loop
-add-k c = search needs
-
 add-row : tie.Need-add-row Inv-loop μ-loop
 add-row c =
     let x = c .before .before .before in
@@ -74,9 +68,6 @@ add-bytes c =
     let l = i .before .loop in
     let r = i .before .before in
     omega (arith, l .inv .1 .bytes-in, c .if2 .left, r .before .before .before .before .before .before .fits .room)
-
-loop-less : tie.Need-loop-less Inv-loop μ-loop
-loop-less c = omega arith
 
 loop-again : tie.Need-loop-again Inv-loop μ-loop
 loop-again c =
@@ -97,22 +88,5 @@ returns-4 c =
 
 pub walk-spec : {M : Type 1} → statement M
 walk-spec =
-    tie.close
-    (tie.spec
-    Inv-loop
-    μ-loop
-    bytes-room-requires
-    loop-holds
-    at-requires
-    slice-aggregate-step
-    step-requires
-    returns
-    sub-if2
-    returns-2
-    add-k
-    add-row
-    add-bytes
-    loop-less
-    loop-again
-    returns-3
-    returns-4)
+    tie.close (tie.spec Inv-loop μ-loop (λ c κs. search needs) loop-holds at-requires slice-aggregate-step step-requires returns sub-if2 returns-2 (λ c. search needs)
+    add-row add-bytes (λ c. omega arith) loop-again returns-3 returns-4)

@@ -14,35 +14,11 @@ returns c =
     let a = c .before .before .before .args in
     ran-none _ (now (a .out)) (step-elsewhere (a .signed) (now (a .rows)) (a .at) (a .s) (length (now (a .out))) (c .if1 .taken))
 
-sub-if2 : tie.Need-sub-if2
-sub-if2 c = search needs
-
 returns-2 : tie.Need-returns-2
 returns-2 c =
     let e = c .before .before in
     let a = e .before .before .before .args in
     ran-none _ (now (a .out)) (step-beyond (a .signed) (now (a .rows)) (a .at) (a .s) (length (now (a .out))) (e .if1 .left) (c .if2 .taken))
-
-add-write : tie.Need-add-write
-add-write c = search needs
-
-mul-write : tie.Need-mul-write
-mul-write c = search needs
-
-sub-write : tie.Need-sub-write
-sub-write c = search needs
-
-part-write-start : tie.Need-part-write-start
-part-write-start c = search needs
-
-part-write-end : tie.Need-part-write-end
-part-write-end c = search needs
-
-write-requires : tie.Need-write-requires
-write-requires c κs = search needs
-
-same-length : tie.Need-same-length
-same-length c = search needs
 
 returns-3 : tie.Need-returns-3
 returns-3 c =
@@ -55,16 +31,5 @@ returns-3 c =
 
 pub step-spec : {M : Type 1} → statement M
 step-spec =
-    tie.close
-    (tie.spec
-    returns
-    sub-if2
-    returns-2
-    add-write
-    mul-write
-    sub-write
-    part-write-start
-    part-write-end
-    write-requires
-    same-length
-    returns-3)
+    tie.close (tie.spec returns (λ c. search needs) returns-2 (λ c. search needs) (λ c. search needs) (λ c. search needs) (λ c. search needs) (λ c. search needs)
+    (λ c κs. search needs) (λ c. search needs) returns-3)

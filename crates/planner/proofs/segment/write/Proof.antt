@@ -18,21 +18,6 @@ returns-2 c =
     let a = c .before .before .before .before .before .args in
     ran-none _ (now (a .out)) (no-form (a .signed) (a .s .form) (a .s .width) (a .s .base) (now (a .part)) (length (now (a .out))) (c .if2 .taken))
 
-cast-width : tie.Need-cast-width
-cast-width c = search needs
-
-to-i64-requires : tie.Need-to-i64-requires
-to-i64-requires c κs = search needs
-
-write-patched-requires : tie.Need-write-patched-requires
-write-patched-requires c κs = search needs
-
-consumed-requires : tie.Need-consumed-requires
-consumed-requires c κs = search needs
-
-same-length : tie.Need-same-length
-same-length c = search needs
-
 returns-3 : tie.Need-returns-3
 returns-3 c =
     let w = c .before .before .before in
@@ -43,18 +28,6 @@ returns-3 c =
     let v = rw (toZ-ofZ (sfits-of (x .to-i64 .ok)), x .to-i64 .ensures) at (w .write-patched .ensures) in
     rw (c .consumed .ensures)
     (ran-patched (a .signed) (a .s .form) (a .s .width) (a .s .base) (now (a .part)) (now (a .out)) _ _ (t .if3 .taken) (omega (arith, t .before .struct-known4 .given .1 .1 .1 .1 .0)) v)
-
-form-of-requires : tie.Need-form-of-requires
-form-of-requires c κs = search needs
-
-write-run-requires : tie.Need-write-run-requires
-write-run-requires c κs = search needs
-
-consumed-requires-2 : tie.Need-consumed-requires-2
-consumed-requires-2 c κs = search needs
-
-same-length-2 : tie.Need-same-length-2
-same-length-2 c = search needs
 
 returns-4 : tie.Need-returns-4
 returns-4 c =
@@ -67,18 +40,5 @@ returns-4 c =
 
 pub write-spec : {M : Type 1} → statement M
 write-spec =
-    tie.close
-    (tie.spec
-    returns
-    returns-2
-    cast-width
-    to-i64-requires
-    write-patched-requires
-    consumed-requires
-    same-length
-    returns-3
-    form-of-requires
-    write-run-requires
-    consumed-requires-2
-    same-length-2
-    returns-4)
+    tie.close (tie.spec returns returns-2 (λ c. search needs) (λ c κs. search needs) (λ c κs. search needs) (λ c κs. search needs) (λ c. search needs) returns-3
+    (λ c κs. search needs) (λ c κs. search needs) (λ c κs. search needs) (λ c. search needs) returns-4)

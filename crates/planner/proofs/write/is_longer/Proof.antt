@@ -18,12 +18,6 @@ returns c =
     let a = c .before .args in
     sym (le-ltb (2 * ((a .rows + 511) / 512) + 8 * a .rows) (a .bytes) (omega arith))
 
-sub-wide-fits : tie.Need-sub-wide-fits
-sub-wide-fits c = search needs
-
-wide-fits-requires : tie.Need-wide-fits-requires
-wide-fits-requires c κs = search needs
-
 returns-2 : tie.Need-returns-2
 returns-2 c =
     let a = c .before .before .args in
@@ -31,4 +25,4 @@ returns-2 c =
     c .wide-fits .ensures ∙ less n (a .bytes) (omega arith) (decLt n (a .bytes))
 
 pub is-longer-spec : {M : Type 1} → statement M
-is-longer-spec = tie.close (tie.spec returns sub-wide-fits wide-fits-requires returns-2)
+is-longer-spec = tie.close (tie.spec returns (λ c. search needs) (λ c κs. search needs) returns-2)

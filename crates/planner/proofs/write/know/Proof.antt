@@ -17,21 +17,6 @@ Inv-loop rows i₀ i = (i ≤ length rows) × AllI64 (take i rows)
 abbrev μ-loop : tie.MeasureT-loop
 μ-loop rows i₀ i = length rows - i
 
-loop-holds : tie.Need-loop-holds Inv-loop μ-loop
-loop-holds c = (omega arith, tt)
-
-mul-z : tie.Need-mul-z Inv-loop μ-loop
-mul-z c = omega arith
-
-shared-slice-copy-out-z : tie.Need-shared-slice-copy-out-z Inv-loop μ-loop
-shared-slice-copy-out-z c = omega arith
-
-add-i : tie.Need-add-i Inv-loop μ-loop
-add-i c = omega arith
-
-loop-less : tie.Need-loop-less Inv-loop μ-loop
-loop-less c = omega arith
-
 loop-again : tie.Need-loop-again Inv-loop μ-loop
 loop-again c =
     let l = c .before .before .loop in
@@ -41,4 +26,4 @@ returns : tie.Need-returns Inv-loop μ-loop
 returns c = let l = c .before .loop in rw (take-all (l .i) (now (c .before .before .args .rows)) (c .loop-test .left)) at (l .inv .1)
 
 pub know-spec : {M : Type 1} → statement M
-know-spec = tie.close (tie.spec Inv-loop μ-loop loop-holds mul-z shared-slice-copy-out-z add-i loop-less loop-again returns)
+know-spec = tie.close (tie.spec Inv-loop μ-loop (λ c. (omega arith, tt)) (λ c. omega arith) (λ c. omega arith) (λ c. omega arith) (λ c. omega arith) loop-again returns)

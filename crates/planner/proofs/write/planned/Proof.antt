@@ -32,12 +32,6 @@ at-requires c κs =
 sub-step : tie.Need-sub-step Inv-loop μ-loop
 sub-step c = c .before .before .loop .inv .grown .inside
 
-part-step-start : tie.Need-part-step-start Inv-loop μ-loop
-part-step-start c = search needs
-
-part-step-end : tie.Need-part-step-end Inv-loop μ-loop
-part-step-end c = search needs
-
 step-requires : tie.Need-step-requires Inv-loop μ-loop
 step-requires c κs = let l = c .before .before .before .loop in covers-le _ (l .row) _ (l .inv .covering)
 
@@ -49,9 +43,6 @@ turn c =
     let i = x .before .before .before in
     let l = i .before .loop in
     plan-next _ _ _ _ (l .out) (l .k) (l .row) (l .bytes) (l .inv) (i .loop-test .taken) (x .before .before .at .result) (x .before .before .at .ensures) _ _ (x .step .ensures)
-
-add-k : tie.Need-add-k Inv-loop μ-loop
-add-k c = search needs
 
 add-row : tie.Need-add-row Inv-loop μ-loop
 add-row c =
@@ -67,34 +58,10 @@ add-bytes c =
     let s = i .before .before in
     omega (arith, turn c .grown .inside, turn c .grown .long, s .before .before .before .before .before .before .good)
 
-loop-less : tie.Need-loop-less Inv-loop μ-loop
-loop-less c = omega arith
-
-loop-again : tie.Need-loop-again Inv-loop μ-loop
-loop-again c = turn c
-
-same-length : tie.Need-same-length Inv-loop μ-loop
-same-length c = c .before .loop .inv .grown .long
-
 returns : tie.Need-returns Inv-loop μ-loop
 returns c = let l = c .before .loop in plan-end _ _ _ _ (l .out) (l .k) (l .row) (l .bytes) (l .inv) (c .loop-test .left)
 
 pub planned-spec : {M : Type 1} → statement M
 planned-spec =
-    tie.close
-    (tie.spec
-    Inv-loop
-    μ-loop
-    loop-holds
-    at-requires
-    sub-step
-    part-step-start
-    part-step-end
-    step-requires
-    add-k
-    add-row
-    add-bytes
-    loop-less
-    loop-again
-    same-length
-    returns)
+    tie.close (tie.spec Inv-loop μ-loop loop-holds at-requires sub-step (λ c. search needs) (λ c. search needs) step-requires (λ c. search needs) add-row add-bytes
+    (λ c. omega arith) (λ c. turn c) (λ c. c .before .loop .inv .grown .long) returns)

@@ -15,26 +15,11 @@ Inv-loop rows signed out₀ runs₀ row₀ bytes₀ out runs row bytes = Widely 
 abbrev μ-loop : tie.MeasureT-loop
 μ-loop rows signed out₀ runs₀ row₀ bytes₀ out runs row bytes = length rows - row
 
-know-requires : tie.Need-know-requires Inv-loop μ-loop
-know-requires c κs = search needs
-
 loop-holds : tie.Need-loop-holds Inv-loop μ-loop
 loop-holds c = wide-first _ _ _ (c .before .before .pre)
 
-sub-part-rows : tie.Need-sub-part-rows Inv-loop μ-loop
-sub-part-rows c = c .before .loop .inv .row-in
-
-part-rows-requires : tie.Need-part-rows-requires Inv-loop μ-loop
-part-rows-requires c κs = search needs
-
 sub-wide-run : tie.Need-sub-wide-run Inv-loop μ-loop
 sub-wide-run c = c .before .before .loop .inv .grown .inside
-
-part-wide-run-start : tie.Need-part-wide-run-start Inv-loop μ-loop
-part-wide-run-start c = search needs
-
-part-wide-run-end : tie.Need-part-wide-run-end Inv-loop μ-loop
-part-wide-run-end c = search needs
 
 wide-run-requires : tie.Need-wide-run-requires Inv-loop μ-loop
 wide-run-requires c κs = omega (arith, c .before .part-rows .ensures, c .before .before .before .loop .inv .row-in)
@@ -62,33 +47,10 @@ loop-less c =
     let x = c .before .before in
     omega (arith, x .before .before .part-rows .ensures, x .before .before .before .loop-test .taken)
 
-loop-again : tie.Need-loop-again Inv-loop μ-loop
-loop-again c = turn c
-
-same-length : tie.Need-same-length Inv-loop μ-loop
-same-length c = c .before .loop .inv .grown .long
-
 returns : tie.Need-returns Inv-loop μ-loop
 returns c = let l = c .before .loop in wide-end _ _ _ (l .out) (l .runs) (l .row) (l .bytes) (l .inv) (c .loop-test .left)
 
 pub wide-spec : {M : Type 1} → statement M
 wide-spec =
-    tie.close
-    (tie.spec
-    Inv-loop
-    μ-loop
-    know-requires
-    loop-holds
-    sub-part-rows
-    part-rows-requires
-    sub-wide-run
-    part-wide-run-start
-    part-wide-run-end
-    wide-run-requires
-    add-runs
-    add-row
-    add-bytes
-    loop-less
-    loop-again
-    same-length
-    returns)
+    tie.close (tie.spec Inv-loop μ-loop (λ c κs. search needs) loop-holds (λ c. c .before .loop .inv .row-in) (λ c κs. search needs) sub-wide-run (λ c. search needs)
+    (λ c. search needs) wide-run-requires add-runs add-row add-bytes loop-less (λ c. turn c) (λ c. c .before .loop .inv .grown .long) returns)

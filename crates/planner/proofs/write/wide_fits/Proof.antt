@@ -24,8 +24,5 @@ mul-result-2 c = omega (arith, c .if1 .left, c .before .fits .room)
 sub-result : tie.Need-sub-result
 sub-result c = omega (arith, c .if1 .left)
 
-returns-2 : tie.Need-returns-2
-returns-2 c = room-left _ _ _ (sub-result c)
-
 pub wide-fits-spec : {M : Type 1} → statement M
-wide-fits-spec = tie.close (tie.spec returns add-runs mul-result mul-result-2 sub-result returns-2)
+wide-fits-spec = tie.close (tie.spec returns add-runs mul-result mul-result-2 sub-result (λ c. room-left _ _ _ (sub-result c)))

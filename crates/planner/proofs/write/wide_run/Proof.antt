@@ -13,30 +13,6 @@ use Rattle.planner.proofs.Steps.{ran}
 use Rattle.planner.proofs.write.wide_run.Statement.{statement}
 use Rattle.planner.proofs.write.wide_run.Tie as tie
 
-add-write-run : tie.Need-add-write-run
-add-write-run c = search needs
-
-mul-write-run : tie.Need-mul-write-run
-mul-write-run c = search needs
-
-sub-write-run : tie.Need-sub-write-run
-sub-write-run c = search needs
-
-part-write-run-start : tie.Need-part-write-run-start
-part-write-run-start c = search needs
-
-part-write-run-end : tie.Need-part-write-run-end
-part-write-run-end c = search needs
-
-write-run-requires : tie.Need-write-run-requires
-write-run-requires c κs = search needs
-
-consumed-requires : tie.Need-consumed-requires
-consumed-requires c κs = search needs
-
-same-length : tie.Need-same-length
-same-length c = search needs
-
 returns : tie.Need-returns
 returns c =
     let w = c .before .before .before in
@@ -47,14 +23,5 @@ returns c =
 
 pub wide-run-spec : {M : Type 1} → statement M
 wide-run-spec =
-    tie.close
-    (tie.spec
-    add-write-run
-    mul-write-run
-    sub-write-run
-    part-write-run-start
-    part-write-run-end
-    write-run-requires
-    consumed-requires
-    same-length
-    returns)
+    tie.close (tie.spec (λ c. search needs) (λ c. search needs) (λ c. search needs) (λ c. search needs) (λ c. search needs) (λ c κs. search needs) (λ c κs. search needs)
+    (λ c. search needs) returns)

@@ -13,27 +13,6 @@ use Rattle.rle_v2.proofs.delta.lay.Tie as tie
 behind : (e : tie.Else1) → let a = e .before .before .before .before .args in Behind (now (a .input)) (a .t) (a .bits) (a .n)
 behind e = e .before .before .before .before .pre .0 (e .if1 .left)
 
-row-requires : tie.Need-row-requires
-row-requires c κs = search needs
-
-unzigzag-requires : tie.Need-unzigzag-requires
-unzigzag-requires c κs = search needs
-
-steps-requires : tie.Need-steps-requires
-steps-requires c κs = search needs
-
-sub-lay-packed : tie.Need-sub-lay-packed
-sub-lay-packed c = behind c .within
-
-part-lay-packed-start : tie.Need-part-lay-packed-start
-part-lay-packed-start c = behind c .within
-
-part-lay-packed-end : tie.Need-part-lay-packed-end
-part-lay-packed-end c = search needs
-
-sub-lay-packed-2 : tie.Need-sub-lay-packed-2
-sub-lay-packed-2 c = behind (c .before) .two
-
 lay-packed-requires : tie.Need-lay-packed-requires
 lay-packed-requires c κs =
     let b = behind (c .before .before) in
@@ -42,18 +21,13 @@ lay-packed-requires c κs =
       (omega (arith, b .few), omega (arith, b .two, s .pre .1), rw (rest-is (now (s .args .input)) (s .args .t .next), length-drop) (b .there)),
     )
 
-same-length : tie.Need-same-length
-same-length c = search needs
-
 returns : tie.Need-returns
 returns c =
-    let s = c .before .before .before .before .before .before .before in
+    let back-6 = c .before .before .before .before .before .before in
+    let s = back-6 .before in
     let a = s .args in
     steps-laid (now (a .input)) (a .signed) (a .t) (a .bits) (a .n) (now (a .out)) (c .before .steps .last .1 .1 .1 .0) (c .before .before .before .if1 .taken) (s .pre .1)
     (rw (c .before .before .before .before .before .row .ensures, c .before .before .before .before .unzigzag .ensures) at (c .before .steps .ensures))
-
-same-length-2 : tie.Need-same-length-2
-same-length-2 c = search needs
 
 returns-2 : tie.Need-returns-2
 returns-2 c =
@@ -64,17 +38,5 @@ returns-2 c =
 
 pub lay-spec : {M : Type 1} → statement M
 lay-spec =
-    tie.close
-    (tie.spec
-    row-requires
-    unzigzag-requires
-    steps-requires
-    sub-lay-packed
-    part-lay-packed-start
-    part-lay-packed-end
-    sub-lay-packed-2
-    lay-packed-requires
-    same-length
-    returns
-    same-length-2
-    returns-2)
+    tie.close (tie.spec (λ c κs. search needs) (λ c κs. search needs) (λ c κs. search needs) (λ c. behind c .within) (λ c. behind c .within) (λ c. search needs)
+    (λ c. behind (c .before) .two) lay-packed-requires (λ c. search needs) returns (λ c. search needs) returns-2)

@@ -8,27 +8,6 @@ use borrow.Author.Needs.{needs}
 use Rattle.rle_v2.proofs.delta.lay_packed.Statement.{statement}
 use Rattle.rle_v2.proofs.delta.lay_packed.Tie as tie
 
-steps-requires : tie.Need-steps-requires
-steps-requires c κs = search needs
-
-add-requires : tie.Need-add-requires
-add-requires c κs = search needs
-
-sub-magnitudes : tie.Need-sub-magnitudes
-sub-magnitudes c = search needs
-
-part-magnitudes-start : tie.Need-part-magnitudes-start
-part-magnitudes-start c = search needs
-
-part-magnitudes-end : tie.Need-part-magnitudes-end
-part-magnitudes-end c = search needs
-
-magnitudes-requires : tie.Need-magnitudes-requires
-magnitudes-requires c κs = search needs
-
-same-length : tie.Need-same-length
-same-length c = search needs
-
 returns : tie.Need-returns
 returns c =
     let m = c .before in
@@ -40,13 +19,5 @@ returns c =
 
 pub lay-packed-spec : {M : Type 1} → statement M
 lay-packed-spec =
-    tie.close
-    (tie.spec
-    steps-requires
-    add-requires
-    sub-magnitudes
-    part-magnitudes-start
-    part-magnitudes-end
-    magnitudes-requires
-    same-length
-    returns)
+    tie.close (tie.spec (λ c κs. search needs) (λ c κs. search needs) (λ c. search needs) (λ c. search needs) (λ c. search needs) (λ c κs. search needs)
+    (λ c. search needs) returns)

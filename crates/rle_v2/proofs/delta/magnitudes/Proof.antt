@@ -12,15 +12,6 @@ use borrow.Author.Needs.{needs}
 use Rattle.rle_v2.proofs.delta.magnitudes.Statement.{statement}
 use Rattle.rle_v2.proofs.delta.magnitudes.Tie as tie
 
-unpack-requires : tie.Need-unpack-requires
-unpack-requires c κs = search needs
-
-sum-requires : tie.Need-sum-requires
-sum-requires c κs = search needs
-
-same-length : tie.Need-same-length
-same-length c = search needs
-
 returns : tie.Need-returns
 returns c =
     let d = c .before in
@@ -31,4 +22,4 @@ returns c =
     (length-map vs asI64 ∙ length-fields (a .bits) (a .n) (now (a .block))) (u .unpack .ensures) (d .sum .ensures)
 
 pub magnitudes-spec : {M : Type 1} → statement M
-magnitudes-spec = tie.close (tie.spec unpack-requires sum-requires same-length returns)
+magnitudes-spec = tie.close (tie.spec (λ c κs. search needs) (λ c κs. search needs) (λ c. search needs) returns)

@@ -5,18 +5,6 @@ use borrow.Author.Needs.{needs}
 use Rattle.rle_v2.proofs.delta.measure.Statement.{statement}
 use Rattle.rle_v2.proofs.delta.measure.Tie as tie
 
-measured-requires : tie.Need-measured-requires
-measured-requires c κs = search needs
-
-enum-known-bits : tie.Need-enum-known-bits
-enum-known-bits c = search needs
-
-run-requires : tie.Need-run-requires
-run-requires c κs = search needs
-
-enum-known-f : tie.Need-enum-known-f
-enum-known-f c = search needs
-
 returns : tie.Need-returns
 returns c =
     let m = c .before .before in
@@ -27,4 +15,4 @@ returns-2 : tie.Need-returns-2
 returns-2 c = rw (c .before .f .given .1) at (c .before .before .before .measured .ensures)
 
 pub measure-spec : {M : Type 1} → statement M
-measure-spec = tie.close (tie.spec measured-requires enum-known-bits run-requires enum-known-f returns returns-2)
+measure-spec = tie.close (tie.spec (λ c κs. search needs) (λ c. search needs) (λ c κs. search needs) (λ c. search needs) returns returns-2)

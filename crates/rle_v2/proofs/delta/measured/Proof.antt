@@ -29,32 +29,8 @@ header m = tested m .before .before
 started : (m : tie.After-start) → let a = entry (header m) .args in Started (now (a .input)) (a .at + 2) (m .start .given .0 .0)
 started m = rw (m .start .given .1) at (m .before .before .starts-at .ensures)
 
-sub-if1 : tie.Need-sub-if1
-sub-if1 c = search needs
-
-new-requires : tie.Need-new-requires
-new-requires c κs = search needs
-
 returns : tie.Need-returns
 returns c = let s = c .before .before .before in rw (c .new .ensures) (no-header (now (s .args .input)) (s .args .at) (s .pre) (c .before .if1 .taken))
-
-shared-slice-read-two-bytes : tie.Need-shared-slice-read-two-bytes
-shared-slice-read-two-bytes c = search needs
-
-add-two-bytes : tie.Need-add-two-bytes
-add-two-bytes c = search needs
-
-shared-slice-read-two-bytes-2 : tie.Need-shared-slice-read-two-bytes-2
-shared-slice-read-two-bytes-2 c = search needs
-
-two-bytes-requires : tie.Need-two-bytes-requires
-two-bytes-requires c κs = search needs
-
-too-few-requires : tie.Need-too-few-requires
-too-few-requires c κs = search needs
-
-new-requires-2 : tie.Need-new-requires-2
-new-requires-2 c κs = search needs
 
 returns-2 : tie.Need-returns-2
 returns-2 c =
@@ -65,15 +41,6 @@ returns-2 c =
     let few = f .too-few .ensures .0 (c .before .if2 .taken) in
     rw (c .new2 .ensures)
     (one-row (now (a .input)) (a .at) (there b .if1 .left) (λ q. few .0 (h .0 ∙ q)) (omega (arith, h .1, few .1)))
-
-starts-at-requires : tie.Need-starts-at-requires
-starts-at-requires c κs = search needs
-
-enum-known-f : tie.Need-enum-known-f
-enum-known-f c = search needs
-
-enum-known-start : tie.Need-enum-known-start
-enum-known-start c = search needs
 
 sub-t21 : tie.Need-sub-t21
 sub-t21 c = omega (arith, started (c .before .before .before) .next-is)
@@ -119,24 +86,6 @@ returns-5 c =
 
 pub measured-spec : {M : Type 1} → statement M
 measured-spec =
-    tie.close
-    (tie.spec
-    sub-if1
-    new-requires
-    returns
-    shared-slice-read-two-bytes
-    add-two-bytes
-    shared-slice-read-two-bytes-2
-    two-bytes-requires
-    too-few-requires
-    new-requires-2
-    returns-2
-    starts-at-requires
-    enum-known-f
-    enum-known-start
-    sub-t21
-    returns-3
-    sub-packed-rows
-    packed-rows-requires
-    returns-4
-    returns-5)
+    tie.close (tie.spec (λ c. search needs) (λ c κs. search needs) returns (λ c. search needs) (λ c. search needs) (λ c. search needs) (λ c κs. search needs)
+    (λ c κs. search needs) (λ c κs. search needs) returns-2 (λ c κs. search needs) (λ c. search needs) (λ c. search needs) sub-t21 returns-3 sub-packed-rows
+    packed-rows-requires returns-4 returns-5)

@@ -10,17 +10,8 @@ use Rattle.rle_v2.proofs.delta.packed_rows.Tie as tie
 abbrev entry : tie.After-block-size → tie.Start
 entry z = z .before .before .before
 
-bits-of-requires : tie.Need-bits-of-requires
-bits-of-requires c κs = search needs
-
 block-size-requires : tie.Need-block-size-requires
 block-size-requires c κs = (rw (c .bits-of .ensures) (width-le _), omega arith)
-
-sub-if1 : tie.Need-sub-if1
-sub-if1 c = entry c .pre .0 .within
-
-cut-requires : tie.Need-cut-requires
-cut-requires c κs = search needs
 
 returns : tie.Need-returns
 returns c =
@@ -28,12 +19,6 @@ returns c =
     let a = entry z .args in
     rw (c .cut .ensures)
     (packed-cut (now (a .input)) (a .at) (a .code) (a .n) _ (entry z .pre .0) _ _ (z .before .bits-of .ensures) (z .block-size .ensures) (c .before .if1 .taken))
-
-add-t9 : tie.Need-add-t9
-add-t9 c = search needs
-
-add-t10 : tie.Need-add-t10
-add-t10 c = search needs
 
 sub-t13 : tie.Need-sub-t13
 sub-t13 c = omega (arith, entry (c .before) .pre .0 .next-is)
@@ -47,5 +32,5 @@ returns-2 c =
 
 pub packed-rows-spec : {M : Type 1} → statement M
 packed-rows-spec =
-    tie.close
-    (tie.spec bits-of-requires block-size-requires sub-if1 cut-requires returns add-t9 add-t10 sub-t13 returns-2)
+    tie.close (tie.spec (λ c κs. search needs) block-size-requires (λ c. entry c .pre .0 .within) (λ c κs. search needs) returns (λ c. search needs) (λ c. search needs)
+    sub-t13 returns-2)

@@ -18,15 +18,6 @@ passed : (m : tie.After-bits) → let a = entry m .args in let g = m .bits .give
     Passed (now (a .input)) (run (now (a .input)) (a .at)) (running Delta (g .0) (g .1 .0) (g .1 .1 .0)) (g .1 .1 .1 .0)
 passed m = rw (m .bits .given .1) at (m .before .before .measured .ensures)
 
-measured-requires : tie.Need-measured-requires
-measured-requires c κs = search needs
-
-enum-known-bits : tie.Need-enum-known-bits
-enum-known-bits c = search needs
-
-refused-requires : tie.Need-refused-requires
-refused-requires c κs = search needs
-
 returns : tie.Need-returns
 returns c =
     let m = c .before .before .before in
@@ -35,15 +26,6 @@ returns c =
 
 lay-requires : tie.Need-lay-requires
 lay-requires c κs = (passed (c .before .before .before) .ready, c .before .if1 .left)
-
-run-requires : tie.Need-run-requires
-run-requires c κs = search needs
-
-enum-known-f : tie.Need-enum-known-f
-enum-known-f c = search needs
-
-same-length : tie.Need-same-length
-same-length c = search needs
 
 returns-2 : tie.Need-returns-2
 returns-2 c =
@@ -61,15 +43,5 @@ returns-3 c =
 
 pub read-spec : {M : Type 1} → statement M
 read-spec =
-    tie.close
-    (tie.spec
-    measured-requires
-    enum-known-bits
-    refused-requires
-    returns
-    lay-requires
-    run-requires
-    enum-known-f
-    same-length
-    returns-2
-    returns-3)
+    tie.close (tie.spec (λ c κs. search needs) (λ c. search needs) (λ c κs. search needs) returns lay-requires (λ c κs. search needs) (λ c. search needs)
+    (λ c. search needs) returns-2 returns-3)

@@ -18,45 +18,6 @@ first r = r .before .before
 bytes : (r : tie.After-varint-at) (i : ℕ) → getD (now (start r .args .input)) i 0 < 256
 bytes r i = r .before .shared-slice-known .given i .fits
 
-add-body : tie.Need-add-body
-add-body c = search needs
-
-varint-at-requires : tie.Need-varint-at-requires
-varint-at-requires c κs = search needs
-
-enum-told : tie.Need-enum-told
-enum-told c = search needs
-
-cut-requires : tie.Need-cut-requires
-cut-requires c κs = search needs
-
-enum-told-2 : tie.Need-enum-told-2
-enum-told-2 c = search needs
-
-new-requires : tie.Need-new-requires
-new-requires c κs = search needs
-
-enum-known-bits : tie.Need-enum-known-bits
-enum-known-bits c = search needs
-
-varint-at-requires-2 : tie.Need-varint-at-requires-2
-varint-at-requires-2 c κs = search needs
-
-enum-told-3 : tie.Need-enum-told-3
-enum-told-3 c = search needs
-
-cut-requires-2 : tie.Need-cut-requires-2
-cut-requires-2 c κs = search needs
-
-enum-told-4 : tie.Need-enum-told-4
-enum-told-4 c = search needs
-
-new-requires-2 : tie.Need-new-requires-2
-new-requires-2 c κs = search needs
-
-enum-known-base : tie.Need-enum-known-base
-enum-known-base c = search needs
-
 returns : tie.Need-returns
 returns c =
     let r = c .before .before .before in
@@ -97,23 +58,6 @@ returns-5 c =
 
 pub starts-at-spec : {M : Type 1} → statement M
 starts-at-spec =
-    tie.close
-    (tie.spec
-    add-body
-    varint-at-requires
-    enum-told
-    cut-requires
-    enum-told-2
-    new-requires
-    enum-known-bits
-    varint-at-requires-2
-    enum-told-3
-    cut-requires-2
-    enum-told-4
-    new-requires-2
-    enum-known-base
-    returns
-    returns-2
-    returns-3
-    returns-4
-    returns-5)
+    tie.close (tie.spec (λ c. search needs) (λ c κs. search needs) (λ c. search needs) (λ c κs. search needs) (λ c. search needs) (λ c κs. search needs)
+    (λ c. search needs) (λ c κs. search needs) (λ c. search needs) (λ c κs. search needs) (λ c. search needs) (λ c κs. search needs) (λ c. search needs) returns returns-2
+    returns-3 returns-4 returns-5)

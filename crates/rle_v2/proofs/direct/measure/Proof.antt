@@ -13,82 +13,33 @@ use Rattle.rle_v2.proofs.direct.measure.Statement.{statement}
 use Rattle.rle_v2.proofs.direct.measure.Tie as tie
 
 -- what the code found in the header
-size-is : (z : tie.After-block-size) → let a = z .before .before .before .before .before .before .before .args in
+size-is : (z : tie.After-block-size) → let back-6 = z .before .before .before .before .before .before in let a = back-6 .before .args in
     z .block-size .result ≡ bytesFor ((rowsLess (getD (now (a .input)) (a .at) 0) (getD (now (a .input)) (a .at + 1) 0) + 1) * width (codeOf (getD (now (a .input)) (a .at) 0)))
 size-is z = z .block-size .ensures ∙ rw (z .before .bits-of .ensures, z .before .before .two-bytes .ensures .0, z .before .before .two-bytes .ensures .1)
-
-sub-if1 : tie.Need-sub-if1
-sub-if1 c = search needs
-
-refused-requires : tie.Need-refused-requires
-refused-requires c κs = search needs
 
 returns : tie.Need-returns
 returns c = let s = c .before .before .before in c .refused .ensures ∙ no-header (now (s .args .input)) (s .args .at) (s .pre) (c .before .if1 .taken)
 
-shared-slice-read-two-bytes : tie.Need-shared-slice-read-two-bytes
-shared-slice-read-two-bytes c = search needs
-
-add-two-bytes : tie.Need-add-two-bytes
-add-two-bytes c = search needs
-
-shared-slice-read-two-bytes-2 : tie.Need-shared-slice-read-two-bytes-2
-shared-slice-read-two-bytes-2 c = search needs
-
-two-bytes-requires : tie.Need-two-bytes-requires
-two-bytes-requires c κs = search needs
-
-bits-of-requires : tie.Need-bits-of-requires
-bits-of-requires c κs = search needs
-
-add-body : tie.Need-add-body
-add-body c = search needs
-
 block-size-requires : tie.Need-block-size-requires
 block-size-requires c κs = (rw (c .bits-of .ensures) (width-le _), omega (arith, c .before .two-bytes .ensures .2))
 
-sub-if2 : tie.Need-sub-if2
-sub-if2 c = search needs
-
-cut-requires : tie.Need-cut-requires
-cut-requires c κs = search needs
-
 returns-2 : tie.Need-returns-2
 returns-2 c =
+    let back-6 = c .before .before .before .before .before .before in
     let z = c .before .before in
-    let a = z .before .before .before .before .before .before .before .args in
+    let a = back-6 .before .before .before .args in
     c .cut .ensures ∙ no-body (now (a .input)) (a .at) (z .before .before .before .before .before .if1 .left) (rw (size-is z) at (c .before .if2 .taken))
-
-add-run : tie.Need-add-run
-add-run c = search needs
-
-run-requires : tie.Need-run-requires
-run-requires c κs = search needs
 
 returns-3 : tie.Need-returns-3
 returns-3 c =
+    let back-6 = c .before .before .before .before .before .before in
     let z = c .before .before in
-    let a = z .before .before .before .before .before .before .before .args in
+    let a = back-6 .before .before .before .args in
     let h = z .before .before .two-bytes .ensures in
     c .run .ensures ∙ rw (size-is z, z .before .bits-of .ensures, h .0, h .1) (run-is (now (a .input)) (a .at) (z .before .before .before .before .before .if1 .left) (rw (size-is z) at (c .before .if2 .left)))
 
 pub measure-spec : {M : Type 1} → statement M
 measure-spec =
-    tie.close
-    (tie.spec
-    sub-if1
-    refused-requires
-    returns
-    shared-slice-read-two-bytes
-    add-two-bytes
-    shared-slice-read-two-bytes-2
-    two-bytes-requires
-    bits-of-requires
-    add-body
-    block-size-requires
-    sub-if2
-    cut-requires
-    returns-2
-    add-run
-    run-requires
+    tie.close (tie.spec (λ c. search needs) (λ c κs. search needs) returns (λ c. search needs) (λ c. search needs) (λ c. search needs) (λ c κs. search needs)
+    (λ c κs. search needs) (λ c. search needs) block-size-requires (λ c. search needs) (λ c κs. search needs) returns-2 (λ c. search needs) (λ c κs. search needs)
     returns-3)

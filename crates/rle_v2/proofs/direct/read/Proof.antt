@@ -1,5 +1,5 @@
 -- The direct reader meets its contract: what the measure named is laid down where there is room. Assumes nothing.
-use Prim.Native.Nat.{_+_, _-_, _<_, _^_}
+use Prim.Native.Nat.{_+_, _-_}
 use mathlib.Core.Path.{_≡_, sym, _∙_}
 use native.Mathlib.Omega.{arith}
 use lib.ListN.{length}
@@ -27,32 +27,17 @@ named m = sym (m .r .given .1) ∙ m .before .before .measure .ensures
 measured-is : (m : tie.After-r) → let a = m .before .before .before .before .args in Measured (now (a .input)) (a .at) (m .r .given .0 .0)
 measured-is m = measured (now (m .before .before .before .before .args .input)) (m .before .before .before .before .args .at) _ (m .before .before .before .before .pre) (named m)
 
-measure-requires : tie.Need-measure-requires
-measure-requires c κs = search needs
-
-enum-known-r : tie.Need-enum-known-r
-enum-known-r c = search needs
-
-refused-requires : tie.Need-refused-requires
-refused-requires c κs = search needs
-
 returns : tie.Need-returns
 returns c =
     let m = c .before .before .before .before .before in
     let a = m .before .before .before .before .args in
     rw (c .refused .ensures) (no-room (now (a .input)) (a .at) (a .signed) (now (a .out)) _ (named m) (measured-is m) (c .before .if1 .taken))
 
-add-unpack : tie.Need-add-unpack
-add-unpack c = search needs
-
 sub-unpack : tie.Need-sub-unpack
 sub-unpack c = let m = measured-is (c .before .before .before .before) in omega (arith, m .head)
 
 part-unpack-start : tie.Need-part-unpack-start
 part-unpack-start c = let m = measured-is (c .before .before .before .before) in omega (arith, m .head)
-
-part-unpack-end : tie.Need-part-unpack-end
-part-unpack-end c = search needs
 
 unpack-requires : tie.Need-unpack-requires
 unpack-requires c κs =
@@ -67,29 +52,18 @@ unpack-requires c κs =
       ),
     )
 
-decode-requires : tie.Need-decode-requires
-decode-requires c κs = search needs
-
-enum-known-f : tie.Need-enum-known-f
-enum-known-f c = search needs
-
-enum-told : tie.Need-enum-told
-enum-told c = search needs
-
-same-length : tie.Need-same-length
-same-length c = search needs
-
 returns-2 : tie.Need-returns-2
 returns-2 c =
+    let back-6 = c .before .before .before .before .before .before in
     let d = c .before in
     let u = c .before .before .before .before in
-    let m = c .before .before .before .before .before .before .before .before .before .before .before in
+    let m = back-6 .before .before .before .before .before in
     let a = m .before .before .before .before .args in
     let s = now (a .input) in
     let r = m .r .given .0 .0 in
     let o = then-pass (decoded (a .signed)) (map asI64 (blockAt s (a .at + 2) (r .width) (r .rows .rows) .values)) (now (a .out)) (u .unpack .last .1 .1 .1 .0) (d .decode .last .1 .1 .0) (r .rows .rows)
     (block-rows s (a .at + 2) (r .width) (r .rows .rows)) (rw (rest-is s (a .at + 2)) at (u .unpack .ensures)) (d .decode .ensures) in
-    read-is s (a .at) (a .signed) (now (a .out)) r (named m) (measured-is m) (d .decode .last .1 .1 .0) (c .before .before .before .before .before .before .before .if1 .left) o
+    read-is s (a .at) (a .signed) (now (a .out)) r (named m) (measured-is m) (d .decode .last .1 .1 .0) (back-6 .before .if1 .left) o
 
 returns-3 : tie.Need-returns-3
 returns-3 c =
@@ -103,21 +77,5 @@ returns-4 c =
 
 pub read-spec : {M : Type 1} → statement M
 read-spec =
-    tie.close
-    (tie.spec
-    measure-requires
-    enum-known-r
-    refused-requires
-    returns
-    add-unpack
-    sub-unpack
-    part-unpack-start
-    part-unpack-end
-    unpack-requires
-    decode-requires
-    enum-known-f
-    enum-told
-    same-length
-    returns-2
-    returns-3
-    returns-4)
+    tie.close (tie.spec (λ c κs. search needs) (λ c. search needs) (λ c κs. search needs) returns (λ c. search needs) sub-unpack part-unpack-start (λ c. search needs)
+    unpack-requires (λ c κs. search needs) (λ c. search needs) (λ c. search needs) (λ c. search needs) returns-2 returns-3 returns-4)

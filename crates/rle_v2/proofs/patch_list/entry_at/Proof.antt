@@ -1,19 +1,10 @@
--- An entry of the list is taken apart as document 01 says. Assumes nothing.
+-- An entry of the list is taken apart as the definition says. Assumes nothing.
 use Prim.Native.Nat.{_<_, _^_}
 use borrow.Author.Tests.{eq-eqb, ne-eqb}
-use Rattle.rle_v2.proofs.PatchList.{entry-is}
+use Rattle.rle_v2.proofs.PatchRows.{entry-is}
 use borrow.Author.Needs.{needs}
 use Rattle.rle_v2.proofs.patch_list.entry_at.Statement.{statement}
 use Rattle.rle_v2.proofs.patch_list.entry_at.Tie as tie
-
-field-requires : tie.Need-field-requires
-field-requires c κs = search needs
-
-shr-gap : tie.Need-shr-gap
-shr-gap c = search needs
-
-cut-requires : tie.Need-cut-requires
-cut-requires c κs = search needs
 
 returns : tie.Need-returns
 returns c =
@@ -28,4 +19,4 @@ returns-2 c =
     entry-is (a .args .pw) _ _ _ _ (c .before .before .field .ensures) (c .before .cut .ensures) (a .pre .1 .0) f (rw (ne-eqb _ _ (c .if1 .left)))
 
 pub entry-at-spec : {M : Type 1} → statement M
-entry-at-spec = tie.close (tie.spec field-requires shr-gap cut-requires returns returns-2)
+entry-at-spec = tie.close (tie.spec (λ c κs. search needs) (λ c. search needs) (λ c κs. search needs) returns returns-2)

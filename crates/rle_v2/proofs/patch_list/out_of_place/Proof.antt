@@ -3,7 +3,7 @@ use mathlib.Core.Path.{_≡_, refl, sym, _∙_}
 use mathlib.Core.List.{_∷_}
 use Prim.Native.Nat.{_+_, _-_, _≤_}
 use lib.ListN.{drop}
-use Rattle.format.proofs.Fields.{below-all}
+use Rattle.format.proofs.Below.{below-all}
 use Rattle.util.specs.Packed.{fields, fieldAt}
 use Rattle.util.proofs.Window.{field-there, length-fields}
 use Rattle.rle_v2.specs.PatchList.{large}
@@ -28,12 +28,6 @@ next-is x =
     let a = k .before .args in
     entry-next (a .bits) (a .n) (l .k) (a .list .now) (below-all 256 (a .list .now) (λ i. k .shared-slice-known .given i .fits)) (x .before .loop-test .taken) (k .before .pre .0 .there)
 
-patch-limit-requires : tie.Need-patch-limit-requires Inv-loop μ-loop
-patch-limit-requires c κs = search needs
-
-loop-holds : tie.Need-loop-holds Inv-loop μ-loop
-loop-holds c = (search needs, refl)
-
 entry-at-requires : tie.Need-entry-at-requires Inv-loop μ-loop
 entry-at-requires c κs =
     let z = c .before .before .before .before in
@@ -47,12 +41,6 @@ returns c =
     let p = x .before .before .before in
     let a = p .before .before .args in
     rw (sym (l .inv .1) ∙ large-here (a .width) (a .pw) (fields (a .bits) (a .n) (a .list .now)) (l .k) _ _ (next-is x) (x .entry-at .ensures .patch-is) (rw (p .patch-limit .ensures) at (c .if1 .taken)))
-
-add-k : tie.Need-add-k Inv-loop μ-loop
-add-k c = omega arith
-
-loop-less : tie.Need-loop-less Inv-loop μ-loop
-loop-less c = omega arith
 
 loop-again : tie.Need-loop-again Inv-loop μ-loop
 loop-again c =
@@ -72,15 +60,5 @@ returns-2 c =
 
 pub out-of-place-spec : {M : Type 1} → statement M
 out-of-place-spec =
-    tie.close
-    (tie.spec
-    Inv-loop
-    μ-loop
-    patch-limit-requires
-    loop-holds
-    entry-at-requires
-    returns
-    add-k
-    loop-less
-    loop-again
+    tie.close (tie.spec Inv-loop μ-loop (λ c κs. search needs) (λ c. (search needs, refl)) entry-at-requires returns (λ c. omega arith) (λ c. omega arith) loop-again
     returns-2)

@@ -4,20 +4,11 @@ use Prim.Native.Nat.{_*_, _-_, _^_, _%_, _<_}
 use native.Mathlib.Nat.{one-mul, mod-eq-of-lt}
 use native.Mathlib.Omega.{arith}
 use lib.Pow.{pow-lt}
-use Rattle.format.proofs.Runs.{limit-is}
+use Rattle.format.proofs.RunComplete.{limit-is}
 use borrow.Author.Tests.{eq-eqb}
 use borrow.Author.Needs.{needs}
 use Rattle.rle_v2.proofs.patch_list.patch_limit.Statement.{statement}
 use Rattle.rle_v2.proofs.patch_list.patch_limit.Tie as tie
-
-sub-result : tie.Need-sub-result
-sub-result c = search needs
-
-shl-result : tie.Need-shl-result
-shl-result c = omega arith
-
-returns : tie.Need-returns
-returns c = rw (eq-eqb _ _ (c .if1 .taken))
 
 returns-2 : tie.Need-returns-2
 returns-2 c =
@@ -27,4 +18,4 @@ returns-2 c =
     e ∙ sym (limit-is w)
 
 pub patch-limit-spec : {M : Type 1} → statement M
-patch-limit-spec = tie.close (tie.spec sub-result shl-result returns returns-2)
+patch-limit-spec = tie.close (tie.spec (λ c. search needs) (λ c. omega arith) (λ c. rw (eq-eqb _ _ (c .if1 .taken))) returns-2)

@@ -8,7 +8,7 @@ use native.Mathlib.Nat.{add-mod-mod}
 use lib.ListN.{length, drop}
 use mir.Facts.{toZ-ofZ}
 use borrow.Author.Tests.{not-true, not-false}
-use Rattle.format.proofs.Fields.{below-all}
+use Rattle.format.proofs.Below.{below-all}
 use Rattle.util.specs.Packed.{fields, fieldAt}
 use Rattle.util.proofs.Window.{field-there, length-fields}
 use Rattle.rle_v2.proofs.PatchWalk.{entry-next, Put, put-first, put-last, put-skip, put-inside, put-named}
@@ -52,35 +52,17 @@ entry-at-requires c κs = let z = c .before .before .before in let a = z .args i
 add-row : tie.Need-add-row Inv-loop μ-loop
 add-row c = let x = c .before in omega (arith, x .entry-at .ensures .gap-lt, x .before .before .loop .inv .1 .low)
 
-raised-requires : tie.Need-raised-requires Inv-loop μ-loop
-raised-requires c κs = omega arith
-
 mul-to-u64 : tie.Need-mul-to-u64 Inv-loop μ-loop
 mul-to-u64 c = let t = c .before in let x = t .before .before .before in omega (arith, named x (not-true _ (t .if1 .taken)), x .before .before .before .before .pre .1 .1)
 
 slice-copy-out-to-u64 : tie.Need-slice-copy-out-to-u64 Inv-loop μ-loop
 slice-copy-out-to-u64 c = let t = c .before in inside (t .before .before .before) (not-true _ (t .if1 .taken))
 
-to-u64-requires : tie.Need-to-u64-requires Inv-loop μ-loop
-to-u64-requires c κs = search needs
-
-add-requires : tie.Need-add-requires Inv-loop μ-loop
-add-requires c κs = search needs
-
-to-i64-requires : tie.Need-to-i64-requires Inv-loop μ-loop
-to-i64-requires c κs = search needs
-
 mul-r : tie.Need-mul-r Inv-loop μ-loop
 mul-r c = let t = c .before .before .before .before .before in let x = t .before .before .before in omega (arith, named x (not-true _ (t .if1 .taken)), x .before .before .before .before .pre .1 .1)
 
 slice-set-from-r : tie.Need-slice-set-from-r Inv-loop μ-loop
 slice-set-from-r c = let t = c .before .before .before .before .before in inside (t .before .before .before) (not-true _ (t .if1 .taken))
-
-add-k : tie.Need-add-k Inv-loop μ-loop
-add-k c = omega arith
-
-loop-less : tie.Need-loop-less Inv-loop μ-loop
-loop-less c = omega arith
 
 loop-again : tie.Need-loop-again Inv-loop μ-loop
 loop-again c =
@@ -101,9 +83,6 @@ loop-again c =
           (c .if1 .came),
     )
 
-same-length : tie.Need-same-length Inv-loop μ-loop
-same-length c = c .before .loop .inv .1 .long
-
 returns : tie.Need-returns Inv-loop μ-loop
 returns c =
     let l = c .before .loop in
@@ -112,23 +91,5 @@ returns c =
 
 pub put-spec : {M : Type 1} → statement M
 put-spec =
-    tie.close
-    (tie.spec
-    Inv-loop
-    μ-loop
-    loop-holds
-    entry-at-requires
-    add-row
-    raised-requires
-    mul-to-u64
-    slice-copy-out-to-u64
-    to-u64-requires
-    add-requires
-    to-i64-requires
-    mul-r
-    slice-set-from-r
-    add-k
-    loop-less
-    loop-again
-    same-length
-    returns)
+    tie.close (tie.spec Inv-loop μ-loop loop-holds entry-at-requires add-row (λ c κs. omega arith) mul-to-u64 slice-copy-out-to-u64 (λ c κs. search needs)
+    (λ c κs. search needs) (λ c κs. search needs) mul-r slice-set-from-r (λ c. omega arith) (λ c. omega arith) loop-again (λ c. c .before .loop .inv .1 .long) returns)

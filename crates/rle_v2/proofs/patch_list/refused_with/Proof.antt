@@ -7,7 +7,7 @@ use lib.ListN.{drop}
 use borrow.Author.Tests.{lt-ltb, le-leb, le-ltb, not-true, not-false}
 use Rattle.format.specs.Fields.{pick}
 use Rattle.format.specs.Runs.{patchLimit}
-use Rattle.format.proofs.Fields.{below-all}
+use Rattle.format.proofs.Below.{below-all}
 use Rattle.util.specs.Packed.{fields, fieldAt}
 use Rattle.util.proofs.Window.{field-there, length-fields}
 use Rattle.rle_v2.specs.PatchList.{listNumber}
@@ -36,12 +36,6 @@ next-is x =
 small : (e : tie.Else1 Inv-loop μ-loop) → let x = e .before .before in x .entry-at .result .patch < patchLimit (x .before .before .before .before .before .args .width)
 small e = rw (e .before .before .before .before .before .patch-limit .ensures) at (e .if1 .left)
 
-patch-limit-requires : tie.Need-patch-limit-requires Inv-loop μ-loop
-patch-limit-requires c κs = search needs
-
-loop-holds : tie.Need-loop-holds Inv-loop μ-loop
-loop-holds c = (search needs, walk-first _ _ _ _)
-
 entry-at-requires : tie.Need-entry-at-requires Inv-loop μ-loop
 entry-at-requires c κs =
     let z = c .before .before .before .before in
@@ -60,9 +54,6 @@ returns c =
 add-place : tie.Need-add-place Inv-loop μ-loop
 add-place c = let x = c .before .before .before in omega (arith, x .entry-at .ensures .gap-lt, x .before .before .loop .inv .1 .low)
 
-out-of-place-requires : tie.Need-out-of-place-requires Inv-loop μ-loop
-out-of-place-requires c κs = search needs
-
 returns-2 : tie.Need-returns-2 Inv-loop μ-loop
 returns-2 c =
     let t = c .before in
@@ -72,9 +63,6 @@ returns-2 c =
     rw (c .out-of-place .ensures)
     (walk-stop (a .width) (a .pw) (a .rows) (fields (a .bits) (a .n) (a .list .now)) (l .k) (l .place) (l .free) _ _ _ (l .skip) _ (l .inv .1) (next-is x) (x .entry-at .ensures)
     (not-true _ (t .before .if2 .taken)) (rw (lt-ltb _ _ (t .if3 .taken))))
-
-out-of-place-requires-2 : tie.Need-out-of-place-requires-2 Inv-loop μ-loop
-out-of-place-requires-2 c κs = search needs
 
 returns-3 : tie.Need-returns-3 Inv-loop μ-loop
 returns-3 c =
@@ -86,15 +74,6 @@ returns-3 c =
     rw (c .out-of-place2 .ensures)
     (walk-stop (a .width) (a .pw) (a .rows) (fields (a .bits) (a .n) (a .list .now)) (l .k) (l .place) (l .free) _ _ _ (l .skip) _ (l .inv .1) (next-is x) (x .entry-at .ensures)
     (not-true _ (e .before .if2 .taken)) (rw (le-ltb _ _ (e .if3 .left), le-leb _ _ (t .if4 .taken))))
-
-add-free : tie.Need-add-free Inv-loop μ-loop
-add-free c = omega arith
-
-add-k : tie.Need-add-k Inv-loop μ-loop
-add-k c = omega arith
-
-loop-less : tie.Need-loop-less Inv-loop μ-loop
-loop-less c = omega arith
 
 loop-again : tie.Need-loop-again Inv-loop μ-loop
 loop-again c =
@@ -127,27 +106,8 @@ ended e =
 returns-4 : tie.Need-returns-4 Inv-loop μ-loop
 returns-4 c = rw (c .if5 .taken) at (ended (c .before))
 
-returns-5 : tie.Need-returns-5 Inv-loop μ-loop
-returns-5 c = rw (c .if5 .left) at (ended (c .before))
-
 pub refused-with-spec : {M : Type 1} → statement M
 refused-with-spec =
-    tie.close
-    (tie.spec
-    Inv-loop
-    μ-loop
-    patch-limit-requires
-    loop-holds
-    entry-at-requires
-    returns
-    add-place
-    out-of-place-requires
-    returns-2
-    out-of-place-requires-2
-    returns-3
-    add-free
-    add-k
-    loop-less
-    loop-again
-    returns-4
-    returns-5)
+    tie.close (tie.spec Inv-loop μ-loop (λ c κs. search needs) (λ c. (search needs, walk-first _ _ _ _)) entry-at-requires returns add-place (λ c κs. search needs)
+    returns-2 (λ c κs. search needs) returns-3 (λ c. omega arith) (λ c. omega arith) (λ c. omega arith) loop-again returns-4
+    (λ c. rw (c .if5 .left) at (ended (c .before))))

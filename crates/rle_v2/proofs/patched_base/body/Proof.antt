@@ -14,15 +14,6 @@ use Rattle.rle_v2.proofs.patched_base.body.Tie as tie
 not-2 : (s : tie.Start) → width (s .args .h .patch) + s .args .h .gap ≤ 64
 not-2 s = rw (s .pre .2 .patch-is) at (s .pre .3)
 
-parts-of-requires : tie.Need-parts-of-requires
-parts-of-requires c κs = search needs
-
-broke-off-requires : tie.Need-broke-off-requires
-broke-off-requires c κs = search needs
-
-gone-requires : tie.Need-gone-requires
-gone-requires c κs = search needs
-
 returns : tie.Need-returns
 returns c =
     let x = c .before .before .before .before in
@@ -50,11 +41,4 @@ returns-2 c =
     }
 
 pub body-spec : {M : Type 1} → statement M
-body-spec =
-    tie.close
-    (tie.spec
-    parts-of-requires
-    broke-off-requires
-    gone-requires
-    returns
-    returns-2)
+body-spec = tie.close (tie.spec (λ c κs. search needs) (λ c κs. search needs) (λ c κs. search needs) returns returns-2)

@@ -15,20 +15,8 @@ use Rattle.rle_v2.proofs.patched_base.by_widths.Tie as tie
 sum-2 : (k : tie.After-struct-known) → let a = k .before .before .before .before .args in k .before .bits-of2 .result + a .h .gap ≡ width (a .h .patch) + a .h .gap
 sum-2 k = ap (λ (x : ℕ). x + k .before .before .before .before .args .h .gap) (k .before .bits-of2 .ensures)
 
-bits-of-requires : tie.Need-bits-of-requires
-bits-of-requires c κs = search needs
-
-bits-of-requires-2 : tie.Need-bits-of-requires-2
-bits-of-requires-2 c κs = search needs
-
 add-if1 : tie.Need-add-if1
 add-if1 c = let s = c .before .before .before .before in omega (arith, c .before .bits-of2 .ensures, width-le (s .args .h .patch), s .pre .1 .gap)
-
-new-requires : tie.Need-new-requires
-new-requires c κs = search needs
-
-gone-requires : tie.Need-gone-requires
-gone-requires c κs = search needs
 
 returns : tie.Need-returns
 returns c =
@@ -36,36 +24,18 @@ returns c =
     let a = k .before .before .before .before .args in
     rw (c .gone .ensures, c .before .new .ensures) (gone-plain (now (a .input)) (a .at) _ 2 (λ z. omega arith) (refused-2 (now (a .input)) (a .at) (a .h .code) (a .h .rows) (a .h .base) (a .h .patch) (a .h .gap) (a .h .entries) (rw (sum-2 k) at (c .before .before .if1 .taken))))
 
-add-entry-width : tie.Need-add-entry-width
-add-entry-width c = search needs
-
-entry-width-requires : tie.Need-entry-width-requires
-entry-width-requires c κs = search needs
-
 body-requires : tie.Need-body-requires
 body-requires c κs =
+    let back-6 = c .before .before .before .before .before .before in
     let k = c .before .before .before in
-    let s = c .before .before .before .before .before .before .before in (
+    let s = back-6 .before in (
       s .pre .0,
       s .pre .1,
       record { bits-is = c .before .before .before .before .before .bits-of .ensures; patch-is = c .before .before .before .before .bits-of2 .ensures; entry-is = c .entry-width .ensures ∙ ap leastWidth (sum-2 k) },
       c .before .before .if1 .left,
     )
 
-returns-2 : tie.Need-returns-2
-returns-2 c = search needs
-
 pub by-widths-spec : {M : Type 1} → statement M
 by-widths-spec =
-    tie.close
-    (tie.spec
-    bits-of-requires
-    bits-of-requires-2
-    add-if1
-    new-requires
-    gone-requires
-    returns
-    add-entry-width
-    entry-width-requires
-    body-requires
-    returns-2)
+    tie.close (tie.spec (λ c κs. search needs) (λ c κs. search needs) add-if1 (λ c κs. search needs) (λ c κs. search needs) returns (λ c. search needs)
+    (λ c κs. search needs) body-requires (λ c. search needs))

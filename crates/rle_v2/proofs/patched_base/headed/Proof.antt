@@ -8,64 +8,37 @@ use borrow.Author.Needs.{needs}
 use Rattle.rle_v2.proofs.patched_base.headed.Statement.{statement}
 use Rattle.rle_v2.proofs.patched_base.headed.Tie as tie
 
-sub-if1 : tie.Need-sub-if1
-sub-if1 c = search needs
-
-new-requires : tie.Need-new-requires
-new-requires c κs = search needs
-
-gone-requires : tie.Need-gone-requires
-gone-requires c κs = search needs
-
 returns : tie.Need-returns
 returns c =
     let s = c .before .before .before .before in
     rw (c .gone .ensures, c .before .new .ensures)
     (gone-plain (now (s .args .input)) (s .args .at) _ 1 (λ z. omega arith) (no-header (now (s .args .input)) (s .args .at) (s .pre) (c .before .before .if1 .taken)))
 
-shared-slice-read-two-bytes : tie.Need-shared-slice-read-two-bytes
-shared-slice-read-two-bytes c = search needs
-
-add-two-bytes : tie.Need-add-two-bytes
-add-two-bytes c = search needs
-
-shared-slice-read-two-bytes-2 : tie.Need-shared-slice-read-two-bytes-2
-shared-slice-read-two-bytes-2 c = search needs
-
-two-bytes-requires : tie.Need-two-bytes-requires
-two-bytes-requires c κs = search needs
-
-add-third : tie.Need-add-third
-add-third c = search needs
-
-shared-slice-read-third : tie.Need-shared-slice-read-third
-shared-slice-read-third c = search needs
-
-add-fourth : tie.Need-add-fourth
-add-fourth c = search needs
-
-shared-slice-read-fourth : tie.Need-shared-slice-read-fourth
-shared-slice-read-fourth c = search needs
-
 cast-t8 : tie.Need-cast-t8
-cast-t8 c = omega (arith, c .shared-slice-known5 .given (c .before .before .before .before .before .before .before .args .at + 2))
+cast-t8 c =
+    let back-6 = c .before .before .before .before .before .before in
+    omega (arith, c .shared-slice-known5 .given (back-6 .before .args .at + 2))
 
 add-t7 : tie.Need-add-t7
-add-t7 c = omega (arith, c .shared-slice-known5 .given (c .before .before .before .before .before .before .before .args .at + 2))
+add-t7 c =
+    let back-6 = c .before .before .before .before .before .before in
+    omega (arith, c .shared-slice-known5 .given (back-6 .before .args .at + 2))
 
 cast-t18 : tie.Need-cast-t18
-cast-t18 c = omega (arith, c .shared-slice-known5 .given (c .before .before .before .before .before .before .before .args .at + 3))
+cast-t18 c =
+    let back-6 = c .before .before .before .before .before .before in
+    omega (arith, c .shared-slice-known5 .given (back-6 .before .args .at + 3))
 
 add-t19 : tie.Need-add-t19
-add-t19 c = omega (arith, c .shared-slice-known5 .given (c .before .before .before .before .before .before .before .args .at + 3))
-
-cast-t21 : tie.Need-cast-t21
-cast-t21 c = search needs
+add-t19 c =
+    let back-6 = c .before .before .before .before .before .before in
+    omega (arith, c .shared-slice-known5 .given (back-6 .before .args .at + 3))
 
 by-widths-requires : tie.Need-by-widths-requires
 by-widths-requires c κs =
+    let back-6 = c .before .before .before .before .before .before in
     let h = c .before .before .two-bytes .ensures in
-    let a = c .before .before .before .before .before .before .before .args in
+    let a = back-6 .before .args in
     let g = c .shared-slice-known5 .given in (
       omega arith,
       record {
@@ -82,30 +55,13 @@ by-widths-requires c κs =
 
 returns-2 : tie.Need-returns-2
 returns-2 c =
+    let back-6 = c .before .before .before .before .before .before in
     let h = c .before .before .before .two-bytes .ensures in
-    let a = c .before .before .before .before .before .before .before .before .args in
+    let a = back-6 .before .before .args in
     rw (is-body (now (a .input)) (a .at) (c .before .before .before .before .before .before .if1 .left)) (rw (h .0, h .1) at (c .by-widths .ensures))
 
 pub headed-spec : {M : Type 1} → statement M
 headed-spec =
-    tie.close
-    (tie.spec
-    sub-if1
-    new-requires
-    gone-requires
-    returns
-    shared-slice-read-two-bytes
-    add-two-bytes
-    shared-slice-read-two-bytes-2
-    two-bytes-requires
-    add-third
-    shared-slice-read-third
-    add-fourth
-    shared-slice-read-fourth
-    cast-t8
-    add-t7
-    cast-t18
-    add-t19
-    cast-t21
-    by-widths-requires
-    returns-2)
+    tie.close (tie.spec (λ c. search needs) (λ c κs. search needs) (λ c κs. search needs) returns (λ c. search needs) (λ c. search needs) (λ c. search needs)
+    (λ c κs. search needs) (λ c. search needs) (λ c. search needs) (λ c. search needs) (λ c. search needs) cast-t8 add-t7 cast-t18 add-t19 (λ c. search needs)
+    by-widths-requires returns-2)

@@ -12,15 +12,6 @@ use borrow.Author.Needs.{needs}
 use Rattle.rle_v2.proofs.patched_base.lay.Statement.{statement}
 use Rattle.rle_v2.proofs.patched_base.lay.Tie as tie
 
-unpack-requires : tie.Need-unpack-requires
-unpack-requires c κs = search needs
-
-add-base-requires : tie.Need-add-base-requires
-add-base-requires c κs = search needs
-
-same-length : tie.Need-same-length
-same-length c = search needs
-
 returns : tie.Need-returns
 returns c =
     let d = c .before in
@@ -31,4 +22,4 @@ returns c =
     (length-map vs asI64 ∙ length-fields (a .bits) (a .n) (now (a .block))) (u .unpack .ensures) (d .add-base .ensures)
 
 pub lay-spec : {M : Type 1} → statement M
-lay-spec = tie.close (tie.spec unpack-requires add-base-requires same-length returns)
+lay-spec = tie.close (tie.spec (λ c κs. search needs) (λ c κs. search needs) (λ c. search needs) returns)

@@ -8,8 +8,8 @@ use Rattle.format.proofs.Rows.{width-le}
 use Rattle.format.proofs.Widths.{width-pos}
 use Rattle.util.proofs.Grow.{rest-is}
 use Rattle.rle_v2.specs.PatchedHead.{Heads, numberOf}
-use Rattle.rle_v2.proofs.PatchedRun.{run, passed-answer}
-use Rattle.rle_v2.proofs.PatchedFound.{found-in, found-list, found-3-7, passes}
+use Rattle.rle_v2.proofs.PatchedRun.{run}
+use Rattle.rle_v2.proofs.PatchedFound.{passed-answer, found-in, found-list, found-3-7, passes}
 use borrow.Author.Needs.{needs}
 use Rattle.rle_v2.proofs.patched_base.measure.Statement.{statement}
 use Rattle.rle_v2.proofs.patched_base.measure.Tie as tie
@@ -28,23 +28,8 @@ number-is : (l : tie.After-refused-with) → let e = l .before .before in
     l .refused-with .result ≡ numberOf (now (e .before .before .before .before .args .input)) (e .before .before .headed .result)
 number-is l = let e = l .before .before in rw (rest-is (now (e .before .before .before .before .args .input)) (e .before .before .headed .result .list)) at (l .refused-with .ensures)
 
-headed-requires : tie.Need-headed-requires
-headed-requires c κs = search needs
-
-refused-requires : tie.Need-refused-requires
-refused-requires c κs = search needs
-
 returns : tie.Need-returns
 returns c = c .refused .ensures ∙ c .before .before .before .headed .ensures .refusal (c .before .if1 .taken)
-
-sub-refused-with : tie.Need-sub-refused-with
-sub-refused-with c = omega (arith, list-in c)
-
-part-refused-with-start : tie.Need-part-refused-with-start
-part-refused-with-start c = omega (arith, list-in c)
-
-part-refused-with-end : tie.Need-part-refused-with-end
-part-refused-with-end c = search needs
 
 refused-with-requires : tie.Need-refused-with-requires
 refused-with-requires c κs =
@@ -54,9 +39,6 @@ refused-with-requires c κs =
       rw (rest-is (now (a .input)) (e .before .before .headed .result .list)) (found-list (now (a .input)) (a .at) _ _ h),
       (rw (h .headed .widths .bits-is) (width-pos _), rw (h .headed .widths .bits-is) (width-le _), h .headed .fields-fit .rows),
     )
-
-refused-requires-2 : tie.Need-refused-requires-2
-refused-requires-2 c κs = search needs
 
 returns-2 : tie.Need-returns-2
 returns-2 c =
@@ -68,9 +50,6 @@ returns-2 c =
 sub-run : tie.Need-sub-run
 sub-run c = omega (arith, heads (c .before .before .before .before) .headed .parts .end-is)
 
-run-requires : tie.Need-run-requires
-run-requires c κs = search needs
-
 returns-3 : tie.Need-returns-3
 returns-3 c =
     let t = c .before .before in
@@ -81,17 +60,5 @@ returns-3 c =
 
 pub measure-spec : {M : Type 1} → statement M
 measure-spec =
-    tie.close
-    (tie.spec
-    headed-requires
-    refused-requires
-    returns
-    sub-refused-with
-    part-refused-with-start
-    part-refused-with-end
-    refused-with-requires
-    refused-requires-2
-    returns-2
-    sub-run
-    run-requires
-    returns-3)
+    tie.close (tie.spec (λ c κs. search needs) (λ c κs. search needs) returns (λ c. omega (arith, list-in c)) (λ c. omega (arith, list-in c)) (λ c. search needs)
+    refused-with-requires (λ c κs. search needs) returns-2 sub-run (λ c κs. search needs) returns-3)

@@ -5,8 +5,8 @@ use Rattle.format.specs.Fields.{width}
 use Rattle.format.specs.Runs.{entryWidth}
 use Rattle.format.proofs.Rows.{width-le}
 use Rattle.format.proofs.Widths.{least-le}
+use Rattle.format.proofs.Fields.{block-small}
 use Rattle.rle_v2.specs.PatchedHead.{valueBytes, listBytes}
-use Rattle.rle_v2.proofs.Blocks.{size-small}
 use borrow.Author.Needs.{needs}
 use Rattle.rle_v2.proofs.patched_base.parts_of.Statement.{statement}
 use Rattle.rle_v2.proofs.patched_base.parts_of.Tie as tie
@@ -18,19 +18,13 @@ values-are z = z .block-size .ensures ∙ rw (z .before .before .pre .2 .bits-is
 list-is : (z : tie.After-block-size2) → z .block-size2 .result ≡ listBytes (z .before .before .before .args .h)
 list-is z = z .block-size2 .ensures ∙ rw (z .before .before .before .pre .2 .entry-is)
 
-add-values : tie.Need-add-values
-add-values c = search needs
-
-add-values-2 : tie.Need-add-values-2
-add-values-2 c = search needs
-
 block-size-requires : tie.Need-block-size-requires
 block-size-requires c κs = (rw (c .before .pre .2 .bits-is) (width-le _), omega (arith, c .before .pre .1 .rows))
 
 add-list : tie.Need-add-list
 add-list c =
     let s = c .before .before in
-    omega (arith, values-are c, size-small (s .args .h .rows) (width (s .args .h .code)) (s .pre .1 .rows) (width-le _), s .pre .1 .eight, s .pre .0)
+    omega (arith, values-are c, block-small (s .args .h .rows) (width (s .args .h .code)) (s .pre .1 .rows) (width-le _), s .pre .1 .eight, s .pre .0)
 
 block-size-requires-2 : tie.Need-block-size-requires-2
 block-size-requires-2 c κs = (rw (c .before .before .pre .2 .entry-is) (least-le _), omega (arith, c .before .before .pre .1 .entries))
@@ -42,8 +36,8 @@ add-end c =
       arith,
       values-are (c .before),
       list-is c,
-      size-small (s .args .h .rows) (width (s .args .h .code)) (s .pre .1 .rows) (width-le _),
-      size-small (s .args .h .entries) (entryWidth (s .args .h .patch) (s .args .h .gap)) (omega (arith, s .pre .1 .entries)) (least-le _),
+      block-small (s .args .h .rows) (width (s .args .h .code)) (s .pre .1 .rows) (width-le _),
+      block-small (s .args .h .entries) (entryWidth (s .args .h .patch) (s .args .h .gap)) (omega (arith, s .pre .1 .entries)) (least-le _),
       s .pre .1 .eight,
       s .pre .0,
     )
@@ -52,4 +46,4 @@ returns : tie.Need-returns
 returns c = record { values-is = refl; list-is = rw (values-are (c .before)); end-is = rw (values-are (c .before), list-is c) }
 
 pub parts-of-spec : {M : Type 1} → statement M
-parts-of-spec = tie.close (tie.spec add-values add-values-2 block-size-requires add-list block-size-requires-2 add-end returns)
+parts-of-spec = tie.close (tie.spec (λ c. search needs) (λ c. search needs) block-size-requires add-list block-size-requires-2 add-end returns)

@@ -10,8 +10,8 @@ use Rattle.format.proofs.Rows.{width-le}
 use Rattle.format.proofs.Widths.{width-pos}
 use Rattle.util.proofs.Grow.{rest-is}
 use Rattle.rle_v2.specs.PatchedHead.{Heads, numberOf, Passed, headOf, widthsOf, partsOf}
-use Rattle.rle_v2.proofs.PatchedRun.{run, passed-8, passed-read}
-use Rattle.rle_v2.proofs.PatchedFound.{found-in, found-list, found-3-7, passes, ready, refused-none}
+use Rattle.rle_v2.proofs.PatchedRun.{run}
+use Rattle.rle_v2.proofs.PatchedFound.{passed-8, passed-read, found-in, found-list, found-3-7, passes, ready, refused-none}
 use borrow.Author.Needs.{needs}
 use Rattle.rle_v2.proofs.patched_base.read.Statement.{statement}
 use Rattle.rle_v2.proofs.patched_base.read.Tie as tie
@@ -38,27 +38,12 @@ passed t =
     let a = e .before .before .before .before .args in
     passes (now (a .input)) (a .at) _ _ (heads e) (sym (number-is (t .before)) ∙ t .if2 .left)
 
-headed-requires : tie.Need-headed-requires
-headed-requires c κs = search needs
-
-refused-requires : tie.Need-refused-requires
-refused-requires c κs = search needs
-
 returns : tie.Need-returns
 returns c =
     let h = c .before .before .before in
     let a = h .before .before .args in
     rw (c .refused .ensures)
     (refused-none (now (a .input)) (a .at) (run (now (a .input)) (a .at)) (a .signed) (now (a .out)) (h .headed .result) (h .headed .ensures .refusal (c .before .if1 .taken)))
-
-sub-refused-with : tie.Need-sub-refused-with
-sub-refused-with c = omega (arith, list-in c)
-
-part-refused-with-start : tie.Need-part-refused-with-start
-part-refused-with-start c = omega (arith, list-in c)
-
-part-refused-with-end : tie.Need-part-refused-with-end
-part-refused-with-end c = search needs
 
 refused-with-requires : tie.Need-refused-with-requires
 refused-with-requires c κs =
@@ -69,9 +54,6 @@ refused-with-requires c κs =
       (rw (h .headed .widths .bits-is) (width-pos _), rw (h .headed .widths .bits-is) (width-le _), h .headed .fields-fit .rows),
     )
 
-refused-requires-2 : tie.Need-refused-requires-2
-refused-requires-2 c κs = search needs
-
 returns-2 : tie.Need-returns-2
 returns-2 c =
     let l = c .before .before in
@@ -81,13 +63,11 @@ returns-2 c =
     (gives-none (a .at) _ (a .signed) (run (now (a .input)) (a .at)) (now (a .out)) (answer.Refused _) tt
     (rw (number-is l) (found-3-7 (now (a .input)) (a .at) _ _ (heads e) (λ z. c .before .if2 .taken (number-is l ∙ z)))))
 
-refused-requires-3 : tie.Need-refused-requires-3
-refused-requires-3 c κs = search needs
-
 returns-3 : tie.Need-returns-3
 returns-3 c =
+    let back-6 = c .before .before .before .before .before .before in
     let t = c .before .before .before in
-    let a = t .before .before .before .before .before .before .before .args in
+    let a = back-6 .before .before .before .before .args in
     rw (c .refused3 .ensures) (passed-8 (now (a .input)) (a .at) _ _ _ _ (passed t) (a .signed) (now (a .out)) (c .before .if3 .taken))
 
 put-requires : tie.Need-put-requires
@@ -98,40 +78,22 @@ put-requires c κs =
     (ready (now (a .input)) (a .at) _ _ (heads e) (sym (number-is (t .before)) ∙ t .if2 .left), c .before .if3 .left)
 
 sub-run : tie.Need-sub-run
-sub-run c = omega (arith, heads (c .before .before .before .before .before .before .before .before .before) .headed .parts .end-is)
-
-run-requires : tie.Need-run-requires
-run-requires c κs = search needs
-
-same-length : tie.Need-same-length
-same-length c = search needs
+sub-run c =
+    let back-6 = c .before .before .before .before .before .before in
+    omega (arith, heads (back-6 .before .before .before) .headed .parts .end-is)
 
 returns-4 : tie.Need-returns-4
 returns-4 c =
+    let back-6 = c .before .before .before .before .before .before in
+    let back-12 = back-6 .before .before .before .before .before .before in
     let p = c .before .before .before in
     let r = p .before .before in
     let t = r .before .before in
-    let a = t .before .before .before .before .before .before .before .args in
+    let a = back-12 .before .before .args in
     rw (c .run .ensures)
     (passed-read (now (a .input)) (a .at) _ _ _ _ (passed t) (a .signed) (now (a .out)) _ _ (r .if3 .left) refl (p .put .ensures))
 
 pub read-spec : {M : Type 1} → statement M
 read-spec =
-    tie.close
-    (tie.spec
-    headed-requires
-    refused-requires
-    returns
-    sub-refused-with
-    part-refused-with-start
-    part-refused-with-end
-    refused-with-requires
-    refused-requires-2
-    returns-2
-    refused-requires-3
-    returns-3
-    put-requires
-    sub-run
-    run-requires
-    same-length
-    returns-4)
+    tie.close (tie.spec (λ c κs. search needs) (λ c κs. search needs) returns (λ c. omega (arith, list-in c)) (λ c. omega (arith, list-in c)) (λ c. search needs)
+    refused-with-requires (λ c κs. search needs) returns-2 (λ c κs. search needs) returns-3 put-requires sub-run (λ c κs. search needs) (λ c. search needs) returns-4)

@@ -4,17 +4,11 @@ use borrow.Author.Needs.{needs}
 use Rattle.rle_v2.proofs.patched_base.refused.Statement.{statement}
 use Rattle.rle_v2.proofs.patched_base.refused.Tie as tie
 
-refused-requires : tie.Need-refused-requires
-refused-requires c κs = search needs
-
 returns : tie.Need-returns
 returns c = rw (c .refused .ensures, c .before .if1 .taken)
-
-cut-requires : tie.Need-cut-requires
-cut-requires c κs = search needs
 
 returns-2 : tie.Need-returns-2
 returns-2 c = rw (c .cut .ensures, ne-eqb (c .before .before .before .args .f .field) 0 (c .before .if1 .left))
 
 pub refused-spec : {M : Type 1} → statement M
-refused-spec = tie.close (tie.spec refused-requires returns cut-requires returns-2)
+refused-spec = tie.close (tie.spec (λ c κs. search needs) returns (λ c κs. search needs) returns-2)

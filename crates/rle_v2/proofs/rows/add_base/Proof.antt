@@ -15,64 +15,16 @@ Inv-loop base n out₀ i₀ out i = Turn (λ (x : ℕ) z. asI64 (plus x (asU64 z
 abbrev μ-loop : tie.MeasureT-loop
 μ-loop base n out₀ i₀ out i = n - i
 
-loop-holds : tie.Need-loop-holds Inv-loop μ-loop
-loop-holds c = turn-first _ _ _ _ _
-
-mul-to-u64 : tie.Need-mul-to-u64 Inv-loop μ-loop
-mul-to-u64 c = omega arith
-
-slice-copy-out-to-u64 : tie.Need-slice-copy-out-to-u64 Inv-loop μ-loop
-slice-copy-out-to-u64 c = omega arith
-
-to-u64-requires : tie.Need-to-u64-requires Inv-loop μ-loop
-to-u64-requires c κs = search needs
-
-add-requires : tie.Need-add-requires Inv-loop μ-loop
-add-requires c κs = search needs
-
-to-i64-requires : tie.Need-to-i64-requires Inv-loop μ-loop
-to-i64-requires c κs = search needs
-
-mul-r : tie.Need-mul-r Inv-loop μ-loop
-mul-r c = omega arith
-
-slice-set-from-r : tie.Need-slice-set-from-r Inv-loop μ-loop
-slice-set-from-r c = omega arith
-
-add-i : tie.Need-add-i Inv-loop μ-loop
-add-i c = omega arith
-
-loop-less : tie.Need-loop-less Inv-loop μ-loop
-loop-less c = omega arith
-
 loop-again : tie.Need-loop-again Inv-loop μ-loop
 loop-again c =
     let l = c .before .before .before .before .before .loop in
     turn-next _ _ _ _ _ (l .out) (l .i) _ (pos 0) _ _ (l .inv) (omega arith) (omega arith)
     (toZ-ofZ (sfits-of (c .to-i64 .ok)) ∙ c .to-i64 .ensures ∙ rw (c .before .add .ensures, c .before .before .to-u64 .ensures, toZ-ofZ (sfits-of (c .before .before .before .to-u64-arg .given)))) refl
 
-same-length : tie.Need-same-length Inv-loop μ-loop
-same-length c = c .before .loop .inv .long
-
 returns : tie.Need-returns Inv-loop μ-loop
 returns c = turn-last _ _ _ _ _ _ _ _ (c .before .loop .inv) (c .loop-test .left)
 
 pub add-base-spec : {M : Type 1} → statement M
 add-base-spec =
-    tie.close
-    (tie.spec
-    Inv-loop
-    μ-loop
-    loop-holds
-    mul-to-u64
-    slice-copy-out-to-u64
-    to-u64-requires
-    add-requires
-    to-i64-requires
-    mul-r
-    slice-set-from-r
-    add-i
-    loop-less
-    loop-again
-    same-length
-    returns)
+    tie.close (tie.spec Inv-loop μ-loop (λ c. turn-first _ _ _ _ _) (λ c. omega arith) (λ c. omega arith) (λ c κs. search needs) (λ c κs. search needs)
+    (λ c κs. search needs) (λ c. omega arith) (λ c. omega arith) (λ c. omega arith) (λ c. omega arith) loop-again (λ c. c .before .loop .inv .long) returns)

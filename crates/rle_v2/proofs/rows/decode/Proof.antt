@@ -5,12 +5,6 @@ use borrow.Author.Needs.{needs}
 use Rattle.rle_v2.proofs.rows.decode.Statement.{statement}
 use Rattle.rle_v2.proofs.rows.decode.Tie as tie
 
-unzigzag-requires : tie.Need-unzigzag-requires
-unzigzag-requires c κs = search needs
-
-same-length : tie.Need-same-length
-same-length c = search needs
-
 returns : tie.Need-returns
 returns c = rw (c .before .before .before .if1 .taken) (c .before .unzigzag .ensures)
 
@@ -18,4 +12,4 @@ returns-2 : tie.Need-returns-2
 returns-2 c = rw (c .if1 .left) (sym (take-append-drop (c .before .args .n) (now (c .before .args .out))))
 
 pub decode-spec : {M : Type 1} → statement M
-decode-spec = tie.close (tie.spec unzigzag-requires same-length returns returns-2)
+decode-spec = tie.close (tie.spec (λ c κs. search needs) (λ c. search needs) returns returns-2)

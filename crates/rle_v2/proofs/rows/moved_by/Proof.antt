@@ -5,12 +5,6 @@ use borrow.Author.Needs.{needs}
 use Rattle.rle_v2.proofs.rows.moved_by.Statement.{statement}
 use Rattle.rle_v2.proofs.rows.moved_by.Tie as tie
 
-sub-requires : tie.Need-sub-requires
-sub-requires c κs = search needs
-
-add-requires : tie.Need-add-requires
-add-requires c κs = search needs
-
 returns : tie.Need-returns
 unfolding negative
 returns c = rw (c .before .if1 .taken) (c .sub .ensures ∙ sym (add-mod-mod _ _ _))
@@ -19,4 +13,4 @@ returns-2 : tie.Need-returns-2
 returns-2 c = rw (c .before .if1 .left) (c .add .ensures)
 
 pub moved-by-spec : {M : Type 1} → statement M
-moved-by-spec = tie.close (tie.spec sub-requires add-requires returns returns-2)
+moved-by-spec = tie.close (tie.spec (λ c κs. search needs) (λ c κs. search needs) returns returns-2)

@@ -19,9 +19,6 @@ Inv-loop value n out₀ row i₀ out i = Turn (λ x z. asI64 x) (λ x z. plus x 
 abbrev μ-loop : tie.MeasureT-loop
 μ-loop value n out₀ row i₀ out i = n - i
 
-to-i64-requires : tie.Need-to-i64-requires Inv-loop μ-loop
-to-i64-requires c κs = search needs
-
 -- the row, and that a step of 0 leads to it again
 row-is : (c : tie.At-loop Inv-loop μ-loop) → toZ w64 (ofZ w64 (c .before .to-i64 .result)) ≡ asI64 (c .before .before .args .value)
 row-is c = toZ-ofZ (sfits-of (c .before .to-i64 .ok)) ∙ c .before .to-i64 .ensures
@@ -29,32 +26,8 @@ row-is c = toZ-ofZ (sfits-of (c .before .to-i64 .ok)) ∙ c .before .to-i64 .ens
 again : (c : tie.At-loop Inv-loop μ-loop) → c .before .before .args .value ≡ plus (c .before .before .args .value) 0
 again c = let f : c .before .before .args .value < 2 ^ 64 = c .before .before .fits .value .fits in sym (rw add-zero (mod-eq-of-lt f))
 
-loop-holds : tie.Need-loop-holds Inv-loop μ-loop
-loop-holds c = turn-first _ _ _ _ _
-
-sub-loop : tie.Need-sub-loop Inv-loop μ-loop
-sub-loop c = omega arith
-
-mul-row : tie.Need-mul-row Inv-loop μ-loop
-mul-row c = omega arith
-
-slice-set-from-row : tie.Need-slice-set-from-row Inv-loop μ-loop
-slice-set-from-row c = omega arith
-
-add-row : tie.Need-add-row Inv-loop μ-loop
-add-row c = omega arith
-
-mul-row-2 : tie.Need-mul-row-2 Inv-loop μ-loop
-mul-row-2 c = omega arith
-
 slice-set-from-row-2 : tie.Need-slice-set-from-row-2 Inv-loop μ-loop
 slice-set-from-row-2 c = let l = c .before .loop in rw (length-set (l .out) (l .i) _) (omega (arith, l .inv .long))
-
-add-i : tie.Need-add-i Inv-loop μ-loop
-add-i c = omega arith
-
-loop-less : tie.Need-loop-less Inv-loop μ-loop
-loop-less c = omega arith
 
 loop-again : tie.Need-loop-again Inv-loop μ-loop
 loop-again c =
@@ -64,17 +37,8 @@ loop-again c =
     let e : l .i + 1 + 1 ≡ l .i + 2 = omega arith in
     rw e at two
 
-same-length : tie.Need-same-length Inv-loop μ-loop
-same-length c = c .before .before .loop .inv .long
-
 returns : tie.Need-returns Inv-loop μ-loop
 returns c = turn-last _ _ _ _ _ _ _ _ (c .before .before .loop .inv) (c .if1 .taken)
-
-mul-row-3 : tie.Need-mul-row-3 Inv-loop μ-loop
-mul-row-3 c = omega arith
-
-slice-set-from-row-3 : tie.Need-slice-set-from-row-3 Inv-loop μ-loop
-slice-set-from-row-3 c = omega arith
 
 same-length-2 : tie.Need-same-length-2 Inv-loop μ-loop
 same-length-2 c = simp length-set (c .before .before .loop .inv .long)
@@ -87,24 +51,6 @@ returns-2 c =
 
 pub repeat-spec : {M : Type 1} → statement M
 repeat-spec =
-    tie.close
-    (tie.spec
-    Inv-loop
-    μ-loop
-    to-i64-requires
-    loop-holds
-    sub-loop
-    mul-row
-    slice-set-from-row
-    add-row
-    mul-row-2
-    slice-set-from-row-2
-    add-i
-    loop-less
-    loop-again
-    same-length
-    returns
-    mul-row-3
-    slice-set-from-row-3
-    same-length-2
-    returns-2)
+    tie.close (tie.spec Inv-loop μ-loop (λ c κs. search needs) (λ c. turn-first _ _ _ _ _) (λ c. omega arith) (λ c. omega arith) (λ c. omega arith) (λ c. omega arith)
+    (λ c. omega arith) slice-set-from-row-2 (λ c. omega arith) (λ c. omega arith) loop-again (λ c. c .before .before .loop .inv .long) returns (λ c. omega arith)
+    (λ c. omega arith) same-length-2 returns-2)

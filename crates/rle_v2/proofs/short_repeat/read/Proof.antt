@@ -1,5 +1,5 @@
 -- The short repeat's reader meets its contract: what the measure named is laid down where there is room. Assumes nothing.
-use Prim.Native.Nat.{_+_, _-_, _<_, _^_}
+use Prim.Native.Nat.{_-_, _<_, _^_}
 use mathlib.Core.Path.{_≡_, sym, _∙_}
 use native.Mathlib.Omega.{arith}
 use lib.ListN.{length}
@@ -19,47 +19,23 @@ named m = sym (m .r .given .1) ∙ m .before .before .measure .ensures
 measured-is : (m : tie.After-r) → let a = m .before .before .before .before .args in Measured (now (a .input)) (a .at) (m .r .given .0 .0)
 measured-is m = measured (now (m .before .before .before .before .args .input)) (m .before .before .before .before .args .at) _ (m .before .before .before .before .pre .0) (named m)
 
-measure-requires : tie.Need-measure-requires
-measure-requires c κs = search needs
-
-enum-known-r : tie.Need-enum-known-r
-enum-known-r c = search needs
-
-refused-requires : tie.Need-refused-requires
-refused-requires c κs = search needs
-
 returns : tie.Need-returns
 returns c =
     let m = c .before .before .before .before .before in
     let a = m .before .before .before .before .args in
     rw (c .refused .ensures) (no-room (now (a .input)) (a .at) (a .signed) (now (a .out)) _ (named m) (measured-is m) (c .before .if1 .taken))
 
-add-read : tie.Need-add-read
-add-read c = search needs
-
 read-requires : tie.Need-read-requires
-read-requires c κs = let m = measured-is (c .before .before .before .before .before) in omega (arith, m .size-is, m .there, c .before .before .before .before .before .before .before .before .before .pre .1)
-
-row-requires : tie.Need-row-requires
-row-requires c κs = search needs
-
-repeat-requires : tie.Need-repeat-requires
-repeat-requires c κs = search needs
-
-enum-known-f : tie.Need-enum-known-f
-enum-known-f c = search needs
-
-enum-told : tie.Need-enum-told
-enum-told c = search needs
-
-same-length : tie.Need-same-length
-same-length c = search needs
+read-requires c κs =
+    let back-6 = c .before .before .before .before .before .before in
+    let m = measured-is (c .before .before .before .before .before) in omega (arith, m .size-is, m .there, back-6 .before .before .before .pre .1)
 
 returns-2 : tie.Need-returns-2
 returns-2 c =
+    let back-6 = c .before .before .before .before .before .before in
     let p = c .before in
     let w = c .before .before .before in
-    let m = c .before .before .before .before .before .before .before .before .before .before in
+    let m = back-6 .before .before .before .before in
     let a = m .before .before .before .before .args in
     let v = rw (w .before .read .ensures) at (w .row .ensures) in
     let f : w .row .result < 2 ^ 64 = w .row .ok in
@@ -78,19 +54,5 @@ returns-4 c =
 
 pub read-spec : {M : Type 1} → statement M
 read-spec =
-    tie.close
-    (tie.spec
-    measure-requires
-    enum-known-r
-    refused-requires
-    returns
-    add-read
-    read-requires
-    row-requires
-    repeat-requires
-    enum-known-f
-    enum-told
-    same-length
-    returns-2
-    returns-3
-    returns-4)
+    tie.close (tie.spec (λ c κs. search needs) (λ c. search needs) (λ c κs. search needs) returns (λ c. search needs) read-requires (λ c κs. search needs)
+    (λ c κs. search needs) (λ c. search needs) (λ c. search needs) (λ c. search needs) returns-2 returns-3 returns-4)

@@ -14,15 +14,6 @@ Inv-loop input out₀ taken₀ written₀ out taken written = Going input out₀
 abbrev μ-loop : tie.MeasureT-loop
 μ-loop input out₀ taken₀ written₀ out taken written = length input - taken
 
-loop-holds : tie.Need-loop-holds Inv-loop μ-loop
-loop-holds c = going-first _ _
-
-sub-loop : tie.Need-sub-loop Inv-loop μ-loop
-sub-loop c = omega arith
-
-line-end-requires : tie.Need-line-end-requires Inv-loop μ-loop
-line-end-requires c κs = omega arith
-
 same-length : tie.Need-same-length Inv-loop μ-loop
 same-length c = c .before .before .before .loop .inv .long
 
@@ -32,29 +23,11 @@ returns c =
     let a = c .before .before .before .before .before .before .args in
     going-open (now (a .input)) (now (a .out)) (l .out) (l .taken) (l .written) (l .inv) _ (c .before .line-end .ensures) (c .if1 .taken)
 
-sub-answer-line : tie.Need-sub-answer-line Inv-loop μ-loop
-sub-answer-line c = omega arith
-
-part-answer-line-start : tie.Need-part-answer-line-start Inv-loop μ-loop
-part-answer-line-start c = omega arith
-
 part-answer-line-end : tie.Need-part-answer-line-end Inv-loop μ-loop
 part-answer-line-end c =
     let l = c .before .before .before .loop in
     let a = c .before .before .before .before .before .before .args in
     end-le (now (a .input)) (now (a .out)) (l .out) (l .taken) (l .written) (l .inv) _ (c .before .line-end .ensures)
-
-sub-answer-line-2 : tie.Need-sub-answer-line-2 Inv-loop μ-loop
-sub-answer-line-2 c = omega arith
-
-part-answer-line-start-2 : tie.Need-part-answer-line-start-2 Inv-loop μ-loop
-part-answer-line-start-2 c = omega arith
-
-part-answer-line-end-2 : tie.Need-part-answer-line-end-2 Inv-loop μ-loop
-part-answer-line-end-2 c = omega arith
-
-answer-line-requires : tie.Need-answer-line-requires Inv-loop μ-loop
-answer-line-requires c κs = tt
 
 add-written : tie.Need-add-written Inv-loop μ-loop
 add-written c =
@@ -88,9 +61,6 @@ loop-again c =
     let a = e .before .before .before .before .before .args in
     going-on (now (a .input)) (now (a .out)) (l .out) (l .taken) (l .written) (l .inv) _ (e .line-end .ensures) (i .if1 .left) (e .before .loop-test .taken) _ _ (rw (rest-is (l .out) (l .written)) at (q .answer-line .kept .1 .0)) (rw (rest-is (l .out) (l .written)) at (q .answer-line .ensures))
 
-same-length-2 : tie.Need-same-length-2 Inv-loop μ-loop
-same-length-2 c = c .before .loop .inv .long
-
 returns-2 : tie.Need-returns-2 Inv-loop μ-loop
 returns-2 c =
     let l = c .before .loop in
@@ -99,25 +69,6 @@ returns-2 c =
 
 pub answer-lines-spec : {M : Type 1} → statement M
 answer-lines-spec =
-    tie.close
-    (tie.spec
-    Inv-loop
-    μ-loop
-    loop-holds
-    sub-loop
-    line-end-requires
-    same-length
-    returns
-    sub-answer-line
-    part-answer-line-start
-    part-answer-line-end
-    sub-answer-line-2
-    part-answer-line-start-2
-    part-answer-line-end-2
-    answer-line-requires
-    add-written
-    add-taken
-    loop-less
-    loop-again
-    same-length-2
-    returns-2)
+    tie.close (tie.spec Inv-loop μ-loop (λ c. going-first _ _) (λ c. omega arith) (λ c κs. omega arith) same-length returns (λ c. omega arith) (λ c. omega arith)
+    part-answer-line-end (λ c. omega arith) (λ c. omega arith) (λ c. omega arith) (λ c κs. tt) add-written add-taken loop-less loop-again
+    (λ c. c .before .loop .inv .long) returns-2)

@@ -6,28 +6,14 @@ use Rattle.salvage.proofs.fill.put_group.Tie as tie
 put-word-requires : tie.Need-put-word-requires
 put-word-requires c κs = let t = c .before in rw (t .if1 .taken) at (t .before .before .before .pre)
 
-same-length : tie.Need-same-length
-same-length c = search needs
-
 returns : tie.Need-returns
 returns c = let p = c .before .before in rw (p .before .before .if1 .taken) (p .put-word .ensures)
 
 put-runs-requires : tie.Need-put-runs-requires
 put-runs-requires c κs = let t = c .before in rw (t .if1 .left) at (t .before .before .before .pre)
 
-same-length-2 : tie.Need-same-length-2
-same-length-2 c = search needs
-
 returns-2 : tie.Need-returns-2
 returns-2 c = let p = c .before .before in rw (p .before .before .if1 .left) (p .put-runs .ensures)
 
 pub put-group-spec : {M : Type 1} → statement M
-put-group-spec =
-    tie.close
-    (tie.spec
-    put-word-requires
-    same-length
-    returns
-    put-runs-requires
-    same-length-2
-    returns-2)
+put-group-spec = tie.close (tie.spec put-word-requires (λ c. search needs) returns put-runs-requires (λ c. search needs) returns-2)

@@ -7,20 +7,8 @@ use Rattle.salvage.proofs.Laying.{run-long, varint-written}
 use Rattle.salvage.proofs.fill.put_run.Statement.{statement}
 use Rattle.salvage.proofs.fill.put_run.Tie as tie
 
-sub-less : tie.Need-sub-less
-sub-less c = search needs
-
-add-put : tie.Need-add-put
-add-put c = search needs
-
-cast-put : tie.Need-cast-put
-cast-put c = search needs
-
 put-requires : tie.Need-put-requires
 put-requires c κs = let s = c .before .before in omega (arith, s .pre, run-long (s .args .first) (s .args .rows))
-
-cast-put-2 : tie.Need-cast-put-2
-cast-put-2 c = search needs
 
 put-requires-2 : tie.Need-put-requires-2
 put-requires-2 c κs =
@@ -43,9 +31,6 @@ put-requires-3 c κs =
     let s = p .before .before .before in
     omega (arith, s .pre, run-long (s .args .first) (s .args .rows), p .put .ensures .next, p .put .kept .1 .0, q .put2 .ensures .next, q .put2 .kept .1 .0, w .write .ensures .next, w .write .kept .1 .0)
 
-same-length : tie.Need-same-length
-same-length c = search needs
-
 returns : tie.Need-returns
 unfolding runOf
 returns c =
@@ -60,15 +45,5 @@ returns c =
 
 pub put-run-spec : {M : Type 1} → statement M
 put-run-spec =
-    tie.close
-    (tie.spec
-    sub-less
-    add-put
-    cast-put
-    put-requires
-    cast-put-2
-    put-requires-2
-    write-requires
-    put-requires-3
-    same-length
-    returns)
+    tie.close (tie.spec (λ c. search needs) (λ c. search needs) (λ c. search needs) put-requires (λ c. search needs) put-requires-2 write-requires put-requires-3
+    (λ c. search needs) returns)

@@ -11,23 +11,11 @@ Inv-loop rows first out₀ at place₀ runs₀ out place runs = Runs first rows 
 abbrev μ-loop : tie.MeasureT-loop
 μ-loop rows first out₀ at place₀ runs₀ out place runs = runs
 
-loop-holds : tie.Need-loop-holds Inv-loop μ-loop
-loop-holds c = runs-begin (c .before .pre)
-
 put-run-requires : tie.Need-put-run-requires Inv-loop μ-loop
 put-run-requires c κs = (omega arith, omega arith, runs-full (c .before .before .loop .inv) (omega arith))
 
-sub-runs : tie.Need-sub-runs Inv-loop μ-loop
-sub-runs c = omega arith
-
-loop-less : tie.Need-loop-less Inv-loop μ-loop
-loop-less c = omega arith
-
 loop-again : tie.Need-loop-again Inv-loop μ-loop
 loop-again c = let p = c .before .before in runs-next (p .before .before .before .loop .inv) (omega arith) (p .put-run .ensures) (p .put-run .kept .1 .1 .0)
-
-same-length : tie.Need-same-length Inv-loop μ-loop
-same-length c = c .before .before .loop .inv .same
 
 returns : tie.Need-returns Inv-loop μ-loop
 returns c = runs-done (c .before .before .loop .inv) (omega arith) (omega arith)
@@ -43,17 +31,5 @@ returns-2 c = let p = c .before .before in runs-rest (p .before .before .before 
 
 pub put-runs-spec : {M : Type 1} → statement M
 put-runs-spec =
-    tie.close
-    (tie.spec
-    Inv-loop
-    μ-loop
-    loop-holds
-    put-run-requires
-    sub-runs
-    loop-less
-    loop-again
-    same-length
-    returns
-    put-run-requires-2
-    same-length-2
-    returns-2)
+    tie.close (tie.spec Inv-loop μ-loop (λ c. runs-begin (c .before .pre)) put-run-requires (λ c. omega arith) (λ c. omega arith) loop-again
+    (λ c. c .before .before .loop .inv .same) returns put-run-requires-2 same-length-2 returns-2)

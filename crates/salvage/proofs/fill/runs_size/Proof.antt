@@ -7,9 +7,6 @@ use Rattle.salvage.proofs.Laying.{runs-small, filled-even, filled-odd}
 use Rattle.salvage.proofs.fill.runs_size.Statement.{statement}
 use Rattle.salvage.proofs.fill.runs_size.Tie as tie
 
-size-requires : tie.Need-size-requires
-size-requires c κs = search needs
-
 add-size : tie.Need-add-size
 add-size c = omega (arith, c .size .ensures, shortest-length (c .before .args .first) (omega arith))
 
@@ -19,9 +16,6 @@ mul-result c = let z = c .before in let a = z .before .args in rw (z .size .ensu
 returns : tie.Need-returns
 returns c = let z = c .before in let a = z .before .args in rw (z .size .ensures) (filled-even (a .first) (a .rows) (omega arith))
 
-add-result : tie.Need-add-result
-add-result c = search needs
-
 mul-result-2 : tie.Need-mul-result-2
 mul-result-2 c = let z = c .before in let a = z .before .args in rw (z .size .ensures) (omega (arith, runs-small (a .rows / 512 + 1) (a .first) (omega arith) (omega arith)))
 
@@ -29,13 +23,4 @@ returns-2 : tie.Need-returns-2
 returns-2 c = let z = c .before in let a = z .before .args in rw (z .size .ensures) (filled-odd (a .first) (a .rows) (λ e. omega arith))
 
 pub runs-size-spec : {M : Type 1} → statement M
-runs-size-spec =
-    tie.close
-    (tie.spec
-    size-requires
-    add-size
-    mul-result
-    returns
-    add-result
-    mul-result-2
-    returns-2)
+runs-size-spec = tie.close (tie.spec (λ c κs. search needs) add-size mul-result returns (λ c. search needs) mul-result-2 returns-2)

@@ -11,12 +11,6 @@ use Rattle.salvage.proofs.fill.stored.Tie as tie
 bits : (c : tie.After-to-u64) → c .to-u64 .result ≡ asU64 (c .before .args .fill)
 bits c = rw (toZ-ofZ (c .before .fits .fill)) at (c .to-u64 .ensures)
 
-to-u64-requires : tie.Need-to-u64-requires
-to-u64-requires c κs = search needs
-
-zigzag-of-requires : tie.Need-zigzag-of-requires
-zigzag-of-requires c κs = search needs
-
 returns : tie.Need-returns
 unfolding Writing.stored
 returns c = rw (c .before .if1 .taken) (c .zigzag-of .ensures ∙ ap zigzagged (bits (c .before .before)))
@@ -26,4 +20,4 @@ unfolding Writing.stored
 returns-2 c = rw (c .if1 .left) (bits (c .before))
 
 pub stored-spec : {M : Type 1} → statement M
-stored-spec = tie.close (tie.spec to-u64-requires zigzag-of-requires returns returns-2)
+stored-spec = tie.close (tie.spec (λ c κs. search needs) (λ c κs. search needs) returns returns-2)

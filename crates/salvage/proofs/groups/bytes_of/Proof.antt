@@ -11,35 +11,7 @@ lies c =
     let s = c .before .before .before .before in
     rw (c .stop-of .ensures) (inside (length (s .args .input .now)) (s .args .starts .now) (s .args .i) (s .pre .0) (s .pre .1))
 
-mul-from : tie.Need-mul-from
-mul-from c = search needs
-
-shared-slice-read-from : tie.Need-shared-slice-read-from
-shared-slice-read-from c = search needs
-
-stop-of-requires : tie.Need-stop-of-requires
-stop-of-requires c κs = search needs
-
-sub-result : tie.Need-sub-result
-sub-result c = lies c .0
-
-part-result-start : tie.Need-part-result-start
-part-result-start c = lies c .0
-
-part-result-end : tie.Need-part-result-end
-part-result-end c = lies c .1
-
-returns : tie.Need-returns
-returns c = rw (c .before .stop-of .ensures)
-
 pub bytes-of-spec : {M : Type 1} → statement M
 bytes-of-spec =
-    tie.close
-    (tie.spec
-    mul-from
-    shared-slice-read-from
-    stop-of-requires
-    sub-result
-    part-result-start
-    part-result-end
-    returns)
+    tie.close (tie.spec (λ c. search needs) (λ c. search needs) (λ c κs. search needs) (λ c. lies c .0) (λ c. lies c .0) (λ c. lies c .1)
+    (λ c. rw (c .before .stop-of .ensures)))

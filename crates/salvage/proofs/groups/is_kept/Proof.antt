@@ -2,22 +2,10 @@
 use mathlib.Core.Path.{sym, _∙_}
 use native.Mathlib.Omega.{arith}
 use borrow.Author.Needs.{needs}
-use Rattle.format.proofs.Fields.{below-all}
+use Rattle.format.proofs.Below.{below-all}
 use Rattle.salvage.proofs.Keeping.{kept-empty, kept-whole, kept-refused}
 use Rattle.salvage.proofs.groups.is_kept.Statement.{statement}
 use Rattle.salvage.proofs.groups.is_kept.Tie as tie
-
-returns : tie.Need-returns
-returns c = kept-empty _ _ (c .if1 .taken)
-
-measure-stream-requires : tie.Need-measure-stream-requires
-measure-stream-requires c κs = search needs
-
-enum-known-said : tie.Need-enum-known-said
-enum-known-said c = search needs
-
-enum-told : tie.Need-enum-told
-enum-told c = search needs
 
 returns-2 : tie.Need-returns-2
 returns-2 c =
@@ -36,12 +24,4 @@ returns-3 c =
     (sym (m .measure-stream .ensures) ∙ c .enum-told .given .1)
 
 pub is-kept-spec : {M : Type 1} → statement M
-is-kept-spec =
-    tie.close
-    (tie.spec
-    returns
-    measure-stream-requires
-    enum-known-said
-    enum-told
-    returns-2
-    returns-3)
+is-kept-spec = tie.close (tie.spec (λ c. kept-empty _ _ (c .if1 .taken)) (λ c κs. search needs) (λ c. search needs) (λ c. search needs) returns-2 returns-3)

@@ -14,32 +14,14 @@ Inv-loop starts end last₀ i₀ last i = (i ≤ length starts) × (startsRight 
 abbrev μ-loop : tie.MeasureT-loop
 μ-loop starts end last₀ i₀ last i = length starts - i
 
-returns : tie.Need-returns Inv-loop μ-loop
-returns c = right-none _ _ (omega arith)
-
-shared-slice-read-if2 : tie.Need-shared-slice-read-if2 Inv-loop μ-loop
-shared-slice-read-if2 c = omega arith
-
 returns-2 : tie.Need-returns-2 Inv-loop μ-loop
 returns-2 c = right-late _ _ (omega arith) (λ e. omega arith)
 
 loop-holds : tie.Need-loop-holds Inv-loop μ-loop
 loop-holds c = (omega arith, right-first _ _ (omega arith) (omega arith))
 
-mul-next : tie.Need-mul-next Inv-loop μ-loop
-mul-next c = omega arith
-
-shared-slice-read-next : tie.Need-shared-slice-read-next Inv-loop μ-loop
-shared-slice-read-next c = omega arith
-
 returns-3 : tie.Need-returns-3 Inv-loop μ-loop
 returns-3 c = let l = c .before .before .before .loop in sym (l .inv .1 ∙ rising-stops _ _ (l .last) (l .i) (omega arith) (omega arith))
-
-add-i : tie.Need-add-i Inv-loop μ-loop
-add-i c = omega arith
-
-loop-less : tie.Need-loop-less Inv-loop μ-loop
-loop-less c = omega arith
 
 loop-again : tie.Need-loop-again Inv-loop μ-loop
 loop-again c =
@@ -52,18 +34,5 @@ returns-4 c = let l = c .before .loop in sym (l .inv .1 ∙ rising-end _ _ (l .l
 
 pub starts-right-spec : {M : Type 1} → statement M
 starts-right-spec =
-    tie.close
-    (tie.spec
-    Inv-loop
-    μ-loop
-    returns
-    shared-slice-read-if2
-    returns-2
-    loop-holds
-    mul-next
-    shared-slice-read-next
-    returns-3
-    add-i
-    loop-less
-    loop-again
-    returns-4)
+    tie.close (tie.spec Inv-loop μ-loop (λ c. right-none _ _ (omega arith)) (λ c. omega arith) returns-2 loop-holds (λ c. omega arith) (λ c. omega arith) returns-3
+    (λ c. omega arith) (λ c. omega arith) loop-again returns-4)

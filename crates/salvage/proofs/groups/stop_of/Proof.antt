@@ -5,15 +5,6 @@ use Rattle.salvage.proofs.Walking.{stop-next, stop-end}
 use Rattle.salvage.proofs.groups.stop_of.Statement.{statement}
 use Rattle.salvage.proofs.groups.stop_of.Tie as tie
 
-add-next : tie.Need-add-next
-add-next c = search needs
-
-mul-result : tie.Need-mul-result
-mul-result c = search needs
-
-shared-slice-read-result : tie.Need-shared-slice-read-result
-shared-slice-read-result c = search needs
-
 returns : tie.Need-returns
 returns c = let a = c .before .before .args in stop-next (a .end) (a .starts .now) (a .i) (omega arith)
 
@@ -21,11 +12,4 @@ returns-2 : tie.Need-returns-2
 returns-2 c = let a = c .before .args in stop-end (a .end) (a .starts .now) (a .i) (omega arith)
 
 pub stop-of-spec : {M : Type 1} → statement M
-stop-of-spec =
-    tie.close
-    (tie.spec
-    add-next
-    mul-result
-    shared-slice-read-result
-    returns
-    returns-2)
+stop-of-spec = tie.close (tie.spec (λ c. search needs) (λ c. search needs) (λ c. search needs) returns returns-2)

@@ -14,14 +14,8 @@ Inv-loop x rest₀ n₀ rest n = (rest < 2 ^ 64) × (n + length (decimal rest) �
 abbrev μ-loop : tie.MeasureT-loop
 μ-loop x rest₀ n₀ rest n = rest
 
-loop-holds : tie.Need-loop-holds Inv-loop μ-loop
-loop-holds c = (omega arith, omega arith)
-
 add-n : tie.Need-add-n Inv-loop μ-loop
 add-n c = omega (arith, decimal-length (c .before .before .args .x))
-
-loop-less : tie.Need-loop-less Inv-loop μ-loop
-loop-less c = omega arith
 
 loop-again : tie.Need-loop-again Inv-loop μ-loop
 loop-again c =
@@ -32,5 +26,4 @@ returns : tie.Need-returns Inv-loop μ-loop
 returns c = let l = c .before .loop in omega (arith, ap length (decimal-one (l .rest) (omega arith)))
 
 pub decimal-size-spec : {M : Type 1} → statement M
-decimal-size-spec =
-    tie.close (tie.spec Inv-loop μ-loop loop-holds add-n loop-less loop-again returns)
+decimal-size-spec = tie.close (tie.spec Inv-loop μ-loop (λ c. (omega arith, omega arith)) add-n (λ c. omega arith) loop-again returns)

@@ -40,9 +40,6 @@ put-requires-2 c κs =
     let s = v .before .before .before in
     omega (arith, s .pre, line-long (s .args .keep) (s .args .number) (s .args .rows), v .put-verdict .ensures .next, v .put-verdict .kept .1 .0, d .put-decimal .ensures .next, d .put-decimal .kept .1 .0, p .put .ensures .next, p .put .kept .1 .0, e .put-decimal2 .ensures .next, e .put-decimal2 .kept .1 .0)
 
-same-length : tie.Need-same-length
-same-length c = search needs
-
 returns : tie.Need-returns
 unfolding line
 returns c =
@@ -58,13 +55,4 @@ returns c =
     (then-written (omega (arith, s .pre, line-long (s .args .keep) (s .args .number) (s .args .rows), v .put-verdict .ensures .next, v .put-verdict .kept .1 .0, d .put-decimal .ensures .next, d .put-decimal .kept .1 .0, p .put .ensures .next, p .put .kept .1 .0)) (e .put-decimal2 .ensures) (q .put2 .ensures))))
 
 pub put-line-spec : {M : Type 1} → statement M
-put-line-spec =
-    tie.close
-    (tie.spec
-    put-verdict-requires
-    put-decimal-requires
-    put-requires
-    put-decimal-requires-2
-    put-requires-2
-    same-length
-    returns)
+put-line-spec = tie.close (tie.spec put-verdict-requires put-decimal-requires put-requires put-decimal-requires-2 put-requires-2 (λ c. search needs) returns)

@@ -6,12 +6,6 @@ use Rattle.salvage.proofs.Telling.{kept-long, replaced-long}
 use Rattle.salvage.proofs.line.size.Statement.{statement}
 use Rattle.salvage.proofs.line.size.Tie as tie
 
-decimal-size-requires : tie.Need-decimal-size-requires
-decimal-size-requires c κs = search needs
-
-decimal-size-requires-2 : tie.Need-decimal-size-requires-2
-decimal-size-requires-2 c κs = search needs
-
 add-digits : tie.Need-add-digits
 add-digits c = let a = c .before .before .args in omega (arith, c .before .decimal-size .ensures, c .decimal-size2 .ensures, decimal-length (a .number), decimal-length (a .rows))
 
@@ -28,13 +22,4 @@ returns-2 : tie.Need-returns-2
 returns-2 c = let a = c .before .before .before .args in omega (arith, c .before .before .decimal-size .ensures, c .before .decimal-size2 .ensures, replaced-long (a .keep) (a .number) (a .rows) (c .if1 .left))
 
 pub size-spec : {M : Type 1} → statement M
-size-spec =
-    tie.close
-    (tie.spec
-    decimal-size-requires
-    decimal-size-requires-2
-    add-digits
-    add-result
-    returns
-    add-result-2
-    returns-2)
+size-spec = tie.close (tie.spec (λ c κs. search needs) (λ c κs. search needs) add-digits add-result returns add-result-2 returns-2)

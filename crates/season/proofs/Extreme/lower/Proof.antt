@@ -9,24 +9,6 @@ use borrow.Author.Needs.{needs, sfits-of}
 use Rattle.season.proofs.Extreme.lower.Statement.{statement}
 use Rattle.season.proofs.Extreme.lower.Tie as tie
 
-enum-told : tie.Need-enum-told
-enum-told c = search needs
-
-enum-known-self : tie.Need-enum-known-self
-enum-known-self c = search needs
-
-enum-told-2 : tie.Need-enum-told-2
-enum-told-2 c = search needs
-
-enum-known-other : tie.Need-enum-known-other
-enum-known-other c = search needs
-
-lower-row-requires : tie.Need-lower-row-requires
-lower-row-requires c κs = search needs
-
-returns : tie.Need-returns
-returns c = search needs
-
 returns-2 : tie.Need-returns-2
 returns-2 c = rw (c .before .before .before .self .given .1, c .enum-told2 .given .1)
 
@@ -42,13 +24,4 @@ returns-3 c =
 
 pub lower-spec : {M : Type 1} → statement M
 lower-spec =
-    tie.close
-    (tie.spec
-    enum-told
-    enum-known-self
-    enum-told-2
-    enum-known-other
-    lower-row-requires
-    returns
-    returns-2
-    returns-3)
+    tie.close (tie.spec (λ c. search needs) (λ c. search needs) (λ c. search needs) (λ c. search needs) (λ c κs. search needs) (λ c. search needs) returns-2 returns-3)

@@ -3,25 +3,7 @@ use borrow.Author.Needs.{needs}
 use Rattle.season.proofs.Reply.to.Statement.{statement}
 use Rattle.season.proofs.Reply.to.Tie as tie
 
-enum-told : tie.Need-enum-told
-enum-told c = search needs
-
-enum-known-answer : tie.Need-enum-known-answer
-enum-known-answer c = search needs
-
-enum-known-answer-2 : tie.Need-enum-known-answer-2
-enum-known-answer-2 c = search needs
-
-returns : tie.Need-returns
-returns c = search needs
-
-returns-2 : tie.Need-returns-2
-returns-2 c = rw (c .before .answer .given .1)
-
-returns-3 : tie.Need-returns-3
-returns-3 c = rw (c .before .answer2 .given .1)
-
 pub to-spec : {M : Type 1} → statement M
 to-spec =
-    tie.close
-    (tie.spec enum-told enum-known-answer enum-known-answer-2 returns returns-2 returns-3)
+    tie.close (tie.spec (λ c. search needs) (λ c. search needs) (λ c. search needs) (λ c. search needs) (λ c. rw (c .before .answer .given .1))
+    (λ c. rw (c .before .answer2 .given .1)))

@@ -5,11 +5,5 @@ use Rattle.season.proofs.Held.{no-line}
 use Rattle.season.proofs.Totals.empty.Statement.{statement}
 use Rattle.season.proofs.Totals.empty.Tie as tie
 
-counting-requires : tie.Need-counting-requires
-counting-requires c κs = search needs
-
-returns : tie.Need-returns
-returns c = c .counting .ensures ∙ sym no-line
-
 pub empty-spec : {M : Type 1} → statement M
-empty-spec = tie.close (tie.spec counting-requires returns)
+empty-spec = tie.close (tie.spec (λ c κs. search needs) (λ c. c .counting .ensures ∙ sym no-line))

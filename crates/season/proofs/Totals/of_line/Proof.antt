@@ -11,35 +11,11 @@ use native.Mathlib.Omega.{arith}
 use Rattle.season.proofs.Totals.of_line.Statement.{statement}
 use Rattle.season.proofs.Totals.of_line.Tie as tie
 
-enum-told : tie.Need-enum-told
-enum-told c = search needs
-
-counting-requires : tie.Need-counting-requires
-counting-requires c κs = search needs
-
-enum-told-2 : tie.Need-enum-told-2
-enum-told-2 c = search needs
-
-counting-requires-2 : tie.Need-counting-requires-2
-counting-requires-2 c κs = search needs
-
-enum-known-reply : tie.Need-enum-known-reply
-enum-known-reply c = search needs
-
-slot-requires : tie.Need-slot-requires
-slot-requires c κs = search needs
-
-counting-requires-3 : tie.Need-counting-requires-3
-counting-requires-3 c κs = search needs
-
 mul-one : tie.Need-mul-one
 mul-one c = rw (c .before .slot .ensures) (omega (arith, slot-below (c .before .before .before .reply .given .0 .0)))
 
 element-write-one : tie.Need-element-write-one
 element-write-one c = rw (c .before .slot .ensures) (slot-below (c .before .before .before .reply .given .0 .0))
-
-enum-known-reply-2 : tie.Need-enum-known-reply-2
-enum-known-reply-2 c = search needs
 
 of-run-requires : tie.Need-of-run-requires
 of-run-requires c κs =
@@ -63,20 +39,5 @@ returns-4 c = rw (c .before .before .reply2 .given .1) (c .of-run .ensures)
 
 pub of-line-spec : {M : Type 1} → statement M
 of-line-spec =
-    tie.close
-    (tie.spec
-    enum-told
-    counting-requires
-    enum-told-2
-    counting-requires-2
-    enum-known-reply
-    slot-requires
-    counting-requires-3
-    mul-one
-    element-write-one
-    enum-known-reply-2
-    of-run-requires
-    returns
-    returns-2
-    returns-3
-    returns-4)
+    tie.close (tie.spec (λ c. search needs) (λ c κs. search needs) (λ c. search needs) (λ c κs. search needs) (λ c. search needs) (λ c κs. search needs)
+    (λ c κs. search needs) mul-one element-write-one (λ c. search needs) of-run-requires returns returns-2 returns-3 returns-4)

@@ -13,26 +13,11 @@ use native.Mathlib.Omega.{arith}
 use Rattle.season.proofs.Totals.take.Statement.{statement}
 use Rattle.season.proofs.Totals.take.Tie as tie
 
-row-count-requires : tie.Need-row-count-requires
-row-count-requires c κs = search needs
-
-too-many-requires : tie.Need-too-many-requires
-too-many-requires c κs = search needs
-
-stopped-requires : tie.Need-stopped-requires
-stopped-requires c κs = search needs
-
 returns : tie.Need-returns
 unfolding takeLine
 returns c =
     let t = c .before .before in
     rw (c .stopped .ensures, sym (t .too-many .ensures) ∙ c .before .if1 .taken)
-
-too-many-requires-2 : tie.Need-too-many-requires-2
-too-many-requires-2 c κs = search needs
-
-stopped-requires-2 : tie.Need-stopped-requires-2
-stopped-requires-2 c κs = search needs
 
 returns-2 : tie.Need-returns-2
 unfolding takeLine
@@ -54,12 +39,6 @@ of-line-requires c κs =
     let g : n ≤ limit = omega arith in
     g
 
-together-requires : tie.Need-together-requires
-together-requires c κs = search needs
-
-going-requires : tie.Need-going-requires
-going-requires c κs = search needs
-
 returns-3 : tie.Need-returns-3
 unfolding takeLine
 returns-3 c =
@@ -71,16 +50,5 @@ returns-3 c =
 
 pub take-spec : {M : Type 1} → statement M
 take-spec =
-    tie.close
-    (tie.spec
-    row-count-requires
-    too-many-requires
-    stopped-requires
-    returns
-    too-many-requires-2
-    stopped-requires-2
-    returns-2
-    of-line-requires
-    together-requires
-    going-requires
-    returns-3)
+    tie.close (tie.spec (λ c κs. search needs) (λ c κs. search needs) (λ c κs. search needs) returns (λ c κs. search needs) (λ c κs. search needs) returns-2
+    of-line-requires (λ c κs. search needs) (λ c κs. search needs) returns-3)

@@ -6,15 +6,6 @@ use borrow.Author.Needs.{needs}
 use Rattle.season.proofs.Words.plus.Statement.{statement}
 use Rattle.season.proofs.Words.plus.Tie as tie
 
-wrapping-add-u64-requires : tie.Need-wrapping-add-u64-requires
-wrapping-add-u64-requires c κs = search needs
-
-wrapping-add-u64-requires-2 : tie.Need-wrapping-add-u64-requires-2
-wrapping-add-u64-requires-2 c κs = search needs
-
-wrapping-add-u64-requires-3 : tie.Need-wrapping-add-u64-requires-3
-wrapping-add-u64-requires-3 c κs = search needs
-
 returns : tie.Need-returns
 returns c =
     let w = c .before .before .before .before in
@@ -32,11 +23,4 @@ returns-2 c =
     rw (c .before .before .wrapping-add-u642 .ensures, e) (no-carry (a .self) (a .more) (omega arith) (omega arith) l)
 
 pub plus-spec : {M : Type 1} → statement M
-plus-spec =
-    tie.close
-    (tie.spec
-    wrapping-add-u64-requires
-    wrapping-add-u64-requires-2
-    wrapping-add-u64-requires-3
-    returns
-    returns-2)
+plus-spec = tie.close (tie.spec (λ c κs. search needs) (λ c κs. search needs) (λ c κs. search needs) returns returns-2)

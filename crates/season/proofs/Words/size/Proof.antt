@@ -10,15 +10,6 @@ use Rattle.season.proofs.Words.size.Tie as tie
 returns : tie.Need-returns
 returns c = size-above (c .before .before .args .self) (c .if1 .taken)
 
-sub-t4 : tie.Need-sub-t4
-sub-t4 c = search needs
-
-sub-t5 : tie.Need-sub-t5
-sub-t5 c = search needs
-
-plus-requires : tie.Need-plus-requires
-plus-requires c κs = search needs
-
 returns-2 : tie.Need-returns-2
 returns-2 c =
     let i = c .before .before .before in
@@ -26,4 +17,4 @@ returns-2 c =
     ap sizeOf (c .plus .ensures) ∙ size-below w (omega arith) (omega arith) (i .if1 .left)
 
 pub size-spec : {M : Type 1} → statement M
-size-spec = tie.close (tie.spec returns sub-t4 sub-t5 plus-requires returns-2)
+size-spec = tie.close (tie.spec returns (λ c. search needs) (λ c. search needs) (λ c κs. search needs) returns-2)

@@ -5,28 +5,10 @@ use native.Mathlib.Omega.{arith}
 use Rattle.season.proofs.Words.tenth.Statement.{statement}
 use Rattle.season.proofs.Words.tenth.Tie as tie
 
-mul-upper : tie.Need-mul-upper
-mul-upper c = search needs
-
 add-upper : tie.Need-add-upper
 add-upper c =
     let w = c .before .before .args .self in
     record { fits = upper-fits (w .high) (w .low) (omega arith) }
-
-mul-lower : tie.Need-mul-lower
-mul-lower c = search needs
-
-add-lower : tie.Need-add-lower
-add-lower c = search needs
-
-mul-t6 : tie.Need-mul-t6
-mul-t6 c = search needs
-
-add-t8 : tie.Need-add-t8
-add-t8 c = search needs
-
-cast-t11 : tie.Need-cast-t11
-cast-t11 c = search needs
 
 returns : tie.Need-returns
 returns c =
@@ -35,4 +17,4 @@ returns c =
 
 pub tenth-spec : {M : Type 1} → statement M
 tenth-spec =
-    tie.close (tie.spec mul-upper add-upper mul-lower add-lower mul-t6 add-t8 cast-t11 returns)
+    tie.close (tie.spec (λ c. search needs) add-upper (λ c. search needs) (λ c. search needs) (λ c. search needs) (λ c. search needs) (λ c. search needs) returns)

@@ -32,30 +32,6 @@ refused e = (
       absurd (omega arith),
 )
 
-loop-holds : tie.Need-loop-holds Inv-loop μ-loop
-loop-holds c = (omega arith, refl, refl, refl)
-
-mul-digit : tie.Need-mul-digit Inv-loop μ-loop
-mul-digit c = omega arith
-
-shared-slice-read-digit : tie.Need-shared-slice-read-digit Inv-loop μ-loop
-shared-slice-read-digit c = omega arith
-
-digit-requires : tie.Need-digit-requires Inv-loop μ-loop
-digit-requires c κs = tt
-
-mul-digit-2 : tie.Need-mul-digit-2 Inv-loop μ-loop
-mul-digit-2 c = omega arith
-
-add-digit : tie.Need-add-digit Inv-loop μ-loop
-add-digit c = omega arith
-
-shared-slice-read-digit-2 : tie.Need-shared-slice-read-digit-2 Inv-loop μ-loop
-shared-slice-read-digit-2 c = omega arith
-
-digit-requires-2 : tie.Need-digit-requires-2 Inv-loop μ-loop
-digit-requires-2 c κs = tt
-
 same-length : tie.Need-same-length Inv-loop μ-loop
 same-length c = c .before .before .before .before .before .before .loop .inv .1
 
@@ -67,7 +43,9 @@ returns c =
     refused (sym (l .inv .2 ∙ not-high s (2 * l .i) (omega arith) (omega (arith, g .digit .ensures))))
 
 same-length-2 : tie.Need-same-length-2 Inv-loop μ-loop
-same-length-2 c = c .before .before .before .before .before .before .before .loop .inv .1
+same-length-2 c =
+    let back-6 = c .before .before .before .before .before .before in
+    back-6 .before .loop .inv .1
 
 returns-2 : tie.Need-returns-2 Inv-loop μ-loop
 returns-2 c =
@@ -76,21 +54,6 @@ returns-2 c =
     let l = g .before .before .before .loop in
     let s = now (g .before .before .before .before .before .before .args .line) in
     refused (sym (l .inv .2 ∙ not-low s (2 * l .i) (omega arith) (omega (arith, g .digit .ensures)) (omega (arith, b .digit2 .ensures))))
-
-mul-frame : tie.Need-mul-frame Inv-loop μ-loop
-mul-frame c = omega arith
-
-add-frame : tie.Need-add-frame Inv-loop μ-loop
-add-frame c = omega arith
-
-slice-write-frame : tie.Need-slice-write-frame Inv-loop μ-loop
-slice-write-frame c = omega arith
-
-add-i : tie.Need-add-i Inv-loop μ-loop
-add-i c = omega arith
-
-loop-less : tie.Need-loop-less Inv-loop μ-loop
-loop-less c = omega arith
 
 loop-again : tie.Need-loop-again Inv-loop μ-loop
 loop-again c =
@@ -107,9 +70,6 @@ loop-again c =
       rw (z, g .digit .ensures, b .digit2 .ensures) (grow (l .frame) (l .i) _ _ _ (omega arith) (rw (byte-here s p h) at (l .inv .3))),
     )
 
-same-length-3 : tie.Need-same-length-3 Inv-loop μ-loop
-same-length-3 c = c .before .loop .inv .1
-
 returns-3 : tie.Need-returns-3 Inv-loop μ-loop
 unfolding allHex hexBytes
 returns-3 c =
@@ -122,27 +82,6 @@ returns-3 c =
 
 pub bytes-spec : {M : Type 1} → statement M
 bytes-spec =
-    tie.close
-    (tie.spec
-    Inv-loop
-    μ-loop
-    loop-holds
-    mul-digit
-    shared-slice-read-digit
-    digit-requires
-    mul-digit-2
-    add-digit
-    shared-slice-read-digit-2
-    digit-requires-2
-    same-length
-    returns
-    same-length-2
-    returns-2
-    mul-frame
-    add-frame
-    slice-write-frame
-    add-i
-    loop-less
-    loop-again
-    same-length-3
-    returns-3)
+    tie.close (tie.spec Inv-loop μ-loop (λ c. (omega arith, refl, refl, refl)) (λ c. omega arith) (λ c. omega arith) (λ c κs. tt) (λ c. omega arith) (λ c. omega arith)
+    (λ c. omega arith) (λ c κs. tt) same-length returns same-length-2 returns-2 (λ c. omega arith) (λ c. omega arith) (λ c. omega arith) (λ c. omega arith)
+    (λ c. omega arith) loop-again (λ c. c .before .loop .inv .1) returns-3)

@@ -6,12 +6,6 @@ use Rattle.text.specs.Hexadecimal.{hexValue}
 use Rattle.text.proofs.hexadecimal.digit.Statement.{statement}
 use Rattle.text.proofs.hexadecimal.digit.Tie as tie
 
-add-result : tie.Need-add-result
-add-result c = search needs
-
-add-result-2 : tie.Need-add-result-2
-add-result-2 c = search needs
-
 returns : tie.Need-returns
 unfolding hexValue
 returns c = let x = c .before .args .c in simp (lt-ltb x 48 (omega arith))
@@ -41,15 +35,4 @@ unfolding hexValue
 returns-7 c = let x = c .before .before .before .before .before .before .args .c in simp (le-ltb x 48 (omega arith), lt-leb x 57 (omega arith), le-ltb x 65 (omega arith), lt-leb x 70 (omega arith), le-ltb x 97 (omega arith), lt-leb x 102 (omega arith))
 
 pub digit-spec : {M : Type 1} → statement M
-digit-spec =
-    tie.close
-    (tie.spec
-    add-result
-    add-result-2
-    returns
-    returns-2
-    returns-3
-    returns-4
-    returns-5
-    returns-6
-    returns-7)
+digit-spec = tie.close (tie.spec (λ c. search needs) (λ c. search needs) returns returns-2 returns-3 returns-4 returns-5 returns-6 returns-7)

@@ -14,15 +14,6 @@ Inv-loop input rows₀ totals₀ from₀ rows totals from = (length rows ≡ len
 abbrev μ-loop : tie.MeasureT-loop
 μ-loop input rows₀ totals₀ from₀ rows totals from = length input - from
 
-loop-holds : tie.Need-loop-holds Inv-loop μ-loop
-loop-holds c = (refl, onward-first _ _)
-
-line-end-requires : tie.Need-line-end-requires Inv-loop μ-loop
-line-end-requires c κs = c .loop .inv .1 .within
-
-same-length : tie.Need-same-length Inv-loop μ-loop
-same-length c = c .before .before .loop .inv .0
-
 returns : tie.Need-returns Inv-loop μ-loop
 returns c = λ held. onward-open _ _ _ _ _ (c .before .before .loop .inv .1) (c .before .line-end .ensures) (c .if1 .taken)
 
@@ -39,9 +30,6 @@ take-line-requires : tie.Need-take-line-requires Inv-loop μ-loop
 take-line-requires c κs =
     let l = c .before .before .before .before in
     l .loop .inv .0 ∙ l .before .before .pre
-
-is-stopped-requires : tie.Need-is-stopped-requires Inv-loop μ-loop
-is-stopped-requires c κs = search needs
 
 same-length-2 : tie.Need-same-length-2 Inv-loop μ-loop
 same-length-2 c =
@@ -78,21 +66,5 @@ loop-again c =
 
 pub take-block-spec : {M : Type 1} → statement M
 take-block-spec =
-    tie.close
-    (tie.spec
-    Inv-loop
-    μ-loop
-    loop-holds
-    line-end-requires
-    same-length
-    returns
-    sub-take-line
-    part-take-line-start
-    part-take-line-end
-    take-line-requires
-    is-stopped-requires
-    same-length-2
-    returns-2
-    add-from
-    loop-less
-    loop-again)
+    tie.close (tie.spec Inv-loop μ-loop (λ c. (refl, onward-first _ _)) (λ c κs. c .loop .inv .1 .within) (λ c. c .before .before .loop .inv .0) returns sub-take-line
+    part-take-line-start part-take-line-end take-line-requires (λ c κs. search needs) same-length-2 returns-2 add-from loop-less loop-again)

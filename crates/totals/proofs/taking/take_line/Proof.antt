@@ -7,30 +7,6 @@ use Rattle.totals.proofs.Answers.{read-within, took-bad, took}
 use Rattle.totals.proofs.taking.take_line.Statement.{statement}
 use Rattle.totals.proofs.taking.take_line.Tie as tie
 
-read-line-requires : tie.Need-read-line-requires
-read-line-requires c κs = search needs
-
-enum-told : tie.Need-enum-told
-enum-told c = search needs
-
-slice-reshare-prefix-take : tie.Need-slice-reshare-prefix-take
-slice-reshare-prefix-take c = search needs
-
-slice-aggregate-take : tie.Need-slice-aggregate-take
-slice-aggregate-take c = search needs
-
-take-requires : tie.Need-take-requires
-take-requires c κs = search needs
-
-enum-known-answer : tie.Need-enum-known-answer
-enum-known-answer c = search needs
-
-rows-requires : tie.Need-rows-requires
-rows-requires c κs = search needs
-
-to-requires : tie.Need-to-requires
-to-requires c κs = search needs
-
 slice-reshare-prefix-take-2 : tie.Need-slice-reshare-prefix-take-2
 slice-reshare-prefix-take-2 c =
     let w = c .before in
@@ -45,20 +21,11 @@ slice-aggregate-take-2 c =
     let l = a .before .before .before in
     sym (length-take-le _ _ (omega (arith, w .rows2 .ensures, read-within _ _ _ _ (rw (a .answer .given .1) at (l .read-line .ensures)))))
 
-take-requires-2 : tie.Need-take-requires-2
-take-requires-2 c κs = search needs
-
-same-length : tie.Need-same-length
-same-length c = search needs
-
 returns : tie.Need-returns
 returns c =
     let e = c .before .before in
     let l = e .before .before .before in
     took-bad _ _ _ _ _ (rw (e .enum-told .given .1) at (l .read-line .ensures)) (c .take .ensures)
-
-same-length-2 : tie.Need-same-length-2
-same-length-2 c = search needs
 
 returns-2 : tie.Need-returns-2
 returns-2 c =
@@ -71,20 +38,6 @@ returns-2 c =
 
 pub take-line-spec : {M : Type 1} → statement M
 take-line-spec =
-    tie.close
-    (tie.spec
-    read-line-requires
-    enum-told
-    slice-reshare-prefix-take
-    slice-aggregate-take
-    take-requires
-    enum-known-answer
-    rows-requires
-    to-requires
-    slice-reshare-prefix-take-2
-    slice-aggregate-take-2
-    take-requires-2
-    same-length
-    returns
-    same-length-2
-    returns-2)
+    tie.close (tie.spec (λ c κs. search needs) (λ c. search needs) (λ c. search needs) (λ c. search needs) (λ c κs. search needs) (λ c. search needs)
+    (λ c κs. search needs) (λ c κs. search needs) slice-reshare-prefix-take-2 slice-aggregate-take-2 (λ c κs. search needs) (λ c. search needs) returns
+    (λ c. search needs) returns-2)

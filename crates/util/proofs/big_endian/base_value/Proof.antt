@@ -7,21 +7,6 @@ use Rattle.util.proofs.BigEndian.{sign-bit, base-plus, base-minus, numb
 use Rattle.util.proofs.big_endian.base_value.Statement.{statement}
 use Rattle.util.proofs.big_endian.base_value.Tie as tie
 
-read-requires : tie.Need-read-requires
-read-requires c κs = search needs
-
-mul-sign : tie.Need-mul-sign
-mul-sign c = search needs
-
-sub-sign : tie.Need-sub-sign
-sub-sign c = search needs
-
-shl-sign : tie.Need-shl-sign
-shl-sign c = search needs
-
-sub-requires : tie.Need-sub-requires
-sub-requires c κs = search needs
-
 returns : tie.Need-returns
 returns c =
     let a = c .before .before .before .args in
@@ -42,4 +27,5 @@ returns-2 c =
 
 pub base-value-spec : {M : Type 1} → statement M
 base-value-spec =
-    tie.close (tie.spec read-requires mul-sign sub-sign shl-sign sub-requires returns returns-2)
+    tie.close
+    (tie.spec (λ c κs. search needs) (λ c. search needs) (λ c. search needs) (λ c. search needs) (λ c κs. search needs) returns returns-2)

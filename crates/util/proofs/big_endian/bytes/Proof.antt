@@ -26,28 +26,10 @@ bound c =
     let a = k .before .args in
     rw (c .before .loop .inv .1) (number-room (a .s .now) (a .at) (λ j. k .shared-slice-known .given j .fits) (c .before .loop .i) (omega arith) (omega arith))
 
-mul-x : tie.Need-mul-x Inv-loop μ-loop
-mul-x c = omega (arith, bound c)
-
-add-wide : tie.Need-add-wide Inv-loop μ-loop
-add-wide c = omega arith
-
-shared-slice-read-wide : tie.Need-shared-slice-read-wide Inv-loop μ-loop
-shared-slice-read-wide c = omega arith
-
-wide-requires : tie.Need-wide-requires Inv-loop μ-loop
-wide-requires c κs = search needs
-
 add-x : tie.Need-add-x Inv-loop μ-loop
 add-x c =
     let l = c .before .before .before in
     omega (arith, bound (c .before .before), c .before .shared-slice-known2 .given (l .before .before .args .at + l .loop .i))
-
-add-i : tie.Need-add-i Inv-loop μ-loop
-add-i c = omega arith
-
-loop-less : tie.Need-loop-less Inv-loop μ-loop
-loop-less c = omega arith
 
 loop-again : tie.Need-loop-again Inv-loop μ-loop
 loop-again c =
@@ -61,16 +43,5 @@ returns c = let e : c .before .loop .i ≡ c .before .before .before .args .n = 
 pub bytes-spec : {M : Type 1} → statement M
 bytes-spec =
     tie.close
-    (tie.spec
-    Inv-loop
-    μ-loop
-    loop-holds
-    mul-x
-    add-wide
-    shared-slice-read-wide
-    wide-requires
-    add-x
-    add-i
-    loop-less
-    loop-again
-    returns)
+    (tie.spec Inv-loop μ-loop loop-holds (λ c. omega (arith, bound c)) (λ c. omega arith) (λ c. omega arith) (λ c κs. search needs) add-x
+    (λ c. omega arith) (λ c. omega arith) loop-again returns)

@@ -3,26 +3,11 @@ use mathlib.Core.Path.{sym, _∙_}
 use native.Mathlib.Nat.{zero-add}
 use native.Mathlib.Omega.{arith}
 use lib.ListN.{length}
-use Rattle.format.proofs.Fields.{below-all}
+use Rattle.format.proofs.Below.{below-all}
 use Rattle.util.proofs.Window.{window}
 use borrow.Author.Needs.{needs}
 use Rattle.util.proofs.packed.bits_from.Statement.{statement}
 use Rattle.util.proofs.packed.bits_from.Tie as tie
-
-bytes-requires : tie.Need-bytes-requires
-bytes-requires c κs = search needs
-
-mul-cut : tie.Need-mul-cut
-mul-cut c = search needs
-
-add-cut : tie.Need-add-cut
-add-cut c = search needs
-
-sub-cut : tie.Need-sub-cut
-sub-cut c = search needs
-
-cut-requires : tie.Need-cut-requires
-cut-requires c κs = search needs
 
 returns : tie.Need-returns
 returns c =
@@ -31,27 +16,6 @@ returns c =
     let s = a .s .now in
     c .cut .ensures
     ∙ rw (c .before .bytes .ensures) (sym (rw zero-add at (window s 0 (length s) (a .p) (a .w) (below-all 256 s (λ k. at-known .shared-slice-known .given k .fits)) (omega arith) (omega arith) (omega arith))))
-
-window-requires : tie.Need-window-requires
-window-requires c κs = search needs
-
-word-requires : tie.Need-word-requires
-word-requires c κs = search needs
-
-add-cut-2 : tie.Need-add-cut-2
-add-cut-2 c = search needs
-
-mul-cut-2 : tie.Need-mul-cut-2
-mul-cut-2 c = search needs
-
-add-cut-3 : tie.Need-add-cut-3
-add-cut-3 c = search needs
-
-sub-cut-2 : tie.Need-sub-cut-2
-sub-cut-2 c = search needs
-
-cut-requires-2 : tie.Need-cut-requires-2
-cut-requires-2 c κs = search needs
 
 returns-2 : tie.Need-returns-2
 returns-2 c =
@@ -66,18 +30,5 @@ returns-2 c =
 pub bits-from-spec : {M : Type 1} → statement M
 bits-from-spec =
     tie.close
-    (tie.spec
-    bytes-requires
-    mul-cut
-    add-cut
-    sub-cut
-    cut-requires
-    returns
-    window-requires
-    word-requires
-    add-cut-2
-    mul-cut-2
-    add-cut-3
-    sub-cut-2
-    cut-requires-2
-    returns-2)
+    (tie.spec (λ c κs. search needs) (λ c. search needs) (λ c. search needs) (λ c. search needs) (λ c κs. search needs) returns (λ c κs. search needs)
+    (λ c κs. search needs) (λ c. search needs) (λ c. search needs) (λ c. search needs) (λ c. search needs) (λ c κs. search needs) returns-2)

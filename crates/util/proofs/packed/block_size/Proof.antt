@@ -11,8 +11,5 @@ mul-result c = omega (arith, mul-le-mul {n₂ = 65536} {m₂ = 64} (c .pre .1) (
 add-result : tie.Need-add-result
 add-result c = omega (arith, mul-le-mul {n₂ = 65536} {m₂ = 64} (c .pre .1) (c .pre .0))
 
-returns : tie.Need-returns
-returns c = refl
-
 pub block-size-spec : {M : Type 1} → statement M
-block-size-spec = tie.close (tie.spec mul-result add-result returns)
+block-size-spec = tie.close (tie.spec mul-result add-result (λ c. refl))

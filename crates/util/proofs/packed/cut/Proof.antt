@@ -8,19 +8,10 @@ use Rattle.util.proofs.Window.{mask}
 use Rattle.util.proofs.packed.cut.Statement.{statement}
 use Rattle.util.proofs.packed.cut.Tie as tie
 
-shr-result : tie.Need-shr-result
-shr-result c = search needs
-
-sub-result : tie.Need-sub-result
-sub-result c = search needs
-
-shr-result-2 : tie.Need-shr-result-2
-shr-result-2 c = search needs
-
 returns : tie.Need-returns
 returns c =
     let a = c .args in
     ap (bitAnd (a .x / 2 ^ a .low)) (mask (a .w) (omega arith)) ∙ and-mask (a .x / 2 ^ a .low) (a .w)
 
 pub cut-spec : {M : Type 1} → statement M
-cut-spec = tie.close (tie.spec shr-result sub-result shr-result-2 returns)
+cut-spec = tie.close (tie.spec (λ c. search needs) (λ c. search needs) (λ c. search needs) returns)

@@ -10,7 +10,7 @@ use mir.Val.{toZ, ofZ}
 use mir.Syntax.{w64}
 use borrow.Author.Needs.{needs, sfits-of}
 use Rattle.format.specs.Rows.{asI64}
-use Rattle.format.proofs.Fields.{below-all}
+use Rattle.format.proofs.Below.{below-all}
 use Rattle.util.specs.Packed.{bits, fieldAt, Lays}
 use Rattle.util.proofs.Window.{aligned, laid-more}
 use Rattle.util.proofs.packed.eight.Statement.{statement}
@@ -22,14 +22,8 @@ Inv-loop s b w out₀ from x p₀ k₀ out p k = (8 * b + p ≡ k * w) × (k ≤
 abbrev μ-loop : tie.MeasureT-loop
 μ-loop s b w out₀ from x p₀ k₀ out p k = 8 * w - p
 
-word-requires : tie.Need-word-requires Inv-loop μ-loop
-word-requires c κs = search needs
-
 loop-holds : tie.Need-loop-holds Inv-loop μ-loop
 loop-holds c = (omega arith, omega arith, refl, λ n o h l t. t)
-
-mul-loop : tie.Need-mul-loop Inv-loop μ-loop
-mul-loop c = search needs
 
 -- field k is one of the eight
 one : (c : tie.In-loop Inv-loop μ-loop) → c .before .loop .k < c .before .before .before .before .args .from + 8
@@ -48,24 +42,6 @@ one-of-eight-requires c κs =
     let a = at-start .args in
     ((at-start .pre .0 .0, omega (arith, aligned (a .w) (c .before .loop .k) (at-start .pre .0)), room c, omega arith, omega arith), c .before .before .word .ensures)
 
-to-i64-requires : tie.Need-to-i64-requires Inv-loop μ-loop
-to-i64-requires c κs = search needs
-
-mul-row : tie.Need-mul-row Inv-loop μ-loop
-mul-row c = omega (arith, one (c .before .before))
-
-slice-set-from-row : tie.Need-slice-set-from-row Inv-loop μ-loop
-slice-set-from-row c = omega (arith, one (c .before .before))
-
-add-p : tie.Need-add-p Inv-loop μ-loop
-add-p c = omega (arith, room (c .before .before))
-
-add-k : tie.Need-add-k Inv-loop μ-loop
-add-k c = omega (arith, one (c .before .before))
-
-loop-less : tie.Need-loop-less Inv-loop μ-loop
-loop-less c = omega arith
-
 loop-again : tie.Need-loop-again Inv-loop μ-loop
 loop-again c =
     let at-in = c .before .before in
@@ -82,9 +58,6 @@ loop-again c =
       λ n o h g t. laid-more (a .w) n (l .k) _ s o (l .out) b g (omega arith) (omega (arith, one at-in)) e (l .inv .3 n o (omega arith) g t),
     )
 
-same-length : tie.Need-same-length Inv-loop μ-loop
-same-length c = search needs
-
 returns : tie.Need-returns Inv-loop μ-loop
 returns c =
     let a = c .before .before .before .before .args in
@@ -96,19 +69,6 @@ returns c =
 pub eight-spec : {M : Type 1} → statement M
 eight-spec =
     tie.close
-    (tie.spec
-    Inv-loop
-    μ-loop
-    word-requires
-    loop-holds
-    mul-loop
-    one-of-eight-requires
-    to-i64-requires
-    mul-row
-    slice-set-from-row
-    add-p
-    add-k
-    loop-less
-    loop-again
-    same-length
-    returns)
+    (tie.spec Inv-loop μ-loop (λ c κs. search needs) loop-holds (λ c. search needs) one-of-eight-requires (λ c κs. search needs)
+    (λ c. omega (arith, one (c .before .before))) (λ c. omega (arith, one (c .before .before))) (λ c. omega (arith, room (c .before .before)))
+    (λ c. omega (arith, one (c .before .before))) (λ c. omega arith) loop-again (λ c. search needs) returns)

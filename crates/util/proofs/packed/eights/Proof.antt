@@ -18,9 +18,6 @@ Inv-loop s w v n out₀ whole k₀ b₀ out k b =
 abbrev μ-loop : tie.MeasureT-loop
 μ-loop s w v n out₀ whole k₀ b₀ out k b = whole - k
 
-sub-whole : tie.Need-sub-whole Inv-loop μ-loop
-sub-whole c = search needs
-
 loop-holds : tie.Need-loop-holds Inv-loop μ-loop
 loop-holds c = (omega arith, omega arith, omega arith, refl, record { few = omega arith; rows = refl })
 
@@ -37,15 +34,6 @@ word-there c =
     let at-start = c .before .before .before .before in
     ⊎-elim (λ t. ltb-false (length (at-start .args .s .now)) (c .before .before .loop .b + 8) (t .1 .left)) (λ t. omega (arith, room (c .before), at-start .pre .1 .0, t .left)) (c .if1 .came)
 
-add-if2 : tie.Need-add-if2 Inv-loop μ-loop
-add-if2 c = omega (arith, room (c .before))
-
-same-length : tie.Need-same-length Inv-loop μ-loop
-same-length c = search needs
-
-returns : tie.Need-returns Inv-loop μ-loop
-returns c = search needs
-
 eight-requires : tie.Need-eight-requires Inv-loop μ-loop
 eight-requires c κs =
     let at-join = c .before in
@@ -55,12 +43,6 @@ eight-requires c κs =
 
 add-b : tie.Need-add-b Inv-loop μ-loop
 add-b c = omega (arith, room (c .before .before .before .before), c .before .before .before .before .before .before .before .pre .1 .0)
-
-add-k : tie.Need-add-k Inv-loop μ-loop
-add-k c = search needs
-
-loop-less : tie.Need-loop-less Inv-loop μ-loop
-loop-less c = search needs
 
 loop-again : tie.Need-loop-again Inv-loop μ-loop
 loop-again c =
@@ -76,27 +58,8 @@ loop-again c =
       rw (p .1 .0) at (c .before .eight .ensures) (a .n) (a .out .now) (omega arith) (p .1 .1 .there) (l .inv .4),
     )
 
-same-length-2 : tie.Need-same-length-2 Inv-loop μ-loop
-same-length-2 c = search needs
-
-returns-2 : tie.Need-returns-2 Inv-loop μ-loop
-returns-2 c = search needs
-
 pub eights-spec : {M : Type 1} → statement M
 eights-spec =
     tie.close
-    (tie.spec
-    Inv-loop
-    μ-loop
-    sub-whole
-    loop-holds
-    add-if2
-    same-length
-    returns
-    eight-requires
-    add-b
-    add-k
-    loop-less
-    loop-again
-    same-length-2
-    returns-2)
+    (tie.spec Inv-loop μ-loop (λ c. search needs) loop-holds (λ c. omega (arith, room (c .before))) (λ c. search needs) (λ c. search needs)
+    eight-requires add-b (λ c. search needs) (λ c. search needs) loop-again (λ c. search needs) (λ c. search needs))

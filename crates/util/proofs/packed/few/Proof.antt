@@ -1,6 +1,6 @@
 -- `util::packed::few` meets its contract. The loop's invariant: fields before k are laid, and `low` bits come after them. Assumes nothing.
 use mathlib.Core.Path.{_≡_, refl, sym, ap, _∙_}
-use Prim.Native.Nat.{ℕ, _+_, _-_, _*_, _≤_, _<_}
+use Prim.Native.Nat.{_+_, _-_, _*_, _≤_}
 use native.Mathlib.Nat.{mul-le-mul-right}
 use native.Mathlib.Omega.{arith}
 use lib.ListN.{length, length-set}
@@ -9,7 +9,7 @@ use mir.Val.{toZ, ofZ}
 use mir.Syntax.{w64}
 use borrow.Author.Needs.{needs, sfits-of}
 use Rattle.format.specs.Rows.{asI64}
-use Rattle.format.proofs.Fields.{below-all}
+use Rattle.format.proofs.Below.{below-all}
 use Rattle.util.specs.Packed.{fieldAt, Laid}
 use Rattle.util.proofs.Window.{window, field-there, laid-more}
 use Rattle.util.proofs.packed.few.Statement.{statement}
@@ -24,9 +24,6 @@ abbrev μ-loop : tie.MeasureT-loop
 bytes-requires : tie.Need-bytes-requires Inv-loop μ-loop
 bytes-requires c κs = omega (arith, mul-le-mul-right (c .before .args .w) (c .before .pre .1 .0), c .before .pre .1 .2 .there)
 
-mul-low : tie.Need-mul-low Inv-loop μ-loop
-mul-low c = search needs
-
 loop-holds : tie.Need-loop-holds Inv-loop μ-loop
 loop-holds c = (omega arith, omega arith, refl, record { few = omega arith; rows = refl })
 
@@ -36,27 +33,6 @@ inside c =
     let at-start = c .before .before .before .before in
     let a = at-start .args in
     omega (arith, field-there (a .w) (a .n) (c .before .loop .k) (a .s .now) (c .loop-test .taken) (at-start .pre .1 .2 .there))
-
-sub-low : tie.Need-sub-low Inv-loop μ-loop
-sub-low c = omega (arith, inside c)
-
-cut-requires : tie.Need-cut-requires Inv-loop μ-loop
-cut-requires c κs = omega (arith, inside c)
-
-to-i64-requires : tie.Need-to-i64-requires Inv-loop μ-loop
-to-i64-requires c κs = search needs
-
-mul-row : tie.Need-mul-row Inv-loop μ-loop
-mul-row c = search needs
-
-slice-set-from-row : tie.Need-slice-set-from-row Inv-loop μ-loop
-slice-set-from-row c = search needs
-
-add-k : tie.Need-add-k Inv-loop μ-loop
-add-k c = search needs
-
-loop-less : tie.Need-loop-less Inv-loop μ-loop
-loop-less c = search needs
 
 loop-again : tie.Need-loop-again Inv-loop μ-loop
 loop-again c =
@@ -77,9 +53,6 @@ loop-again c =
       laid-more (a .w) (a .n) (l .k) _ s (a .out .now) (l .out) d (at-known .before .pre .1 .2 .there) (omega arith) (omega arith) e (l .inv .3),
     )
 
-same-length : tie.Need-same-length Inv-loop μ-loop
-same-length c = search needs
-
 returns : tie.Need-returns Inv-loop μ-loop
 returns c =
     let l = c .before .loop in
@@ -89,19 +62,5 @@ returns c =
 pub few-spec : {M : Type 1} → statement M
 few-spec =
     tie.close
-    (tie.spec
-    Inv-loop
-    μ-loop
-    bytes-requires
-    mul-low
-    loop-holds
-    sub-low
-    cut-requires
-    to-i64-requires
-    mul-row
-    slice-set-from-row
-    add-k
-    loop-less
-    loop-again
-    same-length
-    returns)
+    (tie.spec Inv-loop μ-loop bytes-requires (λ c. search needs) loop-holds (λ c. omega (arith, inside c)) (λ c κs. omega (arith, inside c))
+    (λ c κs. search needs) (λ c. search needs) (λ c. search needs) (λ c. search needs) (λ c. search needs) loop-again (λ c. search needs) returns)

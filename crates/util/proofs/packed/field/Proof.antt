@@ -15,8 +15,5 @@ bits-from-requires c κs =
     let a = at-start .args in
     (at-start .pre .0 .0, aligned (a .w) (a .k) (at-start .pre .0), omega arith, omega (arith, mul-le-mul {n₂ = 65536} {m₂ = 64} (le-of-lt (at-start .pre .1 .0)) (at-start .pre .0 .1)))
 
-returns : tie.Need-returns
-returns c = search needs
-
 pub field-spec : {M : Type 1} → statement M
-field-spec = tie.close (tie.spec mul-bits-from bits-from-requires returns)
+field-spec = tie.close (tie.spec mul-bits-from bits-from-requires (λ c. search needs))

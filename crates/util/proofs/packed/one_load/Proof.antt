@@ -5,17 +5,8 @@ use native.Mathlib.Omega.{arith}
 use Rattle.util.proofs.packed.one_load.Statement.{statement}
 use Rattle.util.proofs.packed.one_load.Tie as tie
 
-returns : tie.Need-returns
-returns c = λ e. omega arith
-
-returns-2 : tie.Need-returns-2
-returns-2 c = λ e. omega arith
-
-returns-3 : tie.Need-returns-3
-returns-3 c = λ e. omega arith
-
 returns-4 : tie.Need-returns-4
 returns-4 c = λ e. let z : _≡_ {A = ℕ} 0 1 = cc in absurd (omega arith)
 
 pub one-load-spec : {M : Type 1} → statement M
-one-load-spec = tie.close (tie.spec returns returns-2 returns-3 returns-4)
+one-load-spec = tie.close (tie.spec (λ c. λ e. omega arith) (λ c. λ e. omega arith) (λ c. λ e. omega arith) returns-4)

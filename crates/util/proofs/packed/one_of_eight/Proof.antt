@@ -1,22 +1,14 @@
 -- `util::packed::one_of_eight` meets its contract: the field is whole bytes, or the first word of the eight holds it, or its own window does.
 -- Assumes nothing.
 use mathlib.Core.Path.{_≡_, sym, ap, _∙_}
-use Prim.Native.Nat.{ℕ, _+_, _-_, _*_, _/_, _%_, _^_, _≤_}
+use Prim.Native.Nat.{ℕ, _+_, _-_, _*_, _/_}
 use native.Mathlib.Omega.{arith}
-use lib.ListN.{length, take, drop}
-use Rattle.format.specs.Digits.{number}
-use Rattle.format.proofs.Fields.{below-all}
+use Rattle.format.proofs.Below.{below-all}
 use Rattle.util.specs.Packed.{bits}
 use Rattle.util.proofs.Window.{window, whole}
 use borrow.Author.Needs.{needs}
 use Rattle.util.proofs.packed.one_of_eight.Statement.{statement}
 use Rattle.util.proofs.packed.one_of_eight.Tie as tie
-
-one-load-requires : tie.Need-one-load-requires
-one-load-requires c κs = search needs
-
-add-bytes : tie.Need-add-bytes
-add-bytes c = search needs
 
 bytes-requires : tie.Need-bytes-requires
 bytes-requires c κs = omega (arith, c .before .one-load .ensures (c .if2 .taken))
@@ -30,18 +22,6 @@ returns c =
     let q : bits (8 * (a .b + a .p / 8)) (8 * (a .w / 8)) s ≡ bits (8 * a .b + a .p) (a .w) s = rw e (ap (λ (x : ℕ). bits x (a .w) s) (omega arith)) in
     c .bytes .ensures ∙ sym (whole s (a .b + a .p / 8) (a .w / 8) (λ k. at-known .shared-slice-known .given k .fits) (omega arith)) ∙ q
 
-add-if3 : tie.Need-add-if3
-add-if3 c = search needs
-
-add-cut : tie.Need-add-cut
-add-cut c = search needs
-
-sub-cut : tie.Need-sub-cut
-sub-cut c = search needs
-
-cut-requires : tie.Need-cut-requires
-cut-requires c κs = search needs
-
 returns-2 : tie.Need-returns-2
 returns-2 c =
     let at-known = c .before .before .before in
@@ -50,30 +30,6 @@ returns-2 c =
     let e : 8 * (a .b + 8) - (8 * a .b + a .p + a .w) ≡ 64 - (a .p + a .w) = omega arith in
     c .cut .ensures
     ∙ rw (at-known .before .pre .1, ← e) (sym (window s (a .b) 8 (8 * a .b + a .p) (a .w) (below-all 256 s (λ k. at-known .shared-slice-known .given k .fits)) (omega arith) (omega arith) (omega arith)))
-
-window-requires : tie.Need-window-requires
-window-requires c κs = search needs
-
-add-word : tie.Need-add-word
-add-word c = search needs
-
-word-requires : tie.Need-word-requires
-word-requires c κs = search needs
-
-add-cut-2 : tie.Need-add-cut-2
-add-cut-2 c = search needs
-
-mul-cut : tie.Need-mul-cut
-mul-cut c = search needs
-
-add-cut-3 : tie.Need-add-cut-3
-add-cut-3 c = search needs
-
-sub-cut-2 : tie.Need-sub-cut-2
-sub-cut-2 c = search needs
-
-cut-requires-2 : tie.Need-cut-requires-2
-cut-requires-2 c κs = search needs
 
 returns-3 : tie.Need-returns-3
 returns-3 c =
@@ -88,22 +44,6 @@ returns-3 c =
 pub one-of-eight-spec : {M : Type 1} → statement M
 one-of-eight-spec =
     tie.close
-    (tie.spec
-    one-load-requires
-    add-bytes
-    bytes-requires
-    returns
-    add-if3
-    add-cut
-    sub-cut
-    cut-requires
-    returns-2
-    window-requires
-    add-word
-    word-requires
-    add-cut-2
-    mul-cut
-    add-cut-3
-    sub-cut-2
-    cut-requires-2
-    returns-3)
+    (tie.spec (λ c κs. search needs) (λ c. search needs) bytes-requires returns (λ c. search needs) (λ c. search needs) (λ c. search needs)
+    (λ c κs. search needs) returns-2 (λ c κs. search needs) (λ c. search needs) (λ c κs. search needs) (λ c. search needs) (λ c. search needs)
+    (λ c. search needs) (λ c. search needs) (λ c κs. search needs) returns-3)

@@ -11,7 +11,7 @@ use lib.Seq.{getD-take}
 use lib.Pow.{pow-pos}
 use borrow.Author.Needs.{needs}
 use Rattle.format.specs.Digits.{number, digits}
-use Rattle.format.proofs.Fields.{below-getD}
+use Rattle.format.proofs.Below.{below-getD}
 use Rattle.util.proofs.Packing.{Holds, joined-fits, full-fits, holds-joined, holds-full, full-room, whole}
 use Rattle.util.proofs.packed.pack.Statement.{statement}
 use Rattle.util.proofs.packed.pack.Tie as tie
@@ -43,30 +43,12 @@ room c h =
     let l = c .before .loop in
     omega (arith, full-room (a .w) (a .n) (l .k) (l .b) (l .t) (c .loop-test .taken) (l .inv .1 .place) h, c .before .before .before .before .pre .1 .0 .2)
 
-mul-v : tie.Need-mul-v Inv-loop μ-loop
-mul-v c = omega arith
-
-shared-slice-read-v : tie.Need-shared-slice-read-v Inv-loop μ-loop
-shared-slice-read-v c = omega arith
-
-add-t : tie.Need-add-t Inv-loop μ-loop
-add-t c = omega arith
-
-sub-x : tie.Need-sub-x Inv-loop μ-loop
-sub-x c = omega arith
-
-shl-x : tie.Need-shl-x Inv-loop μ-loop
-shl-x c = omega arith
-
 add-x : tie.Need-add-x Inv-loop μ-loop
 add-x c =
     let at-in = c .before .before in
     let at-start = at-in .before .before .before .before in
     let l = at-in .before .loop in
     record { fits = joined-fits (l .inv .1) (at-start .pre .0 .1) (omega arith) (value at-in) (c .if1 .taken) }
-
-shr-write : tie.Need-shr-write Inv-loop μ-loop
-shr-write c = omega arith
 
 add-write : tie.Need-add-write Inv-loop μ-loop
 add-write c =
@@ -85,18 +67,6 @@ add-b : tie.Need-add-b Inv-loop μ-loop
 add-b c =
     let at-else = c .before .before .before .before in
     omega (arith, room (at-else .before .before) (at-else .if1 .left))
-
-sub-raised : tie.Need-sub-raised Inv-loop μ-loop
-sub-raised c = omega arith
-
-raised-requires : tie.Need-raised-requires Inv-loop μ-loop
-raised-requires c κs = omega arith
-
-add-k : tie.Need-add-k Inv-loop μ-loop
-add-k c = omega arith
-
-loop-less : tie.Need-loop-less Inv-loop μ-loop
-loop-less c = omega arith
 
 loop-again : tie.Need-loop-again Inv-loop μ-loop
 loop-again c =
@@ -119,18 +89,6 @@ last-room c =
     let e : c .before .loop .k ≡ a .n = omega arith in
     omega (arith, ap (λ (y : ℕ). y * a .w) e, c .before .before .before .before .pre .1 .0 .2)
 
-add-q : tie.Need-add-q Inv-loop μ-loop
-add-q c = omega arith
-
-mul-write : tie.Need-mul-write Inv-loop μ-loop
-mul-write c = omega arith
-
-sub-write : tie.Need-sub-write Inv-loop μ-loop
-sub-write c = omega arith
-
-shr-write-2 : tie.Need-shr-write-2 Inv-loop μ-loop
-shr-write-2 c = omega arith
-
 add-write-3 : tie.Need-add-write-3 Inv-loop μ-loop
 add-write-3 c = omega (arith, last-room (c .before .before))
 
@@ -146,9 +104,6 @@ returns c =
     let l = at-after .before .loop in
     whole _ (l .inv .1) (omega arith) (last-room at-after) (c .before .before .write2 .ensures)
 
-same-length-2 : tie.Need-same-length-2 Inv-loop μ-loop
-same-length-2 c = c .before .before .loop .inv .1 .long
-
 returns-2 : tie.Need-returns-2 Inv-loop μ-loop
 unfolding digits
 returns-2 c =
@@ -161,33 +116,7 @@ returns-2 c =
 pub pack-spec : {M : Type 1} → statement M
 pack-spec =
     tie.close
-    (tie.spec
-    Inv-loop
-    μ-loop
-    loop-holds
-    mul-v
-    shared-slice-read-v
-    add-t
-    sub-x
-    shl-x
-    add-x
-    shr-write
-    add-write
-    add-write-2
-    write-requires
-    add-b
-    sub-raised
-    raised-requires
-    add-k
-    loop-less
-    loop-again
-    add-q
-    mul-write
-    sub-write
-    shr-write-2
-    add-write-3
-    write-requires-2
-    same-length
-    returns
-    same-length-2
-    returns-2)
+    (tie.spec Inv-loop μ-loop loop-holds (λ c. omega arith) (λ c. omega arith) (λ c. omega arith) (λ c. omega arith) (λ c. omega arith) add-x
+    (λ c. omega arith) add-write add-write-2 write-requires add-b (λ c. omega arith) (λ c κs. omega arith) (λ c. omega arith) (λ c. omega arith)
+    loop-again (λ c. omega arith) (λ c. omega arith) (λ c. omega arith) (λ c. omega arith) add-write-3 write-requires-2 same-length returns
+    (λ c. c .before .before .loop .inv .1 .long) returns-2)

@@ -9,7 +9,7 @@ use mir.Syntax.{w64}
 use borrow.Author.Needs.{needs, sfits-of}
 use borrow.Author.Tests.{ltb-true}
 use Rattle.format.specs.Rows.{asI64}
-use Rattle.format.proofs.Fields.{below-all}
+use Rattle.format.proofs.Below.{below-all}
 use Rattle.util.specs.Packed.{fieldAt, Lays}
 use Rattle.util.proofs.Window.{field-there, laid-more, laid-all}
 use Rattle.util.proofs.packed.unpack.Statement.{statement}
@@ -26,38 +26,14 @@ few-requires c κs =
     let at-start = c .before .before .before .before in
     (at-start .pre .0 .0, (c .before .before .if1 .taken, ltb-true (length (at-start .args .s .now)) 8 (c .before .if2 .taken), record { places = at-start .pre .1 .1; there = at-start .pre .1 .2 }))
 
-same-length : tie.Need-same-length Inv-loop μ-loop
-same-length c = search needs
-
 returns : tie.Need-returns Inv-loop μ-loop
 returns c = laid-all _ _ _ _ _ (c .before .few .ensures)
-
-eights-at-requires : tie.Need-eights-at-requires Inv-loop μ-loop
-eights-at-requires c κs = search needs
-
-loop-holds : tie.Need-loop-holds Inv-loop μ-loop
-loop-holds c = (search needs, refl, λ n o h l t. t)
 
 field-requires : tie.Need-field-requires Inv-loop μ-loop
 field-requires c κs =
     let at-start = c .before .before .before .before .before .before .before in
     let a = at-start .args in
     (at-start .pre .0, (omega arith, field-there (a .w) (a .n) (c .before .loop .k) (a .s .now) (c .loop-test .taken) (at-start .pre .1 .2)))
-
-to-i64-requires : tie.Need-to-i64-requires Inv-loop μ-loop
-to-i64-requires c κs = search needs
-
-mul-row : tie.Need-mul-row Inv-loop μ-loop
-mul-row c = search needs
-
-slice-set-from-row : tie.Need-slice-set-from-row Inv-loop μ-loop
-slice-set-from-row c = search needs
-
-add-k : tie.Need-add-k Inv-loop μ-loop
-add-k c = search needs
-
-loop-less : tie.Need-loop-less Inv-loop μ-loop
-loop-less c = search needs
 
 loop-again : tie.Need-loop-again Inv-loop μ-loop
 loop-again c =
@@ -75,9 +51,6 @@ loop-again c =
       λ n o h g t. laid-more (a .w) n (l .k) _ s o (l .out) b g (omega arith) r e (l .inv .2 n o (omega arith) g t),
     )
 
-same-length-2 : tie.Need-same-length-2 Inv-loop μ-loop
-same-length-2 c = search needs
-
 returns-2 : tie.Need-returns-2 Inv-loop μ-loop
 returns-2 c =
     let l = c .before .loop in
@@ -90,20 +63,6 @@ returns-2 c =
 pub unpack-spec : {M : Type 1} → statement M
 unpack-spec =
     tie.close
-    (tie.spec
-    Inv-loop
-    μ-loop
-    few-requires
-    same-length
-    returns
-    eights-at-requires
-    loop-holds
-    field-requires
-    to-i64-requires
-    mul-row
-    slice-set-from-row
-    add-k
-    loop-less
-    loop-again
-    same-length-2
-    returns-2)
+    (tie.spec Inv-loop μ-loop few-requires (λ c. search needs) returns (λ c κs. search needs) (λ c. (search needs, refl, λ n o h l t. t))
+    field-requires (λ c κs. search needs) (λ c. search needs) (λ c. search needs) (λ c. search needs) (λ c. search needs) loop-again
+    (λ c. search needs) returns-2)

@@ -1,17 +1,11 @@
 -- `util::packed::word` meets its contract: the bytes are turned round twice. Assumes nothing.
 use mathlib.Core.Path.{_∙_, ap}
 use borrow.Author.Needs.{needs}
-use Rattle.format.proofs.Fields.{below-all}
+use Rattle.format.proofs.Below.{below-all}
 use Rattle.util.specs.Packed.{swap}
 use Rattle.util.proofs.Window.{word-is}
 use Rattle.util.proofs.packed.word.Statement.{statement}
 use Rattle.util.proofs.packed.word.Tie as tie
-
-low-first-requires : tie.Need-low-first-requires
-low-first-requires c κs = search needs
-
-swapped-requires : tie.Need-swapped-requires
-swapped-requires c κs = search needs
 
 returns : tie.Need-returns
 returns c =
@@ -21,4 +15,4 @@ returns c =
     ∙ word-is (a .s .now) (a .i) (at-known .before .pre) (below-all 256 (a .s .now) (λ k. at-known .shared-slice-known .given k .fits))
 
 pub word-spec : {M : Type 1} → statement M
-word-spec = tie.close (tie.spec low-first-requires swapped-requires returns)
+word-spec = tie.close (tie.spec (λ c κs. search needs) (λ c κs. search needs) returns)

@@ -4,9 +4,6 @@ use Rattle.format.specs.Fields.{row}
 use Rattle.util.proofs.pattern.row.Statement.{statement}
 use Rattle.util.proofs.pattern.row.Tie as tie
 
-unzigzag-requires : tie.Need-unzigzag-requires
-unzigzag-requires c κs = search needs
-
 returns : tie.Need-returns
 unfolding row
 returns c = rw (c .before .if1 .taken) (c .unzigzag .ensures)
@@ -16,4 +13,4 @@ unfolding row
 returns-2 c = rw (c .if1 .left)
 
 pub row-spec : {M : Type 1} → statement M
-row-spec = tie.close (tie.spec unzigzag-requires returns returns-2)
+row-spec = tie.close (tie.spec (λ c κs. search needs) returns returns-2)

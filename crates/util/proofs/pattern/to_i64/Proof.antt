@@ -8,15 +8,6 @@ use Rattle.format.proofs.Patterns.{as-toZ}
 use Rattle.util.proofs.pattern.to_i64.Statement.{statement}
 use Rattle.util.proofs.pattern.to_i64.Tie as tie
 
-cast-result : tie.Need-cast-result
-cast-result c = search needs
-
-sub-result : tie.Need-sub-result
-sub-result c = search needs
-
-cast-result-2 : tie.Need-cast-result-2
-cast-result-2 c = search needs
-
 returns : tie.Need-returns
 returns c = as-toZ (c .before .args .bits) (omega arith)
 
@@ -26,4 +17,4 @@ returns-2 c =
     rw e (as-toZ (c .before .args .bits) (omega arith))
 
 pub to-i64-spec : {M : Type 1} → statement M
-to-i64-spec = tie.close (tie.spec cast-result sub-result cast-result-2 returns returns-2)
+to-i64-spec = tie.close (tie.spec (λ c. search needs) (λ c. search needs) (λ c. search needs) returns returns-2)

@@ -6,7 +6,7 @@ use lib.ListN.{length, drop, getD}
 use denote.Ref.{now}
 use borrow.Author.Needs.{needs}
 use Rattle.format.specs.Parse.{cutIn, varint}
-use Rattle.format.proofs.Fields.{below-all, below-drop}
+use Rattle.format.proofs.Below.{below-all, below-drop}
 use Rattle.util.proofs.Varints.{toldFrom, told-from, at-end, at-last, at-long, at-next, sum-is, weight}
 use Rattle.util.specs.Varint.{varintAt}
 use Rattle.util.specs.declared.varint.Varint.the-variants.{Value}
@@ -32,21 +32,6 @@ returns c =
     let a = c .before .before .before .before .args in
     sym (l .inv .1 ∙ at-end (now (a .s)) (l .i) (l .v) (2 ^ (7 * l .k)) (l .k) _ (omega arith) (omega arith))
 
-shared-slice-read-b : tie.Need-shared-slice-read-b Inv-loop μ-loop
-shared-slice-read-b c = omega arith
-
-group-requires : tie.Need-group-requires Inv-loop μ-loop
-group-requires c κs = omega arith
-
-add-requires : tie.Need-add-requires Inv-loop μ-loop
-add-requires c κs = search needs
-
-add-i : tie.Need-add-i Inv-loop μ-loop
-add-i c = omega arith
-
-last-below-requires : tie.Need-last-below-requires Inv-loop μ-loop
-last-below-requires c κs = omega arith
-
 returns-2 : tie.Need-returns-2 Inv-loop μ-loop
 returns-2 c =
     let f = c .before in
@@ -70,12 +55,6 @@ returns-3 c =
     ap (λ (x : ℕ). Value x (l .i + 1)) (e ∙ sum-is (l .v) (b % 128) (l .k))
     ∙ sym (l .inv .1 ∙ at-last (now (a .s)) (l .i) (l .v) (2 ^ (7 * l .k)) (l .k) _ (omega arith) (omega arith) (t .if2 .taken) (rw (f .last-below .ensures) at (c .if3 .left)))
 
-add-k : tie.Need-add-k Inv-loop μ-loop
-add-k c = omega arith
-
-loop-less : tie.Need-loop-less Inv-loop μ-loop
-loop-less c = omega arith
-
 loop-again : tie.Need-loop-again Inv-loop μ-loop
 loop-again c =
     let w = c .before in
@@ -95,19 +74,5 @@ returns-4 c = let l = c .before .loop in let z : 10 - l .k ≡ 0 = omega arith i
 pub read-spec : {M : Type 1} → statement M
 read-spec =
     tie.close
-    (tie.spec
-    Inv-loop
-    μ-loop
-    loop-holds
-    returns
-    shared-slice-read-b
-    group-requires
-    add-requires
-    add-i
-    last-below-requires
-    returns-2
-    returns-3
-    add-k
-    loop-less
-    loop-again
-    returns-4)
+    (tie.spec Inv-loop μ-loop loop-holds returns (λ c. omega arith) (λ c κs. omega arith) (λ c κs. search needs) (λ c. omega arith)
+    (λ c κs. omega arith) returns-2 returns-3 (λ c. omega arith) (λ c. omega arith) loop-again returns-4)

@@ -21,9 +21,6 @@ loop-holds c = (10, omega arith, omega arith, refl)
 add-n : tie.Need-add-n Inv-loop μ-loop
 add-n c = let l = c .before .loop in omega (arith, shortest-length (c .before .before .args .x) (omega arith))
 
-loop-less : tie.Need-loop-less Inv-loop μ-loop
-loop-less c = omega arith
-
 loop-again : tie.Need-loop-again Inv-loop μ-loop
 loop-again c =
     let l = c .before .loop in
@@ -34,4 +31,4 @@ returns : tie.Need-returns Inv-loop μ-loop
 returns c = let l = c .before .loop in omega (arith, ap length (shortest-last (l .inv .0) (l .rest) (l .inv .1) (omega arith)))
 
 pub size-spec : {M : Type 1} → statement M
-size-spec = tie.close (tie.spec Inv-loop μ-loop loop-holds add-n loop-less loop-again returns)
+size-spec = tie.close (tie.spec Inv-loop μ-loop loop-holds add-n (λ c. omega arith) loop-again returns)

@@ -29,17 +29,11 @@ loop-holds : tie.Need-loop-holds Inv-loop μ-loop
 unfolding shortest
 loop-holds c = (10, omega arith, omega arith, refl, refl, refl, refl)
 
-low-group-requires : tie.Need-low-group-requires Inv-loop μ-loop
-low-group-requires c κs = search needs
-
 slice-write-out : tie.Need-slice-write-out Inv-loop μ-loop
 slice-write-out c = let l = c .before .before .loop in omega (arith, shortestIn-pos (l .inv .0) (l .rest) (l .inv .1) (l .inv .2))
 
 add-place : tie.Need-add-place Inv-loop μ-loop
 add-place c = let l = c .before .before .loop in omega (arith, shortestIn-pos (l .inv .0) (l .rest) (l .inv .1) (l .inv .2))
-
-loop-less : tie.Need-loop-less Inv-loop μ-loop
-loop-less c = omega arith
 
 loop-again : tie.Need-loop-again Inv-loop μ-loop
 loop-again c =
@@ -54,9 +48,6 @@ loop-again c =
       rw (c .low-group .ensures) (grow (l .out) (l .place) _ _ _ (omega arith) (rw (m .bytesOf) at (l .inv .5))),
       kept (l .out) _ (l .place) _ (l .inv .6),
     )
-
-cast-out : tie.Need-cast-out Inv-loop μ-loop
-cast-out c = omega arith
 
 slice-write-out-2 : tie.Need-slice-write-out-2 Inv-loop μ-loop
 slice-write-out-2 c = let l = c .before .loop in omega (arith, shortestIn-pos (l .inv .0) (l .rest) (l .inv .1) (l .inv .2))
@@ -82,17 +73,5 @@ returns c =
 pub write-spec : {M : Type 1} → statement M
 write-spec =
     tie.close
-    (tie.spec
-    Inv-loop
-    μ-loop
-    loop-holds
-    low-group-requires
-    slice-write-out
-    add-place
-    loop-less
-    loop-again
-    cast-out
-    slice-write-out-2
-    add-result
-    same-length
-    returns)
+    (tie.spec Inv-loop μ-loop loop-holds (λ c κs. search needs) slice-write-out add-place (λ c. omega arith) loop-again (λ c. omega arith)
+    slice-write-out-2 add-result same-length returns)

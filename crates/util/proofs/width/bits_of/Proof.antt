@@ -5,21 +5,6 @@ use Rattle.format.proofs.Widths.{width-by}
 use Rattle.util.proofs.width.bits_of.Statement.{statement}
 use Rattle.util.proofs.width.bits_of.Tie as tie
 
-add-result : tie.Need-add-result
-add-result c = search needs
-
-mul-result : tie.Need-mul-result
-mul-result c = search needs
-
-add-result-2 : tie.Need-add-result-2
-add-result-2 c = search needs
-
-mul-result-2 : tie.Need-mul-result-2
-mul-result-2 c = search needs
-
-add-result-3 : tie.Need-add-result-3
-add-result-3 c = search needs
-
 returns : tie.Need-returns
 returns c = rw (width-by _ (c .before .pre)) (simp (lt-ltb _ _ (c .if1 .taken)))
 
@@ -32,12 +17,4 @@ returns-3 c = rw (width-by _ (c .before .before .pre)) (simp (le-ltb _ _ (c .bef
 pub bits-of-spec : {M : Type 1} → statement M
 bits-of-spec =
     tie.close
-    (tie.spec
-    add-result
-    mul-result
-    add-result-2
-    mul-result-2
-    add-result-3
-    returns
-    returns-2
-    returns-3)
+    (tie.spec (λ c. search needs) (λ c. search needs) (λ c. search needs) (λ c. search needs) (λ c. search needs) returns returns-2 returns-3)

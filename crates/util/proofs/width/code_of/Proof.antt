@@ -5,30 +5,6 @@ use Rattle.util.proofs.Widths.{codeOf, least-code}
 use Rattle.util.proofs.width.code_of.Statement.{statement}
 use Rattle.util.proofs.width.code_of.Tie as tie
 
-sub-result : tie.Need-sub-result
-sub-result c = search needs
-
-cast-result : tie.Need-cast-result
-cast-result c = search needs
-
-sub-result-2 : tie.Need-sub-result-2
-sub-result-2 c = search needs
-
-add-result : tie.Need-add-result
-add-result c = search needs
-
-cast-result-2 : tie.Need-cast-result-2
-cast-result-2 c = search needs
-
-add-result-2 : tie.Need-add-result-2
-add-result-2 c = search needs
-
-add-result-3 : tie.Need-add-result-3
-add-result-3 c = search needs
-
-cast-result-3 : tie.Need-cast-result-3
-cast-result-3 c = search needs
-
 returns : tie.Need-returns
 unfolding codeOf
 returns c = simp (lt-ltb _ _ (c .if1 .taken)) at (least-code _ (c .before .pre))
@@ -48,16 +24,5 @@ returns-4 c = simp (le-ltb _ _ (c .before .before .if1 .left), le-ltb _ _ (c .be
 pub code-of-spec : {M : Type 1} → statement M
 code-of-spec =
     tie.close
-    (tie.spec
-    sub-result
-    cast-result
-    sub-result-2
-    add-result
-    cast-result-2
-    add-result-2
-    add-result-3
-    cast-result-3
-    returns
-    returns-2
-    returns-3
-    returns-4)
+    (tie.spec (λ c. search needs) (λ c. search needs) (λ c. search needs) (λ c. search needs) (λ c. search needs) (λ c. search needs)
+    (λ c. search needs) (λ c. search needs) returns returns-2 returns-3 returns-4)

@@ -8,15 +8,6 @@ use Rattle.util.proofs.Widths.{narrowest-is}
 use Rattle.util.proofs.width.narrowest_code.Statement.{statement}
 use Rattle.util.proofs.width.narrowest_code.Tie as tie
 
-sub-code-of : tie.Need-sub-code-of
-sub-code-of c = leading-le 64 (c .args .x)
-
-cast-code-of : tie.Need-cast-code-of
-cast-code-of c = search needs
-
-code-of-requires : tie.Need-code-of-requires
-code-of-requires c κs = search needs
-
 returns : tie.Need-returns
 returns c =
     let x = c .before .args .x in
@@ -25,4 +16,4 @@ returns c =
     narrowest-is x (l .0) _ (omega (arith, l .1)) (l .2) (l .3) (rw e at (c .code-of .ensures))
 
 pub narrowest-code-spec : {M : Type 1} → statement M
-narrowest-code-spec = tie.close (tie.spec sub-code-of cast-code-of code-of-requires returns)
+narrowest-code-spec = tie.close (tie.spec (λ c. leading-le 64 (c .args .x)) (λ c. search needs) (λ c κs. search needs) returns)

@@ -3,30 +3,6 @@ use borrow.Author.Needs.{needs}
 use Rattle.writer.proofs.allowed.count.Statement.{statement}
 use Rattle.writer.proofs.allowed.count.Tie as tie
 
-enum-told : tie.Need-enum-told
-enum-told c = search needs
-
-between-requires : tie.Need-between-requires
-between-requires c κs = search needs
-
-enum-told-2 : tie.Need-enum-told-2
-enum-told-2 c = search needs
-
-between-requires-2 : tie.Need-between-requires-2
-between-requires-2 c κs = search needs
-
-enum-told-3 : tie.Need-enum-told-3
-enum-told-3 c = search needs
-
-between-requires-3 : tie.Need-between-requires-3
-between-requires-3 c κs = search needs
-
-enum-told-4 : tie.Need-enum-told-4
-enum-told-4 c = search needs
-
-between-requires-4 : tie.Need-between-requires-4
-between-requires-4 c κs = search needs
-
 returns : tie.Need-returns
 returns c = rw (c .before .enum-told .given .1) (c .between .ensures)
 
@@ -41,17 +17,5 @@ returns-4 c = rw (c .before .enum-told4 .given .1) (c .between4 .ensures)
 
 pub count-spec : {M : Type 1} → statement M
 count-spec =
-    tie.close
-    (tie.spec
-    enum-told
-    between-requires
-    enum-told-2
-    between-requires-2
-    enum-told-3
-    between-requires-3
-    enum-told-4
-    between-requires-4
-    returns
-    returns-2
-    returns-3
-    returns-4)
+    tie.close (tie.spec (λ c. search needs) (λ c κs. search needs) (λ c. search needs) (λ c κs. search needs) (λ c. search needs) (λ c κs. search needs)
+    (λ c. search needs) (λ c κs. search needs) returns returns-2 returns-3 returns-4)

@@ -16,15 +16,6 @@ returns c =
     let rows = now (c .before .args .rows) in
     base-none (map asU64 rows) (rw (length-map rows asU64) (omega arith))
 
-pattern-of-requires : tie.Need-pattern-of-requires
-pattern-of-requires c κs = search needs
-
-pattern-of-requires-2 : tie.Need-pattern-of-requires-2
-pattern-of-requires-2 c κs = search needs
-
-sub-requires : tie.Need-sub-requires
-sub-requires c κs = search needs
-
 returns-2 : tie.Need-returns-2
 returns-2 c =
     let rows = now (c .before .before .before .before .args .rows) in
@@ -32,5 +23,4 @@ returns-2 c =
     ∙ base-some (map asU64 rows) (rw (length-map rows asU64) (omega arith))
 
 pub base-delta-spec : {M : Type 1} → statement M
-base-delta-spec =
-    tie.close (tie.spec returns pattern-of-requires pattern-of-requires-2 sub-requires returns-2)
+base-delta-spec = tie.close (tie.spec returns (λ c κs. search needs) (λ c κs. search needs) (λ c κs. search needs) returns-2)

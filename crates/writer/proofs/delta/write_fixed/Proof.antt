@@ -9,119 +9,61 @@ use Rattle.format.specs.Fields.{zigzagged}
 use Rattle.format.specs.Rows.{asU64}
 use Rattle.format.specs.Writing as Writing
 use Rattle.format.specs.Writing.{firstOf, baseDelta}
-use Rattle.writer.proofs.Forms.{Fixed, fixed-known, uneven, too-short, opened, start-sized, started}
+use Rattle.writer.proofs.FixedForm.{Fixed, fixed-known, uneven, too-short, opened, start-sized, started}
 use borrow.Author.Needs.{needs}
 use Rattle.writer.proofs.delta.write_fixed.Statement.{statement}
 use Rattle.writer.proofs.delta.write_fixed.Tie as tie
 
-base-delta-requires : tie.Need-base-delta-requires
-base-delta-requires c κs = search needs
+-- ---- what is known once the steps are tested
 
-scratch-requires : tie.Need-scratch-requires
-scratch-requires c κs = search needs
+module _ (t : tie.After-all-are) where
+  abbrev kept : tie.After-steps2
+  kept = t .before .before .before
 
-slice-aggregate-steps : tie.Need-slice-aggregate-steps
-slice-aggregate-steps c = search needs
+  abbrev stepped : tie.After-base-delta
+  stepped = kept .before .before .before
 
-steps-requires : tie.Need-steps-requires
-steps-requires c κs = search needs
+  abbrev entry : tie.Start
+  entry = stepped .before .before
 
-slice-aggregate-all-are : tie.Need-slice-aggregate-all-are
-slice-aggregate-all-are c = search needs
+  known : Fixed (now (entry .args .rows)) (entry .args .signed) (entry .args .code) (t .all-are .result)
+  known =
+      fixed-known (now (entry .args .rows)) (entry .args .signed) (entry .args .code) (stepped .base-delta .result) (kept .steps2 .last .1 .1 .0) (drop (length (now (entry .args .rows)) - 1) (kept .before .before .scratch .result)) (t .all-are .result)
+      (omega arith) (omega arith) (omega arith) (stepped .base-delta .ensures) (kept .steps2 .ensures) (t .all-are .ensures)
 
-sub-all-are : tie.Need-sub-all-are
-sub-all-are c = search needs
+-- ---- what the start of the run was measured from
 
-all-are-requires : tie.Need-all-are-requires
-all-are-requires c κs = search needs
+module _ (m : tie.After-start-size) where
+  abbrev tested : tie.After-all-are
+  tested = m .before .before .before .before .before
 
-refused-requires : tie.Need-refused-requires
-refused-requires c κs = search needs
+  first-is : m .before .before .stored .result ≡ firstOf (entry tested .args .signed) (map asU64 (now (entry tested .args .rows)))
+  first-is = m .before .before .stored .ensures ∙ ap (λ (x : ℕ). Writing.stored (entry tested .args .signed) x) (m .before .before .before .pattern-of .ensures)
+
+  base-is : m .before .zigzag-of .result ≡ zigzagged (baseDelta (map asU64 (now (entry tested .args .rows))))
+  base-is = m .before .zigzag-of .ensures ∙ ap zigzagged (stepped tested .base-delta .ensures)
 
 returns : tie.Need-returns
-returns c =
-    let tested = c .before .before in
-    let kept = tested .before .before .before in
-    let step = kept .before .before .before .base-delta in
-    let a = kept .before .before .before .before .before .args in
-    let k : Fixed (now (a .rows)) (a .signed) (a .code) (tested .all-are .result) =
-    fixed-known (now (a .rows)) (a .signed) (a .code) (step .result) (kept .steps2 .last .1 .1 .0) (drop (length (now (a .rows)) - 1) (kept .before .before .scratch .result)) (tested .all-are .result)
-    (omega arith) (omega arith) (omega arith) (step .ensures) (kept .steps2 .ensures) (tested .all-are .ensures) in
-    uneven k (now (a .out)) (c .refused .result) (c .before .if1 .taken) (c .refused .ensures)
-
-pattern-of-requires : tie.Need-pattern-of-requires
-pattern-of-requires c κs = search needs
-
-stored-requires : tie.Need-stored-requires
-stored-requires c κs = search needs
-
-zigzag-of-requires : tie.Need-zigzag-of-requires
-zigzag-of-requires c κs = search needs
-
-start-size-requires : tie.Need-start-size-requires
-start-size-requires c κs = search needs
-
-refused-requires-2 : tie.Need-refused-requires-2
-refused-requires-2 c κs = search needs
+returns c = let t = c .before .before in uneven (known t) (now (entry t .args .out)) (c .refused .result) (c .before .if1 .taken) (c .refused .ensures)
 
 returns-2 : tie.Need-returns-2
 returns-2 c =
-    let tested = c .before .before .before .before .before .before .before in
-    let kept = tested .before .before .before in
-    let step = kept .before .before .before .base-delta in
-    let a = kept .before .before .before .before .before .args in
-    let k : Fixed (now (a .rows)) (a .signed) (a .code) (tested .all-are .result) =
-    fixed-known (now (a .rows)) (a .signed) (a .code) (step .result) (kept .steps2 .last .1 .1 .0) (drop (length (now (a .rows)) - 1) (kept .before .before .scratch .result)) (tested .all-are .result)
-    (omega arith) (omega arith) (omega arith) (step .ensures) (kept .steps2 .ensures) (tested .all-are .ensures) in
-    let p : c .before .before .before .before .stored .result ≡ firstOf (a .signed) (map asU64 (now (a .rows))) = c .before .before .before .before .stored .ensures ∙ ap (λ (x : ℕ). Writing.stored (a .signed) x) (c .before .before .before .before .before .pattern-of .ensures) in
-    let q : c .before .before .before .zigzag-of .result ≡ zigzagged (baseDelta (map asU64 (now (a .rows)))) = c .before .before .before .zigzag-of .ensures ∙ ap zigzagged (step .ensures) in
-    let z = start-sized 0 (length (now (a .rows))) p q (c .before .before .start-size .ensures) in
-    too-short k (now (a .out)) (c .refused2 .result) (c .before .before .before .before .before .before .if1 .left) (rw (← z) (c .before .if2 .taken)) (c .refused2 .ensures)
-
-write-start-requires : tie.Need-write-start-requires
-write-start-requires c κs = search needs
-
-run-requires : tie.Need-run-requires
-run-requires c κs = search needs
-
-same-length : tie.Need-same-length
-same-length c = search needs
+    let m = c .before .before in
+    let a = entry (tested m) .args in
+    let z = start-sized 0 (length (now (a .rows))) (first-is m) (base-is m) (m .start-size .ensures) in
+    too-short (known (tested m)) (now (a .out)) (c .refused2 .result) (m .before .before .before .before .if1 .left) (rw (← z) (c .before .if2 .taken)) (c .refused2 .ensures)
 
 returns-3 : tie.Need-returns-3
 returns-3 c =
-    let tested = c .before .before .before .before .before .before .before .before .before .before .before in
-    let kept = tested .before .before .before in
-    let step = kept .before .before .before .base-delta in
-    let a = kept .before .before .before .before .before .args in
-    let k : Fixed (now (a .rows)) (a .signed) (a .code) (tested .all-are .result) =
-    fixed-known (now (a .rows)) (a .signed) (a .code) (step .result) (kept .steps2 .last .1 .1 .0) (drop (length (now (a .rows)) - 1) (kept .before .before .scratch .result)) (tested .all-are .result)
-    (omega arith) (omega arith) (omega arith) (step .ensures) (kept .steps2 .ensures) (tested .all-are .ensures) in
-    let p : c .before .before .before .before .before .before .before .before .stored .result ≡ firstOf (a .signed) (map asU64 (now (a .rows))) = c .before .before .before .before .before .before .before .before .stored .ensures ∙ ap (λ (x : ℕ). Writing.stored (a .signed) x) (c .before .before .before .before .before .before .before .before .before .pattern-of .ensures) in
-    let q : c .before .before .before .before .before .before .before .zigzag-of .result ≡ zigzagged (baseDelta (map asU64 (now (a .rows)))) = c .before .before .before .before .before .before .before .zigzag-of .ensures ∙ ap zigzagged (step .ensures) in
-    let z = start-sized 0 (length (now (a .rows))) p q (c .before .before .before .before .before .before .start-size .ensures) in
-    opened k (now (a .out)) (c .before .before .before .write-start .last .1 .1 .1 .1 .0) (c .run .result) (c .before .before .before .before .before .before .before .before .before .before .if1 .left) (rw (← z) (c .before .before .before .before .before .if2 .left)) (rw (← z) (c .run .ensures))
-    (started 0 (length (now (a .rows))) p q (c .before .before .before .write-start .ensures) .places)
+    let s = c .before .before .before in
+    let m = s .before .before .before in
+    let a = entry (tested m) .args in
+    let z = start-sized 0 (length (now (a .rows))) (first-is m) (base-is m) (m .start-size .ensures) in
+    opened (known (tested m)) (now (a .out)) (s .write-start .last .1 .1 .1 .1 .0) (c .run .result) (m .before .before .before .before .if1 .left) (rw (← z) (s .before .before .if2 .left)) (rw (← z) (c .run .ensures))
+    (started 0 (length (now (a .rows))) (first-is m) (base-is m) (s .write-start .ensures) .places)
 
 pub write-fixed-spec : {M : Type 1} → statement M
 write-fixed-spec =
-    tie.close
-    (tie.spec
-    base-delta-requires
-    scratch-requires
-    slice-aggregate-steps
-    steps-requires
-    slice-aggregate-all-are
-    sub-all-are
-    all-are-requires
-    refused-requires
-    returns
-    pattern-of-requires
-    stored-requires
-    zigzag-of-requires
-    start-size-requires
-    refused-requires-2
-    returns-2
-    write-start-requires
-    run-requires
-    same-length
-    returns-3)
+    tie.close (tie.spec (λ c κs. search needs) (λ c κs. search needs) (λ c. search needs) (λ c κs. search needs) (λ c. search needs) (λ c. search needs)
+    (λ c κs. search needs) (λ c κs. search needs) returns (λ c κs. search needs) (λ c κs. search needs) (λ c κs. search needs) (λ c κs. search needs)
+    (λ c κs. search needs) returns-2 (λ c κs. search needs) (λ c κs. search needs) (λ c. search needs) returns-3)

@@ -1,36 +1,26 @@
 -- `delta::write_start` meets its contract. Assumes nothing.
 use mathlib.Core.Path.{_≡_, refl, sym, ap, _∙_}
 use mathlib.Core.List.{List, _++_, append-assoc}
-use Prim.Native.Nat.{ℕ, _+_}
+use Prim.Native.Nat.{ℕ}
 use lib.ListN.{length, drop, length-append}
 use denote.Ref.{now}
 use Rattle.format.specs.Fields.{shortest}
 use Rattle.format.specs.Runs.{head}
 use Rattle.writer.specs.Start.{start}
-use Rattle.writer.proofs.Laws.{behind}
+use Rattle.writer.proofs.Pieces.{behind}
 use borrow.Author.Needs.{needs}
 use Rattle.writer.proofs.delta.write_start.Statement.{statement}
 use Rattle.writer.proofs.delta.write_start.Tie as tie
 
-write-requires : tie.Need-write-requires
-write-requires c κs = search needs
-
-write-requires-2 : tie.Need-write-requires-2
-write-requires-2 c κs = search needs
-
-write-requires-3 : tie.Need-write-requires-3
-write-requires-3 c κs = search needs
-
-same-length : tie.Need-same-length
-same-length c = search needs
-
 returns : tie.Need-returns
 unfolding start
 returns c =
+    let back-6 = c .before .before .before .before .before .before in
+    let back-12 = back-6 .before .before .before .before .before .before in
     let w3 = c .before .before .write3 in
     let w2 = c .before .before .before .before .before .before .write2 in
-    let w1 = c .before .before .before .before .before .before .before .before .before .before .write in
-    let a = c .before .before .before .before .before .before .before .before .before .before .before .before .before .args in
+    let w1 = back-6 .before .before .before .before .write in
+    let a = back-12 .before .args in
     let h : List ℕ = head 3 (a .code) (a .rows) in
     let f : List ℕ = shortest (a .first) in
     let b : List ℕ = shortest (a .base) in
@@ -45,5 +35,4 @@ returns c =
     }
 
 pub write-start-spec : {M : Type 1} → statement M
-write-start-spec =
-    tie.close (tie.spec write-requires write-requires-2 write-requires-3 same-length returns)
+write-start-spec = tie.close (tie.spec (λ c κs. search needs) (λ c κs. search needs) (λ c κs. search needs) (λ c. search needs) returns)

@@ -6,121 +6,68 @@ use denote.Ref.{now}
 use Rattle.format.specs.declared.Form.the-variants.{Direct}
 use Rattle.format.specs.declared.Kind.the-variants as kind
 use Rattle.format.specs.Runs.{head}
-use Rattle.writer.proofs.Laws.{width-known, block-small}
-use Rattle.writer.proofs.Forms.{Packed, direct-packed, values-below, too-wide, too-few, packed}
+use Rattle.writer.proofs.Pieces.{width-known}
+use Rattle.writer.proofs.PackedForms.{Packed, direct-packed, values-below, too-wide, too-few, packed}
 use borrow.Author.Needs.{needs}
 use Rattle.writer.proofs.direct.write.Statement.{statement}
 use Rattle.writer.proofs.direct.write.Tie as tie
+use Rattle.format.proofs.Fields.{block-small}
 
-bits-of-requires : tie.Need-bits-of-requires
-bits-of-requires c κs = search needs
+-- ---- what is known once the values are tested
 
-scratch-requires : tie.Need-scratch-requires
-scratch-requires c κs = search needs
+module _ (t : tie.After-all-fit) where
+  abbrev kept : tie.After-store
+  kept = t .before .before .before
 
-slice-aggregate-store : tie.Need-slice-aggregate-store
-slice-aggregate-store c = search needs
+  abbrev sized : tie.After-bits-of
+  sized = kept .before .before .before
 
-store-requires : tie.Need-store-requires
-store-requires c κs = search needs
+  abbrev entry : tie.Start
+  entry = sized .before .before
 
-slice-aggregate-all-fit : tie.Need-slice-aggregate-all-fit
-slice-aggregate-all-fit c = search needs
+  known : Packed (now (entry .args .rows)) (entry .args .signed) Direct kind.Direct (entry .args .code) (head 1 (entry .args .code) (length (now (entry .args .rows)))) (length (now (entry .args .rows))) (sized .bits-of .result) (kept .store .last .1 .1 .0) (t .all-fit .result)
+  known =
+      direct-packed (now (entry .args .rows)) (entry .args .signed) (entry .args .code) (sized .bits-of .result) (kept .store .last .1 .1 .0) (drop (length (now (entry .args .rows))) (kept .before .before .scratch .result)) (t .all-fit .result)
+      (omega arith) (omega arith) (entry .pre .1) (sized .bits-of .ensures) (kept .store .ensures) (t .all-fit .ensures)
 
 all-fit-requires : tie.Need-all-fit-requires
-all-fit-requires c κs = (search needs, width-known (c .before .before .before .before .before .before .before .args .code) (c .before .before .before .before .before .bits-of .ensures) .le)
-
-refused-requires : tie.Need-refused-requires
-refused-requires c κs = search needs
+all-fit-requires c κs = let s = c .before .before .before .before .before in (search needs, width-known (s .before .before .args .code) (s .bits-of .ensures) .le)
 
 returns : tie.Need-returns
-returns c =
-    let tested = c .before .before in
-    let kept = tested .before .before .before in
-    let bits = kept .before .before .before .bits-of in
-    let a = kept .before .before .before .before .before .args in
-    let k : Packed (now (a .rows)) (a .signed) Direct kind.Direct (a .code) (head 1 (a .code) (length (now (a .rows)))) (length (now (a .rows))) (bits .result) (kept .store .last .1 .1 .0) (tested .all-fit .result) =
-    direct-packed (now (a .rows)) (a .signed) (a .code) (bits .result) (kept .store .last .1 .1 .0) (drop (length (now (a .rows))) (kept .before .before .scratch .result)) (tested .all-fit .result)
-    (omega arith) (omega arith) (kept .before .before .before .before .before .pre .1) (bits .ensures) (kept .store .ensures) (tested .all-fit .ensures) in
-    too-wide k (now (a .out)) (c .refused .result) (c .before .if1 .taken) (c .refused .ensures)
+returns c = let t = c .before .before in too-wide (known t) (now (entry t .args .out)) (c .refused .result) (c .before .if1 .taken) (c .refused .ensures)
 
 block-size-requires : tie.Need-block-size-requires
-block-size-requires c κs = (width-known (c .before .before .before .before .before .before .before .before .before .args .code) (c .before .before .before .before .before .before .before .bits-of .ensures) .le, omega arith)
+block-size-requires c κs = let t = c .before in (width-known (entry t .args .code) (sized t .bits-of .ensures) .le, omega arith)
 
 add-size : tie.Need-add-size
 add-size c =
-    omega (arith, c .block-size .ensures, block-small (length (now (c .before .before .before .before .before .before .before .before .before .before .args .rows))) (c .before .before .before .before .before .before .before .before .bits-of .result) (omega arith) (width-known (c .before .before .before .before .before .before .before .before .before .before .args .code) (c .before .before .before .before .before .before .before .before .bits-of .ensures) .le))
-
-refused-requires-2 : tie.Need-refused-requires-2
-refused-requires-2 c κs = search needs
+    let t = c .before .before in
+    omega (arith, c .block-size .ensures, block-small (length (now (entry t .args .rows))) (sized t .bits-of .result) (omega arith) (width-known (entry t .args .code) (sized t .bits-of .ensures) .le))
 
 returns-2 : tie.Need-returns-2
 returns-2 c =
-    let tested = c .before .before .before .before in
-    let kept = tested .before .before .before in
-    let bits = kept .before .before .before .bits-of in
-    let a = kept .before .before .before .before .before .args in
-    let k : Packed (now (a .rows)) (a .signed) Direct kind.Direct (a .code) (head 1 (a .code) (length (now (a .rows)))) (length (now (a .rows))) (bits .result) (kept .store .last .1 .1 .0) (tested .all-fit .result) =
-    direct-packed (now (a .rows)) (a .signed) (a .code) (bits .result) (kept .store .last .1 .1 .0) (drop (length (now (a .rows))) (kept .before .before .scratch .result)) (tested .all-fit .result)
-    (omega arith) (omega arith) (kept .before .before .before .before .before .pre .1) (bits .ensures) (kept .store .ensures) (tested .all-fit .ensures) in
-    too-few k (now (a .out)) (c .refused2 .result) (c .before .before .before .if1 .left) (rw (← (c .before .before .block-size .ensures)) (c .before .if2 .taken)) (c .refused2 .ensures)
-
-write-requires : tie.Need-write-requires
-write-requires c κs = search needs
-
-slice-aggregate-pack : tie.Need-slice-aggregate-pack
-slice-aggregate-pack c = search needs
+    let t = c .before .before .before .before in
+    too-few (known t) (now (entry t .args .out)) (c .refused2 .result) (c .before .before .before .if1 .left) (rw (← (c .before .before .block-size .ensures)) (c .before .if2 .taken)) (c .refused2 .ensures)
 
 pack-requires : tie.Need-pack-requires
 pack-requires c κs =
-    let tested = c .before .before .before .before .before .before .before .before .before in
-    let kept = tested .before .before .before in
-    let bits = kept .before .before .before .bits-of in
-    let a = kept .before .before .before .before .before .args in
-    let k : Packed (now (a .rows)) (a .signed) Direct kind.Direct (a .code) (head 1 (a .code) (length (now (a .rows)))) (length (now (a .rows))) (bits .result) (kept .store .last .1 .1 .0) (tested .all-fit .result) =
-    direct-packed (now (a .rows)) (a .signed) (a .code) (bits .result) (kept .store .last .1 .1 .0) (drop (length (now (a .rows))) (kept .before .before .scratch .result)) (tested .all-fit .result)
-    (omega arith) (omega arith) (kept .before .before .before .before .before .pre .1) (bits .ensures) (kept .store .ensures) (tested .all-fit .ensures) in
-    let w = width-known (a .code) (bits .ensures) in
-    ((w .pos, w .le, w .window), (search needs, values-below k (c .before .before .before .before .before .before .before .before .if1 .left)))
-
-run-requires : tie.Need-run-requires
-run-requires c κs = search needs
-
-same-length : tie.Need-same-length
-same-length c = search needs
+    let z = c .before .before .before .before in
+    let t = z .before .before .before .before .before in
+    let w = width-known (entry t .args .code) (sized t .bits-of .ensures) in
+    ((w .pos, w .le, w .window), (search needs, values-below (known t) (z .before .before .before .before .if1 .left)))
 
 returns-3 : tie.Need-returns-3
 returns-3 c =
-    let tested = c .before .before .before .before .before .before .before .before .before .before .before .before .before in
-    let kept = tested .before .before .before in
-    let bits = kept .before .before .before .bits-of in
-    let a = kept .before .before .before .before .before .args in
-    let k : Packed (now (a .rows)) (a .signed) Direct kind.Direct (a .code) (head 1 (a .code) (length (now (a .rows)))) (length (now (a .rows))) (bits .result) (kept .store .last .1 .1 .0) (tested .all-fit .result) =
-    direct-packed (now (a .rows)) (a .signed) (a .code) (bits .result) (kept .store .last .1 .1 .0) (drop (length (now (a .rows))) (kept .before .before .scratch .result)) (tested .all-fit .result)
-    (omega arith) (omega arith) (kept .before .before .before .before .before .pre .1) (bits .ensures) (kept .store .ensures) (tested .all-fit .ensures) in
-    let e = c .before .before .before .before .before .before .before .before .before .before .before .block-size .ensures in
-    packed k (now (a .out)) (c .before .before .before .before .before .before .before .before .write .last .1 .1 .1 .0) (c .before .before .before .pack .last .1 .1 .1 .0) 2 (c .run .result) (c .before .before .before .before .before .before .before .before .before .before .before .before .if1 .left) (rw (← e) (c .before .before .before .before .before .before .before .before .before .before .if2 .left))
-    (rw (← e) (c .run .ensures)) refl (c .before .before .before .before .before .before .before .before .write .ensures) (c .before .before .before .pack .ensures)
+    let p = c .before .before .before in
+    let w = p .before .before .before .before .before in
+    let z = w .before .before .before in
+    let t = z .before .before in
+    let e = z .block-size .ensures in
+    packed (known t) (now (entry t .args .out)) (w .write .last .1 .1 .1 .0) (p .pack .last .1 .1 .1 .0) 2 (c .run .result) (z .before .if1 .left) (rw (← e) (w .before .before .if2 .left))
+    (rw (← e) (c .run .ensures)) refl (w .write .ensures) (p .pack .ensures)
 
 pub write-spec : {M : Type 1} → statement M
 write-spec =
-    tie.close
-    (tie.spec
-    bits-of-requires
-    scratch-requires
-    slice-aggregate-store
-    store-requires
-    slice-aggregate-all-fit
-    all-fit-requires
-    refused-requires
-    returns
-    block-size-requires
-    add-size
-    refused-requires-2
-    returns-2
-    write-requires
-    slice-aggregate-pack
-    pack-requires
-    run-requires
-    same-length
-    returns-3)
+    tie.close (tie.spec (λ c κs. search needs) (λ c κs. search needs) (λ c. search needs) (λ c κs. search needs) (λ c. search needs) all-fit-requires
+    (λ c κs. search needs) returns block-size-requires add-size (λ c κs. search needs) returns-2 (λ c κs. search needs) (λ c. search needs) pack-requires
+    (λ c κs. search needs) (λ c. search needs) returns-3)

@@ -7,9 +7,6 @@ use borrow.Author.Needs.{needs}
 use Rattle.writer.proofs.patch_list.entry.Statement.{statement}
 use Rattle.writer.proofs.patch_list.entry.Tie as tie
 
-shl-result : tie.Need-shl-result
-shl-result c = search needs
-
 -- nothing of the gap is dropped
 small : (gap pw : ℕ) → gap ≤ 255 → pw ≤ 56 → gap * 2 ^ pw ≤ 255 * 2 ^ 56
 small gap pw g p = mul-le-mul {n₂ = 255} {m₂ = 2 ^ 56} g (pow-mono {j = 56} p)
@@ -26,4 +23,4 @@ returns c =
     omega arith
 
 pub entry-spec : {M : Type 1} → statement M
-entry-spec = tie.close (tie.spec shl-result add-result returns)
+entry-spec = tie.close (tie.spec (λ c. search needs) add-result returns)

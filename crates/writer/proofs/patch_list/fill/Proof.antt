@@ -6,7 +6,7 @@ use lib.ListN.{length, getD, take, length-set}
 use lib.Seq.{getD-take}
 use lib.Pow.{pow-pos, shr-lt}
 use denote.Ref.{now}
-use Rattle.format.proofs.Fields.{below-getD}
+use Rattle.format.proofs.Below.{below-getD}
 use Rattle.writer.proofs.PatchedFill.{Filling, filling, no-patch, put-skip, put-entry, too-long, filled-up}
 use Rattle.writer.proofs.patch_list.fill.Statement.{statement}
 use Rattle.writer.proofs.patch_list.fill.Tie as tie
@@ -27,31 +27,10 @@ patch-small c =
     rw (getD-take (a .n) (now (a .vals)) (l .i) 0 (omega arith)) at (below-getD (2 ^ (a .pw + a .bits)) (take (a .n) (now (a .vals))) (l .i) 0 (s .pre .1) (pow-pos _)) in
     rw (c .above .ensures) (shr-lt (a .pw) (a .bits) h)
 
-loop-holds : tie.Need-loop-holds Inv-loop μ-loop
-loop-holds c = (refl, filling _ _ _ _ _)
-
-mul-above : tie.Need-mul-above Inv-loop μ-loop
-mul-above c = omega arith
-
-shared-slice-read-above : tie.Need-shared-slice-read-above Inv-loop μ-loop
-shared-slice-read-above c = omega arith
-
-above-requires : tie.Need-above-requires Inv-loop μ-loop
-above-requires c κs = omega arith
-
-add-i : tie.Need-add-i Inv-loop μ-loop
-add-i c = omega arith
-
-loop-less : tie.Need-loop-less Inv-loop μ-loop
-loop-less c = omega arith
-
 loop-again : tie.Need-loop-again Inv-loop μ-loop
 loop-again c =
     let l = c .before .before .before .before .loop in
     (l .inv .0, no-patch (l .inv .1) (omega arith) (omega arith) (sym (c .before .above .ensures) ∙ c .if1 .taken))
-
-add-result : tie.Need-add-result Inv-loop μ-loop
-add-result c = omega arith
 
 same-length : tie.Need-same-length Inv-loop μ-loop
 same-length c = c .before .before .before .before .before .loop .inv .0
@@ -61,99 +40,41 @@ returns c =
     let l = c .before .before .before .before .before .loop in
     too-long (l .inv .1) (omega arith) (omega arith) (λ z. c .before .if1 .left (c .before .before .above .ensures ∙ z)) (c .if2 .taken)
 
-add-if3 : tie.Need-add-if3 Inv-loop μ-loop
-add-if3 c = omega arith
-
-entry-requires : tie.Need-entry-requires Inv-loop μ-loop
-entry-requires c κs = (omega arith, omega arith, pow-pos _)
-
-mul-list : tie.Need-mul-list Inv-loop μ-loop
-mul-list c = omega arith
-
 slice-write-list : tie.Need-slice-write-list Inv-loop μ-loop
-slice-write-list c = omega (arith, c .before .before .before .before .before .before .before .loop .inv .1 .room)
-
-add-from : tie.Need-add-from Inv-loop μ-loop
-add-from c = omega arith
-
-add-k : tie.Need-add-k Inv-loop μ-loop
-add-k c = omega arith
-
-loop-less-2 : tie.Need-loop-less-2 Inv-loop μ-loop
-loop-less-2 c = omega arith
+slice-write-list c =
+    let back-6 = c .before .before .before .before .before .before in
+    omega (arith, back-6 .before .loop .inv .1 .room)
 
 loop-again-2 : tie.Need-loop-again-2 Inv-loop μ-loop
 loop-again-2 c =
-    let l = c .before .before .before .before .before .before .before .loop in (
+    let back-6 = c .before .before .before .before .before .before in
+    let l = back-6 .before .loop in (
       simp length-set (l .inv .0),
       put-skip (l .inv .1) (omega arith) (omega arith) (λ z. c .before .before .before .if1 .left (c .before .before .before .before .above .ensures ∙ z)) (omega (arith, l .inv .1 .room)) (omega arith) _ (c .entry .ensures),
     )
 
-sub-entry : tie.Need-sub-entry Inv-loop μ-loop
-sub-entry c = omega arith
-
 entry-requires-2 : tie.Need-entry-requires-2 Inv-loop μ-loop
 entry-requires-2 c κs = (omega arith, omega arith, patch-small (c .before .before .before))
 
-mul-list-2 : tie.Need-mul-list-2 Inv-loop μ-loop
-mul-list-2 c = omega arith
-
 slice-write-list-2 : tie.Need-slice-write-list-2 Inv-loop μ-loop
-slice-write-list-2 c = omega (arith, c .before .before .before .before .before .before .before .loop .inv .1 .room)
-
-add-i-2 : tie.Need-add-i-2 Inv-loop μ-loop
-add-i-2 c = omega arith
-
-add-k-2 : tie.Need-add-k-2 Inv-loop μ-loop
-add-k-2 c = omega arith
-
-loop-less-3 : tie.Need-loop-less-3 Inv-loop μ-loop
-loop-less-3 c = omega arith
+slice-write-list-2 c =
+    let back-6 = c .before .before .before .before .before .before in
+    omega (arith, back-6 .before .loop .inv .1 .room)
 
 loop-again-3 : tie.Need-loop-again-3 Inv-loop μ-loop
 loop-again-3 c =
-    let l = c .before .before .before .before .before .before .before .loop in (
+    let back-6 = c .before .before .before .before .before .before in
+    let l = back-6 .before .loop in (
       simp length-set (l .inv .0),
       put-entry (l .inv .1) (omega arith) (omega arith) (λ z. c .before .before .before .if1 .left (c .before .before .before .before .above .ensures ∙ z)) (omega (arith, l .inv .1 .room)) (omega arith) _ (rw (c .before .before .before .before .above .ensures) at (c .entry2 .ensures)),
     )
-
-same-length-2 : tie.Need-same-length-2 Inv-loop μ-loop
-same-length-2 c = c .before .loop .inv .0
 
 returns-2 : tie.Need-returns-2 Inv-loop μ-loop
 returns-2 c = filled-up (c .before .loop .inv .1) (omega arith)
 
 pub fill-spec : {M : Type 1} → statement M
 fill-spec =
-    tie.close
-    (tie.spec
-    Inv-loop
-    μ-loop
-    loop-holds
-    mul-above
-    shared-slice-read-above
-    above-requires
-    add-i
-    loop-less
-    loop-again
-    add-result
-    same-length
-    returns
-    add-if3
-    entry-requires
-    mul-list
-    slice-write-list
-    add-from
-    add-k
-    loop-less-2
-    loop-again-2
-    sub-entry
-    entry-requires-2
-    mul-list-2
-    slice-write-list-2
-    add-i-2
-    add-k-2
-    loop-less-3
-    loop-again-3
-    same-length-2
-    returns-2)
+    tie.close (tie.spec Inv-loop μ-loop (λ c. (refl, filling _ _ _ _ _)) (λ c. omega arith) (λ c. omega arith) (λ c κs. omega arith) (λ c. omega arith) (λ c. omega arith)
+    loop-again (λ c. omega arith) same-length returns (λ c. omega arith) (λ c κs. (omega arith, omega arith, pow-pos _)) (λ c. omega arith) slice-write-list
+    (λ c. omega arith) (λ c. omega arith) (λ c. omega arith) loop-again-2 (λ c. omega arith) entry-requires-2 (λ c. omega arith) slice-write-list-2 (λ c. omega arith)
+    (λ c. omega arith) (λ c. omega arith) loop-again-3 (λ c. c .before .loop .inv .0) returns-2)

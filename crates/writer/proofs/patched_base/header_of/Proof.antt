@@ -40,25 +40,28 @@ module _ (c : tie.Else1) where
   bits-pos = rw (code-width bits is-code) at (width-pos (codeFor bits))
 
 module _ (c : tie.After-differences) where
+  abbrev start : tie.Start
+  start = let h = c .before .before .before .before in h .before .before .before .before
+
   abbrev rows : List ℤ
-  rows = c .before .before .before .before .before .before .before .before .args .rows .now
+  rows = start .args .rows .now
 
   abbrev ds : List ℕ
-  ds = differences (c .before .before .before .before .before .before .before .before .args .base) (map asU64 rows)
+  ds = differences (start .args .base) (map asU64 rows)
 
   length-ds : length ds ≡ length rows
-  length-ds = length-map (map asU64 rows) (λ r. minus r (c .before .before .before .before .before .before .before .before .args .base)) ∙ length-map rows asU64
+  length-ds = length-map (map asU64 rows) (λ r. minus r (start .args .base)) ∙ length-map rows asU64
 
   -- the differences stand in the first places
   stand : take (length rows) (c .differences .last .1 .1 .0) ≡ ds
-  stand = ap (λ (l : List ℕ). take (length rows) l) (c .differences .ensures) ∙ take-at ds (drop (length rows) (c .before .before .before .before .before .before .before .before .args .vals .now)) (length rows) length-ds
+  stand = ap (λ (l : List ℕ). take (length rows) l) (c .differences .ensures) ∙ take-at ds (drop (length rows) (start .args .vals .now)) (length rows) length-ds
 
   long-vals : length (c .differences .last .1 .1 .0) ≡ 512
   long-vals = omega (arith, c .differences .kept .1 .1 .0)
 
 module _ (c : tie.After-narrowest-code) where
   abbrev s : tie.Start
-  s = c .before .before .before .before .before .before .before .before .before .before .before .before .before .before
+  s = start (c .before .before .before .before .before .before)
 
   abbrev rs : List ℕ
   rs = map asU64 (s .args .rows .now)
@@ -85,11 +88,14 @@ module _ (c : tie.Else3) where
   pw-is = c .before .bits-of .ensures ∙ ap (λ (n : ℕ). width n) (patch-is (c .before .before))
 
 module _ (c : tie.After-fill) where
+  abbrev parted : tie.After-differences
+  parted = let n = c .before .before .before .before .before in n .before .before .before .before .before .before
+
   abbrev qs : List Patch
-  qs = patchesIn (c .before .before .before .before .before .before .before .before .before .before .before .before .before .before .before .before .before .before .before .args .base) (c .before .before .before .before .before .before .before .before .before .before .before .before .before .before .before .before .before .before .before .args .bits) (map asU64 (c .before .before .before .before .before .before .before .before .before .before .before .before .before .before .before .before .before .before .before .args .rows .now))
+  qs = patchesIn (start parted .args .base) (start parted .args .bits) (map asU64 (rows parted))
 
   listed : Listed (c .before .before .before .before .bits-of .result) (entriesFrom 0 qs) (c .fill .last .1 .1 .1 .1 .0) (c .fill .result)
-  listed = rw (stand (c .before .before .before .before .before .before .before .before .before .before .before)) at (c .fill .ensures)
+  listed = rw (stand parted) at (c .fill .ensures)
 
   long-list : length (c .fill .last .1 .1 .1 .1 .0) ≡ 31
   long-list = omega (arith, c .fill .kept .1 .1 .1 .1 .0)
@@ -99,7 +105,9 @@ module _ (c : tie.After-largest2) where
   f = c .before .before .before .before .before
 
   abbrev pw₂ : ℕ
-  pw₂ = c .before .before .before .before .before .before .before .before .before .bits-of .result
+  pw₂ =
+      let back-6 = c .before .before .before .before .before .before in
+      back-6 .before .before .before .bits-of .result
 
   few : f .fill .result ≤ length (f .fill .last .1 .1 .1 .1 .0)
   few = c .before .before .if4 .left
@@ -111,13 +119,8 @@ module _ (c : tie.After-largest2) where
   most-entry = rw fields-are at (c .largest2 .ensures)
 
   patches-fit : AllBelow (2 ^ pw₂) (map (λ e. e .patch) (entriesFrom 0 (qs f)))
-  patches-fit = subst (λ (x : ℕ). AllBelow (2 ^ x) (map (λ e. e .patch) (entriesFrom 0 (qs f)))) (sym (pw-is (c .before .before .before .before .before .before .before .before))) (es-below (c .before .before .before .before .before .before .before .before .before .before .before .before .before .before .before .before .before .before .before .before .before .before .before .before .args .base) (c .before .before .before .before .before .before .before .before .before .before .before .before .before .before .before .before .before .before .before .before .before .before .before .before .args .bits) (map asU64 (c .before .before .before .before .before .before .before .before .before .before .before .before .before .before .before .before .before .before .before .before .before .before .before .before .args .rows .now)))
-
-table-code-requires : tie.Need-table-code-requires
-table-code-requires c κs = search needs
-
-base-size-requires : tie.Need-base-size-requires
-base-size-requires c κs = search needs
+  patches-fit =
+      subst (λ (x : ℕ). AllBelow (2 ^ x) (map (λ e. e .patch) (entriesFrom 0 (qs f)))) (sym (pw-is (f .before .before .before))) (es-below (start (parted f) .args .base) (start (parted f) .args .bits) (map asU64 (start (parted f) .args .rows .now)))
 
 returns : tie.Need-returns
 returns c = no-code _ _ _ (omega (arith, c .before .before .table-code .ensures))
@@ -125,74 +128,53 @@ returns c = no-code _ _ _ (omega (arith, c .before .before .table-code .ensures)
 returns-2 : tie.Need-returns-2
 returns-2 c = no-base _ _ _ (omega (arith, c .before .before .base-size .ensures))
 
-differences-requires : tie.Need-differences-requires
-differences-requires c κs = search needs
-
-largest-requires : tie.Need-largest-requires
-largest-requires c κs = search needs
-
 above-requires : tie.Need-above-requires
-above-requires c κs = bits-le (c .before .before .before .before .before .before .before)
-
-narrowest-code-requires : tie.Need-narrowest-code-requires
-narrowest-code-requires c κs = search needs
-
-bits-of-requires : tie.Need-bits-of-requires
-bits-of-requires c κs = search needs
-
-same-length : tie.Need-same-length
-same-length c = search needs
+above-requires c κs = let h = c .before .before .before in bits-le (h .before .before .before .before)
 
 returns-3 : tie.Need-returns-3
 returns-3 c = no-gap _ _ _ (sym (c .before .bits-of .ensures ∙ ap (λ (n : ℕ). width n) (patch-is (c .before .before))) ∙ c .if3 .taken)
 
 fill-requires : tie.Need-fill-requires
 fill-requires c κs =
+    let back-6 = c .before .before .before .before .before .before in
+    let back-12 = back-6 .before .before .before .before .before .before in
     let e = c .before .before in
     let n = c .before .before .before .before in
-    let d = c .before .before .before .before .before .before .before .before .before .before in
-    let a = c .before .before .before .before .before .before .before .before .before .before .before .before .before .before .before .before .before .before .args in
+    let d = back-6 .before .before .before .before in
+    let a = back-12 .before .before .before .before .before .before .args in
     let h : c .before .before .before .before .before .before .largest .result / 2 ^ a .bits < 2 ^ pw e = rw (e .before .bits-of .ensures) (rw (n .before .above .ensures) at (held n)) in
     let v : AllBelow (2 ^ (pw e + a .bits)) (take (length (now (a .rows))) (d .differences .last .1 .1 .0)) =
     rw (stand d) (values-held (a .bits) (c .before .before .before .before .before .before .largest .result) (n .narrowest-code .result) (ds d) (most n) (pw e) h) in
-    let t : length (now (a .rows)) ≤ 512 = c .before .before .before .before .before .before .before .before .before .before .before .before .before .before .before .before .before .before .pre .1 in
+    let t : length (now (a .rows)) ≤ 512 = back-12 .before .before .before .before .before .before .pre .1 in
     let r : length (now (a .rows)) ≤ length (d .differences .last .1 .1 .0) = omega (arith, long-vals d, t) in
-    let l : length (now (a .list)) ≤ 31 = omega (arith, c .before .before .before .before .before .before .before .before .before .before .before .before .before .before .before .before .before .before .pre .3) in
-    ((r, t, bits-le (c .before .before .before .before .before .before .before .before .before .before .before .before .before), pw-le e, l), v)
-
-same-length-2 : tie.Need-same-length-2
-same-length-2 c = search needs
-
-same-length-3 : tie.Need-same-length-3
-same-length-3 c = search needs
+    let l : length (now (a .list)) ≤ 31 = omega (arith, back-12 .before .before .before .before .before .before .pre .3) in
+    ((r, t, bits-le (back-12 .before), pw-le e, l), v)
 
 returns-4 : tie.Need-returns-4
 returns-4 c = no-list _ _ _ (omega (arith, listed (c .before .before .before) .over (c .if4 .taken), long-list (c .before .before .before)))
 
-largest-requires-2 : tie.Need-largest-requires-2
-largest-requires-2 c κs = search needs
-
 shr-gap-width : tie.Need-shr-gap-width
-shr-gap-width c = omega (arith, pw-le (c .before .before .before .before .before .before .before .before))
+shr-gap-width c = omega (arith, pw-le (f c .before .before .before))
 
 gap-width-requires : tie.Need-gap-width-requires
 gap-width-requires c κs = gap-small (pw₂ c) (c .largest2 .result) (entriesFrom 0 (qs (f c))) (patches-fit c) (most-entry c) (gaps-255 0 (qs (f c)))
 
 keep-low-requires : tie.Need-keep-low-requires
-keep-low-requires c κs = (omega (arith, long-vals (c .before .before .before .before .before .before .before .before .before .before .before .before .before .before .before .before .before .before)), bits-pos (c .before .before .before .before .before .before .before .before .before .before .before .before .before .before .before .before .before .before .before .before .before), bits-le (c .before .before .before .before .before .before .before .before .before .before .before .before .before .before .before .before .before .before .before .before .before))
-
-same-length-4 : tie.Need-same-length-4
-same-length-4 c = search needs
-
-same-length-5 : tie.Need-same-length-5
-same-length-5 c = search needs
+keep-low-requires c κs =
+    let back-6 = c .before .before .before .before .before .before in
+    let back-12 = back-6 .before .before .before .before .before .before in
+    let back-18 = back-12 .before .before .before .before .before .before in
+    (omega (arith, long-vals (back-12 .before .before .before .before .before .before)), bits-pos (back-18 .before .before .before), bits-le (back-18 .before .before .before))
 
 returns-5 : tie.Need-returns-5
 returns-5 c =
+    let back-6 = c .before .before .before .before .before .before in
+    let back-12 = back-6 .before .before .before .before .before .before in
+    let back-18 = back-12 .before .before .before .before .before .before in
     let m = c .before .before .before .before .before in
-    let n = c .before .before .before .before .before .before .before .before .before .before .before .before .before .before .before in
-    let d = c .before .before .before .before .before .before .before .before .before .before .before .before .before .before .before .before .before .before .before .before .before in
-    let s₀ = c .before .before .before .before .before .before .before .before .before .before .before .before .before .before .before .before .before .before .before .before .before .before .before .before .before .before .before .before .before in
+    let n = back-12 .before .before .before in
+    let d = back-18 .before .before .before in
+    let s₀ = start d in
     let a = s₀ .args in
     let ls : List ℕ = f m .fill .last .1 .1 .1 .1 .0 in
     let k : ℕ = f m .fill .result in
@@ -200,50 +182,19 @@ returns-5 c =
     let vs : c .before .before .keep-low .last .0 ≡ lows (a .bits) (ds d) ++ drop (length (now (a .rows))) (d .differences .last .1 .1 .0) = rw (stand d) at (c .before .before .keep-low .ensures) in
     let few-entries : k ≤ 31 = omega (arith, few m, long-list (f m)) in
     let code : ℕ = n .narrowest-code .result in
-    let pw-code : pw₂ m ≡ width code = c .before .before .before .before .before .before .before .before .before .before .before .before .before .before .bits-of .ensures in
+    let pw-code : pw₂ m ≡ width code = back-12 .before .before .bits-of .ensures in
     all-held (a .base) (a .bits) (map asU64 (now (a .rows))) _ (c .before .before .keep-low .last .0) ls
-    (c .before .before .before .before .before .before .before .before .before .before .before .before .before .before .before .before .before .before .before .before .before .before .before .before .before .before .table-code .ensures)
-    (sym (length-map (now (a .rows)) asU64))
-    (c .before .before .before .before .before .before .before .before .before .before .before .before .before .before .before .before .before .before .before .before .before .before .before .before .before .base-size .ensures)
-    (patch-is n)
+    (d .before .before .before .before .before .table-code .ensures) (sym (length-map (now (a .rows)) asU64)) (d .before .before .before .before .base-size .ensures) (patch-is n)
     (c .before .before .before .before .gap-width .ensures ∙ gap-width-is (pw₂ m) (m .largest2 .result) es (patches-fit m) (most-entry m))
     (sym (length-take-le k ls (few m)) ∙ ap (λ (l : List ℕ). length l) (fields-are m) ∙ length-map es (field (pw₂ m)))
     (ap (λ (l : List ℕ). take (length (now (a .rows))) l) vs ∙ take-at (lows (a .bits) (ds d)) _ (length (now (a .rows))) (length-map (ds d) (λ x. x % 2 ^ a .bits) ∙ length-ds d))
     (subst (λ (x : ℕ). take k ls ≡ map (field x) es) pw-code (fields-are m))
-    (is-code (c .before .before .before .before .before .before .before .before .before .before .before .before .before .before .before .before .before .before .before .before .before .before .before .before))
-    (rw (length-map (now (a .rows)) asU64) (s₀ .pre .0))
-    (rw (length-map (now (a .rows)) asU64) (s₀ .pre .1))
+    (is-code (d .before .before .before)) (rw (length-map (now (a .rows)) asU64) (s₀ .pre .0)) (rw (length-map (now (a .rows)) asU64) (s₀ .pre .1))
     (rw (length-map (now (a .rows)) asU64) (omega (arith, s₀ .pre .1, c .before .before .keep-low .kept .0, long-vals d)))
-    (omega (arith, c .before .before .before .before .before .before .before .before .before .before .before .before .before .before .before .before .before .before .before .before .before .before .before .before .before .base-size .ensures, c .before .before .before .before .before .before .before .before .before .before .before .before .before .before .before .before .before .before .before .before .before .before .before .if2 .left))
-    (n .narrowest-code .ensures .isCode)
-    (λ z. c .before .before .before .before .before .before .before .before .before .before .before .before .before .if3 .left (pw-code ∙ z))
-    (width-le code)
-    few-entries
-    (few m)
+    (omega (arith, d .before .before .before .before .base-size .ensures, d .before .before .if2 .left)) (n .narrowest-code .ensures .isCode) (λ z. back-12 .before .if3 .left (pw-code ∙ z)) (width-le code) few-entries (few m)
 
 pub header-of-spec : {M : Type 1} → statement M
 header-of-spec =
-    tie.close
-    (tie.spec
-    table-code-requires
-    base-size-requires
-    returns
-    returns-2
-    differences-requires
-    largest-requires
-    above-requires
-    narrowest-code-requires
-    bits-of-requires
-    same-length
-    returns-3
-    fill-requires
-    same-length-2
-    same-length-3
-    returns-4
-    largest-requires-2
-    shr-gap-width
-    gap-width-requires
-    keep-low-requires
-    same-length-4
-    same-length-5
-    returns-5)
+    tie.close (tie.spec (λ c κs. search needs) (λ c κs. search needs) returns returns-2 (λ c κs. search needs) (λ c κs. search needs) above-requires
+    (λ c κs. search needs) (λ c κs. search needs) (λ c. search needs) returns-3 fill-requires (λ c. search needs) (λ c. search needs) returns-4 (λ c κs. search needs)
+    shr-gap-width gap-width-requires keep-low-requires (λ c. search needs) (λ c. search needs) returns-5)

@@ -5,17 +5,8 @@ use borrow.Author.Tests.{lt-leb, le-leb}
 use Rattle.writer.proofs.patched_base.magnitude.Statement.{statement}
 use Rattle.writer.proofs.patched_base.magnitude.Tie as tie
 
-sub-result : tie.Need-sub-result
-sub-result c = search needs
-
-add-result : tie.Need-add-result
-add-result c = search needs
-
-returns : tie.Need-returns
-returns c = simp (lt-leb _ _ (c .if1 .taken))
-
 returns-2 : tie.Need-returns-2
 returns-2 c = simp (le-leb _ _ (c .if1 .left)) (omega arith)
 
 pub magnitude-spec : {M : Type 1} → statement M
-magnitude-spec = tie.close (tie.spec sub-result add-result returns returns-2)
+magnitude-spec = tie.close (tie.spec (λ c. search needs) (λ c. search needs) (λ c. simp (lt-leb _ _ (c .if1 .taken))) returns-2)

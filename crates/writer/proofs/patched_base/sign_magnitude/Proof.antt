@@ -12,18 +12,6 @@ use Rattle.writer.proofs.patched_base.sign_magnitude.Tie as tie
 returns : tie.Need-returns
 returns c = simp (lt-leb _ _ (c .if1 .taken)) (omega arith)
 
-mul-result : tie.Need-mul-result
-mul-result c = search needs
-
-sub-result : tie.Need-sub-result
-sub-result c = search needs
-
-shl-result : tie.Need-shl-result
-shl-result c = search needs
-
-magnitude-requires : tie.Need-magnitude-requires
-magnitude-requires c κs = search needs
-
 add-result : tie.Need-add-result
 add-result c =
     let p = pow-mono {i = 8 * c .before .before .args .size - 1} {j = 63} (omega arith) in
@@ -38,5 +26,4 @@ returns-2 c =
     rw t (omega (arith, m))
 
 pub sign-magnitude-spec : {M : Type 1} → statement M
-sign-magnitude-spec =
-    tie.close (tie.spec returns mul-result sub-result shl-result magnitude-requires add-result returns-2)
+sign-magnitude-spec = tie.close (tie.spec returns (λ c. search needs) (λ c. search needs) (λ c. search needs) (λ c κs. search needs) add-result returns-2)

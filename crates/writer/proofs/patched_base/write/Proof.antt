@@ -8,12 +8,6 @@ use borrow.Author.Needs.{needs}
 use Rattle.writer.proofs.patched_base.write.Statement.{statement}
 use Rattle.writer.proofs.patched_base.write.Tie as tie
 
-is-kept-requires : tie.Need-is-kept-requires
-is-kept-requires c κs = search needs
-
-refused-requires : tie.Need-refused-requires
-refused-requires c κs = search needs
-
 returns : tie.Need-returns
 returns c =
     let k = c .before .before in
@@ -27,11 +21,10 @@ write-kept-requires c κs =
     let s = k .before .before in
     ((s .pre .0, s .pre .1), sym (k .is-kept .ensures) ∙ not-false _ (c .before .if1 .left))
 
-same-length : tie.Need-same-length
-same-length c = search needs
-
 returns-2 : tie.Need-returns-2
-returns-2 c = rw (toZ-ofZ (c .before .before .before .before .before .before .before .fits .base)) at (c .before .before .write-kept .ensures)
+returns-2 c =
+    let back-6 = c .before .before .before .before .before .before in
+    rw (toZ-ofZ (back-6 .before .fits .base)) at (c .before .before .write-kept .ensures)
 
 pub write-spec : {M : Type 1} → statement M
-write-spec = tie.close (tie.spec is-kept-requires refused-requires returns write-kept-requires same-length returns-2)
+write-spec = tie.close (tie.spec (λ c κs. search needs) (λ c κs. search needs) returns write-kept-requires (λ c. search needs) returns-2)

@@ -16,81 +16,33 @@ low-is : (c : tie.After-to-u64) → c .to-u64 .result ≡ asU64 (c .before .befo
 low-is c = rw (toZ-ofZ (c .before .before .fits .base)) at (c .to-u64 .ensures)
 
 -- the header that was found
-header : (c : tie.After-h) → Headed (c .before .before .before .before .before .before .before .before .before .to-u64 .result) (c .before .before .before .before .before .before .before .before .before .before .before .args .width) (map asU64 (now (c .before .before .before .before .before .before .before .before .before .before .before .args .rows))) (c .before .before .before .before .header-of .last .1 .1 .1 .0) (c .before .before .before .before .header-of .last .1 .1 .1 .1 .0) (c .h .given .0 .0)
+header : (c : tie.After-h) → let back-6 = c .before .before .before .before .before .before in Headed (back-6 .before .before .before .to-u64 .result) (back-6 .before .before .before .before .before .args .width) (map asU64 (now (back-6 .before .before .before .before .before .args .rows))) (c .before .before .before .before .header-of .last .1 .1 .1 .0) (c .before .before .before .before .header-of .last .1 .1 .1 .1 .0) (c .h .given .0 .0)
 header c = rw (c .h .given .1) at (c .before .before .before .before .header-of .ensures)
-
-to-u64-requires : tie.Need-to-u64-requires
-to-u64-requires c κs = search needs
-
-scratch-requires : tie.Need-scratch-requires
-scratch-requires c κs = search needs
-
-scratch-requires-2 : tie.Need-scratch-requires-2
-scratch-requires-2 c κs = search needs
-
-slice-aggregate-header-of : tie.Need-slice-aggregate-header-of
-slice-aggregate-header-of c = search needs
-
-slice-aggregate-header-of-2 : tie.Need-slice-aggregate-header-of-2
-slice-aggregate-header-of-2 c = search needs
-
-header-of-requires : tie.Need-header-of-requires
-header-of-requires c κs = search needs
-
-enum-told : tie.Need-enum-told
-enum-told c = search needs
-
-refused-requires : tie.Need-refused-requires
-refused-requires c κs = search needs
-
-enum-known-h : tie.Need-enum-known-h
-enum-known-h c = search needs
-
-slice-aggregate-lay : tie.Need-slice-aggregate-lay
-slice-aggregate-lay c = search needs
-
-slice-aggregate-lay-2 : tie.Need-slice-aggregate-lay-2
-slice-aggregate-lay-2 c = search needs
 
 lay-requires : tie.Need-lay-requires
 lay-requires c κs = header (c .before .before .before .before) .ready
 
 returns : tie.Need-returns
 returns c =
-    let s = c .before .before .before .before .before .before .before .before .before .before .before .before in
+    let back-6 = c .before .before .before .before .before .before in
+    let s = back-6 .before .before .before .before .before .before in
     let a = s .args in
-    let e : headerHolds (parts (asU64 (a .base)) (a .width) (map asU64 (now (a .rows)))) ≡ false = rw (c .before .enum-told .given .1, low-is (c .before .before .before .before .before .before .before .before .before .before)) at (c .before .before .before .before .before .header-of .ensures) in
+    let e : headerHolds (parts (asU64 (a .base)) (a .width) (map asU64 (now (a .rows)))) ≡ false = rw (c .before .enum-told .given .1, low-is (back-6 .before .before .before .before)) at (c .before .before .before .before .before .header-of .ensures) in
     bad-form (now (a .rows)) (a .base) (a .width) (now (a .out)) (c .refused .result) (s .pre .0 .0) (s .pre .0 .1) (s .pre .1) e (c .refused .ensures)
-
-same-length : tie.Need-same-length
-same-length c = search needs
 
 returns-2 : tie.Need-returns-2
 returns-2 c =
-    let s = c .before .before .before .before .before .before .before .before .before .before .before .before .before .before .before .before .before .before in
+    let back-6 = c .before .before .before .before .before .before in
+    let back-12 = back-6 .before .before .before .before .before .before in
+    let s = back-12 .before .before .before .before .before .before in
     let a = s .args in
-    let k = header (c .before .before .before .before .before .before .before) in
-    let e : headerHolds (parts (asU64 (a .base)) (a .width) (map asU64 (now (a .rows)))) ≡ true = rw (low-is (c .before .before .before .before .before .before .before .before .before .before .before .before .before .before .before .before)) at (k .holds) in
+    let k = header (back-6 .before) in
+    let e : headerHolds (parts (asU64 (a .base)) (a .width) (map asU64 (now (a .rows)))) ≡ true = rw (low-is (back-12 .before .before .before .before)) at (k .holds) in
     let l : Laid (parts (asU64 (a .base)) (a .width) (map asU64 (now (a .rows)))) (now (a .out)) (c .before .before .lay .last .1 .1 .1 .1 .0) (c .before .before .lay .result) =
-    rw (k .same, low-is (c .before .before .before .before .before .before .before .before .before .before .before .before .before .before .before .before)) at (c .before .before .lay .ensures) in
+    rw (k .same, low-is (back-12 .before .before .before .before)) at (c .before .before .lay .ensures) in
     formed (now (a .rows)) (a .base) (a .width) (now (a .out)) (c .before .before .lay .result) (s .pre .0 .0) (s .pre .0 .1) _ (s .pre .1) e l
 
 pub write-kept-spec : {M : Type 1} → statement M
 write-kept-spec =
-    tie.close
-    (tie.spec
-    to-u64-requires
-    scratch-requires
-    scratch-requires-2
-    slice-aggregate-header-of
-    slice-aggregate-header-of-2
-    header-of-requires
-    enum-told
-    refused-requires
-    enum-known-h
-    slice-aggregate-lay
-    slice-aggregate-lay-2
-    lay-requires
-    returns
-    same-length
-    returns-2)
+    tie.close (tie.spec (λ c κs. search needs) (λ c κs. search needs) (λ c κs. search needs) (λ c. search needs) (λ c. search needs) (λ c κs. search needs)
+    (λ c. search needs) (λ c κs. search needs) (λ c. search needs) (λ c. search needs) (λ c. search needs) lay-requires returns (λ c. search needs) returns-2)

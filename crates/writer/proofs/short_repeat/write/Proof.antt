@@ -9,139 +9,63 @@ use denote.Ref.{now}
 use Rattle.format.specs.Rows.{asU64}
 use Rattle.format.specs.Writing as Writing
 use Rattle.format.specs.Writing.{firstOf}
-use Rattle.writer.proofs.Forms.{Short, short-known, unlike, too-large, too-little, repeated}
+use Rattle.writer.proofs.ShortForm.{Short, short-known, unlike, too-large, too-little, repeated}
 use borrow.Author.Needs.{needs}
 use Rattle.writer.proofs.short_repeat.write.Statement.{statement}
 use Rattle.writer.proofs.short_repeat.write.Tie as tie
 
-pattern-of-requires : tie.Need-pattern-of-requires
-pattern-of-requires c κs = search needs
+-- ---- what is known once the rows are tested ..
 
-scratch-requires : tie.Need-scratch-requires
-scratch-requires c κs = search needs
+module _ (t : tie.After-all-are) where
+  abbrev kept : tie.After-store
+  kept = t .before .before .before
 
-slice-aggregate-store : tie.Need-slice-aggregate-store
-slice-aggregate-store c = search needs
+  abbrev first : tie.After-pattern-of
+  first = kept .before .before .before
 
-store-requires : tie.Need-store-requires
-store-requires c κs = search needs
+  abbrev entry : tie.Start
+  entry = first .before .before
 
-slice-aggregate-all-are : tie.Need-slice-aggregate-all-are
-slice-aggregate-all-are c = search needs
+  known : Short (now (entry .args .rows)) (entry .args .signed) (entry .args .size) (t .all-are .result)
+  known =
+      short-known (now (entry .args .rows)) (entry .args .signed) (entry .args .size) (first .pattern-of .result) (kept .store .last .1 .1 .0) (drop (length (now (entry .args .rows))) (kept .before .before .scratch .result)) (t .all-are .result)
+      (omega arith) (omega arith) (omega arith) (omega arith) (first .pattern-of .ensures) (kept .store .ensures) (t .all-are .ensures)
 
-all-are-requires : tie.Need-all-are-requires
-all-are-requires c κs = search needs
+-- ---- .. and the value's size
 
-refused-requires : tie.Need-refused-requires
-refused-requires c κs = search needs
+module _ (m : tie.After-fits2) where
+  abbrev tested : tie.After-all-are
+  tested = m .before .before .before
+
+  first-is : m .before .stored .result ≡ firstOf (entry tested .args .signed) (map asU64 (now (entry tested .args .rows)))
+  first-is = m .before .stored .ensures ∙ ap (λ (x : ℕ). Writing.stored (entry tested .args .signed) x) (first tested .pattern-of .ensures)
+
+  fit-is : m .fits2 .result ≡ ltb (firstOf (entry tested .args .signed) (map asU64 (now (entry tested .args .rows)))) (2 ^ (8 * entry tested .args .size))
+  fit-is = m .fits2 .ensures ∙ ap (λ (x : ℕ). ltb x (2 ^ (8 * entry tested .args .size))) first-is
 
 returns : tie.Need-returns
-returns c =
-    let tested = c .before .before in
-    let kept = tested .before .before .before in
-    let first = kept .before .before .before .pattern-of in
-    let a = kept .before .before .before .before .before .args in
-    let k : Short (now (a .rows)) (a .signed) (a .size) (tested .all-are .result) =
-    short-known (now (a .rows)) (a .signed) (a .size) (first .result) (kept .store .last .1 .1 .0) (drop (length (now (a .rows))) (kept .before .before .scratch .result)) (tested .all-are .result)
-    (omega arith) (omega arith) (omega arith) (omega arith) (first .ensures) (kept .store .ensures) (tested .all-are .ensures) in
-    unlike k (now (a .out)) (c .refused .result) (c .before .if1 .taken) (c .refused .ensures)
-
-stored-requires : tie.Need-stored-requires
-stored-requires c κs = search needs
-
-mul-bits : tie.Need-mul-bits
-mul-bits c = search needs
-
-fits-requires : tie.Need-fits-requires
-fits-requires c κs = search needs
-
-refused-requires-2 : tie.Need-refused-requires-2
-refused-requires-2 c κs = search needs
+returns c = let t = c .before .before in unlike (known t) (now (entry t .args .out)) (c .refused .result) (c .before .if1 .taken) (c .refused .ensures)
 
 returns-2 : tie.Need-returns-2
 returns-2 c =
-    let tested = c .before .before .before .before .before in
-    let kept = tested .before .before .before in
-    let first = kept .before .before .before .pattern-of in
-    let a = kept .before .before .before .before .before .args in
-    let k : Short (now (a .rows)) (a .signed) (a .size) (tested .all-are .result) =
-    short-known (now (a .rows)) (a .signed) (a .size) (first .result) (kept .store .last .1 .1 .0) (drop (length (now (a .rows))) (kept .before .before .scratch .result)) (tested .all-are .result)
-    (omega arith) (omega arith) (omega arith) (omega arith) (first .ensures) (kept .store .ensures) (tested .all-are .ensures) in
-    let v : c .before .before .before .stored .result ≡ firstOf (a .signed) (map asU64 (now (a .rows))) = c .before .before .before .stored .ensures ∙ ap (λ (x : ℕ). Writing.stored (a .signed) x) (first .ensures) in
-    let g : c .before .before .fits2 .result ≡ ltb (firstOf (a .signed) (map asU64 (now (a .rows)))) (2 ^ (8 * a .size)) = c .before .before .fits2 .ensures ∙ ap (λ (x : ℕ). ltb x (2 ^ (8 * a .size))) v in
-    too-large k (c .before .before .before .before .if1 .left) _ g (now (a .out)) (c .refused2 .result) (c .before .if2 .taken) (c .refused2 .ensures)
-
-add-if3 : tie.Need-add-if3
-add-if3 c = search needs
-
-refused-requires-3 : tie.Need-refused-requires-3
-refused-requires-3 c κs = search needs
+    let m = c .before .before in
+    too-large (known (tested m)) (m .before .before .if1 .left) _ (fit-is m) (now (entry (tested m) .args .out)) (c .refused2 .result) (c .before .if2 .taken) (c .refused2 .ensures)
 
 returns-3 : tie.Need-returns-3
 returns-3 c =
-    let tested = c .before .before .before .before .before .before in
-    let kept = tested .before .before .before in
-    let first = kept .before .before .before .pattern-of in
-    let a = kept .before .before .before .before .before .args in
-    let k : Short (now (a .rows)) (a .signed) (a .size) (tested .all-are .result) =
-    short-known (now (a .rows)) (a .signed) (a .size) (first .result) (kept .store .last .1 .1 .0) (drop (length (now (a .rows))) (kept .before .before .scratch .result)) (tested .all-are .result)
-    (omega arith) (omega arith) (omega arith) (omega arith) (first .ensures) (kept .store .ensures) (tested .all-are .ensures) in
-    let v : c .before .before .before .before .stored .result ≡ firstOf (a .signed) (map asU64 (now (a .rows))) = c .before .before .before .before .stored .ensures ∙ ap (λ (x : ℕ). Writing.stored (a .signed) x) (first .ensures) in
-    let g : c .before .before .before .fits2 .result ≡ ltb (firstOf (a .signed) (map asU64 (now (a .rows)))) (2 ^ (8 * a .size)) = c .before .before .before .fits2 .ensures ∙ ap (λ (x : ℕ). ltb x (2 ^ (8 * a .size))) v in
-    too-little k (c .before .before .before .before .before .if1 .left) _ g (now (a .out)) (c .refused3 .result) (c .before .before .if2 .left) (c .before .if3 .taken) (c .refused3 .ensures)
-
-write-head-requires : tie.Need-write-head-requires
-write-head-requires c κs = search needs
-
-write-requires : tie.Need-write-requires
-write-requires c κs = search needs
-
-add-run : tie.Need-add-run
-add-run c = search needs
-
-run-requires : tie.Need-run-requires
-run-requires c κs = search needs
-
-same-length : tie.Need-same-length
-same-length c = search needs
+    let m = c .before .before .before in
+    too-little (known (tested m)) (m .before .before .if1 .left) _ (fit-is m) (now (entry (tested m) .args .out)) (c .refused3 .result) (c .before .before .if2 .left) (c .before .if3 .taken) (c .refused3 .ensures)
 
 returns-4 : tie.Need-returns-4
 returns-4 c =
-    let tested = c .before .before .before .before .before .before .before .before .before .before .before .before .before .before in
-    let kept = tested .before .before .before in
-    let first = kept .before .before .before .pattern-of in
-    let a = kept .before .before .before .before .before .args in
-    let k : Short (now (a .rows)) (a .signed) (a .size) (tested .all-are .result) =
-    short-known (now (a .rows)) (a .signed) (a .size) (first .result) (kept .store .last .1 .1 .0) (drop (length (now (a .rows))) (kept .before .before .scratch .result)) (tested .all-are .result)
-    (omega arith) (omega arith) (omega arith) (omega arith) (first .ensures) (kept .store .ensures) (tested .all-are .ensures) in
-    let v : c .before .before .before .before .before .before .before .before .before .before .before .before .stored .result ≡ firstOf (a .signed) (map asU64 (now (a .rows))) = c .before .before .before .before .before .before .before .before .before .before .before .before .stored .ensures ∙ ap (λ (x : ℕ). Writing.stored (a .signed) x) (first .ensures) in
-    let g : c .before .before .before .before .before .before .before .before .before .before .before .fits2 .result ≡ ltb (firstOf (a .signed) (map asU64 (now (a .rows)))) (2 ^ (8 * a .size)) = c .before .before .before .before .before .before .before .before .before .before .before .fits2 .ensures ∙ ap (λ (x : ℕ). ltb x (2 ^ (8 * a .size))) v in
-    repeated k (c .before .before .before .before .before .before .before .before .before .before .before .before .before .if1 .left) _ g (now (a .out)) (c .before .before .before .before .before .before .before .write-head .last .1 .1 .0) (c .before .before .before .write .last .1 .1 .0) (c .run .result) (c .before .before .before .before .before .before .before .before .before .before .if2 .left) (c .before .before .before .before .before .before .before .before .before .if3 .left)
-    (c .run .ensures) (c .before .before .before .before .before .before .before .write-head .ensures) (rw v at (c .before .before .before .write .ensures))
+    let w = c .before .before .before in
+    let h = w .before .before .before .before in
+    let m = h .before .before .before .before in
+    repeated (known (tested m)) (m .before .before .if1 .left) _ (fit-is m) (now (entry (tested m) .args .out)) (h .write-head .last .1 .1 .0) (w .write .last .1 .1 .0) (c .run .result) (h .before .before .before .if2 .left) (h .before .before .if3 .left)
+    (c .run .ensures) (h .write-head .ensures) (rw (first-is m) at (w .write .ensures))
 
 pub write-spec : {M : Type 1} → statement M
 write-spec =
-    tie.close
-    (tie.spec
-    pattern-of-requires
-    scratch-requires
-    slice-aggregate-store
-    store-requires
-    slice-aggregate-all-are
-    all-are-requires
-    refused-requires
-    returns
-    mul-bits
-    stored-requires
-    fits-requires
-    refused-requires-2
-    returns-2
-    add-if3
-    refused-requires-3
-    returns-3
-    write-head-requires
-    write-requires
-    add-run
-    run-requires
-    same-length
-    returns-4)
+    tie.close (tie.spec (λ c κs. search needs) (λ c κs. search needs) (λ c. search needs) (λ c κs. search needs) (λ c. search needs) (λ c κs. search needs)
+    (λ c κs. search needs) returns (λ c. search needs) (λ c κs. search needs) (λ c κs. search needs) (λ c κs. search needs) returns-2 (λ c. search needs)
+    (λ c κs. search needs) returns-3 (λ c κs. search needs) (λ c κs. search needs) (λ c. search needs) (λ c κs. search needs) (λ c. search needs) returns-4)

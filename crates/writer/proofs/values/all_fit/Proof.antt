@@ -15,30 +15,12 @@ Inv-loop vals n bits i₀ i = (i ≤ n) × Left (λ x. ltb x (2 ^ bits)) vals n 
 abbrev μ-loop : tie.MeasureT-loop
 μ-loop vals n bits i₀ i = n - i
 
-loop-holds : tie.Need-loop-holds Inv-loop μ-loop
-loop-holds c = (omega arith, refl)
-
-mul-fits : tie.Need-mul-fits Inv-loop μ-loop
-mul-fits c = omega arith
-
-shared-slice-read-fits : tie.Need-shared-slice-read-fits Inv-loop μ-loop
-shared-slice-read-fits c = omega arith
-
-fits-requires : tie.Need-fits-requires Inv-loop μ-loop
-fits-requires c κs = omega arith
-
 returns : tie.Need-returns Inv-loop μ-loop
 returns c =
     let l = c .before .before .before .before .loop in
     let a = c .before .before .before .before .before .before .args in
     stops (λ x. ltb x (2 ^ a .bits)) (now (a .vals)) (a .n) (l .i) (l .inv .1) (omega arith) (omega arith)
     (sym (c .before .fits2 .ensures) ∙ not-true _ (c .if1 .taken))
-
-add-i : tie.Need-add-i Inv-loop μ-loop
-add-i c = omega arith
-
-loop-less : tie.Need-loop-less Inv-loop μ-loop
-loop-less c = omega arith
 
 loop-again : tie.Need-loop-again Inv-loop μ-loop
 loop-again c =
@@ -57,16 +39,5 @@ returns-2 c =
 
 pub all-fit-spec : {M : Type 1} → statement M
 all-fit-spec =
-    tie.close
-    (tie.spec
-    Inv-loop
-    μ-loop
-    loop-holds
-    mul-fits
-    shared-slice-read-fits
-    fits-requires
-    returns
-    add-i
-    loop-less
-    loop-again
-    returns-2)
+    tie.close (tie.spec Inv-loop μ-loop (λ c. (omega arith, refl)) (λ c. omega arith) (λ c. omega arith) (λ c κs. omega arith) returns (λ c. omega arith)
+    (λ c. omega arith) loop-again returns-2)

@@ -7,12 +7,6 @@ use borrow.Author.Needs.{needs}
 use Rattle.writer.proofs.values.bit_length.Statement.{statement}
 use Rattle.writer.proofs.values.bit_length.Tie as tie
 
-sub-result : tie.Need-sub-result
-sub-result c = leading-le 64 (c .args .x)
-
-cast-result : tie.Need-cast-result
-cast-result c = search needs
-
 returns : tie.Need-returns
 returns c =
     let l = leading-length 64 (c .args .x) (c .fits .x .fits) in
@@ -20,4 +14,4 @@ returns c =
     rw e (record { most = omega (arith, l .1); holds = l .2; least = l .3 })
 
 pub bit-length-spec : {M : Type 1} → statement M
-bit-length-spec = tie.close (tie.spec sub-result cast-result returns)
+bit-length-spec = tie.close (tie.spec (λ c. leading-le 64 (c .args .x)) (λ c. search needs) returns)

@@ -21,27 +21,6 @@ Inv-loop rows base vals₀ i₀ vals i =
 abbrev μ-loop : tie.MeasureT-loop
 μ-loop rows base vals₀ i₀ vals i = length rows - i
 
-loop-holds : tie.Need-loop-holds Inv-loop μ-loop
-loop-holds c = (omega arith, refl, refl, refl)
-
-pattern-of-requires : tie.Need-pattern-of-requires Inv-loop μ-loop
-pattern-of-requires c κs = omega arith
-
-sub-requires : tie.Need-sub-requires Inv-loop μ-loop
-sub-requires c κs = omega arith
-
-mul-vals : tie.Need-mul-vals Inv-loop μ-loop
-mul-vals c = omega arith
-
-slice-write-vals : tie.Need-slice-write-vals Inv-loop μ-loop
-slice-write-vals c = omega arith
-
-add-i : tie.Need-add-i Inv-loop μ-loop
-add-i c = omega arith
-
-loop-less : tie.Need-loop-less Inv-loop μ-loop
-loop-less c = omega arith
-
 loop-again : tie.Need-loop-again Inv-loop μ-loop
 loop-again c =
     let l = c .before .before .before .loop in
@@ -55,9 +34,6 @@ loop-again c =
       kept (l .vals) (now (a .vals)) (l .i) _ (l .inv .3),
     )
 
-same-length : tie.Need-same-length Inv-loop μ-loop
-same-length c = c .before .loop .inv .1
-
 returns : tie.Need-returns Inv-loop μ-loop
 returns c =
     let l = c .before .loop in
@@ -69,17 +45,5 @@ returns c =
 
 pub differences-spec : {M : Type 1} → statement M
 differences-spec =
-    tie.close
-    (tie.spec
-    Inv-loop
-    μ-loop
-    loop-holds
-    pattern-of-requires
-    sub-requires
-    mul-vals
-    slice-write-vals
-    add-i
-    loop-less
-    loop-again
-    same-length
-    returns)
+    tie.close (tie.spec Inv-loop μ-loop (λ c. (omega arith, refl, refl, refl)) (λ c κs. omega arith) (λ c κs. omega arith) (λ c. omega arith) (λ c. omega arith)
+    (λ c. omega arith) (λ c. omega arith) loop-again (λ c. c .before .loop .inv .1) returns)

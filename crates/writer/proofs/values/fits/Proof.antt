@@ -7,11 +7,8 @@ use Rattle.writer.proofs.Laws.{shifted-out}
 use Rattle.writer.proofs.values.fits.Statement.{statement}
 use Rattle.writer.proofs.values.fits.Tie as tie
 
-above-requires : tie.Need-above-requires
-above-requires c κs = search needs
-
 returns : tie.Need-returns
 returns c = ap (λ (x : ℕ). eqb x 0) (c .above .ensures) ∙ shifted-out (c .before .args .x) (c .before .args .bits)
 
 pub fits-spec : {M : Type 1} → statement M
-fits-spec = tie.close (tie.spec above-requires returns)
+fits-spec = tie.close (tie.spec (λ c κs. search needs) returns)

@@ -20,30 +20,6 @@ Inv-loop vals₀ n bits i₀ vals i =
 abbrev μ-loop : tie.MeasureT-loop
 μ-loop vals₀ n bits i₀ vals i = n - i
 
-loop-holds : tie.Need-loop-holds Inv-loop μ-loop
-loop-holds c = (omega arith, refl, refl, refl)
-
-mul-cut : tie.Need-mul-cut Inv-loop μ-loop
-mul-cut c = omega arith
-
-slice-read-cut : tie.Need-slice-read-cut Inv-loop μ-loop
-slice-read-cut c = omega arith
-
-cut-requires : tie.Need-cut-requires Inv-loop μ-loop
-cut-requires c κs = omega arith
-
-mul-vals : tie.Need-mul-vals Inv-loop μ-loop
-mul-vals c = omega arith
-
-slice-write-vals : tie.Need-slice-write-vals Inv-loop μ-loop
-slice-write-vals c = omega arith
-
-add-i : tie.Need-add-i Inv-loop μ-loop
-add-i c = omega arith
-
-loop-less : tie.Need-loop-less Inv-loop μ-loop
-loop-less c = omega arith
-
 loop-again : tie.Need-loop-again Inv-loop μ-loop
 loop-again c =
     let l = c .before .before .before .loop in
@@ -58,9 +34,6 @@ loop-again c =
       kept (l .vals) (now (a .vals)) (l .i) _ (l .inv .3),
     )
 
-same-length : tie.Need-same-length Inv-loop μ-loop
-same-length c = c .before .loop .inv .1
-
 returns : tie.Need-returns Inv-loop μ-loop
 returns c =
     let l = c .before .loop in
@@ -72,18 +45,5 @@ returns c =
 
 pub keep-low-spec : {M : Type 1} → statement M
 keep-low-spec =
-    tie.close
-    (tie.spec
-    Inv-loop
-    μ-loop
-    loop-holds
-    mul-cut
-    slice-read-cut
-    cut-requires
-    mul-vals
-    slice-write-vals
-    add-i
-    loop-less
-    loop-again
-    same-length
-    returns)
+    tie.close (tie.spec Inv-loop μ-loop (λ c. (omega arith, refl, refl, refl)) (λ c. omega arith) (λ c. omega arith) (λ c κs. omega arith) (λ c. omega arith)
+    (λ c. omega arith) (λ c. omega arith) (λ c. omega arith) loop-again (λ c. c .before .loop .inv .1) returns)

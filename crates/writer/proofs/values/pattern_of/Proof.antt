@@ -11,15 +11,6 @@ use Rattle.writer.proofs.Laws.{pattern-at}
 use Rattle.writer.proofs.values.pattern_of.Statement.{statement}
 use Rattle.writer.proofs.values.pattern_of.Tie as tie
 
-mul-to-u64 : tie.Need-mul-to-u64
-mul-to-u64 c = search needs
-
-shared-slice-copy-out-to-u64 : tie.Need-shared-slice-copy-out-to-u64
-shared-slice-copy-out-to-u64 c = search needs
-
-to-u64-requires : tie.Need-to-u64-requires
-to-u64-requires c κs = search needs
-
 returns : tie.Need-returns
 returns c =
     let a = c .before .before .args in
@@ -27,5 +18,4 @@ returns c =
     c .to-u64 .ensures ∙ ap asU64 (toZ-ofZ {w = w64} {z = z} (sfits-of (c .before .to-u64-arg .given))) ∙ sym (pattern-at (now (a .rows)) (a .i))
 
 pub pattern-of-spec : {M : Type 1} → statement M
-pattern-of-spec =
-    tie.close (tie.spec mul-to-u64 shared-slice-copy-out-to-u64 to-u64-requires returns)
+pattern-of-spec = tie.close (tie.spec (λ c. search needs) (λ c. search needs) (λ c κs. search needs) returns)

@@ -3,12 +3,6 @@ use borrow.Author.Needs.{needs}
 use Rattle.writer.proofs.values.step.Statement.{statement}
 use Rattle.writer.proofs.values.step.Tie as tie
 
-sub-requires : tie.Need-sub-requires
-sub-requires c κs = search needs
-
-sub-requires-2 : tie.Need-sub-requires-2
-sub-requires-2 c κs = search needs
-
 returns : tie.Need-returns
 returns c = rw (c .before .if1 .taken) (c .sub .ensures)
 
@@ -16,4 +10,4 @@ returns-2 : tie.Need-returns-2
 returns-2 c = rw (c .before .if1 .left) (c .sub2 .ensures)
 
 pub step-spec : {M : Type 1} → statement M
-step-spec = tie.close (tie.spec sub-requires sub-requires-2 returns returns-2)
+step-spec = tie.close (tie.spec (λ c κs. search needs) (λ c κs. search needs) returns returns-2)

@@ -4,9 +4,6 @@ use Rattle.format.specs.Writing
 use Rattle.writer.proofs.values.stored.Statement.{statement}
 use Rattle.writer.proofs.values.stored.Tie as tie
 
-zigzag-of-requires : tie.Need-zigzag-of-requires
-zigzag-of-requires c κs = search needs
-
 returns : tie.Need-returns
 unfolding Writing.stored
 returns c = rw (c .before .if1 .taken) (c .zigzag-of .ensures)
@@ -16,4 +13,4 @@ unfolding Writing.stored
 returns-2 c = rw (c .if1 .left)
 
 pub stored-spec : {M : Type 1} → statement M
-stored-spec = tie.close (tie.spec zigzag-of-requires returns returns-2)
+stored-spec = tie.close (tie.spec (λ c κs. search needs) returns returns-2)

@@ -1,6 +1,6 @@
 //! Frames that were written out by hand.
 
-/// Document 01, "Runs on each side of the line": flags (0, 1), bytes, and what it says of them.
+/// FORMAT.md, "Sample runs": flags (0, 1), bytes, and what it says of them.
 pub const DOCUMENT: [(&[u8], &str, &str); 15] = [
     (&[0], "0A012C", "run short 16 5 3 300 300 300 300 300"),
     (&[1], "0A012C", "run short 16 5 3 150 150 150 150 150"),
@@ -51,8 +51,8 @@ pub const FRAMES: [&str; 38] = [
     "3FFFFFFFFFFFFFFFFF",
     "07FF",
     "C6010A05",
-    // Document 02, item 2. Values of 30 bits and a patch field of 40: a patch that fits, the largest, none,
-    // one too large, one out of place, both at once in one entry and in two, and one before a cut.
+    // FORMAT.md, "Patch lists". Values of 30 bits and a patch field of 40: a patch that fits, the largest,
+    // none, one too large, one out of place, both at once in one entry and in two, and one before a cut.
     "B4011C010A0000000400000020010000000003",
     "B4011C010A00000004000000200103FFFFFFFF",
     "B4011C000A0000000400000020",

@@ -1,7 +1,7 @@
 //! `probe_list FOLDER`: writes the fixed list of the probe program, FOLDER/list.in and FOLDER/list.out.
 //!
-//! The answers are the model's, which is an independent reading of documents 01 and 02: nothing of ours is
-//! asked. Document 01's own lines have their answers written out here from its text, and the model
+//! The answers are the model's, which is an independent reading of the rules: nothing of ours is
+//! asked. FORMAT.md's sample runs have their answers written out here by hand, and the model
 //! must agree; and a run that the Rust decoders read must have their rows too.
 //!
 //! ```text
@@ -29,10 +29,10 @@ fn bytes(hex: &str) -> Vec<u8> {
     digits.chunks(2).map(|two| (two[0] * 16 + two[1]) as u8).collect()
 }
 
-/// What document 01 says of the last line that was added is what the model says.
+/// What FORMAT.md says of the last line that was added is what the model says.
 fn document_says(requests: &Requests, answer: &str) {
     let (line, said) = requests.lines().last().expect("a line was added");
-    assert_eq!(said, answer, "document 01 and the model: {line}");
+    assert_eq!(said, answer, "FORMAT.md and the model: {line}");
 }
 
 /// A run under both flags. The Rust decoders must read it as the model does, or differ as docs/DIFFERENCES.md says.
@@ -93,7 +93,7 @@ fn cuts(requests: &mut Requests) {
     }
 }
 
-/// Document 02, item 7: varints of ten bytes, as the first row and as the base delta, with nothing behind
+/// FORMAT.md, "Varints": those of ten bytes, as the first row and as the base delta, with nothing behind
 /// the tenth, with the base delta or another run's byte, and with a varint that is cut.
 fn tenth_bytes(requests: &mut Requests) {
     for nine in [[0x80; 9], [0xFF; 9]] {
