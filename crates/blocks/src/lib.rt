@@ -1,10 +1,11 @@
 // Standard input in blocks, cut into lines: what the programs share. What was read and is not taken yet is the beginning of one line, so that a
 // line of any length takes no more room.
 ghost use mathlib.Core.Path.{_≡_};
-ghost use Prim.Native.Nat.{_+_, _≤_, min};
+ghost use Prim.Native.Nat.{_+_, _≤_};
 ghost use lib.ListN.{length, drop};
 ghost use Rattle.blocks.specs.Blocks.{lineLength, tooLong, part, Kept, Came};
 use libc::STDIN_FILENO;
+use util::number;
 
 // As many characters of a line as show that it is over 8,800.
 pub const MAX_HELD: usize = 8801;
@@ -47,19 +48,13 @@ fn keep(input: &mut [u8], from: usize, end: usize) -> usize
     requires { ⌜ (from ≤ end) × (end ≤ length (now input)) ⌝ }
     ensures { λ r. ⌜ Kept (part from end (now (input .entry))) (now (input .entry)) (now (input .exit)) r ⌝ }
 {
-    let n = least(end - from, MAX_HELD);
+    let n = number::least(end - from, MAX_HELD);
     let mut i = 0;
     while i < n {
         input[i] = input[from + i];
         i += 1;
     }
     n
-}
-
-fn least(a: usize, b: usize) -> usize
-    ensures { λ r. ⌜ r ≡ min a b ⌝ }
-{
-    if a < b { a } else { b }
 }
 
 // One read: what is left of the block before is moved to the front, and what is read stands behind it. What the system answers goes on as it is: no

@@ -23,7 +23,7 @@ use Rattle.loader.specs.Salvage.{salvageWords, salvageWordCount, Salvage
 use Rattle.planner.specs.declared.Checked.{Checked}
 use Rattle.planner.specs.declared.ColumnAnswer.{ColumnAnswer}
 use Rattle.loader.specs.Columns.{checkWords, checkWordCount, CheckToldDetermined, columnWords, columnWordCount, ColumnToldDetermined}
-use Rattle.format.specs.Loader.{answerWords, streamWords, wordCount, streamWordCount, tooFewWords, Put, Told, ToldOf}
+use Rattle.format.specs.Words.{answerWords, streamWords, wordCount, streamWordCount, tooFewWords, Put, Told, ToldOf}
 
 -- every answer has as many words as its function says
 pub answer-long : (a : Answer) → length (answerWords a) ≡ wordCount

@@ -11,7 +11,8 @@ use Rattle.planner.specs.declared.ColumnAnswer.{ColumnAnswer}
 use Rattle.planner.specs.declared.ColumnAnswer.the-variants.{Planned, Direct, Refused}
 use Rattle.planner.specs.Check.{Columns, checkedAs, column, toldAs, bytesIn}
 use Rattle.planner.specs.Plan.{Proposes}
-use Rattle.format.specs.Loader.{isSigned, Told, ToldOf}
+use Rattle.format.specs.Loader.{isSigned}
+use Rattle.format.specs.Words.{Told, ToldOf}
 
 -- A PROPOSAL: how many segments, and the columns at exit
 abbrev pub PlanTold : List ℤ → ℕ → Columns → ℕ → Type 0

@@ -5,7 +5,8 @@ use mathlib.Core.List.{List, [], _∷_}
 use lib.ListN.{length}
 use Rattle.format.specs.declared.CutField.{CutField}
 use Rattle.format.specs.declared.CutField.the-variants as field
-use Rattle.format.specs.Loader.{isSigned, cutCase, cutByte, ToldOf}
+use Rattle.format.specs.Loader.{isSigned}
+use Rattle.format.specs.Words.{cutCase, cutByte, ToldOf}
 use Rattle.convert.specs.declared.Converted.{Converted}
 use Rattle.convert.specs.declared.Converted.the-variants.{Done, Refused}
 use Rattle.convert.specs.Convert.{convert, toldAs, outcomeBytes}

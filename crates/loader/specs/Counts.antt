@@ -5,7 +5,7 @@ use Prim.Native.Nat.{ℕ}
 use mathlib.Core.List.{List, [], _∷_}
 use Rattle.format.specs.declared.CutField.{CutField}
 use Rattle.format.specs.declared.CutField.the-variants.{None}
-use Rattle.format.specs.Loader.{cutCase, cutByte, Told}
+use Rattle.format.specs.Words.{cutCase, cutByte, Told}
 use Rattle.season.specs.declared.Count.{Count}
 use Rattle.season.specs.declared.Count.the-variants.{True, Refused}
 use Rattle.season.specs.Ones.{countTrue}

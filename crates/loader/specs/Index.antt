@@ -9,7 +9,8 @@ use lib.IntN.{ℤ}
 use Rattle.format.specs.Fields.{pick}
 use Rattle.format.specs.declared.CutField.{CutField}
 use Rattle.format.specs.declared.CutField.the-variants as field
-use Rattle.format.specs.Loader.{isSigned, cutCase, cutByte, Told, ToldOf}
+use Rattle.format.specs.Loader.{isSigned}
+use Rattle.format.specs.Words.{cutCase, cutByte, Told, ToldOf}
 use Rattle.index.specs.Entries.{placesOf}
 use Rattle.index.specs.Columns.{Columns, columnsAt, buildingIn, lookupIn, readingIn}
 use Rattle.index.specs.Promises.{builtOf, foundOf, previewOf}

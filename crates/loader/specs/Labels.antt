@@ -7,7 +7,7 @@ use lib.IntN.{ℤ}
 use Rattle.labels.specs.declared.Label.{Label}
 use Rattle.labels.specs.declared.Label.the-variants.{Name, Fallback, Refused}
 use Rattle.labels.specs.Labels.{label}
-use Rattle.format.specs.Loader.{Told}
+use Rattle.format.specs.Words.{Told}
 
 abbrev pub labelCase : Label → ℕ
 labelCase (Name n) = 1

@@ -8,7 +8,8 @@ use lib.IntN.{ℤ}
 use Rattle.salvage.specs.declared.Outcome.{Outcome}
 use Rattle.salvage.specs.declared.Outcome.the-variants.{Written, Refused}
 use Rattle.salvage.specs.Salvage.{Call, salvaging, outcomeOf, streamIn, reportIn}
-use Rattle.format.specs.Loader.{isSigned, ToldOf}
+use Rattle.format.specs.Loader.{isSigned}
+use Rattle.format.specs.Words.{ToldOf}
 
 abbrev pub salvageCase : Outcome → ℕ
 salvageCase (Written n) = 1

@@ -3,7 +3,7 @@
 ghost use mathlib.Core.Path.{_≡_};
 ghost use Prim.Native.Nat.{_≤_};
 ghost use lib.ListN.{length};
-ghost use Rattle.format.specs.Loader.{Put};
+ghost use Rattle.format.specs.Words.{Put};
 ghost use Rattle.loader.specs.Columns.{checkCase, checkRuns, checkRows, checkBytes, checkNumber, checkWords, checkWordCount, columnCase, columnNumber, columnPlace, columnRuns, columnRows, columnBytes, columnWords, columnWordCount};
 use planner::Checked;
 use planner::ColumnAnswer;

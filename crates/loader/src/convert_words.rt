@@ -3,7 +3,7 @@
 ghost use mathlib.Core.Path.{_≡_};
 ghost use Prim.Native.Nat.{_≤_};
 ghost use lib.ListN.{length};
-ghost use Rattle.format.specs.Loader.{Put};
+ghost use Rattle.format.specs.Words.{Put};
 ghost use Rattle.loader.specs.Converting.{convertCase, convertNumber, convertPlace, convertAltered, convertBytes, convertCut, convertWords, convertWordCount};
 use crate::words;
 use convert::Converted;

@@ -2,7 +2,7 @@
 ghost use mathlib.Core.Path.{_≡_};
 ghost use Prim.Native.Nat.{_≤_};
 ghost use lib.ListN.{length};
-ghost use Rattle.format.specs.Loader.{Put};
+ghost use Rattle.format.specs.Words.{Put};
 ghost use Rattle.loader.specs.Counts.{countCase, countNumber, countPlace, countTrues, countCut, countWords, countWordCount};
 use crate::words::cut_byte;
 use crate::words::cut_case;

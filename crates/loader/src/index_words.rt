@@ -3,7 +3,7 @@
 ghost use mathlib.Core.Path.{_≡_};
 ghost use Prim.Native.Nat.{_≤_};
 ghost use lib.ListN.{length};
-ghost use Rattle.format.specs.Loader.{Put};
+ghost use Rattle.format.specs.Words.{Put};
 ghost use Rattle.loader.specs.Index.{builtCase, builtNumber, builtPlace, builtEntries, builtRows, builtBytes, builtCut, builtWords, builtWordCount, foundCase, foundNumber, foundPlace, foundFirst, foundOffset, foundRows, foundWords, foundWordCount, previewCase, previewNumber, previewPlace, previewRows, previewWords, previewWordCount};
 use crate::words::cut_byte;
 use crate::words::cut_case;

@@ -2,7 +2,7 @@
 ghost use mathlib.Core.Path.{_≡_};
 ghost use Prim.Native.Nat.{_≤_};
 ghost use lib.ListN.{length};
-ghost use Rattle.format.specs.Loader.{Put};
+ghost use Rattle.format.specs.Words.{Put};
 ghost use Rattle.loader.specs.Salvage.{salvageCase, salvageNumber, salvagePlace, salvageStream, salvageReport, salvageWords, salvageWordCount};
 use salvage::Outcome;
 

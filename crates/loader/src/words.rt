@@ -2,7 +2,7 @@
 ghost use mathlib.Core.Path.{_≡_};
 ghost use Prim.Native.Nat.{_≤_};
 ghost use lib.ListN.{length};
-ghost use Rattle.format.specs.Loader.{answerCase, answerKind, answerWords, cutCase, cutByte, streamCase, streamNumber, streamPlace, streamCut, streamRows, streamBytes, streamLast, lastAnswer, streamWords, wordCount, streamWordCount, Put};
+ghost use Rattle.format.specs.Words.{answerCase, answerKind, answerWords, cutCase, cutByte, streamCase, streamNumber, streamPlace, streamCut, streamRows, streamBytes, streamLast, lastAnswer, streamWords, wordCount, streamWordCount, Put};
 ghost use Rattle.format.specs.Answers.{answerNumber};
 use format::ALL_BITS;
 use format::Answer;

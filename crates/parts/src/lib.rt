@@ -1,6 +1,6 @@
 // The reader in parts (FORMAT.md, "Reader in parts"): it takes the input in parts and hands out one run at a time.
 ghost use mathlib.Core.Path.{_≡_};
-ghost use Prim.Native.Nat.{_+_, _-_, _≤_, min};
+ghost use Prim.Native.Nat.{_+_, _-_, _≤_};
 ghost use lib.ListN.{length};
 ghost use lib.Seq.{paste};
 ghost use Rattle.format.specs.Parts.{fresh, Takes, Closes};
@@ -16,6 +16,7 @@ use format::Refusal;
 use format::RowNumber;
 use format::Run;
 use format::Standing;
+use util::number;
 
 // A reader that has taken nothing.
 pub fn start() -> PartReader
@@ -152,13 +153,6 @@ fn beyond(n: usize, most: usize) -> usize
     if n < most { 0 } else { n - most }
 }
 
-// The smaller of two.
-fn least(a: usize, b: usize) -> usize
-    ensures { λ r. ⌜ r ≡ min a b ⌝ }
-{
-    if a < b { a } else { b }
-}
-
 // A call with a part, by what reading gave of the bytes looked at: those held, and as many of the part's behind them as a run can have.
 fn on_part(reader: PartReader, held: usize, seen: usize, part: usize, a: Answer) -> PartStep
     ensures { λ r. ⌜ r ≡ byAnswer reader held seen part a ⌝ }
@@ -206,7 +200,7 @@ fn opened(
     requires { ⌜ 4356 ≤ length (now buffer) ⌝ }
     ensures { λ r. ⌜ Goes reader (now (part .entry)) (now (buffer .entry)) (now (buffer .exit)) signed (now (out .entry)) (now (out .exit)) r (goes reader (now (part .entry)) (now (buffer .entry))) ⌝ }
 {
-    let h = least(reader.held, buffer.len());
+    let h = number::least(reader.held, buffer.len());
     let n = part.len();
     if h == 0 {
         // a run that lies whole in its part is read from there
@@ -216,7 +210,7 @@ fn opened(
         copy(part, kept.held, buffer, 0);
         return step;
     }
-    let k = least(n, beyond(Kind::MAX_BYTES, h));
+    let k = number::least(n, beyond(Kind::MAX_BYTES, h));
     copy(part, k, buffer, h);
     let a = rle_v2::read_gathered(&buffer[..h + k], signed, out);
     on_part(reader, h, h + k, n, a)
@@ -274,7 +268,7 @@ pub fn close(reader: PartReader, signed: bool, buffer: &[u8], out: &mut [i64]) -
         Standing::Broken(f) => idle(reader, PartAnswer::Refused(f)),
         Standing::Closed => idle(reader, PartAnswer::End),
         Standing::Opened => {
-            let h = least(reader.held, buffer.len());
+            let h = number::least(reader.held, buffer.len());
             let a = rle_v2::read_run(&buffer[..h], ByteOffset { bytes: 0 }, signed, out);
             on_close(reader, a)
         }
