@@ -2,7 +2,7 @@
 // line of any length takes no more room.
 ghost use mathlib.Core.Path.{_≡_};
 ghost use Prim.Native.Nat.{_+_, _≤_};
-ghost use lib.ListN.{length, drop};
+ghost use lib.ListN.{length, drop, replicate};
 ghost use Rattle.blocks.specs.Blocks.{lineLength, part, Kept, Came, notReady};
 use libc::STDIN_FILENO;
 use util::number;
@@ -22,7 +22,7 @@ pub struct Block {
 
 // A block, after as much as a line's beginning can take.
 pub fn input_places() -> [u8; MAX_HELD + BLOCK]
-    ensures { λ r. ⌜ length r ≡ 74337 ⌝ }
+    ensures { λ r. ⌜ r ≡ replicate 74337 0 ⌝ }
 {
     [0; MAX_HELD + BLOCK]
 }
