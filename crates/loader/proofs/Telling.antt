@@ -35,62 +35,6 @@ use Rattle.planner.specs.declared.ColumnAnswer.the-variants as column
 use Rattle.loader.specs.Columns.{checkWords, checkWordCount, CheckToldDetermined, columnWords, columnWordCount, ColumnToldDetermined}
 use Rattle.format.specs.Words.{answerWords, streamWords, wordCount, streamWordCount, tooFewWords, Put, Told, ToldOf}
 
--- every answer has as many words as its function says
-pub answer-long : (a : Answer) → length (answerWords a) ≡ wordCount
-unfolding answerWords
-answer-long a = refl
-
-pub stream-long : (s : Stream) → length (streamWords s) ≡ streamWordCount
-unfolding streamWords
-stream-long s = refl
-
-pub label-long : (l : Label) → length (labelWords l) ≡ labelWordCount
-unfolding labelWords
-label-long (label.Name n) = refl
-label-long (label.Fallback n) = refl
-label-long (label.Refused f) = refl
-
-pub count-long : (c : Count) → length (countWords c) ≡ countWordCount
-unfolding countWords
-count-long (count.True n) = refl
-count-long (count.Refused f) = refl
-
-pub built-long : (b : Built) → length (builtWords b) ≡ builtWordCount
-unfolding builtWords
-built-long (built.Index s) = refl
-built-long (built.Refused f) = refl
-
-pub found-long : (v : Found) → length (foundWords v) ≡ foundWordCount
-unfolding foundWords
-found-long (found.Entry e) = refl
-found-long (found.Refused f) = refl
-
-pub preview-long : (p : Preview) → length (previewWords p) ≡ previewWordCount
-unfolding previewWords
-preview-long (preview.Rows n) = refl
-preview-long (preview.Refused f) = refl
-
-pub salvage-long : (m : Outcome) → length (salvageWords m) ≡ salvageWordCount
-unfolding salvageWords
-salvage-long (salvage.Written n) = refl
-salvage-long (salvage.Refused f) = refl
-
-pub convert-long : (c : Converted) → length (convertWords c) ≡ convertWordCount
-unfolding convertWords
-convert-long (convert.Done n) = refl
-convert-long (convert.Refused f) = refl
-
-pub check-long : (c : Checked) → length (checkWords c) ≡ checkWordCount
-unfolding checkWords
-check-long (check.Accepted n) = refl
-check-long check.Rejected = refl
-
-pub column-long : (a : ColumnAnswer) → length (columnWords a) ≡ columnWordCount
-unfolding columnWords
-column-long (column.Planned n) = refl
-column-long (column.Direct n) = refl
-column-long (column.Refused f) = refl
-
 -- an answer's words, laid in the first of those lent, and its number, word 1
 pub laid : {B : Type 0} {wordsOf : B → List ℕ} {b : B} {said words words′ : List ℕ} → said ≡ wordsOf b → words′ ≡ said ++ drop (length said) words
     → Put wordsOf (numberIn wordsOf) b words words′ (getD said 1 0)
@@ -115,19 +59,42 @@ module _ {B : Type 0} {wordsOf : B → List ℕ} {numberOf : B → ℕ} {n : ℕ
       → Put wordsOf numberOf a words words′ r → ToldOf wordsOf numberOf b words words′ r done places places′
   put-of {A} {a} {b} {words} q h d p = let e = le-leb n (length words) h in record { told = put q h p; places-are = rw (long b, e) d }
 
--- the label's promise determines the number and the words
+-- every answer has as many words as its function says, and its promise determines the number, the words and every other lent place
+
+pub answer-long : (a : Answer) → length (answerWords a) ≡ wordCount
+unfolding answerWords
+answer-long a = refl
+
+pub stream-long : (s : Stream) → length (streamWords s) ≡ streamWordCount
+unfolding streamWords
+stream-long s = refl
+
+pub label-long : (l : Label) → length (labelWords l) ≡ labelWordCount
+unfolding labelWords
+label-long (label.Name n) = refl
+label-long (label.Fallback n) = refl
+label-long (label.Refused f) = refl
+
 pub label-told-determined : LabelToldDetermined
 label-told-determined lengths numbers flags block fall row words words′ words″ r r′ p q =
     (p .words-are ∙ sym (q .words-are), p .number-is ∙ sym (q .number-is))
 
--- .. and the patched writer's the bytes too
 pub patched-told-determined : PatchedToldDetermined
 patched-told-determined rows base w out out′ out″ words words′ words″ r r′ p q =
     (p .places-are ∙ sym (q .places-are), p .told .words-are ∙ sym (q .told .words-are), p .told .number-is ∙ sym (q .told .number-is))
 
--- and so does that of the count
+pub count-long : (c : Count) → length (countWords c) ≡ countWordCount
+unfolding countWords
+count-long (count.True n) = refl
+count-long (count.Refused f) = refl
+
 pub count-told-determined : CountToldDetermined
 count-told-determined packed n words words′ words″ r r′ p q = (p .words-are ∙ sym (q .words-are), p .number-is ∙ sym (q .number-is))
+
+pub built-long : (b : Built) → length (builtWords b) ≡ builtWordCount
+unfolding builtWords
+built-long (built.Index s) = refl
+built-long (built.Refused f) = refl
 
 -- what building told: too few words, or what was built put into them
 module _ {input first at counts words : List ℕ} where
@@ -138,7 +105,21 @@ module _ {input first at counts words : List ℕ} where
       → Put builtWords (numberIn builtWords) b words words′ r → IndexTold input first at counts first′ at′ counts′ words words′ r
   index-put q h p = record { told = put built-long (q .answer) h p; columns-are = rw (le-leb builtWordCount (length words) h) (q .columns) }
 
--- and the salvage's, with both outputs
+pub found-long : (v : Found) → length (foundWords v) ≡ foundWordCount
+unfolding foundWords
+found-long (found.Entry e) = refl
+found-long (found.Refused f) = refl
+
+pub preview-long : (p : Preview) → length (previewWords p) ≡ previewWordCount
+unfolding previewWords
+preview-long (preview.Rows n) = refl
+preview-long (preview.Refused f) = refl
+
+pub salvage-long : (m : Outcome) → length (salvageWords m) ≡ salvageWordCount
+unfolding salvageWords
+salvage-long (salvage.Written n) = refl
+salvage-long (salvage.Refused f) = refl
+
 pub salvage-told-determined : SalvageToldDetermined
 salvage-told-determined input starts counts fill flag out out′ out″ lines lines′ lines″ words words′ words″ r r′ p q = (
   p .stream-told .places-are ∙ sym (q .stream-told .places-are),
@@ -147,12 +128,28 @@ salvage-told-determined input starts counts fill flag out out′ out″ lines li
   p .stream-told .told .number-is ∙ sym (q .stream-told .told .number-is),
 )
 
+pub convert-long : (c : Converted) → length (convertWords c) ≡ convertWordCount
+unfolding convertWords
+convert-long (convert.Done n) = refl
+convert-long (convert.Refused f) = refl
+
 pub convert-told-determined : ConvertToldDetermined
 convert-told-determined input flag out out′ out″ words words′ words″ r r′ p q =
     (p .places-are ∙ sym (q .places-are), p .told .words-are ∙ sym (q .told .words-are), p .told .number-is ∙ sym (q .told .number-is))
 
+pub check-long : (c : Checked) → length (checkWords c) ≡ checkWordCount
+unfolding checkWords
+check-long (check.Accepted n) = refl
+check-long check.Rejected = refl
+
 pub check-told-determined : CheckToldDetermined
 check-told-determined rows flag c room words words′ words″ r r′ p q = (p .words-are ∙ sym (q .words-are), p .number-is ∙ sym (q .number-is))
+
+pub column-long : (a : ColumnAnswer) → length (columnWords a) ≡ columnWordCount
+unfolding columnWords
+column-long (column.Planned n) = refl
+column-long (column.Direct n) = refl
+column-long (column.Refused f) = refl
 
 pub column-told-determined : ColumnToldDetermined
 column-told-determined rows flag c out out′ out″ words words′ words″ r r′ p q =
