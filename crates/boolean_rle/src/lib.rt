@@ -12,6 +12,7 @@ use format::Answer;
 use format::ByteOffset;
 use format::Kind;
 use format::RowNumber;
+use util::number;
 
 // A byte run's size in the input, and how many bytes it stands for.
 struct ByteRun {
@@ -124,18 +125,12 @@ fn put_bits(byte: u8, m: usize, out: &mut [u8], k: usize)
     }
 }
 
-fn wide(x: u8) -> u64
-    ensures { λ r. ⌜ (r ≡ x) × (r < 256) ⌝ }
-{
-    x as u64
-}
-
 // A byte's bits as the bytes of a number, the highest bit lowest. The product has bit 7-j, for each j, as the top bit of its byte j. It is one of the
 // bits that are 0, taken from ones: of the product itself the optimiser makes eight stores, and of this one.
 fn spread(byte: u8) -> u64
     ensures { λ r. ⌜ lowestFirst 8 r ≡ digits 2 8 byte ⌝ }
 {
-    let zeros = 255 - wide(byte);
+    let zeros = 255 - number::wide(byte);
     let product = zeros * 0x0040201008040201 + zeros % 2 * 0x8000000000000000;
     0x0101010101010101 - ((product >> 7) & 0x0101010101010101)
 }
@@ -219,5 +214,10 @@ pub fn read_booleans(input: &[u8], at: ByteOffset, n: RowNumber, out: &mut [u8])
         return Answer::refused(8, position);
     }
     put_booleans(input, position, rows, out);
-    Answer::run(Kind::Booleans, 1, rows, consumed)
+    Answer::run(
+        Kind::Booleans,
+        1,
+        RowNumber { rows },
+        ByteOffset { bytes: consumed },
+    )
 }

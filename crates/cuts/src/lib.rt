@@ -7,6 +7,7 @@
 ghost use Prim.Native.Nat.{_≤_, _<_};
 ghost use lib.ListN.{length};
 ghost use Rattle.cuts.specs.Proposed.{Proposed};
+use util::number;
 use util::pattern;
 
 mod bits;
@@ -33,13 +34,6 @@ struct Laid {
     bytes: u64,
 }
 
-// The lesser of two lengths.
-fn least(a: usize, b: usize) -> usize
-    ensures { λ r. ⌜ (r ≤ a) × (r ≤ b) ⌝ }
-{
-    if a < b { a } else { b }
-}
-
 // So many rows further, at least one, up to the end.
 fn further(at: usize, rows: u64, end: usize) -> usize
     requires { ⌜ at < end ⌝ }
@@ -62,7 +56,7 @@ fn is_step(rows: &[i64], i: usize, step: u64) -> bool {
 // How many rows the first so many, in equal steps, go on with: a fixed delta takes them at no cost, behind the window too.
 fn stretch(rows: &[i64], count: u64) -> u64 {
     let step = pattern::sub(cells::row(rows, 1), cells::row(rows, 0));
-    let end = least(rows.len(), WINDOW as usize);
+    let end = number::least(rows.len(), WINDOW as usize);
     let mut i = count as usize;
     while i < end && is_step(rows, i, step) {
         i += 1;
@@ -288,11 +282,11 @@ pub fn propose(
 ) -> usize
     ensures { λ r. ⌜ Proposed (now (first .entry)) (now (counts .entry)) (now (forms .entry)) (now (widths .entry)) (now (bases .entry)) r ⌝ }
 {
-    let room = least(
+    let room = number::least(
         first.len(),
-        least(
+        number::least(
             counts.len(),
-            least(forms.len(), least(widths.len(), bases.len())),
+            number::least(forms.len(), number::least(widths.len(), bases.len())),
         ),
     );
     let count = lay(rows, signed, first, counts, forms, widths, bases);

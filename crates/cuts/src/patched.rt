@@ -4,7 +4,7 @@ use crate::cells;
 use util::pattern;
 
 // More bytes than any run has: the writer does not accept the run, or some readers do not read it.
-pub(crate) const NONE: u64 = 18446744073709551615;
+pub(crate) const NONE: u64 = u64::MAX;
 
 // What is patched so far: entries of the list, skips among them, the row of the last, the largest gap and the patches' bits.
 struct List {

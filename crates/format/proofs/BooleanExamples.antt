@@ -17,7 +17,7 @@ starred = 0x00 ∷ 0xFF ∷ 0xFF ∷ 0x00 ∷ []
 
 -- what a call gives of some bytes, which stand at position 1: the answer, and the n places, which held 7
 pub told : ℕ → List ℕ → Answer × List ℕ
-unfolding booleansInto booleans byteRuns byteRun repeatRun bytes byteCount joinedRuns runLayout booleansOf joinedBytes runBytes bits digits
+unfolding booleansInto booleans byteRuns byteRun repeatRun bytes byteCount joinedRuns runLayout booleansOf joinedBytes runBytes digits
 told n bs = (booleansAnswer 1 (length bs) n (booleansInto n n bs), booleansPlaces n (replicate n 7) (booleansInto n n bs))
 
 pub starred-32 : told 32 starred ≡ (ran Booleans 1 32 4, replicate 24 1 ++ replicate 8 0)

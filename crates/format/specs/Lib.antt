@@ -9,6 +9,7 @@ pub mod Streams
 pub mod Answers
 pub mod Promises
 pub mod Parts
+pub mod Words
 pub mod Loader
 pub mod Booleans
 pub mod ByteValues

@@ -160,14 +160,14 @@ impl Kind {
 }
 
 impl Run {
-    pub fn new(kind: Kind, width: usize, rows: usize, consumed: usize) -> Self
-        ensures { λ r. ⌜ r ≡ running kind width rows consumed ⌝ }
+    pub fn new(kind: Kind, width: usize, rows: RowNumber, consumed: ByteOffset) -> Self
+        ensures { λ r. ⌜ r ≡ running kind width (rows .rows) (consumed .bytes) ⌝ }
     {
         Run {
             kind,
             width,
-            rows: RowNumber { rows },
-            consumed: ByteOffset { bytes: consumed },
+            rows,
+            consumed,
         }
     }
 }
@@ -202,8 +202,8 @@ impl Answer {
         Answer::End
     }
 
-    pub fn run(kind: Kind, width: usize, rows: usize, consumed: usize) -> Self
-        ensures { λ r. ⌜ r ≡ ran kind width rows consumed ⌝ }
+    pub fn run(kind: Kind, width: usize, rows: RowNumber, consumed: ByteOffset) -> Self
+        ensures { λ r. ⌜ r ≡ ran kind width (rows .rows) (consumed .bytes) ⌝ }
     {
         Answer::Run(Run::new(kind, width, rows, consumed))
     }
@@ -304,24 +304,24 @@ impl Answer {
 }
 
 impl Stream {
-    pub fn whole(rows: usize, consumed: usize, last: LastRun) -> Self
-        ensures { λ r. ⌜ r ≡ readWhole rows consumed last ⌝ }
+    pub fn whole(rows: RowNumber, consumed: ByteOffset, last: LastRun) -> Self
+        ensures { λ r. ⌜ r ≡ readWhole (rows .rows) (consumed .bytes) last ⌝ }
     {
         Stream::Whole(Counts {
-            rows: RowNumber { rows },
-            consumed: ByteOffset { bytes: consumed },
+            rows,
+            consumed,
             last,
         })
     }
 
-    pub fn refused(refusal: Refusal, rows: usize, consumed: usize, last: LastRun) -> Self
-        ensures { λ r. ⌜ r ≡ brokeAt refusal rows consumed last ⌝ }
+    pub fn refused(refusal: Refusal, rows: RowNumber, consumed: ByteOffset, last: LastRun) -> Self
+        ensures { λ r. ⌜ r ≡ brokeAt refusal (rows .rows) (consumed .bytes) last ⌝ }
     {
         Stream::Refused(
             refusal,
             Counts {
-                rows: RowNumber { rows },
-                consumed: ByteOffset { bytes: consumed },
+                rows,
+                consumed,
                 last,
             },
         )

@@ -25,7 +25,7 @@ fn more(total: Total, n: usize) -> Total
 {
     match total {
         Total::Rows(m) => {
-            if 18446744073709551615 - m < n {
+            if usize::MAX - m < n {
                 return Total::Past;
             }
             Total::Rows(m + n)

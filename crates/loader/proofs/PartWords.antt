@@ -19,7 +19,8 @@ use Rattle.format.specs.declared.PartStep.{PartStep}
 use Rattle.format.specs.Fields.{pick}
 use Rattle.format.specs.Answers.{answerNumber}
 use Rattle.format.specs.Parts.{Takes, Closes}
-use Rattle.format.specs.Loader.{isSigned, tooFewWords}
+use Rattle.format.specs.Loader.{isSigned}
+use Rattle.format.specs.Words.{tooFewWords}
 use Rattle.loader.specs.Parts.{repeated, standingOf, cutOf, stateWords, stateWordCount, readerOf, StateKept, partWords, partWordCount, enough, PartPut, Untouched, Taken, ClosedBy, PartTold, CloseTold, SameLent, PartToldDetermined, CloseToldDetermined}
 
 pub state-long : (s : PartReader) → length (stateWords s) ≡ stateWordCount

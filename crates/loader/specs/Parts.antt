@@ -21,7 +21,8 @@ use Rattle.format.specs.declared.PartStep.{PartStep}
 use Rattle.format.specs.Fields.{pick}
 use Rattle.format.specs.Answers.{answerNumber, answerPlace, answerCut, answerWidth, answerRows, answerBytes}
 use Rattle.format.specs.Parts.{fresh, Takes, Closes}
-use Rattle.format.specs.Loader.{isSigned, answerKind, cutCase, cutByte, tooFewWords, Put, Told}
+use Rattle.format.specs.Loader.{isSigned}
+use Rattle.format.specs.Words.{answerKind, cutCase, cutByte, tooFewWords, Put, Told}
 
 -- ---- THE STATE AS WORDS
 

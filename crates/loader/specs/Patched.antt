@@ -10,7 +10,7 @@ use Rattle.format.specs.Promises.{answerOf}
 use Rattle.format.specs.Answers.{answerNumber}
 use Rattle.format.specs.Writing.{bytesIn}
 use Rattle.format.specs.PatchedWriting.{writingPatched}
-use Rattle.format.specs.Loader.{answerWords, ToldOf}
+use Rattle.format.specs.Words.{answerWords, ToldOf}
 
 -- A PATCHED RUN WRITTEN: the width is any number of bits, and one that is no table width is refused as such
 abbrev pub PatchedTold : List ℤ → ℤ → ℕ → List ℕ → List ℕ → List ℕ → List ℕ → ℕ → Type 0

@@ -11,6 +11,7 @@ use format::Answer;
 use format::ByteOffset;
 use format::Kind;
 use util::big_endian;
+use util::number;
 use util::pattern;
 
 // The eight bytes of x at a place, lowest first: the eight stores become one.
@@ -73,18 +74,12 @@ pub(crate) fn read_repeat(input: &[u8], signed: bool, out: &mut [u8]) -> u64
     }
 }
 
-fn least(a: usize, b: usize) -> usize
-    ensures { λ r. ⌜ r ≡ Prim.Native.Nat.min a b ⌝ }
-{
-    if a <= b { a } else { b }
-}
-
 // Reads a run into the rows, of which there are enough for it, and lays them out as bytes.
 pub(crate) fn read_by(input: &[u8], signed: bool, rows: &mut [i64], out: &mut [u8]) -> u64
     requires { ⌜ Enough (length (now rows)) (now input) ⌝ }
     ensures { λ r. ⌜ LoadedAs (now (input .entry)) signed (now (out .entry)) (now (out .exit)) r ⌝ }
 {
-    let places = least(out.len() / 8, rows.len());
+    let places = number::least(out.len() / 8, rows.len());
     let answer = rle_v2::read_run(input, ByteOffset::new(0), signed, &mut rows[..places]);
     put_rows(rows, answer.rows(), out);
     answer.packed()

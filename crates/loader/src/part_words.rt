@@ -3,7 +3,7 @@ ghost use mathlib.Core.Path.{_≡_};
 ghost use mathlib.Core.List.{[], _∷_, _++_};
 ghost use Prim.Native.Nat.{_≤_};
 ghost use lib.ListN.{length, drop, getD};
-ghost use Rattle.format.specs.Loader.{Put};
+ghost use Rattle.format.specs.Words.{Put};
 ghost use Rattle.loader.specs.Parts.{repeated, standingCase, standingOf, cutOf, stateWords, stateWordCount, refusalOf, readerOf, plainAnswer, partCase, partStart, partNumber, partWords, partWordCount, PartPut};
 use crate::words;
 use format::Answer;
@@ -120,7 +120,7 @@ fn plain(answer: PartAnswer) -> Answer
             let kind = r.kind;
             let rows = r.rows;
             let consumed = r.consumed;
-            Answer::run(kind, r.width, rows.rows, consumed.bytes)
+            Answer::run(kind, r.width, rows, consumed)
         }
         PartAnswer::Refused(f) => Answer::Refused(f),
         PartAnswer::More => Answer::End,

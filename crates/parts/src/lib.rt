@@ -1,8 +1,7 @@
 // The reader in parts (FORMAT.md, "Reader in parts"): it takes the input in parts and hands out one run at a time.
 ghost use mathlib.Core.Path.{_≡_};
-ghost use Prim.Native.Nat.{_+_, _-_, _≤_, min};
+ghost use Prim.Native.Nat.{_+_, _-_, _≤_};
 ghost use lib.ListN.{length};
-ghost use lib.Seq.{paste};
 ghost use Rattle.format.specs.Parts.{fresh, Takes, Closes};
 ghost use Rattle.parts.specs.Steps.{still, tooFew, holds, stops, refuses, hands, fromFirst, cutShort, byAnswer, byLast, Goes, goes};
 use format::Answer;
@@ -16,6 +15,8 @@ use format::Refusal;
 use format::RowNumber;
 use format::Run;
 use format::Standing;
+use util::bytes;
+use util::number;
 
 // A reader that has taken nothing.
 pub fn start() -> PartReader
@@ -152,13 +153,6 @@ fn beyond(n: usize, most: usize) -> usize
     if n < most { 0 } else { n - most }
 }
 
-// The smaller of two.
-fn least(a: usize, b: usize) -> usize
-    ensures { λ r. ⌜ r ≡ min a b ⌝ }
-{
-    if a < b { a } else { b }
-}
-
 // A call with a part, by what reading gave of the bytes looked at: those held, and as many of the part's behind them as a run can have.
 fn on_part(reader: PartReader, held: usize, seen: usize, part: usize, a: Answer) -> PartStep
     ensures { λ r. ⌜ r ≡ byAnswer reader held seen part a ⌝ }
@@ -181,19 +175,6 @@ fn on_part(reader: PartReader, held: usize, seen: usize, part: usize, a: Answer)
     }
 }
 
-// The first k bytes of the part, into the lent bytes from place h on.
-fn copy(part: &[u8], k: usize, buffer: &mut [u8], h: usize)
-    requires { ⌜ k ≤ length (now part) ⌝ }
-    requires { ⌜ h + k ≤ length (now buffer) ⌝ }
-    ensures { λ _. ⌜ now (buffer .exit) ≡ paste (now (buffer .entry)) h (now (part .entry)) k ⌝ }
-{
-    let mut i = 0;
-    while i < k {
-        buffer[h + i] = part[i];
-        i += 1;
-    }
-}
-
 // A call with a part of an open reader, with room enough.
 fn opened(
     reader: PartReader,
@@ -206,18 +187,18 @@ fn opened(
     requires { ⌜ 4356 ≤ length (now buffer) ⌝ }
     ensures { λ r. ⌜ Goes reader (now (part .entry)) (now (buffer .entry)) (now (buffer .exit)) signed (now (out .entry)) (now (out .exit)) r (goes reader (now (part .entry)) (now (buffer .entry))) ⌝ }
 {
-    let h = least(reader.held, buffer.len());
+    let h = number::least(reader.held, buffer.len());
     let n = part.len();
     if h == 0 {
         // a run that lies whole in its part is read from there
         let a = rle_v2::read_first(part, signed, out);
         let step = on_part(reader, 0, n, n, a);
         let kept = step.reader;
-        copy(part, kept.held, buffer, 0);
+        bytes::copy(part, kept.held, buffer, 0);
         return step;
     }
-    let k = least(n, beyond(Kind::MAX_BYTES, h));
-    copy(part, k, buffer, h);
+    let k = number::least(n, beyond(Kind::MAX_BYTES, h));
+    bytes::copy(part, k, buffer, h);
     let a = rle_v2::read_gathered(&buffer[..h + k], signed, out);
     on_part(reader, h, h + k, n, a)
 }
@@ -274,7 +255,7 @@ pub fn close(reader: PartReader, signed: bool, buffer: &[u8], out: &mut [i64]) -
         Standing::Broken(f) => idle(reader, PartAnswer::Refused(f)),
         Standing::Closed => idle(reader, PartAnswer::End),
         Standing::Opened => {
-            let h = least(reader.held, buffer.len());
+            let h = number::least(reader.held, buffer.len());
             let a = rle_v2::read_run(&buffer[..h], ByteOffset { bytes: 0 }, signed, out);
             on_close(reader, a)
         }

@@ -21,9 +21,9 @@ pub data Proposes (signed : Bool) (rows : List ℤ) (c : Columns) : ℕ → Type
   some : {k : ℕ} {ds : List Description} → Proposed (c .starts) (c .counts) (c .forms) (c .widths) (c .bases) k → Accepted signed rows (firstOf k c) (length (joined (wide signed rows))) ds → Proposes signed rows c k
 
 -- so what is proposed is written as it is proposed wherever there is room, and has no more bytes than the direct runs
-pub data Written (signed : Bool) (rows : List ℤ) (c : Columns) : Type 0 where
+pub data AsProposed (signed : Bool) (rows : List ℤ) (c : Columns) : Type 0 where
   as-proposed : (ds : List Description) → length (joined ds) ≤ length (joined (wide signed rows))
-      → ((room : ℕ) → length (joined ds) ≤ room → column signed rows c room ≡ planned ds) → Written signed rows c
+      → ((room : ℕ) → length (joined ds) ≤ room → column signed rows c room ≡ planned ds) → AsProposed signed rows c
 
 abbrev pub PlanHolds : Type 0
-PlanHolds = (signed : Bool) (rows : List ℤ) (c : Columns) (k : ℕ) → Proposes signed rows c k → (k ≡ 0 → ⊥) → Written signed rows (firstOf k c)
+PlanHolds = (signed : Bool) (rows : List ℤ) (c : Columns) (k : ℕ) → Proposes signed rows c k → (k ≡ 0 → ⊥) → AsProposed signed rows (firstOf k c)

@@ -97,7 +97,7 @@ pub(crate) fn sound(
         &forms[..k],
         &widths[..k],
         &bases[..k],
-        18446744073709551615,
+        usize::MAX,
     );
     match c {
         Checked::Accepted(t) => {

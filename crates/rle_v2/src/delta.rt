@@ -15,8 +15,11 @@ ghost use Rattle.rle_v2.specs.DeltaStart.{Started, StartsAt, IsMeasured,
 use crate::header;
 use crate::rows;
 use format::Answer;
+use format::ByteOffset;
 use format::Kind;
 use format::Refusal;
+use format::RowNumber;
+use format::TOP_BIT;
 use util::packed;
 use util::pattern;
 use util::varint;
@@ -168,7 +171,12 @@ pub(crate) fn measure(input: &[u8], at: usize) -> Answer
             rows,
             size,
             ..
-        } => Answer::run(Kind::Delta, bits, rows, size),
+        } => Answer::run(
+            Kind::Delta,
+            bits,
+            RowNumber { rows },
+            ByteOffset { bytes: size },
+        ),
         Found::Refused(f) => Answer::Refused(f),
     }
 }
@@ -192,7 +200,7 @@ fn lay_packed(block: &[u8], bits: usize, n: usize, first: u64, step: u64, out: &
 {
     rows::steps(first, step, 2, out);
     let second = pattern::add(first, step);
-    let falling = 9223372036854775808 <= step;
+    let falling = TOP_BIT <= step;
     magnitudes(block, bits, n, falling, second, &mut out[2..]);
 }
 
@@ -226,7 +234,12 @@ pub(crate) fn read(input: &[u8], at: usize, signed: bool, out: &mut [i64]) -> An
                 return Answer::refused(8, at);
             }
             lay(input, start, bits, rows, signed, out);
-            Answer::run(Kind::Delta, bits, rows, size)
+            Answer::run(
+                Kind::Delta,
+                bits,
+                RowNumber { rows },
+                ByteOffset { bytes: size },
+            )
         }
         Found::Refused(f) => Answer::Refused(f),
     }

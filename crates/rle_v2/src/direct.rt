@@ -7,7 +7,9 @@ ghost use Rattle.format.specs.Promises.{answerOf, Gives};
 use crate::header;
 use crate::rows;
 use format::Answer;
+use format::ByteOffset;
 use format::Kind;
+use format::RowNumber;
 use util::packed;
 use util::width;
 
@@ -26,7 +28,12 @@ pub(crate) fn measure(input: &[u8], at: usize) -> Answer
     if input.len() - body < size {
         return Answer::cut(13, at, body);
     }
-    Answer::run(Kind::Direct, bits, count, 2 + size)
+    Answer::run(
+        Kind::Direct,
+        bits,
+        RowNumber { rows: count },
+        ByteOffset { bytes: 2 + size },
+    )
 }
 
 pub(crate) fn read(input: &[u8], at: usize, signed: bool, out: &mut [i64]) -> Answer

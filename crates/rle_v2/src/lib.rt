@@ -7,6 +7,7 @@ ghost use Rattle.format.specs.Promises.{answerOf, RunRead, RunMeasured, StreamR
 use format::Answer;
 use format::ByteOffset;
 use format::LastRun;
+use format::RowNumber;
 use format::Stream;
 
 mod delta;
@@ -109,14 +110,19 @@ pub fn read_stream(input: &[u8], at: ByteOffset, signed: bool, out: &mut [i64]) 
                 last = LastRun::Run(r);
             }
             Answer::Refused(f) => {
-                return Stream::refused(f, k, p - from, last);
+                return Stream::refused(
+                    f,
+                    RowNumber { rows: k },
+                    ByteOffset { bytes: p - from },
+                    last,
+                );
             }
             Answer::End => {
-                return Stream::whole(k, p - from, last);
+                return Stream::whole(RowNumber { rows: k }, ByteOffset { bytes: p - from }, last);
             }
         }
     }
-    Stream::whole(k, p - from, last)
+    Stream::whole(RowNumber { rows: k }, ByteOffset { bytes: p - from }, last)
 }
 
 // What a measured run comes to in so many places: refusal 8 if it has more rows.
@@ -146,7 +152,7 @@ pub fn measure_stream(input: &[u8], at: ByteOffset) -> Stream
     let mut last = LastRun::None;
     while place < input.len() {
         let m = measure(input, ByteOffset { bytes: place });
-        let a = in_places(m, place, 18446744073709551615 - count);
+        let a = in_places(m, place, usize::MAX - count);
         match a {
             Answer::Run(run) => {
                 let rows = run.rows;
@@ -156,12 +162,31 @@ pub fn measure_stream(input: &[u8], at: ByteOffset) -> Stream
                 last = LastRun::Run(run);
             }
             Answer::Refused(f) => {
-                return Stream::refused(f, count, place - from, last);
+                return Stream::refused(
+                    f,
+                    RowNumber { rows: count },
+                    ByteOffset {
+                        bytes: place - from,
+                    },
+                    last,
+                );
             }
             Answer::End => {
-                return Stream::whole(count, place - from, last);
+                return Stream::whole(
+                    RowNumber { rows: count },
+                    ByteOffset {
+                        bytes: place - from,
+                    },
+                    last,
+                );
             }
         }
     }
-    Stream::whole(count, place - from, last)
+    Stream::whole(
+        RowNumber { rows: count },
+        ByteOffset {
+            bytes: place - from,
+        },
+        last,
+    )
 }

@@ -15,9 +15,11 @@ use crate::header;
 use crate::patch_list;
 use crate::rows;
 use format::Answer;
+use format::ByteOffset;
 use format::CutField;
 use format::Kind;
 use format::Refusal;
+use format::RowNumber;
 use util::big_endian;
 use util::packed;
 use util::width;
@@ -208,7 +210,12 @@ pub(crate) fn measure(input: &[u8], at: usize) -> Answer
     if number != 0 {
         return Answer::refused(number, at);
     }
-    Answer::run(Kind::PatchedBase, f.bits, f.rows, f.end - at)
+    Answer::run(
+        Kind::PatchedBase,
+        f.bits,
+        RowNumber { rows: f.rows },
+        ByteOffset { bytes: f.end - at },
+    )
 }
 
 // The values with the base added, in their places.
@@ -266,5 +273,10 @@ pub(crate) fn read(input: &[u8], at: usize, signed: bool, out: &mut [i64]) -> An
         return Answer::refused(8, at);
     }
     put(input, at, f, out);
-    Answer::run(Kind::PatchedBase, f.bits, f.rows, f.end - at)
+    Answer::run(
+        Kind::PatchedBase,
+        f.bits,
+        RowNumber { rows: f.rows },
+        ByteOffset { bytes: f.end - at },
+    )
 }

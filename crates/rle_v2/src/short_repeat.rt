@@ -6,7 +6,9 @@ ghost use Rattle.format.specs.Parse.{shortRun};
 ghost use Rattle.format.specs.Promises.{answerOf, Gives};
 use crate::rows;
 use format::Answer;
+use format::ByteOffset;
 use format::Kind;
+use format::RowNumber;
 use util::big_endian;
 use util::pattern;
 
@@ -21,7 +23,12 @@ pub(crate) fn measure(input: &[u8], at: usize) -> Answer
     if input.len() - body < size {
         return Answer::cut(6, at, body);
     }
-    Answer::run(Kind::ShortRepeat, 8 * size, count, 1 + size)
+    Answer::run(
+        Kind::ShortRepeat,
+        8 * size,
+        RowNumber { rows: count },
+        ByteOffset { bytes: 1 + size },
+    )
 }
 
 pub(crate) fn read(input: &[u8], at: usize, signed: bool, out: &mut [i64]) -> Answer

@@ -5,6 +5,7 @@ ghost use Prim.Native.Nat.{_+_, _/_, _%_, _^_, _<_, _≤_};
 ghost use lib.ListN.{length, take, drop};
 ghost use Rattle.format.specs.Digits.{number, digits};
 ghost use Rattle.format.specs.Rows.{baseValue};
+use crate::number;
 use crate::packed;
 use crate::pattern;
 
@@ -24,7 +25,7 @@ pub(crate) fn bytes(s: &[u8], at: usize, n: usize) -> u64
     let mut x: u64 = 0;
     let mut i: usize = 0;
     while i < n {
-        x = x * 256 + packed::wide(s[at + i]);
+        x = x * 256 + number::wide(s[at + i]);
         i += 1;
     }
     x

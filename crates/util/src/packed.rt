@@ -9,28 +9,22 @@ ghost use Rattle.format.specs.Fields.{bytesFor, blockBytes};
 ghost use Rattle.format.specs.Rows.{asI64};
 ghost use Rattle.util.specs.Packed.{fields, bits, fieldAt, Width, Room, Laid, Lays, lowFirst, swap};
 use crate::big_endian;
+use crate::number;
 use crate::pattern;
-
-// A byte as a number.
-pub(crate) fn wide(x: u8) -> u64
-    ensures { λ r. ⌜ (r ≡ x) × (r < 256) ⌝ }
-{
-    x as u64
-}
 
 // Eight bytes, the lowest first: one load. It stands apart from `swapped`, or the optimiser makes eight loads of the two.
 fn low_first(s: &[u8], i: usize) -> u64
     requires { ⌜ i + 8 ≤ length (now s) ⌝ }
     ensures { λ r. ⌜ r ≡ lowFirst (now (s .entry)) i ⌝ }
 {
-    wide(s[i])
-        + wide(s[i + 1]) * 256
-        + wide(s[i + 2]) * 65536
-        + wide(s[i + 3]) * 16777216
-        + wide(s[i + 4]) * 4294967296
-        + wide(s[i + 5]) * 1099511627776
-        + wide(s[i + 6]) * 281474976710656
-        + wide(s[i + 7]) * 72057594037927936
+    number::wide(s[i])
+        + number::wide(s[i + 1]) * 256
+        + number::wide(s[i + 2]) * 65536
+        + number::wide(s[i + 3]) * 16777216
+        + number::wide(s[i + 4]) * 4294967296
+        + number::wide(s[i + 5]) * 1099511627776
+        + number::wide(s[i + 6]) * 281474976710656
+        + number::wide(s[i + 7]) * 72057594037927936
 }
 
 // The bytes of x in the other order: one instruction.

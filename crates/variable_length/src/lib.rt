@@ -6,6 +6,7 @@ ghost use Rattle.format.specs.ByteValues.{ValueRead, ValueGiven};
 use format::Answer;
 use format::ByteOffset;
 use format::Kind;
+use format::RowNumber;
 
 // Where the rest begins: a position past the end is empty input.
 fn rest(input: &[u8], at: usize) -> usize
@@ -21,7 +22,12 @@ pub fn read_value(input: &[u8], at: ByteOffset, n: usize) -> Answer
     let position = at.bytes;
     let start = rest(input, position);
     if n <= input.len() - start {
-        Answer::run(Kind::ByteValues, 8, n, n)
+        Answer::run(
+            Kind::ByteValues,
+            8,
+            RowNumber { rows: n },
+            ByteOffset { bytes: n },
+        )
     } else {
         Answer::cut(6, position, position)
     }

@@ -12,8 +12,10 @@ ghost use Rattle.writer.specs.Start.{start, Started};
 use crate::head;
 use crate::values;
 use format::Answer;
+use format::ByteOffset;
 use format::Form;
 use format::Kind;
+use format::RowNumber;
 use format::TOP_BIT;
 use util::packed;
 use util::pattern;
@@ -64,7 +66,12 @@ pub(crate) fn write_fixed(rows: &[i64], signed: bool, code: u8, out: &mut [u8]) 
         return Answer::refused(8, 0);
     }
     write_start(0, n, first, base, out);
-    Answer::run(Kind::Delta, 0, n, size)
+    Answer::run(
+        Kind::Delta,
+        0,
+        RowNumber { rows: n },
+        ByteOffset { bytes: size },
+    )
 }
 
 pub(crate) fn write_packed(rows: &[i64], signed: bool, code: u8, out: &mut [u8]) -> Answer
@@ -88,5 +95,10 @@ pub(crate) fn write_packed(rows: &[i64], signed: bool, code: u8, out: &mut [u8])
     }
     let at = write_start(code, n, first, base, out);
     packed::pack(&magnitudes, n - 2, bits, out, at);
-    Answer::run(Kind::Delta, bits, n, size)
+    Answer::run(
+        Kind::Delta,
+        bits,
+        RowNumber { rows: n },
+        ByteOffset { bytes: size },
+    )
 }

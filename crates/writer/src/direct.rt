@@ -8,8 +8,10 @@ ghost use Rattle.format.specs.Writing.{Written};
 use crate::head;
 use crate::values;
 use format::Answer;
+use format::ByteOffset;
 use format::Form;
 use format::Kind;
+use format::RowNumber;
 use util::packed;
 use util::width;
 
@@ -31,5 +33,10 @@ pub(crate) fn write(rows: &[i64], signed: bool, code: u8, out: &mut [u8]) -> Ans
     }
     head::write(1, code, n, out);
     packed::pack(&stored, n, bits, out, 2);
-    Answer::run(Kind::Direct, bits, n, size)
+    Answer::run(
+        Kind::Direct,
+        bits,
+        RowNumber { rows: n },
+        ByteOffset { bytes: size },
+    )
 }

@@ -14,7 +14,9 @@ use crate::patch_list;
 use crate::values;
 use format::ALL_BITS;
 use format::Answer;
+use format::ByteOffset;
 use format::Kind;
+use format::RowNumber;
 use format::TOP_BIT;
 use util::big_endian;
 use util::packed;
@@ -151,7 +153,12 @@ fn lay(h: Header, base: u64, vals: &[u64], list: &[u64], out: &mut [u8]) -> Answ
     big_endian::write(sign_magnitude(base, h.base), h.base, out, 4);
     packed::pack(vals, h.rows, bits, out, values);
     packed::pack(list, h.entries, entry, out, patches);
-    Answer::run(Kind::PatchedBase, bits, h.rows, end)
+    Answer::run(
+        Kind::PatchedBase,
+        bits,
+        RowNumber { rows: h.rows },
+        ByteOffset { bytes: end },
+    )
 }
 
 fn write_kept(rows: &[i64], base: i64, width: u8, out: &mut [u8]) -> Answer

@@ -6,8 +6,10 @@ ghost use lib.ListN.{length, drop};
 ghost use Rattle.format.specs.Writing.{Written};
 use crate::values;
 use format::Answer;
+use format::ByteOffset;
 use format::Form;
 use format::Kind;
+use format::RowNumber;
 use util::big_endian;
 
 // Room for a short repeat's rows.
@@ -44,5 +46,10 @@ pub(crate) fn write(rows: &[i64], signed: bool, size: u8, out: &mut [u8]) -> Ans
     }
     write_head(bytes, n, out);
     big_endian::write(value, bytes, out, 1);
-    Answer::run(Kind::ShortRepeat, bits, n, 1 + bytes)
+    Answer::run(
+        Kind::ShortRepeat,
+        bits,
+        RowNumber { rows: n },
+        ByteOffset { bytes: 1 + bytes },
+    )
 }

@@ -4,7 +4,7 @@ use native.Mathlib.Omega.{arith}
 use lib.ListN.{length-set}
 use denote.Ref.{now}
 use borrow.Author.Needs.{needs}
-use Rattle.format.specs.Loader.{answerWords}
+use Rattle.format.specs.Words.{answerWords}
 use Rattle.loader.proofs.words.put_answer.Statement.{statement}
 use Rattle.loader.proofs.words.put_answer.Tie as tie
 

@@ -4,7 +4,7 @@ use native.Mathlib.Omega.{arith}
 use lib.ListN.{length-set}
 use denote.Ref.{now}
 use borrow.Author.Needs.{needs}
-use Rattle.format.specs.Loader.{streamWords}
+use Rattle.format.specs.Words.{streamWords}
 use Rattle.loader.proofs.words.put_stream.Statement.{statement}
 use Rattle.loader.proofs.words.put_stream.Tie as tie
 
