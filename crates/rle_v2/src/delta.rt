@@ -165,6 +165,7 @@ fn measured(input: &[u8], at: usize) -> Found
         return f;
     }
     if code == 0 {
+        // a fixed delta: nothing stands behind the varints
         return f;
     }
     packed_rows(input, at, code, f)

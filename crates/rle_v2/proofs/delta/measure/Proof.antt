@@ -19,7 +19,7 @@ returns-2 : tie.Need-returns-2
 returns-2 c =
     let e = c .before .before in
     let a = e .before .before .before .before .args in
-    c .run .ensures ∙ passed-answer (now (a .input)) (a .at) _ _ (passed e)
+    rw (c .run .ensures) (passed-answer (now (a .input)) (a .at) _ _ (passed e))
 
 pub measure-spec : {M : Type 1} → statement M
 measure-spec =
