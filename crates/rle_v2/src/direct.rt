@@ -40,7 +40,8 @@ pub(crate) fn read(input: &[u8], at: usize, signed: bool, out: &mut [i64]) -> An
     requires { ⌜ at < length (now input) ⌝ }
     ensures { λ r. ⌜ Gives at (length (now (input .entry)) - at) signed (directRun (getD (now (input .entry)) at 0) (drop (at + 1) (now (input .entry)))) (now (out .entry)) (now (out .exit)) r ⌝ }
 {
-    match measure(input, at) {
+    let measured = measure(input, at);
+    match measured {
         Answer::Run(r) => {
             let count = r.rows;
             if out.len() < count.rows {
@@ -48,9 +49,10 @@ pub(crate) fn read(input: &[u8], at: usize, signed: bool, out: &mut [i64]) -> An
             }
             packed::unpack(&input[at + 2..], r.width, count.rows, out);
             rows::decode(signed, count.rows, out);
-            Answer::Run(r)
+            // as it is: an answer that is made again goes through memory in pieces
+            measured
         }
-        Answer::Refused(f) => Answer::Refused(f),
-        Answer::End => Answer::End,
+        Answer::Refused(_) => measured,
+        Answer::End => measured,
     }
 }

@@ -35,7 +35,8 @@ pub(crate) fn read(input: &[u8], at: usize, signed: bool, out: &mut [i64]) -> An
     requires { ⌜ (at < length (now input)) × (getD (now input) at 0 < 64) ⌝ }
     ensures { λ r. ⌜ Gives at (length (now (input .entry)) - at) signed (shortRun (getD (now (input .entry)) at 0) (drop (at + 1) (now (input .entry)))) (now (out .entry)) (now (out .exit)) r ⌝ }
 {
-    match measure(input, at) {
+    let measured = measure(input, at);
+    match measured {
         Answer::Run(r) => {
             let count = r.rows;
             if out.len() < count.rows {
@@ -43,9 +44,10 @@ pub(crate) fn read(input: &[u8], at: usize, signed: bool, out: &mut [i64]) -> An
             }
             let value = pattern::row(signed, big_endian::read(input, at + 1, r.width / 8));
             rows::repeat(value, count.rows, out);
-            Answer::Run(r)
+            // as it is: an answer that is made again goes through memory in pieces
+            measured
         }
-        Answer::Refused(f) => Answer::Refused(f),
-        Answer::End => Answer::End,
+        Answer::Refused(_) => measured,
+        Answer::End => measured,
     }
 }

@@ -21,10 +21,10 @@ use Rattle.rle_v2.proofs.direct.read.Statement.{statement}
 use Rattle.rle_v2.proofs.direct.read.Tie as tie
 
 -- the run that the measure named
-named : (m : tie.After-r) → let a = m .before .before .before .before .args in answer.Run (m .r .given .0 .0) ≡ answerOf (a .at) (length (now (a .input)) - a .at) (run (now (a .input)) (a .at))
-named m = sym (m .r .given .1) ∙ m .before .before .measure .ensures
+named : (m : tie.After-measured) → let a = m .before .before .before .before .args in answer.Run (m .measured .given .0 .0) ≡ answerOf (a .at) (length (now (a .input)) - a .at) (run (now (a .input)) (a .at))
+named m = sym (m .measured .given .1) ∙ m .before .before .measure .ensures
 
-measured-is : (m : tie.After-r) → let a = m .before .before .before .before .args in Measured (now (a .input)) (a .at) (m .r .given .0 .0)
+measured-is : (m : tie.After-measured) → let a = m .before .before .before .before .args in Measured (now (a .input)) (a .at) (m .measured .given .0 .0)
 measured-is m = measured (now (m .before .before .before .before .args .input)) (m .before .before .before .before .args .at) _ (m .before .before .before .before .pre) (named m)
 
 returns : tie.Need-returns
@@ -60,20 +60,22 @@ returns-2 c =
     let m = back-6 .before .before .before .before .before in
     let a = m .before .before .before .before .args in
     let s = now (a .input) in
-    let r = m .r .given .0 .0 in
+    let r = m .measured .given .0 .0 in
     let o = then-pass (decoded (a .signed)) (map asI64 (blockAt s (a .at + 2) (r .width) (r .rows .rows) .values)) (now (a .out)) (u .unpack .last .1 .1 .1 .0) (d .decode .last .1 .1 .0) (r .rows .rows)
     (block-rows s (a .at + 2) (r .width) (r .rows .rows)) (rw (rest-is s (a .at + 2)) at (u .unpack .ensures)) (d .decode .ensures) in
     read-is s (a .at) (a .signed) (now (a .out)) r (named m) (measured-is m) (d .decode .last .1 .1 .0) (back-6 .before .if1 .left) o
 
 returns-3 : tie.Need-returns-3
 returns-3 c =
-    let a = c .before .before .before .before .before .args in
-    gives-none (a .at) _ (a .signed) (run (now (a .input)) (a .at)) (now (a .out)) (answer.Refused _) tt (sym (c .before .f .given .1) ∙ c .before .before .before .measure .ensures)
+    let m = c .before .before in
+    let a = m .before .before .args in
+    gives-none (a .at) _ (a .signed) (run (now (a .input)) (a .at)) (now (a .out)) _ (rw (c .enum-told .given .1) tt) (m .measure .ensures)
 
 returns-4 : tie.Need-returns-4
 returns-4 c =
-    let a = c .before .before .before .before .args in
-    gives-none (a .at) _ (a .signed) (run (now (a .input)) (a .at)) (now (a .out)) answer.End tt (sym (c .enum-told .given .1) ∙ c .before .before .measure .ensures)
+    let m = c .before .before in
+    let a = m .before .before .args in
+    gives-none (a .at) _ (a .signed) (run (now (a .input)) (a .at)) (now (a .out)) _ (rw (c .enum-told2 .given .1) tt) (m .measure .ensures)
 
 pub read-spec : {M : Type 1} → statement M
 read-spec =

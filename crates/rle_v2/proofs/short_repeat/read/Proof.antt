@@ -13,10 +13,10 @@ use Rattle.rle_v2.proofs.short_repeat.read.Statement.{statement}
 use Rattle.rle_v2.proofs.short_repeat.read.Tie as tie
 
 -- the run that the measure named
-named : (m : tie.After-r) → let a = m .before .before .before .before .args in answer.Run (m .r .given .0 .0) ≡ answerOf (a .at) (length (now (a .input)) - a .at) (run (now (a .input)) (a .at))
-named m = sym (m .r .given .1) ∙ m .before .before .measure .ensures
+named : (m : tie.After-measured) → let a = m .before .before .before .before .args in answer.Run (m .measured .given .0 .0) ≡ answerOf (a .at) (length (now (a .input)) - a .at) (run (now (a .input)) (a .at))
+named m = sym (m .measured .given .1) ∙ m .before .before .measure .ensures
 
-measured-is : (m : tie.After-r) → let a = m .before .before .before .before .args in Measured (now (a .input)) (a .at) (m .r .given .0 .0)
+measured-is : (m : tie.After-measured) → let a = m .before .before .before .before .args in Measured (now (a .input)) (a .at) (m .measured .given .0 .0)
 measured-is m = measured (now (m .before .before .before .before .args .input)) (m .before .before .before .before .args .at) _ (m .before .before .before .before .pre .0) (named m)
 
 returns : tie.Need-returns
@@ -44,13 +44,15 @@ returns-2 c =
 
 returns-3 : tie.Need-returns-3
 returns-3 c =
-    let a = c .before .before .before .before .before .args in
-    gives-none (a .at) _ (a .signed) (run (now (a .input)) (a .at)) (now (a .out)) (answer.Refused _) tt (sym (c .before .f .given .1) ∙ c .before .before .before .measure .ensures)
+    let m = c .before .before in
+    let a = m .before .before .args in
+    gives-none (a .at) _ (a .signed) (run (now (a .input)) (a .at)) (now (a .out)) _ (rw (c .enum-told .given .1) tt) (m .measure .ensures)
 
 returns-4 : tie.Need-returns-4
 returns-4 c =
-    let a = c .before .before .before .before .args in
-    gives-none (a .at) _ (a .signed) (run (now (a .input)) (a .at)) (now (a .out)) answer.End tt (sym (c .enum-told .given .1) ∙ c .before .before .measure .ensures)
+    let m = c .before .before in
+    let a = m .before .before .args in
+    gives-none (a .at) _ (a .signed) (run (now (a .input)) (a .at)) (now (a .out)) _ (rw (c .enum-told2 .given .1) tt) (m .measure .ensures)
 
 pub read-spec : {M : Type 1} → statement M
 read-spec =
