@@ -1,27 +1,37 @@
 -- An answer put into words, and what a call with lent words promises by it. Assumes nothing.
-use mathlib.Core.Path.{_≡_, refl, sym, _∙_}
+use mathlib.Core.Path.{_≡_, refl, sym, ap, _∙_}
 use Prim.Native.Nat.{ℕ, _<_, _≤_}
-use mathlib.Core.List.{List}
-use lib.ListN.{length}
+use mathlib.Core.List.{List, _++_}
+use lib.ListN.{length, drop, getD}
 use borrow.Author.Tests.{le-leb, lt-leb}
 use Rattle.format.specs.declared.Answer.{Answer}
 use Rattle.format.specs.declared.Stream.{Stream}
 use Rattle.labels.specs.declared.Label.{Label}
+use Rattle.labels.specs.declared.Label.the-variants as label
 use Rattle.index.specs.Promises.{BuiltIn}
 use Rattle.index.specs.declared.Built.{Built}
+use Rattle.index.specs.declared.Built.the-variants as built
 use Rattle.index.specs.declared.Found.{Found}
+use Rattle.index.specs.declared.Found.the-variants as found
 use Rattle.index.specs.declared.Preview.{Preview}
-use Rattle.loader.specs.Index.{builtNumber, builtWords, builtWordCount, IndexTold, foundWords, foundWordCount, previewWords, previewWordCount}
+use Rattle.index.specs.declared.Preview.the-variants as preview
+use Rattle.loader.specs.Numbers.{numberIn}
+use Rattle.loader.specs.Index.{builtWords, builtWordCount, IndexTold, foundWords, foundWordCount, previewWords, previewWordCount}
 use Rattle.loader.specs.Labels.{labelWords, labelWordCount, LabelToldDetermined}
 use Rattle.loader.specs.Patched.{PatchedToldDetermined}
 use Rattle.convert.specs.declared.Converted.{Converted}
+use Rattle.convert.specs.declared.Converted.the-variants as convert
 use Rattle.loader.specs.Converting.{convertWords, convertWordCount, ConvertToldDetermined}
 use Rattle.season.specs.declared.Count.{Count}
+use Rattle.season.specs.declared.Count.the-variants as count
 use Rattle.loader.specs.Counts.{countWords, countWordCount, CountToldDetermined}
 use Rattle.salvage.specs.declared.Outcome.{Outcome}
+use Rattle.salvage.specs.declared.Outcome.the-variants as salvage
 use Rattle.loader.specs.Salvage.{salvageWords, salvageWordCount, SalvageToldDetermined}
 use Rattle.planner.specs.declared.Checked.{Checked}
+use Rattle.planner.specs.declared.Checked.the-variants as check
 use Rattle.planner.specs.declared.ColumnAnswer.{ColumnAnswer}
+use Rattle.planner.specs.declared.ColumnAnswer.the-variants as column
 use Rattle.loader.specs.Columns.{checkWords, checkWordCount, CheckToldDetermined, columnWords, columnWordCount, ColumnToldDetermined}
 use Rattle.format.specs.Words.{answerWords, streamWords, wordCount, streamWordCount, tooFewWords, Put, Told, ToldOf}
 
@@ -36,39 +46,55 @@ stream-long s = refl
 
 pub label-long : (l : Label) → length (labelWords l) ≡ labelWordCount
 unfolding labelWords
-label-long l = refl
+label-long (label.Name n) = refl
+label-long (label.Fallback n) = refl
+label-long (label.Refused f) = refl
 
 pub count-long : (c : Count) → length (countWords c) ≡ countWordCount
 unfolding countWords
-count-long c = refl
+count-long (count.True n) = refl
+count-long (count.Refused f) = refl
 
 pub built-long : (b : Built) → length (builtWords b) ≡ builtWordCount
 unfolding builtWords
-built-long b = refl
+built-long (built.Index s) = refl
+built-long (built.Refused f) = refl
 
 pub found-long : (v : Found) → length (foundWords v) ≡ foundWordCount
 unfolding foundWords
-found-long v = refl
+found-long (found.Entry e) = refl
+found-long (found.Refused f) = refl
 
 pub preview-long : (p : Preview) → length (previewWords p) ≡ previewWordCount
 unfolding previewWords
-preview-long p = refl
+preview-long (preview.Rows n) = refl
+preview-long (preview.Refused f) = refl
 
 pub salvage-long : (m : Outcome) → length (salvageWords m) ≡ salvageWordCount
 unfolding salvageWords
-salvage-long m = refl
+salvage-long (salvage.Written n) = refl
+salvage-long (salvage.Refused f) = refl
 
 pub convert-long : (c : Converted) → length (convertWords c) ≡ convertWordCount
 unfolding convertWords
-convert-long c = refl
+convert-long (convert.Done n) = refl
+convert-long (convert.Refused f) = refl
 
 pub check-long : (c : Checked) → length (checkWords c) ≡ checkWordCount
 unfolding checkWords
-check-long c = refl
+check-long (check.Accepted n) = refl
+check-long check.Rejected = refl
 
 pub column-long : (a : ColumnAnswer) → length (columnWords a) ≡ columnWordCount
 unfolding columnWords
-column-long a = refl
+column-long (column.Planned n) = refl
+column-long (column.Direct n) = refl
+column-long (column.Refused f) = refl
+
+-- an answer's words, laid in the first of those lent, and its number, word 1
+pub laid : {B : Type 0} {wordsOf : B → List ℕ} {b : B} {said words words′ : List ℕ} → said ≡ wordsOf b → words′ ≡ said ++ drop (length said) words
+    → Put wordsOf (numberIn wordsOf) b words words′ (getD said 1 0)
+laid e q = record { number-is = ap (λ w. getD w 1 0) e; words-are = rw e at q }
 
 -- over any answers whose words are counted
 module _ {B : Type 0} {wordsOf : B → List ℕ} {numberOf : B → ℕ} {n : ℕ} (long : (b : B) → length (wordsOf b) ≡ n) where
@@ -109,7 +135,7 @@ module _ {input first at counts words : List ℕ} where
   index-few h = record { told = few built-long h; columns-are = rw (lt-leb builtWordCount (length words) h) }
 
   pub index-put : {first′ at′ counts′ words′ : List ℕ} {b : Built} {r : ℕ} → BuiltIn input first at counts first′ at′ counts′ b → builtWordCount ≤ length words
-      → Put builtWords builtNumber b words words′ r → IndexTold input first at counts first′ at′ counts′ words words′ r
+      → Put builtWords (numberIn builtWords) b words words′ r → IndexTold input first at counts first′ at′ counts′ words words′ r
   index-put q h p = record { told = put built-long (q .answer) h p; columns-are = rw (le-leb builtWordCount (length words) h) (q .columns) }
 
 -- and the salvage's, with both outputs

@@ -13,6 +13,7 @@ use Rattle.planner.specs.Check.{Columns, checkedAs, column, toldAs, bytesIn}
 use Rattle.planner.specs.Plan.{Proposes}
 use Rattle.format.specs.Loader.{isSigned}
 use Rattle.format.specs.Words.{Told, ToldOf}
+use Rattle.loader.specs.Numbers.{numberIn}
 
 -- A PROPOSAL: how many segments, and the columns at exit
 abbrev pub PlanTold : List ℤ → ℕ → Columns → ℕ → Type 0
@@ -20,37 +21,14 @@ PlanTold rows flag c r = Proposes (isSigned flag) rows c r
 
 -- ---- THE CHECK'S WORDS
 
-abbrev pub checkCase : Checked → ℕ
-checkCase (Accepted c) = 1
-checkCase Rejected = 0
-
-abbrev pub checkRuns : Checked → ℕ
-checkRuns (Accepted c) = c .runs
-checkRuns Rejected = 0
-
-abbrev pub checkRows : Checked → ℕ
-checkRows (Accepted c) = c .rows .rows
-checkRows Rejected = 0
-
-abbrev pub checkBytes : Checked → ℕ
-checkBytes (Accepted c) = c .bytes .bytes
-checkBytes Rejected = 0
+-- word 0 is 1 where the proposal is accepted, else 0; words 1, 2 and 3 are its runs, their rows and their bytes, 0 where it is not accepted
+unfoldable pub checkWords : Checked → List ℕ
+checkWords (Accepted c) = 1 ∷ c .runs ∷ c .rows .rows ∷ c .bytes .bytes ∷ []
+checkWords Rejected = 0 ∷ 0 ∷ 0 ∷ 0 ∷ []
 
 -- nothing is refused
 abbrev pub checkNumber : Checked → ℕ
 checkNumber c = 0
-
-unfoldable pub checkWords : Checked → List ℕ
-checkWords c =
-    -- 0: 1 where the proposal is accepted, else 0
-    checkCase c
-    -- 1: how many runs it has, 0 where it is not accepted
-    ∷ checkRuns c
-    -- 2: their rows, 0 where it is not accepted
-    ∷ checkRows c
-    -- 3: their bytes, 0 where it is not accepted
-    ∷ checkBytes c
-    ∷ []
 
 -- how many words it has
 abbrev pub checkWordCount : ℕ
@@ -62,51 +40,12 @@ CheckTold rows flag c room words words′ r = Told checkWords checkNumber (check
 
 -- ---- THE WRITER'S WORDS
 
-abbrev pub columnCase : ColumnAnswer → ℕ
-columnCase (Planned c) = 1
-columnCase (Direct c) = 3
-columnCase (Refused f) = 2
-
-abbrev pub columnNumber : ColumnAnswer → ℕ
-columnNumber (Planned c) = 0
-columnNumber (Direct c) = 0
-columnNumber (Refused f) = f .number
-
-abbrev pub columnPlace : ColumnAnswer → ℕ
-columnPlace (Planned c) = 0
-columnPlace (Direct c) = 0
-columnPlace (Refused f) = f .place .bytes
-
-abbrev pub columnRuns : ColumnAnswer → ℕ
-columnRuns (Planned c) = c .runs
-columnRuns (Direct c) = c .runs
-columnRuns (Refused f) = 0
-
-abbrev pub columnRows : ColumnAnswer → ℕ
-columnRows (Planned c) = c .rows .rows
-columnRows (Direct c) = c .rows .rows
-columnRows (Refused f) = 0
-
-abbrev pub columnBytes : ColumnAnswer → ℕ
-columnBytes (Planned c) = c .bytes .bytes
-columnBytes (Direct c) = c .bytes .bytes
-columnBytes (Refused f) = 0
-
+-- word 0 is the case: 1 written as proposed, 2 refused, 3 written as direct runs of 64 bits; words 1 and 2 are the refusal's number and place, 0 unless
+-- refused; words 3, 4 and 5 are the runs that were written, their rows and their bytes, 0 where refused
 unfoldable pub columnWords : ColumnAnswer → List ℕ
-columnWords a =
-    -- 0: the case: 1 written as proposed, 2 refused, 3 written as direct runs of 64 bits
-    columnCase a
-    -- 1: the refusal's number, 0 unless refused
-    ∷ columnNumber a
-    -- 2: the refusal's place, 0 unless refused
-    ∷ columnPlace a
-    -- 3: how many runs were written, 0 where refused
-    ∷ columnRuns a
-    -- 4: their rows, 0 where refused
-    ∷ columnRows a
-    -- 5: their bytes, 0 where refused
-    ∷ columnBytes a
-    ∷ []
+columnWords (Planned c) = 1 ∷ 0 ∷ 0 ∷ c .runs ∷ c .rows .rows ∷ c .bytes .bytes ∷ []
+columnWords (Direct c) = 3 ∷ 0 ∷ 0 ∷ c .runs ∷ c .rows .rows ∷ c .bytes .bytes ∷ []
+columnWords (Refused f) = 2 ∷ f .number ∷ f .place .bytes ∷ 0 ∷ 0 ∷ 0 ∷ []
 
 -- how many words it has
 abbrev pub columnWordCount : ℕ
@@ -116,7 +55,7 @@ columnWordCount = 6
 abbrev pub ColumnTold : List ℤ → ℕ → Columns → List ℕ → List ℕ → List ℕ → List ℕ → ℕ → Type 0
 ColumnTold rows flag c out out′ words words′ r =
     let m = column (isSigned flag) rows c (length out) in
-    ToldOf columnWords columnNumber (toldAs m) words words′ r (bytesIn out m) out out′
+    ToldOf columnWords (numberIn columnWords) (toldAs m) words words′ r (bytesIn out m) out out′
 
 -- ---- any two outcomes that the promises allow are equal
 

@@ -3,55 +3,19 @@ use mathlib.Core.Path.{_≡_}
 use Prim.Native.Nat.{ℕ}
 use mathlib.Core.List.{List, [], _∷_}
 use lib.ListN.{length}
-use Rattle.format.specs.declared.CutField.{CutField}
-use Rattle.format.specs.declared.CutField.the-variants as field
 use Rattle.format.specs.Loader.{isSigned}
 use Rattle.format.specs.Words.{cutCase, cutByte, ToldOf}
+use Rattle.loader.specs.Numbers.{numberIn}
 use Rattle.convert.specs.declared.Converted.{Converted}
 use Rattle.convert.specs.declared.Converted.the-variants.{Done, Refused}
 use Rattle.convert.specs.Convert.{convert, toldAs, outcomeBytes}
 
-abbrev pub convertCase : Converted → ℕ
-convertCase (Done c) = 1
-convertCase (Refused f) = 2
-
-abbrev pub convertNumber : Converted → ℕ
-convertNumber (Done c) = 0
-convertNumber (Refused f) = f .number
-
-abbrev pub convertPlace : Converted → ℕ
-convertPlace (Done c) = 0
-convertPlace (Refused f) = f .place .bytes
-
-abbrev pub convertAltered : Converted → ℕ
-convertAltered (Done c) = c .altered
-convertAltered (Refused f) = 0
-
-abbrev pub convertBytes : Converted → ℕ
-convertBytes (Done c) = c .bytes .bytes
-convertBytes (Refused f) = 0
-
-abbrev pub convertCut : Converted → CutField
-convertCut (Done c) = field.None
-convertCut (Refused f) = f .cut
-
+-- word 0 is the case: 1 converted, 2 refused; words 1 and 2 are the refusal's number and place, 0 unless refused; words 3 and 4 are
+-- how many runs were altered and how many bytes the converted stream has, 0 where refused; word 5 is 1 where the input ends in a field of the
+-- refused run, else 0, and word 6 the byte where that field begins, 0 where there is none
 unfoldable pub convertWords : Converted → List ℕ
-convertWords c =
-    -- 0: the case: 1 converted, 2 refused
-    convertCase c
-    -- 1: the refusal's number, 0 unless refused
-    ∷ convertNumber c
-    -- 2: the refusal's place, 0 unless refused
-    ∷ convertPlace c
-    -- 3: how many runs were altered, 0 where refused
-    ∷ convertAltered c
-    -- 4: how many bytes the converted stream has, 0 where refused
-    ∷ convertBytes c
-    -- 5: 1 where the input ends in a field of the refused run, else 0
-    ∷ cutCase (convertCut c)
-    -- 6: the byte where that field begins, 0 where there is none
-    ∷ cutByte (convertCut c)
-    ∷ []
+convertWords (Done c) = 1 ∷ 0 ∷ 0 ∷ c .altered ∷ c .bytes .bytes ∷ 0 ∷ 0 ∷ []
+convertWords (Refused f) = 2 ∷ f .number ∷ f .place .bytes ∷ 0 ∷ 0 ∷ cutCase (f .cut) ∷ cutByte (f .cut) ∷ []
 
 -- how many words it has
 abbrev pub convertWordCount : ℕ
@@ -61,7 +25,7 @@ convertWordCount = 7
 abbrev pub ConvertTold : List ℕ → ℕ → List ℕ → List ℕ → List ℕ → List ℕ → ℕ → Type 0
 ConvertTold input flag out out′ words words′ r =
     let m = convert (isSigned flag) input (length out) in
-    ToldOf convertWords convertNumber (toldAs (length input) m) words words′ r (outcomeBytes out m) out out′
+    ToldOf convertWords (numberIn convertWords) (toldAs (length input) m) words words′ r (outcomeBytes out m) out out′
 
 -- any two outcomes that the promise allows are equal
 abbrev pub ConvertToldDetermined : Type 0

@@ -3,48 +3,17 @@
 use mathlib.Core.Path.{_≡_}
 use Prim.Native.Nat.{ℕ}
 use mathlib.Core.List.{List, [], _∷_}
-use Rattle.format.specs.declared.CutField.{CutField}
-use Rattle.format.specs.declared.CutField.the-variants.{None}
 use Rattle.format.specs.Words.{cutCase, cutByte, Told}
+use Rattle.loader.specs.Numbers.{numberIn}
 use Rattle.season.specs.declared.Count.{Count}
 use Rattle.season.specs.declared.Count.the-variants.{True, Refused}
 use Rattle.season.specs.Ones.{countTrue}
 
-abbrev pub countCase : Count → ℕ
-countCase (True n) = 1
-countCase (Refused f) = 2
-
-abbrev pub countNumber : Count → ℕ
-countNumber (True n) = 0
-countNumber (Refused f) = f .number
-
-abbrev pub countPlace : Count → ℕ
-countPlace (True n) = 0
-countPlace (Refused f) = f .place .bytes
-
-abbrev pub countTrues : Count → ℕ
-countTrues (True n) = n
-countTrues (Refused f) = 0
-
-abbrev pub countCut : Count → CutField
-countCut (True n) = None
-countCut (Refused f) = f .cut
-
+-- word 0 is the case: 1 counted, 2 refused; words 1 and 2 are the refusal's number and place, 0 unless refused; word 3 is how many are
+-- true, 0 where refused; word 4 is 1 where a field was cut, else 0, and word 5 the byte where it begins, 0 unless one was cut
 unfoldable pub countWords : Count → List ℕ
-countWords c =
-    -- 0: the case: 1 counted, 2 refused
-    countCase c
-    -- 1: the refusal's number, 0 unless refused
-    ∷ countNumber c
-    -- 2: the refusal's place, 0 unless refused
-    ∷ countPlace c
-    -- 3: how many are true, 0 where refused
-    ∷ countTrues c
-    -- 4: 1 where a field was cut, else 0
-    ∷ cutCase (countCut c)
-    -- 5: the byte where it begins, 0 unless one was cut
-    ∷ cutByte (countCut c)
-    ∷ []
+countWords (True n) = 1 ∷ 0 ∷ 0 ∷ n ∷ 0 ∷ 0 ∷ []
+countWords (Refused f) = 2 ∷ f .number ∷ f .place .bytes ∷ 0 ∷ cutCase (f .cut) ∷ cutByte (f .cut) ∷ []
 
 -- how many words a count has
 abbrev pub countWordCount : ℕ
@@ -52,7 +21,7 @@ countWordCount = 6
 
 -- HOW MANY OF THE FIRST n BOOLEANS ARE TRUE, packed eight to a byte; nothing but the words is lent
 abbrev pub CountTold : List ℕ → ℕ → List ℕ → List ℕ → ℕ → Type 0
-CountTold packed n words words′ r = Told countWords countNumber (countTrue n packed) words words′ r
+CountTold packed n words words′ r = Told countWords (numberIn countWords) (countTrue n packed) words words′ r
 
 -- any two outcomes that the promise allows are equal
 abbrev pub CountToldDetermined : Type 0

@@ -8,45 +8,14 @@ use Rattle.labels.specs.declared.Label.{Label}
 use Rattle.labels.specs.declared.Label.the-variants.{Name, Fallback, Refused}
 use Rattle.labels.specs.Labels.{label}
 use Rattle.format.specs.Words.{Told}
+use Rattle.loader.specs.Numbers.{numberIn}
 
-abbrev pub labelCase : Label → ℕ
-labelCase (Name n) = 1
-labelCase (Fallback n) = 3
-labelCase (Refused f) = 2
-
-abbrev pub labelNumber : Label → ℕ
-labelNumber (Name n) = 0
-labelNumber (Fallback n) = 0
-labelNumber (Refused f) = f .number
-
-abbrev pub labelPlace : Label → ℕ
-labelPlace (Name n) = 0
-labelPlace (Fallback n) = 0
-labelPlace (Refused f) = f .place .bytes
-
-abbrev pub labelStart : Label → ℕ
-labelStart (Name n) = n .start .bytes
-labelStart (Fallback n) = 0
-labelStart (Refused f) = 0
-
-abbrev pub labelSize : Label → ℕ
-labelSize (Name n) = n .size .bytes
-labelSize (Fallback n) = n .bytes
-labelSize (Refused f) = 0
-
+-- word 0 is the case: 1 a name, 2 refused, 3 the fallback; words 1 and 2 are the refusal's number and place, 0 unless refused; word 3 is the byte of the
+-- block where the name begins, 0 unless a name; word 4 is how many bytes the name or the fallback has, 0 where refused
 unfoldable pub labelWords : Label → List ℕ
-labelWords l =
-    -- 0: the case: 1 a name, 2 refused, 3 the fallback
-    labelCase l
-    -- 1: the refusal's number, 0 unless refused
-    ∷ labelNumber l
-    -- 2: the refusal's place, 0 unless refused
-    ∷ labelPlace l
-    -- 3: the byte of the block where the name begins, 0 unless a name
-    ∷ labelStart l
-    -- 4: how many bytes the name or the fallback has, 0 where refused
-    ∷ labelSize l
-    ∷ []
+labelWords (Name n) = 1 ∷ 0 ∷ 0 ∷ n .start .bytes ∷ n .size .bytes ∷ []
+labelWords (Fallback n) = 3 ∷ 0 ∷ 0 ∷ 0 ∷ n .bytes ∷ []
+labelWords (Refused f) = 2 ∷ f .number ∷ f .place .bytes ∷ 0 ∷ 0 ∷ []
 
 -- how many words a label has
 abbrev pub labelWordCount : ℕ
@@ -55,7 +24,7 @@ labelWordCount = 5
 -- WHAT A ROW IS CALLED: the part follows from the words, and nothing but the words is lent
 abbrev pub LabelTold : List ℤ → List ℤ → List ℕ → List ℕ → List ℕ → ℕ → List ℕ → List ℕ → ℕ → Type 0
 LabelTold lengths numbers flags block fall row words words′ r =
-    Told labelWords labelNumber (label lengths numbers flags block fall row) words words′ r
+    Told labelWords (numberIn labelWords) (label lengths numbers flags block fall row) words words′ r
 
 -- any two outcomes that the promise allows are equal
 abbrev pub LabelToldDetermined : Type 0

@@ -1,5 +1,6 @@
 -- What the loader's inner functions are stated with, and the promises of the functions over other rooms than the first. The other promises stand in `format`.
 pub mod Room
+pub mod Numbers
 pub mod Labels
 pub mod Patched
 pub mod Parts

@@ -10,40 +10,13 @@ use Rattle.salvage.specs.declared.Outcome.the-variants.{Written, Refused}
 use Rattle.salvage.specs.Salvage.{Call, salvaging, outcomeOf, streamIn, reportIn}
 use Rattle.format.specs.Loader.{isSigned}
 use Rattle.format.specs.Words.{ToldOf}
+use Rattle.loader.specs.Numbers.{numberIn}
 
-abbrev pub salvageCase : Outcome → ℕ
-salvageCase (Written n) = 1
-salvageCase (Refused f) = 2
-
-abbrev pub salvageNumber : Outcome → ℕ
-salvageNumber (Written n) = 0
-salvageNumber (Refused f) = f .number
-
-abbrev pub salvagePlace : Outcome → ℕ
-salvagePlace (Written n) = 0
-salvagePlace (Refused f) = f .place .bytes
-
-abbrev pub salvageStream : Outcome → ℕ
-salvageStream (Written n) = n .stream .bytes
-salvageStream (Refused f) = 0
-
-abbrev pub salvageReport : Outcome → ℕ
-salvageReport (Written n) = n .report .bytes
-salvageReport (Refused f) = 0
-
+-- word 0 is the case: 1 salvaged, 2 refused; words 1 and 2 are the refusal's number and place, 0 unless refused; words 3 and 4 are
+-- how many bytes the new stream and the report have, 0 where refused
 unfoldable pub salvageWords : Outcome → List ℕ
-salvageWords m =
-    -- 0: the case: 1 salvaged, 2 refused
-    salvageCase m
-    -- 1: the refusal's number, 0 unless refused
-    ∷ salvageNumber m
-    -- 2: the refusal's place, 0 unless refused
-    ∷ salvagePlace m
-    -- 3: how many bytes the new stream has, 0 where refused
-    ∷ salvageStream m
-    -- 4: how many bytes the report has, 0 where refused
-    ∷ salvageReport m
-    ∷ []
+salvageWords (Written n) = 1 ∷ 0 ∷ 0 ∷ n .stream .bytes ∷ n .report .bytes ∷ []
+salvageWords (Refused f) = 2 ∷ f .number ∷ f .place .bytes ∷ 0 ∷ 0 ∷ []
 
 -- how many words that is
 abbrev pub salvageWordCount : ℕ
@@ -55,8 +28,8 @@ module _ (input starts counts : List ℕ) (fill : ℤ) (flag : ℕ) (out out′ 
   called = salvaging (isSigned flag) fill input starts counts (length out) (length lines)
 
   pub record SalvageTold : Type 0 where
-    pub stream-told : ToldOf salvageWords salvageNumber (outcomeOf called) words words′ r (streamIn out called) out out′
-    pub report-told : ToldOf salvageWords salvageNumber (outcomeOf called) words words′ r (reportIn lines called) lines lines′
+    pub stream-told : ToldOf salvageWords (numberIn salvageWords) (outcomeOf called) words words′ r (streamIn out called) out out′
+    pub report-told : ToldOf salvageWords (numberIn salvageWords) (outcomeOf called) words words′ r (reportIn lines called) lines lines′
 
 -- any two outcomes that the promise allows are equal
 abbrev pub SalvageToldDetermined : Type 0

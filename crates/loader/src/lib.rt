@@ -1,5 +1,5 @@
 // What the loader calls, which stays in Rust or C: slices in and out, numbers, and one number back. `orc_read_run` answers by that number alone and
-// lays its rows out as bytes. The readers after it and the writer tell their answer in words that the caller lends (`format/specs/Loader.antt` says
+// lays its rows out as bytes. The readers after it and the writer tell their answer in words that the caller lends (`format/specs/Words.antt` says
 // what each word means), and read and write the caller's rows where they stand; the number is then the refusal's.
 ghost use mathlib.Core.Path.{_≡_};
 ghost use Rattle.format.specs.Kept.{NarrowestKept};
@@ -222,7 +222,9 @@ pub extern "C" fn orc_check_column(
         bases,
         room as usize,
     );
-    column_words::put_checked(checked, words)
+    let said = column_words::of_checked(checked);
+    words::lay(&said, words);
+    0
 }
 
 // A column as a stream of runs: as it is proposed, where that is accepted, else as direct runs of 64 bits, 512 rows each and the rest last.
@@ -245,7 +247,9 @@ pub extern "C" fn orc_write_column(
         return words::TOO_FEW;
     }
     let answer = planner::write_column(rows, flag != 0, first, counts, forms, widths, bases, out);
-    column_words::put_column(answer, words)
+    let said = column_words::of(answer);
+    words::lay(&said, words);
+    said[1]
 }
 
 // The stream with each direct or packed delta run of an odd width at the next kept one, in the first bytes lent; every other run is
@@ -258,7 +262,9 @@ pub extern "C" fn orc_convert(input: &[u8], flag: u64, out: &mut [u8], words: &m
         return words::TOO_FEW;
     }
     let converted = convert::convert(input, flag != 0, out);
-    convert_words::put_converted(converted, words)
+    let said = convert_words::of(converted);
+    words::lay(&said, words);
+    said[1]
 }
 
 // What a row is called, by a dictionary (its block and the lengths of its names), the named rows' numbers and a flag for each row; or the
@@ -286,7 +292,9 @@ pub extern "C" fn orc_label(
         fallback,
         RowNumber { rows: row as usize },
     );
-    label_words::put_label(label, words)
+    let said = label_words::of(label);
+    words::lay(&said, words);
+    said[1]
 }
 
 // The words of a reader in parts that has taken nothing.
@@ -355,7 +363,9 @@ pub extern "C" fn orc_count_true(packed: &[u8], n: u64, words: &mut [u64]) -> u6
         return words::TOO_FEW;
     }
     let count = season::count_true(packed, n as usize);
-    count_words::put_count(count, words)
+    let said = count_words::of(count);
+    words::lay(&said, words);
+    said[1]
 }
 
 // The row index of a stream, in the first places of three columns: first row, byte offset and rows of each run.
@@ -373,7 +383,9 @@ pub extern "C" fn orc_build_index(
         return words::TOO_FEW;
     }
     let built = index::build(input, first, at, counts);
-    index_words::put_built(built, words)
+    let said = index_words::of_built(built);
+    words::lay(&said, words);
+    said[1]
 }
 
 // The entry of an index that holds a row. The columns have an entry's place for each run, and no other.
@@ -392,7 +404,9 @@ pub extern "C" fn orc_look_up(
         return words::TOO_FEW;
     }
     let found = index::look_up(input, first, at, counts, RowNumber { rows: row as usize });
-    index_words::put_found(found, words)
+    let said = index_words::of_found(found);
+    words::lay(&said, words);
+    said[1]
 }
 
 // The rows of a stream from a row on, through its index, in the first of the rows lent.
@@ -414,7 +428,9 @@ pub extern "C" fn orc_read_from(
     }
     let from = RowNumber { rows: row as usize };
     let preview = index::read_from(input, first, at, counts, from, flag != 0, rows);
-    index_words::put_preview(preview, words)
+    let said = index_words::of_preview(preview);
+    words::lay(&said, words);
+    said[1]
 }
 
 // Salvages a stream by its groups, each with a start byte and a row count: the new stream in the first bytes of `out`, and a line for each group in
@@ -436,5 +452,7 @@ pub extern "C" fn orc_salvage(
         return words::TOO_FEW;
     }
     let outcome = salvage::salvage(input, starts, counts, fill, flag != 0, out, report);
-    salvage_words::put_outcome(outcome, words)
+    let said = salvage_words::of(outcome);
+    words::lay(&said, words);
+    said[1]
 }

@@ -1,7 +1,8 @@
 // An answer as words: the case, the refusal's number and place, the kind, rows and bytes, the field that was cut, and the width; of a stream also its last run.
 ghost use mathlib.Core.Path.{_≡_};
+ghost use mathlib.Core.List.{_++_};
 ghost use Prim.Native.Nat.{_≤_};
-ghost use lib.ListN.{length};
+ghost use lib.ListN.{length, drop};
 ghost use Rattle.format.specs.Words.{answerCase, answerKind, answerWords, cutCase, cutByte, streamCase, streamNumber, streamPlace, streamCut, streamRows, streamBytes, streamLast, lastAnswer, streamWords, wordCount, streamWordCount, Put};
 ghost use Rattle.format.specs.Answers.{answerNumber};
 use format::ALL_BITS;
@@ -56,6 +57,18 @@ pub(crate) fn cut_byte(field: CutField) -> usize
     match field {
         CutField::None => 0,
         CutField::At(b) => b.bytes,
+    }
+}
+
+// The words of an answer, in the first of the words lent.
+pub(crate) fn lay(said: &[u64], words: &mut [u64])
+    requires { ⌜ length (now said) ≤ length (now words) ⌝ }
+    ensures { λ _. ⌜ now (words .exit) ≡ now (said .entry) ++ drop (length (now (said .entry))) (now (words .entry)) ⌝ }
+{
+    let mut i: usize = 0;
+    while i < said.len() {
+        words[i] = said[i];
+        i += 1;
     }
 }
 
