@@ -11,6 +11,7 @@ use format::Refusal;
 mod turn;
 
 use turn::Step;
+use util::bytes;
 
 // What was converted: how many runs were altered, and how many bytes the stream now has.
 pub struct Conversion {
@@ -58,7 +59,7 @@ fn put(run: &[u8], n: usize, out: &mut [u8], at: usize)
     if out.len() - at < n {
         return;
     }
-    turn::copy(run, n, out, at);
+    bytes::copy(run, n, out, at);
 }
 
 // The first n bytes of a run behind those that are laid, in so much room.

@@ -2,7 +2,6 @@
 ghost use mathlib.Core.Path.{_≡_};
 ghost use Prim.Native.Nat.{_+_, _/_, _%_, _≤_};
 ghost use lib.ListN.{length, take};
-ghost use lib.Seq.{paste};
 ghost use Rattle.format.specs.Kept.{nextKept};
 ghost use Rattle.format.specs.Writing.{Written};
 ghost use Rattle.convert.specs.Turn.{oddFirst, formFirst, StepIs};
@@ -11,6 +10,7 @@ use format::ByteOffset;
 use format::Form;
 use format::Kind;
 use format::Refusal;
+use util::bytes;
 use util::width;
 
 // The most bytes of a run.
@@ -73,19 +73,6 @@ fn rewrite(first: u8, rows: &[i64], n: usize, signed: bool, out: &mut [u8]) -> A
     )
 }
 
-// The first k bytes of a part, into the lent bytes from place h on.
-pub(crate) fn copy(part: &[u8], k: usize, buffer: &mut [u8], h: usize)
-    requires { ⌜ k ≤ length (now part) ⌝ }
-    requires { ⌜ h + k ≤ length (now buffer) ⌝ }
-    ensures { λ _. ⌜ now (buffer .exit) ≡ paste (now (buffer .entry)) h (now (part .entry)) k ⌝ }
-{
-    let mut i = 0;
-    while i < k {
-        buffer[h + i] = part[i];
-        i += 1;
-    }
-}
-
 // The run at a place, converted, in the first bytes of `run`.
 pub(crate) fn convert_run(input: &[u8], p: usize, signed: bool, run: &mut [u8]) -> Step
     requires { ⌜ length (now run) ≡ 4356 ⌝ }
@@ -106,7 +93,7 @@ pub(crate) fn convert_run(input: &[u8], p: usize, signed: bool, run: &mut [u8]) 
                     odd: true,
                 });
             }
-            copy(&input[p..], taken.bytes, run, 0);
+            bytes::copy(&input[p..], taken.bytes, run, 0);
             Step::Run(Turn {
                 taken: taken.bytes,
                 given: taken.bytes,

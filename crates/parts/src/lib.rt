@@ -2,7 +2,6 @@
 ghost use mathlib.Core.Path.{_≡_};
 ghost use Prim.Native.Nat.{_+_, _-_, _≤_};
 ghost use lib.ListN.{length};
-ghost use lib.Seq.{paste};
 ghost use Rattle.format.specs.Parts.{fresh, Takes, Closes};
 ghost use Rattle.parts.specs.Steps.{still, tooFew, holds, stops, refuses, hands, fromFirst, cutShort, byAnswer, byLast, Goes, goes};
 use format::Answer;
@@ -16,6 +15,7 @@ use format::Refusal;
 use format::RowNumber;
 use format::Run;
 use format::Standing;
+use util::bytes;
 use util::number;
 
 // A reader that has taken nothing.
@@ -175,19 +175,6 @@ fn on_part(reader: PartReader, held: usize, seen: usize, part: usize, a: Answer)
     }
 }
 
-// The first k bytes of the part, into the lent bytes from place h on.
-fn copy(part: &[u8], k: usize, buffer: &mut [u8], h: usize)
-    requires { ⌜ k ≤ length (now part) ⌝ }
-    requires { ⌜ h + k ≤ length (now buffer) ⌝ }
-    ensures { λ _. ⌜ now (buffer .exit) ≡ paste (now (buffer .entry)) h (now (part .entry)) k ⌝ }
-{
-    let mut i = 0;
-    while i < k {
-        buffer[h + i] = part[i];
-        i += 1;
-    }
-}
-
 // A call with a part of an open reader, with room enough.
 fn opened(
     reader: PartReader,
@@ -207,11 +194,11 @@ fn opened(
         let a = rle_v2::read_first(part, signed, out);
         let step = on_part(reader, 0, n, n, a);
         let kept = step.reader;
-        copy(part, kept.held, buffer, 0);
+        bytes::copy(part, kept.held, buffer, 0);
         return step;
     }
     let k = number::least(n, beyond(Kind::MAX_BYTES, h));
-    copy(part, k, buffer, h);
+    bytes::copy(part, k, buffer, h);
     let a = rle_v2::read_gathered(&buffer[..h + k], signed, out);
     on_part(reader, h, h + k, n, a)
 }

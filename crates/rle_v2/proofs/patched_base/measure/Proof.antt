@@ -47,8 +47,8 @@ returns-2 c =
     let a = e .before .before .before .before .args in
     rw (c .refused2 .ensures, number-is l) (found-3-7 (now (a .input)) (a .at) _ _ (heads e) (λ z. c .before .if2 .taken (number-is l ∙ z)))
 
-sub-run : tie.Need-sub-run
-sub-run c = omega (arith, heads (c .before .before .before .before) .headed .parts .end-is)
+sub-t8 : tie.Need-sub-t8
+sub-t8 c = omega (arith, heads (c .before .before .before .before) .headed .parts .end-is)
 
 returns-3 : tie.Need-returns-3
 returns-3 c =
@@ -61,4 +61,4 @@ returns-3 c =
 pub measure-spec : {M : Type 1} → statement M
 measure-spec =
     tie.close (tie.spec (λ c κs. search needs) (λ c κs. search needs) returns (λ c. omega (arith, list-in c)) (λ c. omega (arith, list-in c)) (λ c. search needs)
-    refused-with-requires (λ c κs. search needs) returns-2 sub-run (λ c κs. search needs) returns-3)
+    refused-with-requires (λ c κs. search needs) returns-2 sub-t8 (λ c κs. search needs) returns-3)

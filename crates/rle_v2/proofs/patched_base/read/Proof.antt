@@ -77,8 +77,8 @@ put-requires c κs =
     let a = e .before .before .before .before .args in
     (ready (now (a .input)) (a .at) _ _ (heads e) (sym (number-is (t .before)) ∙ t .if2 .left), c .before .if3 .left)
 
-sub-run : tie.Need-sub-run
-sub-run c =
+sub-t10 : tie.Need-sub-t10
+sub-t10 c =
     let back-6 = c .before .before .before .before .before .before in
     omega (arith, heads (back-6 .before .before .before) .headed .parts .end-is)
 
@@ -96,4 +96,4 @@ returns-4 c =
 pub read-spec : {M : Type 1} → statement M
 read-spec =
     tie.close (tie.spec (λ c κs. search needs) (λ c κs. search needs) returns (λ c. omega (arith, list-in c)) (λ c. omega (arith, list-in c)) (λ c. search needs)
-    refused-with-requires (λ c κs. search needs) returns-2 (λ c κs. search needs) returns-3 put-requires sub-run (λ c κs. search needs) (λ c. search needs) returns-4)
+    refused-with-requires (λ c κs. search needs) returns-2 (λ c κs. search needs) returns-3 put-requires sub-t10 (λ c κs. search needs) (λ c. search needs) returns-4)

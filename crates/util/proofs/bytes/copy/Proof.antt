@@ -1,6 +1,6 @@
 -- Each turn copies one byte more. Assumes nothing.
-use Rattle.convert.proofs.turn.copy.Statement.{statement}
-use Rattle.convert.proofs.turn.copy.Tie as tie
+use Rattle.util.proofs.bytes.copy.Statement.{statement}
+use Rattle.util.proofs.bytes.copy.Tie as tie
 use mathlib.Core.Path.{_≡_, refl, _∙_}
 use Prim.Native.Nat.{_-_, _+_, _≤_}
 use native.Mathlib.Omega.{arith}
