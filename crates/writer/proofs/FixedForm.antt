@@ -1,13 +1,12 @@
 -- The fixed delta, and what both deltas begin with. Assumes nothing.
 use mathlib.Core.Path.{_≡_, refl, sym, ap, _∙_}
-use Prim.Native.Nat.{ℕ, _+_, _-_, _<_, _≤_}
+use Prim.Native.Nat.{ℕ, _+_, _<_, _≤_}
 use native.Mathlib.Omega.{arith}
 use mathlib.Core.Bool.{Bool, true, false, not}
-use mathlib.Core.List.{List, [], _∷_, _++_, map}
+use mathlib.Core.List.{List, _++_, map}
 use lib.Dec.{eqb}
 use lib.IntN.{ℤ}
-use lib.ListN.{length, drop, take, length-map, length-append}
-use lib.Seq.{take-at}
+use lib.ListN.{length, drop, length-map, length-append}
 use borrow.Author.Tests.{le-leb, not-true, not-false}
 use Rattle.format.specs.declared.Form.the-variants.{FixedDelta}
 use Rattle.format.specs.declared.Kind.the-variants as kind
@@ -18,15 +17,10 @@ use Rattle.format.specs.Runs.{layout, rowCount}
 use Rattle.format.specs.Rows.{asU64}
 use Rattle.format.specs.Promises.{kindOf, widthOf}
 use Rattle.format.specs.Writing.{countAllowed, haveForm, widthAllowed, fitWidth, firstOf, baseDelta, stepsOf, valuesOf, every, described, Written}
-use Rattle.format.proofs.Steps.{length-steps}
 use Rattle.writer.specs.Start.{start, Started}
 use Rattle.writer.proofs.Promised.{bad-form, no-room, laid}
 
 -- ---- fixed delta
-
-steps-count : (rs : List ℕ) (n : ℕ) → length rs ≡ n → 1 ≤ n → length (stepsOf false rs) ≡ n - 1
-steps-count [] n e h = absurd (omega arith)
-steps-count (x ∷ rs) n e h = length-steps false x rs ∙ omega arith
 
 pub record Fixed (rows : List ℤ) (signed : Bool) (code : ℕ) (same : Bool) : Type 0 where
   pub count : countAllowed FixedDelta (length (map asU64 rows)) ≡ true
@@ -36,17 +30,15 @@ pub record Fixed (rows : List ℤ) (signed : Bool) (code : ℕ) (same : Bool) : 
   pub lay : layout (described signed FixedDelta code (map asU64 rows)) ≡ start 0 (length rows) (firstOf signed (map asU64 rows)) (zigzagged (baseDelta (map asU64 rows)))
   pub shape : (kindOf (described signed FixedDelta code (map asU64 rows)) ≡ kind.Delta) × (widthOf (described signed FixedDelta code (map asU64 rows)) ≡ 0) × (rowCount (described signed FixedDelta code (map asU64 rows)) ≡ length rows)
 
-pub fixed-known : (rows : List ℤ) (signed : Bool) (code step : ℕ) (vals rest : List ℕ) (same : Bool) → 1 ≤ length rows → length rows ≤ 512 → code ≡ 0
-    → step ≡ baseDelta (map asU64 rows) → vals ≡ stepsOf false (map asU64 rows) ++ rest → same ≡ every (λ x. eqb x step) (take (length rows - 1) vals) → Fixed rows signed code same
+pub fixed-known : (rows : List ℤ) (signed : Bool) (code step : ℕ) (same : Bool) → 1 ≤ length rows → length rows ≤ 512 → code ≡ 0 → step ≡ baseDelta (map asU64 rows)
+    → same ≡ every (λ x. eqb x step) (stepsOf false (map asU64 rows)) → Fixed rows signed code same
 unfolding haveForm fitWidth valuesOf described layout start every
-fixed-known rows signed code step vals rest same a b z s e t =
-    let rs : List ℕ = map asU64 rows in
-    let n : length rs ≡ length rows = length-map rows asU64 in
-    let front : take (length rows - 1) vals ≡ stepsOf false rs = rw e (take-at (stepsOf false rs) rest (length rows - 1) (steps-count rs (length rows) n a)) in
+fixed-known rows signed code step same a b z s t =
+    let n : length (map asU64 rows) ≡ length rows = length-map rows asU64 in
     record {
       count = rw n (simp (le-leb 1 (length rows) a, le-leb (length rows) 512 b));
       size = rw z;
-      form = t ∙ rw (front, s);
+      form = t ∙ rw s;
       fits = refl;
       lay = rw n;
       shape = (refl, refl, n);

@@ -126,6 +126,26 @@ steps-end falling (x ∷ []) zero h = refl
 steps-end falling (x ∷ y ∷ l) zero h = absurd (omega arith)
 steps-end falling (x ∷ l) (suc i) h = steps-end falling l i (omega arith)
 
+-- all steps pass a test exactly if those that are left pass it
+
+abbrev pub StepsLeft : (ℕ → Bool) → List ℕ → ℕ → Type 0
+StepsLeft test l i = every test (stepsOf false l) ≡ every test (stepsOf false (drop i l))
+
+module _ (test : ℕ → Bool) (l : List ℕ) (i : ℕ) (left : StepsLeft test l i) where
+  one-more : i + 1 < length l → every test (stepsOf false l) ≡ test (stepTo false (getD l i 0) (getD l (i + 1) 0)) && every test (stepsOf false (drop (i + 1) l))
+  unfolding every
+  one-more h = left ∙ ap (λ (t : List ℕ). every test t) (steps-next false l i h)
+
+  pub steps-stop : i + 1 < length l → test (stepTo false (getD l i 0) (getD l (i + 1) 0)) ≡ false → false ≡ every test (stepsOf false l)
+  steps-stop h e = sym (one-more h ∙ rw e)
+
+  pub steps-go : i + 1 < length l → test (stepTo false (getD l i 0) (getD l (i + 1) 0)) ≡ true → StepsLeft test l (i + 1)
+  steps-go h e = one-more h ∙ rw e
+
+  pub steps-done : length l ≤ i + 1 → true ≡ every test (stepsOf false l)
+  unfolding every
+  steps-done h = sym (left ∙ ap (λ (t : List ℕ). every test t) (steps-end false l i h))
+
 pub base-none : (l : List ℕ) → length l < 2 → 0 ≡ baseDelta l
 unfolding baseDelta stepsOf
 base-none [] h = refl

@@ -54,9 +54,7 @@ pub(crate) fn write_fixed(rows: &[i64], signed: bool, code: u8, out: &mut [u8]) 
 {
     let n = rows.len();
     let step = base_delta(rows);
-    let mut steps = values::scratch();
-    values::steps(rows, false, &mut steps);
-    if !values::all_are(&steps, n - 1, step) {
+    if !values::are_steps(rows, step) {
         return Answer::refused(10, 0);
     }
     let first = values::stored(signed, values::pattern_of(rows, 0));
@@ -74,17 +72,23 @@ pub(crate) fn write_fixed(rows: &[i64], signed: bool, code: u8, out: &mut [u8]) 
     )
 }
 
-pub(crate) fn write_packed(rows: &[i64], signed: bool, code: u8, out: &mut [u8]) -> Answer
-    requires { ⌜ (2 ≤ length (now rows)) × (length (now rows) ≤ 512) × (1 ≤ code) × (code ≤ 31) ⌝ }
+// Writes a packed delta; the places hold its magnitudes on the way.
+fn write_packed_over(
+    rows: &[i64],
+    signed: bool,
+    code: u8,
+    vals: &mut [u64],
+    out: &mut [u8],
+) -> Answer
+    requires { ⌜ (2 ≤ length (now rows)) × (length (now rows) ≤ 512) × (1 ≤ code) × (code ≤ 31) × (length (now rows) ≤ length (now vals)) ⌝ }
     requires { ⌜ isKept code ≡ true ⌝ }
     ensures { λ r. ⌜ Written (now (rows .entry)) signed Form.PackedDelta code (now (out .entry)) (now (out .exit)) r ⌝ }
 {
     let n = rows.len();
     let bits = width::bits_of(code);
     let step = base_delta(rows);
-    let mut magnitudes = values::scratch();
-    values::steps(&rows[1..], TOP_BIT <= step, &mut magnitudes);
-    if !values::all_fit(&magnitudes, n - 2, bits) {
+    values::steps(&rows[1..], TOP_BIT <= step, vals);
+    if !values::all_fit(vals, n - 2, bits) {
         return Answer::refused(11, 0);
     }
     let first = values::stored(signed, values::pattern_of(rows, 0));
@@ -94,11 +98,25 @@ pub(crate) fn write_packed(rows: &[i64], signed: bool, code: u8, out: &mut [u8])
         return Answer::refused(8, 0);
     }
     let at = write_start(code, n, first, base, out);
-    packed::pack(&magnitudes, n - 2, bits, out, at);
+    packed::pack(vals, n - 2, bits, out, at);
     Answer::run(
         Kind::Delta,
         bits,
         RowNumber { rows: n },
         ByteOffset { bytes: size },
     )
+}
+
+pub(crate) fn write_packed(rows: &[i64], signed: bool, code: u8, out: &mut [u8]) -> Answer
+    requires { ⌜ (2 ≤ length (now rows)) × (length (now rows) ≤ 512) × (1 ≤ code) × (code ≤ 31) ⌝ }
+    requires { ⌜ isKept code ≡ true ⌝ }
+    ensures { λ r. ⌜ Written (now (rows .entry)) signed Form.PackedDelta code (now (out .entry)) (now (out .exit)) r ⌝ }
+{
+    // a short run pays for a few places, and not for 512
+    if rows.len() <= values::FEW {
+        let mut few = values::few();
+        return write_packed_over(rows, signed, code, &mut few, out);
+    }
+    let mut all = values::scratch();
+    write_packed_over(rows, signed, code, &mut all, out)
 }

@@ -1,5 +1,6 @@
 // The numbers that a run stores: rows, zigzagged if signed, and the steps between rows.
 ghost use mathlib.Core.Path.{_≡_};
+ghost use mathlib.Core.Bool.{false};
 ghost use mathlib.Core.List.{_++_, map};
 ghost use Prim.Native.Nat.{_+_, _-_, _/_, _^_, _≤_, _<_};
 ghost use lib.ListN.{length, getD, take, drop};
@@ -16,6 +17,14 @@ use util::pattern;
 // Room for a run's values.
 pub(crate) fn scratch() -> [u64; Kind::MAX_ROWS] {
     [0u64; Kind::MAX_ROWS]
+}
+
+// The rows of a short run: all places of a run are 4 KB, and to clear them costs more than to write a few rows.
+pub(crate) const FEW: usize = 32;
+
+// Room for a short run's values.
+pub(crate) fn few() -> [u64; FEW] {
+    [0u64; FEW]
 }
 
 // A row's 64 bits.
@@ -129,6 +138,20 @@ pub(crate) fn steps(rows: &[i64], falling: bool, vals: &mut [u64])
         vals[i] = step(falling, pattern_of(rows, i), pattern_of(rows, i + 1));
         i += 1;
     }
+}
+
+// Every step from a row to the next is the one given. The first that is another decides, and no step is kept.
+pub(crate) fn are_steps(rows: &[i64], value: u64) -> bool
+    ensures { λ r. ⌜ r ≡ every (λ x. eqb x value) (stepsOf false (map asU64 (now (rows .entry)))) ⌝ }
+{
+    let mut i: usize = 0;
+    while i + 1 < rows.len() {
+        if step(false, pattern_of(rows, i), pattern_of(rows, i + 1)) != value {
+            return false;
+        }
+        i += 1;
+    }
+    true
 }
 
 // No value needs more bits.

@@ -1,9 +1,9 @@
 -- `delta::write_fixed` meets its contract. Assumes nothing.
 use mathlib.Core.Path.{_≡_, ap, _∙_}
 use mathlib.Core.List.{map}
-use Prim.Native.Nat.{ℕ, _-_}
+use Prim.Native.Nat.{ℕ}
 use native.Mathlib.Omega.{arith}
-use lib.ListN.{length, drop}
+use lib.ListN.{length}
 use denote.Ref.{now}
 use Rattle.format.specs.Fields.{zigzagged}
 use Rattle.format.specs.Rows.{asU64}
@@ -16,25 +16,22 @@ use Rattle.writer.proofs.delta.write_fixed.Tie as tie
 
 -- ---- what is known once the steps are tested
 
-module _ (t : tie.After-all-are) where
-  abbrev kept : tie.After-steps2
-  kept = t .before .before .before
-
+module _ (t : tie.After-are-steps) where
   abbrev stepped : tie.After-base-delta
-  stepped = kept .before .before .before
+  stepped = t .before
 
   abbrev entry : tie.Start
   entry = stepped .before .before
 
-  known : Fixed (now (entry .args .rows)) (entry .args .signed) (entry .args .code) (t .all-are .result)
+  known : Fixed (now (entry .args .rows)) (entry .args .signed) (entry .args .code) (t .are-steps .result)
   known =
-      fixed-known (now (entry .args .rows)) (entry .args .signed) (entry .args .code) (stepped .base-delta .result) (kept .steps2 .last .1 .1 .0) (drop (length (now (entry .args .rows)) - 1) (kept .before .before .scratch .result)) (t .all-are .result)
-      (omega arith) (omega arith) (omega arith) (stepped .base-delta .ensures) (kept .steps2 .ensures) (t .all-are .ensures)
+      fixed-known (now (entry .args .rows)) (entry .args .signed) (entry .args .code) (stepped .base-delta .result) (t .are-steps .result)
+      (omega arith) (omega arith) (omega arith) (stepped .base-delta .ensures) (t .are-steps .ensures)
 
 -- ---- what the start of the run was measured from
 
 module _ (m : tie.After-start-size) where
-  abbrev tested : tie.After-all-are
+  abbrev tested : tie.After-are-steps
   tested = m .before .before .before .before .before
 
   first-is : m .before .before .stored .result ≡ firstOf (entry tested .args .signed) (map asU64 (now (entry tested .args .rows)))
@@ -64,6 +61,5 @@ returns-3 c =
 
 pub write-fixed-spec : {M : Type 1} → statement M
 write-fixed-spec =
-    tie.close (tie.spec (λ c κs. search needs) (λ c κs. search needs) (λ c. search needs) (λ c κs. search needs) (λ c. search needs) (λ c. search needs)
-    (λ c κs. search needs) (λ c κs. search needs) returns (λ c κs. search needs) (λ c κs. search needs) (λ c κs. search needs) (λ c κs. search needs)
-    (λ c κs. search needs) returns-2 (λ c κs. search needs) (λ c κs. search needs) (λ c. search needs) returns-3)
+    tie.close (tie.spec (λ c κs. search needs) (λ c κs. search needs) (λ c κs. search needs) returns (λ c κs. search needs) (λ c κs. search needs)
+    (λ c κs. search needs) (λ c κs. search needs) (λ c κs. search needs) returns-2 (λ c κs. search needs) (λ c κs. search needs) (λ c. search needs) returns-3)
