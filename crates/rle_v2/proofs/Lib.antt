@@ -2,11 +2,13 @@ pub mod PatchRefusals
 pub mod PatchRows
 pub mod Pass
 pub mod Blocks
+pub mod RefusedBy
 pub mod DeltaStart
 pub mod DirectRun
 pub mod ShortRun
 pub mod ShortVarint
 pub mod PatchWalk
+pub mod DeltaRows
 pub mod DeltaRun
 pub mod PatchedRun
 pub mod PatchedFound

@@ -6,7 +6,7 @@ use native.Mathlib.Omega.{arith}
 use mathlib.Core.Bool.{Bool, true, false}
 use mathlib.Core.List.{List, _++_, map}
 use lib.ListN.{length, take, drop, length-drop}
-use lib.Dec.{ltb, eqb}
+use lib.Dec.{ltb}
 use lib.IntN.{ℤ}
 use borrow.Author.Tests.{ne-eqb}
 use Rattle.format.specs.Fields.{pick, width, bytesFor}
@@ -15,11 +15,11 @@ use Rattle.format.specs.Rows.{asI64, baseValue}
 use Rattle.format.specs.Parse.{Parsed}
 use Rattle.format.specs.Promises.{answerOf, Gives}
 use Rattle.format.specs.declared.Answer.the-variants as answer
-use Rattle.format.specs.Answers.{ran, refusing, cutting, refusedAt, cutAt}
+use Rattle.format.specs.Answers.{ran, refusing, cutting, refusedAt}
 use Rattle.format.specs.declared.Kind.the-variants.{PatchedBase}
 use Rattle.format.proofs.Widths.{width-pos}
 use Rattle.format.proofs.Rows.{width-le}
-use Rattle.format.proofs.Reading.{blockAt, gives-none}
+use Rattle.format.proofs.Reading.{blockAt}
 use Rattle.rle_v2.specs.Pass.{based}
 use Rattle.util.specs.Packed.{fields}
 use Rattle.rle_v2.specs.PatchList.{Listed, listNumber, patchAll}
@@ -27,7 +27,7 @@ use Rattle.rle_v2.specs.declared.patched_base.Found.{Found}
 use Rattle.rle_v2.specs.declared.patched_base.Header.{Header}
 use Rattle.rle_v2.specs.declared.patched_base.Widths.{Widths}
 use Rattle.rle_v2.specs.declared.patched_base.Parts.{Parts}
-use Rattle.rle_v2.specs.PatchedHead.{InRange, IsWidths, valueBytes, listBytes, IsParts, cutBody, Passed, goneBy, refusedBy, IsFound, Heads, headOf, widthsOf, partsOf, numberOf, Ready}
+use Rattle.rle_v2.specs.PatchedHead.{InRange, IsWidths, valueBytes, listBytes, IsParts, cutBody, Passed, goneBy, IsFound, Heads, headOf, widthsOf, partsOf, numberOf, Ready}
 use Rattle.rle_v2.proofs.Blocks.{code-width, entry-width}
 use Rattle.rle_v2.proofs.PatchRefusals.{none-refused}
 use Rattle.rle_v2.proofs.PatchedRun.{entries, refused-list, run-is, refused-8, read-is}
@@ -52,15 +52,6 @@ module _ (s : List ℕ) (at : ℕ) (m : Parsed Description) where
       by true o e = gone-cut 6 (at + 4) (λ z. omega arith) (λ z. omega arith) e
       by false true e = gone-cut 13 values (λ z. omega arith) v e
       by false false e = gone-cut 14 list (λ z. omega arith) l e
-
-  -- the answer to a run that is refused leaves the places as they were
-  pub refused-none : (signed : Bool) (out : List ℤ) (f : Found) → refusedBy at f ≡ answerOf at (length s - at) m → Gives at (length s - at) signed m out out (refusedBy at f)
-  refused-none signed out f e = by (eqb (f .field) 0) e
-    where
-      by : (t : Bool) → pick t (refusedAt (f .number) at) (cutAt (f .number) at (f .field)) ≡ answerOf at (length s - at) m
-          → Gives at (length s - at) signed m out out (pick t (refusedAt (f .number) at) (cutAt (f .number) at (f .field)))
-      by true e = gives-none at (length s - at) signed m out _ tt e
-      by false e = gives-none at (length s - at) signed m out _ tt e
 
 -- ---- a run whose tests have passed
 

@@ -5,17 +5,17 @@ use Prim.Native.Nat.{ℕ, _+_, _-_, _*_, _≤_, _<_}
 use mathlib.Core.List.{List}
 use lib.ListN.{length, drop}
 use mathlib.Core.Bool.{false}
-use lib.Dec.{ltb, eqb}
+use lib.Dec.{ltb}
 use Rattle.format.specs.Fields.{pick, width, bytesFor}
-use Rattle.format.specs.Answers.{cutting, refusedAt, cutAt}
+use Rattle.format.specs.Answers.{cutting}
 use Rattle.format.specs.Runs.{Description, entryWidth, outOfPlace}
 use Rattle.format.specs.Parse.{Parsed, patchedBody}
 use Rattle.format.specs.Promises.{answerOf}
 use Rattle.format.specs.declared.Refusal.{Refusal}
-use Rattle.format.specs.declared.Answer.{Answer}
 use Rattle.format.specs.declared.CutField.{CutField}
 use Rattle.format.specs.declared.CutField.the-variants as field
 use Rattle.util.specs.Packed.{fields, Width}
+use Rattle.rle_v2.specs.RefusedBy.{refusedBy}
 use Rattle.rle_v2.specs.PatchList.{Listed, listNumber}
 use Rattle.rle_v2.specs.declared.patched_base.Found.{Found}
 use Rattle.rle_v2.specs.declared.patched_base.Header.{Header}
@@ -58,7 +58,7 @@ abbrev pub fieldOf : CutField → ℕ
 fieldOf field.None = 0
 fieldOf (field.At b) = b .bytes
 
--- what is found of a run that is refused, and the answer to it
+-- what is found of a run that is refused
 abbrev pub goneBy : Refusal → Found
 goneBy f = record {
   number = f .number;
@@ -73,9 +73,6 @@ goneBy f = record {
   list = 0;
   end = 0;
 }
-
-abbrev pub refusedBy : ℕ → Found → Answer
-refusedBy at f = pick (eqb (f .field) 0) (refusedAt (f .number) at) (cutAt (f .number) at (f .field))
 
 -- the widths and parts of what was found, and the header, by its codes and its gap width
 abbrev pub headOf : ℕ → ℕ → ℕ → Found → Header
@@ -113,7 +110,7 @@ pub record Heads (s : List ℕ) (at : ℕ) (m : Parsed Description) (f : Found) 
 -- what was found is so
 pub record IsFound (s : List ℕ) (at : ℕ) (m : Parsed Description) (f : Found) : Type 0 where
   pub heads : f .number ≡ 0 → Heads s at m f
-  pub refusal : (f .number ≡ 0 → ⊥) → refusedBy at f ≡ answerOf at (length s - at) m
+  pub refusal : (f .number ≡ 0 → ⊥) → refusedBy at (f .number) (f .field) ≡ answerOf at (length s - at) m
 
 -- what laying its rows down asks for
 pub record Ready (s : List ℕ) (at : ℕ) (f : Found) : Type 0 where

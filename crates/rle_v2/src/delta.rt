@@ -11,13 +11,13 @@ ghost use Rattle.format.specs.Promises.{answerOf, Gives};
 ghost use Rattle.util.specs.Packed.{fields, Width};
 ghost use Rattle.util.specs.Varint.{varintAt};
 ghost use Rattle.rle_v2.specs.Pass.{summed, laid};
-ghost use Rattle.rle_v2.specs.DeltaStart.{Started, StartsAt, IsMeasured, Ready, deltaRows};
+ghost use Rattle.rle_v2.specs.DeltaStart.{goneBy, Started, StartsAt, IsMeasured, Ready, deltaRows};
 use crate::header;
+use crate::refusal;
 use crate::rows;
 use format::Answer;
 use format::ByteOffset;
 use format::Kind;
-use format::Refusal;
 use format::RowNumber;
 use format::TOP_BIT;
 use util::packed;
@@ -26,28 +26,34 @@ use util::varint;
 use util::varint::Varint;
 use util::width;
 
-// The bits of a delta run's two varints, and the place after them.
-struct Start {
+// What the tests of a delta run found: the width of its magnitudes in bits, 0 where it has none; its rows; the bits of its two varints, the place
+// after these, and the place after the run. Where the number is not 0, the run is refused with it instead, and the input ends in the field that
+// begins at a byte, or, where that is 0, in none. It is no enum: one with a struct in it goes through memory.
+struct Found {
+    number: u8,
+    field: usize,
+    bits: usize,
+    rows: usize,
     first: u64,
     base: u64,
     next: usize,
+    end: usize,
 }
 
-// What the two varints of the delta run at a place say, or the run's refusal.
-enum Starts {
-    At(Start),
-    Refused(Refusal),
-}
-
-// What the tests of a delta run found: its width, rows and bytes, and its varints; or its refusal.
-enum Found {
-    Run {
-        bits: usize,
-        rows: usize,
-        size: usize,
-        start: Start,
-    },
-    Refused(Refusal),
+// A run that is refused.
+fn gone(number: u8, field: usize) -> Found
+    ensures { λ r. ⌜ r ≡ goneBy number field ⌝ }
+{
+    Found {
+        number,
+        field,
+        bits: 0,
+        rows: 0,
+        first: 0,
+        base: 0,
+        next: 0,
+        end: 0,
+    }
 }
 
 // The varint at a place, as `varint::read` has it. Most have one byte or two: these need no loop, and no call.
@@ -78,45 +84,55 @@ fn varint_at(input: &[u8], at: usize) -> Varint
     varint::read(input, at)
 }
 
-fn starts_at(input: &[u8], at: usize) -> Starts
+// The two varints of a run of so many rows, as though nothing stood behind them: a fixed delta.
+fn starts_at(input: &[u8], at: usize, rows: usize) -> Found
     requires { ⌜ at + 2 ≤ length (now input) ⌝ }
-    ensures { λ r. ⌜ StartsAt (now (input .entry)) at r ⌝ }
+    ensures { λ r. ⌜ StartsAt (now (input .entry)) at rows r ⌝ }
 {
     let body = at + 2;
     match varint_at(input, body) {
-        Varint::Cut => Starts::Refused(Refusal::cut(12, at, body)),
-        Varint::TooLong => Starts::Refused(Refusal::new(5, at)),
-        Varint::Value { bits, next } => match varint_at(input, next) {
-            Varint::Cut => Starts::Refused(Refusal::cut(12, at, next)),
-            Varint::TooLong => Starts::Refused(Refusal::new(5, at)),
+        Varint::Cut => gone(12, body),
+        Varint::TooLong => gone(5, 0),
+        Varint::Value { bits: first, next } => match varint_at(input, next) {
+            Varint::Cut => gone(12, next),
+            Varint::TooLong => gone(5, 0),
             Varint::Value {
                 bits: base,
                 next: end,
-            } => Starts::At(Start {
-                first: bits,
+            } => Found {
+                number: 0,
+                field: 0,
+                bits: 0, // no magnitudes
+                rows,
+                first,
                 base,
                 next: end,
-            }),
+                end,
+            },
         },
     }
 }
 
-// Packed magnitudes behind the varints, n of them, which are all rows but two.
-fn packed_rows(input: &[u8], at: usize, code: u8, n: usize, start: Start) -> Found
-    requires { ⌜ Started (now input) (at + 2) start × (code < 32) × (n ≤ 510) ⌝ }
-    ensures { λ r. ⌜ IsMeasured (now (input .entry)) at (deltaBody code n (drop (at + 2) (now (input .entry)))) r ⌝ }
+// Packed magnitudes behind the varints: one for each row but two.
+fn packed_rows(input: &[u8], at: usize, code: u8, f: Found) -> Found
+    requires { ⌜ Started (now input) at f × (code < 32) × (2 ≤ f .rows) × (f .rows ≤ 512) ⌝ }
+    ensures { λ r. ⌜ IsMeasured (now (input .entry)) at (deltaBody code (f .rows - 2) (drop (at + 2) (now (input .entry)))) r ⌝ }
 {
     let bits = width::bits_of(code);
-    let block = packed::block_size(bits, n);
-    let next = start.next;
+    let block = packed::block_size(bits, f.rows - 2);
+    let next = f.next;
     if input.len() - next < block {
-        return Found::Refused(Refusal::cut(13, at, next));
+        return gone(13, next);
     }
-    Found::Run {
+    Found {
+        number: 0,
+        field: 0,
         bits,
-        rows: n + 2,
-        size: next + block - at,
-        start,
+        rows: f.rows,
+        first: f.first,
+        base: f.base,
+        next,
+        end: next + block,
     }
 }
 
@@ -136,49 +152,39 @@ fn measured(input: &[u8], at: usize) -> Found
     ensures { λ r. ⌜ IsMeasured (now (input .entry)) at (deltaRun (getD (now (input .entry)) at 0) (drop (at + 1) (now (input .entry)))) r ⌝ }
 {
     if input.len() - at < 2 {
-        return Found::Refused(Refusal::new(1, at));
+        return gone(1, 0);
     }
     let h = header::two_bytes(input[at], input[at + 1]);
     let code = h.code;
     let rows = h.rows;
     if too_few(code, rows) {
-        return Found::Refused(Refusal::new(4, at));
+        return gone(4, 0);
     }
-    match starts_at(input, at) {
-        Starts::Refused(f) => Found::Refused(f),
-        Starts::At(start) => {
-            if code == 0 {
-                // a fixed delta: nothing stands behind the varints
-                return Found::Run {
-                    bits: 0,
-                    rows,
-                    size: start.next - at,
-                    start,
-                };
-            }
-            packed_rows(input, at, code, rows - 2, start)
-        }
+    let f = starts_at(input, at, rows);
+    if f.number != 0 {
+        return f;
     }
+    if code == 0 {
+        // a fixed delta: nothing stands behind the varints
+        return f;
+    }
+    packed_rows(input, at, code, f)
 }
 
 pub(crate) fn measure(input: &[u8], at: usize) -> Answer
     requires { ⌜ at < length (now input) ⌝ }
     ensures { λ r. ⌜ r ≡ answerOf at (length (now (input .entry)) - at) (deltaRun (getD (now (input .entry)) at 0) (drop (at + 1) (now (input .entry)))) ⌝ }
 {
-    match measured(input, at) {
-        Found::Run {
-            bits,
-            rows,
-            size,
-            ..
-        } => Answer::run(
-            Kind::Delta,
-            bits,
-            RowNumber { rows },
-            ByteOffset { bytes: size },
-        ),
-        Found::Refused(f) => Answer::Refused(f),
+    let f = measured(input, at);
+    if f.number != 0 {
+        return refusal::answer(f.number, at, f.field);
     }
+    Answer::run(
+        Kind::Delta,
+        f.bits,
+        RowNumber { rows: f.rows },
+        ByteOffset { bytes: f.end - at },
+    )
 }
 
 // The rows after the second: n magnitudes unpacked into the places, and summed up from the row before them.
@@ -204,18 +210,18 @@ fn lay_packed(block: &[u8], bits: usize, n: usize, first: u64, step: u64, out: &
     magnitudes(block, bits, n, falling, second, &mut out[2..]);
 }
 
-// The n rows of a run that passed its tests. Width 0 is a fixed delta: each next row adds the base delta.
-fn lay(input: &[u8], t: Start, bits: usize, n: usize, signed: bool, out: &mut [i64])
-    requires { ⌜ Ready (now input) t bits n × (n ≤ length (now out)) ⌝ }
-    ensures { λ _. ⌜ now (out .exit) ≡ deltaRows (now (input .entry)) signed t bits n ++ drop n (now (out .entry)) ⌝ }
+// The rows of a run that passed its tests. Width 0 is a fixed delta: each next row adds the base delta.
+fn lay(input: &[u8], f: Found, signed: bool, out: &mut [i64])
+    requires { ⌜ Ready (now input) f × (f .rows ≤ length (now out)) ⌝ }
+    ensures { λ _. ⌜ now (out .exit) ≡ deltaRows (now (input .entry)) signed f ++ drop (f .rows) (now (out .entry)) ⌝ }
 {
-    let first = pattern::row(signed, t.first);
-    let step = pattern::unzigzag(t.base);
-    if bits == 0 {
-        rows::steps(first, step, n, out);
+    let first = pattern::row(signed, f.first);
+    let step = pattern::unzigzag(f.base);
+    if f.bits == 0 {
+        rows::steps(first, step, f.rows, out);
     } else {
-        let next = t.next;
-        lay_packed(&input[next..], bits, n - 2, first, step, out);
+        let next = f.next;
+        lay_packed(&input[next..], f.bits, f.rows - 2, first, step, out);
     }
 }
 
@@ -223,24 +229,18 @@ pub(crate) fn read(input: &[u8], at: usize, signed: bool, out: &mut [i64]) -> An
     requires { ⌜ at < length (now input) ⌝ }
     ensures { λ r. ⌜ Gives at (length (now (input .entry)) - at) signed (deltaRun (getD (now (input .entry)) at 0) (drop (at + 1) (now (input .entry)))) (now (out .entry)) (now (out .exit)) r ⌝ }
 {
-    match measured(input, at) {
-        Found::Run {
-            bits,
-            rows,
-            size,
-            start,
-        } => {
-            if out.len() < rows {
-                return Answer::refused(8, at);
-            }
-            lay(input, start, bits, rows, signed, out);
-            Answer::run(
-                Kind::Delta,
-                bits,
-                RowNumber { rows },
-                ByteOffset { bytes: size },
-            )
-        }
-        Found::Refused(f) => Answer::Refused(f),
+    let f = measured(input, at);
+    if f.number != 0 {
+        return refusal::answer(f.number, at, f.field);
     }
+    if out.len() < f.rows {
+        return Answer::refused(8, at);
+    }
+    lay(input, f, signed, out);
+    Answer::run(
+        Kind::Delta,
+        f.bits,
+        RowNumber { rows: f.rows },
+        ByteOffset { bytes: f.end - at },
+    )
 }

@@ -15,6 +15,7 @@ mod direct;
 mod header;
 mod patch_list;
 mod patched_base;
+mod refusal;
 mod rows;
 mod short_repeat;
 

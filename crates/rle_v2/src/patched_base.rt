@@ -10,9 +10,10 @@ ghost use Rattle.format.specs.Promises.{answerOf, Gives};
 ghost use Rattle.util.specs.Packed.{fields, Width};
 ghost use Rattle.rle_v2.specs.Pass.{based};
 ghost use Rattle.rle_v2.specs.PatchList.{patchAll};
-ghost use Rattle.rle_v2.specs.PatchedHead.{InRange, IsWidths, IsParts, cutBody, fieldOf, goneBy, refusedBy, IsFound, Ready};
+ghost use Rattle.rle_v2.specs.PatchedHead.{InRange, IsWidths, IsParts, cutBody, fieldOf, goneBy, IsFound, Ready};
 use crate::header;
 use crate::patch_list;
+use crate::refusal;
 use crate::rows;
 use format::Answer;
 use format::ByteOffset;
@@ -94,16 +95,6 @@ fn gone(f: Refusal) -> Found
         list: 0,
         end: 0,
     }
-}
-
-// The answer to a run that is refused.
-fn refused(f: Found, at: usize) -> Answer
-    ensures { λ r. ⌜ r ≡ refusedBy at f ⌝ }
-{
-    if f.field == 0 {
-        return Answer::refused(f.number, at);
-    }
-    Answer::cut(f.number, at, f.field)
 }
 
 // Where the body's parts begin, and where it ends.
@@ -196,7 +187,7 @@ pub(crate) fn measure(input: &[u8], at: usize) -> Answer
 {
     let f = headed(input, at);
     if f.number != 0 {
-        return refused(f, at);
+        return refusal::answer(f.number, at, f.field);
     }
     let list = f.list;
     let number = patch_list::refused_with(
@@ -255,7 +246,7 @@ pub(crate) fn read(input: &[u8], at: usize, signed: bool, out: &mut [i64]) -> An
 {
     let f = headed(input, at);
     if f.number != 0 {
-        return refused(f, at);
+        return refusal::answer(f.number, at, f.field);
     }
     let list = f.list;
     let refusal = patch_list::refused_with(

@@ -3,7 +3,7 @@ use mathlib.Core.List.{map}
 use denote.Ref.{now}
 use Rattle.format.specs.Rows.{asI64}
 use Rattle.util.specs.Packed.{fields}
-use Rattle.rle_v2.proofs.DeltaRun.{laid-is}
+use Rattle.rle_v2.proofs.DeltaRows.{laid-is}
 use borrow.Author.Needs.{needs}
 use Rattle.rle_v2.proofs.delta.lay_packed.Statement.{statement}
 use Rattle.rle_v2.proofs.delta.lay_packed.Tie as tie

@@ -1,18 +1,26 @@
 -- The answer names what the tests found. Assumes nothing.
+use native.Mathlib.Omega.{arith}
+use mathlib.Core.Path.{_∙_}
 use denote.Ref.{now}
-use Rattle.rle_v2.proofs.DeltaRun.{passed-answer}
+use Rattle.rle_v2.specs.DeltaStart.{Passed}
+use Rattle.rle_v2.proofs.DeltaRun.{run, passed-answer}
 use borrow.Author.Needs.{needs}
 use Rattle.rle_v2.proofs.delta.measure.Statement.{statement}
 use Rattle.rle_v2.proofs.delta.measure.Tie as tie
 
+-- the run passed its tests
+passed : (e : tie.Else1) → let a = e .before .before .before .before .args in Passed (now (a .input)) (a .at) (run (now (a .input)) (a .at)) (e .before .before .measured .result)
+passed e = e .before .before .measured .ensures .passed (e .if1 .left)
+
 returns : tie.Need-returns
-returns c =
-    let m = c .before .before in
-    let a = m .before .before .before .before .args in
-    rw (c .run .ensures) (passed-answer (now (a .input)) (a .at) _ _ _ (rw (m .bits .given .1) at (m .before .before .measured .ensures)))
+returns c = c .answer .ensures ∙ c .before .before .before .measured .ensures .refusal (c .before .if1 .taken)
 
 returns-2 : tie.Need-returns-2
-returns-2 c = rw (c .before .f .given .1) at (c .before .before .before .measured .ensures)
+returns-2 c =
+    let e = c .before .before in
+    let a = e .before .before .before .before .args in
+    rw (c .run .ensures) (passed-answer (now (a .input)) (a .at) _ _ (passed e))
 
 pub measure-spec : {M : Type 1} → statement M
-measure-spec = tie.close (tie.spec (λ c κs. search needs) (λ c. search needs) (λ c κs. search needs) (λ c. search needs) returns returns-2)
+measure-spec =
+    tie.close (tie.spec (λ c κs. search needs) (λ c κs. search needs) returns (λ c. omega (arith, passed (c .before) .from)) (λ c κs. search needs) returns-2)

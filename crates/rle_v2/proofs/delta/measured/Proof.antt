@@ -5,7 +5,6 @@ use mathlib.Core.Path.{_≡_, sym, _∙_}
 use lib.ListN.{getD}
 use denote.Ref.{now}
 use Rattle.format.specs.Parse.{rowsLess}
-use Rattle.rle_v2.specs.DeltaStart.{Started}
 use Rattle.rle_v2.proofs.DeltaRun.{no-header, is-fixed, one-row, is-packed, no-varints, fixed-passed}
 use borrow.Author.Needs.{needs}
 use Rattle.rle_v2.proofs.delta.measured.Statement.{statement}
@@ -19,18 +18,11 @@ abbrev entry : tie.After-two-bytes → tie.Start
 entry b = there b .before .before
 
 -- the header passed its tests, before the varints were read
-abbrev tested : tie.After-start → tie.Else2
-tested m = m .before .before .before
-
-abbrev header : tie.After-start → tie.After-two-bytes
-header m = tested m .before .before
-
--- what the two varints say
-started : (m : tie.After-start) → let a = entry (header m) .args in Started (now (a .input)) (a .at + 2) (m .start .given .0 .0)
-started m = rw (m .start .given .1) at (m .before .before .starts-at .ensures)
+abbrev header : tie.After-starts-at → tie.After-two-bytes
+header m = m .before .before .before
 
 returns : tie.Need-returns
-returns c = let s = c .before .before .before in rw (c .new .ensures) (no-header (now (s .args .input)) (s .args .at) (s .pre) (c .before .if1 .taken))
+returns c = let s = c .before .before .before in rw (c .gone .ensures) (no-header (now (s .args .input)) (s .args .at) (s .pre) (c .before .if1 .taken))
 
 returns-2 : tie.Need-returns-2
 returns-2 c =
@@ -39,53 +31,59 @@ returns-2 c =
     let h = b .two-bytes .ensures in
     let a = entry b .args in
     let few = f .too-few .ensures .0 (c .before .if2 .taken) in
-    rw (c .new2 .ensures)
+    rw (c .gone2 .ensures)
     (one-row (now (a .input)) (a .at) (there b .if1 .left) (λ q. few .0 (h .0 ∙ q)) (omega (arith, h .1, few .1)))
-
-sub-t21 : tie.Need-sub-t21
-sub-t21 c = omega (arith, started (c .before .before .before) .next-is)
 
 returns-3 : tie.Need-returns-3
 returns-3 c =
-    let m = c .before .before .before in
+    let m = c .before .before in
+    let e = m .before in
     let b = header m in
     let h = b .two-bytes .ensures in
     let a = entry b .args in
-    rw (is-fixed (now (a .input)) (a .at) (there b .if1 .left) (sym (h .0) ∙ c .before .if3 .taken), ← (h .1))
-    (fixed-passed (now (a .input)) (a .at) _ _ (started m))
-
-sub-packed-rows : tie.Need-sub-packed-rows
-sub-packed-rows c =
-    let e = tested (c .before .before) in
-    let b = e .before .before in
-    let two : b .two-bytes .result .rows ≡ 1 → ⊥ = λ q. c .if3 .left (e .before .too-few .ensures .1 (e .if2 .left) q) in
-    omega (arith, b .two-bytes .ensures .1, two)
-
-packed-rows-requires : tie.Need-packed-rows-requires
-packed-rows-requires c κs = (started (c .before .before), search needs, search needs)
+    record {
+      passed = λ z. absurd (c .if3 .taken z);
+      refusal = λ z.
+          no-varints (now (a .input)) (a .at) (there b .if1 .left) (λ q. sym (h .0) ∙ e .before .too-few .ensures .1 (e .if2 .left) (omega (arith, h .1, q))) _
+          (m .starts-at .ensures .refusal z);
+    }
 
 returns-4 : tie.Need-returns-4
 returns-4 c =
-    let e = c .before .before .before .before in
-    let b = e .before .before in
-    let h = b .two-bytes .ensures in
-    let a = entry b .args in
-    no-varints (now (a .input)) (a .at) (there b .if1 .left) (λ q. sym (h .0) ∙ e .before .too-few .ensures .1 (e .if2 .left) (omega (arith, h .1, q))) _
-    (rw (c .before .f .given .1) at (c .before .before .before .starts-at .ensures))
-
-returns-5 : tie.Need-returns-5
-returns-5 c =
     let m = c .before .before .before in
-    let e = tested m in
     let b = header m in
     let h = b .two-bytes .ensures in
     let a = entry b .args in
-    let n : b .two-bytes .result .rows - 2 ≡ rowsLess (getD (now (a .input)) (a .at) 0) (getD (now (a .input)) (a .at + 1) 0) - 1 = omega (arith, h .1) in
-    rw (is-packed (now (a .input)) (a .at) (there b .if1 .left) (λ q. c .before .if3 .left (h .0 ∙ q)) (λ q. c .before .if3 .left (e .before .too-few .ensures .1 (e .if2 .left) (omega (arith, h .1, q)))))
+    record {
+      passed = λ z.
+          rw (is-fixed (now (a .input)) (a .at) (there b .if1 .left) (sym (h .0) ∙ c .if4 .taken), ← (m .starts-at .ensures .rows-is z ∙ h .1))
+          (fixed-passed (now (a .input)) (a .at) _ (m .starts-at .ensures .started z));
+      refusal = λ z. absurd (z (c .before .if3 .left));
+    }
+
+packed-rows-requires : tie.Need-packed-rows-requires
+packed-rows-requires c κs =
+    let m = c .before .before .before in
+    let e = m .before in
+    let h = header m .two-bytes .ensures in
+    let none = c .before .if3 .left in
+    let rows = m .starts-at .ensures .rows-is none in
+    let two : header m .two-bytes .result .rows ≡ 1 → ⊥ = λ q. c .if4 .left (e .before .too-few .ensures .1 (e .if2 .left) q) in
+    (m .starts-at .ensures .started none, search needs, omega (arith, rows, h .1, two), omega (arith, rows, h .2))
+
+returns-5 : tie.Need-returns-5
+returns-5 c =
+    let m = c .before .before .before .before in
+    let e = m .before in
+    let b = header m in
+    let h = b .two-bytes .ensures in
+    let a = entry b .args in
+    let rows = m .starts-at .ensures .rows-is (c .before .before .if3 .left) in
+    let n : m .starts-at .result .rows - 2 ≡ rowsLess (getD (now (a .input)) (a .at) 0) (getD (now (a .input)) (a .at + 1) 0) - 1 = omega (arith, h .1, rows) in
+    rw (is-packed (now (a .input)) (a .at) (there b .if1 .left) (λ q. c .before .if4 .left (h .0 ∙ q)) (λ q. c .before .if4 .left (e .before .too-few .ensures .1 (e .if2 .left) (omega (arith, h .1, q)))))
     (rw (h .0, n) at (c .packed-rows .ensures))
 
 pub measured-spec : {M : Type 1} → statement M
 measured-spec =
     tie.close (tie.spec (λ c. search needs) (λ c κs. search needs) returns (λ c. search needs) (λ c. search needs) (λ c. search needs) (λ c κs. search needs)
-    (λ c κs. search needs) (λ c κs. search needs) returns-2 (λ c κs. search needs) (λ c. search needs) (λ c. search needs) sub-t21 returns-3 sub-packed-rows
-    packed-rows-requires returns-4 returns-5)
+    (λ c κs. search needs) (λ c κs. search needs) returns-2 (λ c κs. search needs) returns-3 returns-4 packed-rows-requires returns-5)

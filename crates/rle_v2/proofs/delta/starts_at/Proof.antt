@@ -12,7 +12,7 @@ use Rattle.rle_v2.proofs.delta.starts_at.Tie as tie
 abbrev start : tie.After-varint-at → tie.Start
 start r = r .before .before
 
-abbrev first : tie.After-varint-at2 → tie.After-bits
+abbrev first : tie.After-varint-at2 → tie.After-first
 first r = r .before .before
 
 bytes : (r : tie.After-varint-at) (i : ℕ) → getD (now (start r .args .input)) i 0 < 256
@@ -22,13 +22,13 @@ returns : tie.Need-returns
 returns c =
     let r = c .before .before .before in
     let a = start r .args in
-    rw (c .cut .ensures) (first-cut (now (a .input)) (a .at) (bytes r) (start r .pre) (sym (r .varint-at .ensures) ∙ c .before .enum-told .given .1))
+    rw (c .gone .ensures) (first-cut (now (a .input)) (a .at) (a .rows) (bytes r) (start r .pre) (sym (r .varint-at .ensures) ∙ c .before .enum-told .given .1))
 
 returns-2 : tie.Need-returns-2
 returns-2 c =
     let r = c .before .before .before in
     let a = start r .args in
-    rw (c .new .ensures) (first-long (now (a .input)) (a .at) (bytes r) (sym (r .varint-at .ensures) ∙ c .before .enum-told2 .given .1))
+    rw (c .gone2 .ensures) (first-long (now (a .input)) (a .at) (a .rows) (bytes r) (sym (r .varint-at .ensures) ∙ c .before .enum-told2 .given .1))
 
 returns-3 : tie.Need-returns-3
 returns-3 c =
@@ -36,8 +36,8 @@ returns-3 c =
     let b = first r2 in
     let r = b .before .before in
     let a = start r .args in
-    rw (c .cut2 .ensures)
-    (second-cut (now (a .input)) (a .at) (bytes r) _ _ (sym (r .varint-at .ensures) ∙ b .bits .given .1) (sym (r2 .varint-at2 .ensures) ∙ c .before .enum-told3 .given .1))
+    rw (c .gone3 .ensures)
+    (second-cut (now (a .input)) (a .at) (a .rows) (bytes r) _ _ (sym (r .varint-at .ensures) ∙ b .first .given .1) (sym (r2 .varint-at2 .ensures) ∙ c .before .enum-told3 .given .1))
 
 returns-4 : tie.Need-returns-4
 returns-4 c =
@@ -45,8 +45,8 @@ returns-4 c =
     let b = first r2 in
     let r = b .before .before in
     let a = start r .args in
-    rw (c .new2 .ensures)
-    (second-long (now (a .input)) (a .at) (bytes r) _ _ (sym (r .varint-at .ensures) ∙ b .bits .given .1) (sym (r2 .varint-at2 .ensures) ∙ c .before .enum-told4 .given .1))
+    rw (c .gone4 .ensures)
+    (second-long (now (a .input)) (a .at) (a .rows) (bytes r) _ _ (sym (r .varint-at .ensures) ∙ b .first .given .1) (sym (r2 .varint-at2 .ensures) ∙ c .before .enum-told4 .given .1))
 
 returns-5 : tie.Need-returns-5
 returns-5 c =
@@ -54,7 +54,7 @@ returns-5 c =
     let b = first r2 in
     let r = b .before .before in
     let a = start r .args in
-    both-stood (now (a .input)) (a .at) (bytes r) _ _ (sym (r .varint-at .ensures) ∙ b .bits .given .1) _ _ (sym (r2 .varint-at2 .ensures) ∙ c .before .base .given .1)
+    both-stood (now (a .input)) (a .at) (a .rows) (bytes r) _ _ (sym (r .varint-at .ensures) ∙ b .first .given .1) _ _ (sym (r2 .varint-at2 .ensures) ∙ c .before .base .given .1)
 
 pub starts-at-spec : {M : Type 1} → statement M
 starts-at-spec =

@@ -29,7 +29,7 @@ number-is : (l : tie.After-refused-with) → let e = l .before .before in
 number-is l = let e = l .before .before in rw (rest-is (now (e .before .before .before .before .args .input)) (e .before .before .headed .result .list)) at (l .refused-with .ensures)
 
 returns : tie.Need-returns
-returns c = c .refused .ensures ∙ c .before .before .before .headed .ensures .refusal (c .before .if1 .taken)
+returns c = c .answer .ensures ∙ c .before .before .before .headed .ensures .refusal (c .before .if1 .taken)
 
 refused-with-requires : tie.Need-refused-with-requires
 refused-with-requires c κs =
@@ -45,7 +45,7 @@ returns-2 c =
     let l = c .before .before in
     let e = l .before .before in
     let a = e .before .before .before .before .args in
-    rw (c .refused2 .ensures, number-is l) (found-3-7 (now (a .input)) (a .at) _ _ (heads e) (λ z. c .before .if2 .taken (number-is l ∙ z)))
+    rw (c .refused .ensures, number-is l) (found-3-7 (now (a .input)) (a .at) _ _ (heads e) (λ z. c .before .if2 .taken (number-is l ∙ z)))
 
 sub-t8 : tie.Need-sub-t8
 sub-t8 c = omega (arith, heads (c .before .before .before .before) .headed .parts .end-is)

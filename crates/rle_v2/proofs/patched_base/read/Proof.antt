@@ -11,7 +11,8 @@ use Rattle.format.proofs.Widths.{width-pos}
 use Rattle.util.proofs.Grow.{rest-is}
 use Rattle.rle_v2.specs.PatchedHead.{Heads, numberOf, Passed, headOf, widthsOf, partsOf}
 use Rattle.rle_v2.proofs.PatchedRun.{run}
-use Rattle.rle_v2.proofs.PatchedFound.{passed-8, passed-read, found-in, found-list, found-3-7, passes, ready, refused-none}
+use Rattle.rle_v2.proofs.PatchedFound.{passed-8, passed-read, found-in, found-list, found-3-7, passes, ready}
+use Rattle.rle_v2.proofs.RefusedBy.{refused-none}
 use borrow.Author.Needs.{needs}
 use Rattle.rle_v2.proofs.patched_base.read.Statement.{statement}
 use Rattle.rle_v2.proofs.patched_base.read.Tie as tie
@@ -42,8 +43,8 @@ returns : tie.Need-returns
 returns c =
     let h = c .before .before .before in
     let a = h .before .before .args in
-    rw (c .refused .ensures)
-    (refused-none (now (a .input)) (a .at) (run (now (a .input)) (a .at)) (a .signed) (now (a .out)) (h .headed .result) (h .headed .ensures .refusal (c .before .if1 .taken)))
+    rw (c .answer .ensures)
+    (refused-none (a .at) (h .headed .result .number) (h .headed .result .field) (now (a .input)) (run (now (a .input)) (a .at)) (a .signed) (now (a .out)) (h .headed .ensures .refusal (c .before .if1 .taken)))
 
 refused-with-requires : tie.Need-refused-with-requires
 refused-with-requires c κs =
@@ -59,7 +60,7 @@ returns-2 c =
     let l = c .before .before in
     let e = l .before .before in
     let a = e .before .before .before .before .args in
-    rw (c .refused2 .ensures)
+    rw (c .refused .ensures)
     (gives-none (a .at) _ (a .signed) (run (now (a .input)) (a .at)) (now (a .out)) (answer.Refused _) tt
     (rw (number-is l) (found-3-7 (now (a .input)) (a .at) _ _ (heads e) (λ z. c .before .if2 .taken (number-is l ∙ z)))))
 
@@ -68,7 +69,7 @@ returns-3 c =
     let back-6 = c .before .before .before .before .before .before in
     let t = c .before .before .before in
     let a = back-6 .before .before .before .before .args in
-    rw (c .refused3 .ensures) (passed-8 (now (a .input)) (a .at) _ _ _ _ (passed t) (a .signed) (now (a .out)) (c .before .if3 .taken))
+    rw (c .refused2 .ensures) (passed-8 (now (a .input)) (a .at) _ _ _ _ (passed t) (a .signed) (now (a .out)) (c .before .if3 .taken))
 
 put-requires : tie.Need-put-requires
 put-requires c κs =
