@@ -1,18 +1,17 @@
 -- What was built is put into the words, or there are too few of them. Assumes nothing.
 use native.Mathlib.Omega.{arith}
 use borrow.Author.Needs.{needs}
-use Rattle.loader.proofs.Telling.{index-few, index-put}
+use Rattle.loader.proofs.Telling.{index-few, index-put, laid}
 use Rattle.loader.proofs.orc_build_index.Statement.{statement}
 use Rattle.loader.proofs.orc_build_index.Tie as tie
 
 returns-2 : tie.Need-returns-2
 returns-2 c =
-    let back-6 = c .before .before .before .before .before .before in
-    let p = c .before .before in
-    let a = back-6 .before .before .before .before in
-    index-put (a .build .ensures) (a .before .before .before .before .if1 .left) (p .put-built .ensures)
+    let at-lay = c .before .before in
+    let at-of = at-lay .before .before .before in
+    let a = at-of .before .before .before .before .before .before .before in
+    index-put (a .build .ensures) (a .before .before .before .before .if1 .left) (laid (at-of .of-built .ensures) (at-lay .lay .ensures))
 
 pub orc-build-index-spec : {M : Type 1} → statement M
 orc-build-index-spec =
-    tie.close (tie.spec (λ c. index-few (omega arith)) (λ c κs. search needs) (λ c κs. search needs) (λ c. search needs) (λ c. search needs) (λ c. search needs)
-    (λ c. search needs) returns-2)
+    tie.close (tie.spec (λ c. index-few (omega arith)) (λ c κs. search needs) (λ c κs. search needs) (λ c. search needs) (λ c κs. search needs) (λ c. search needs) (λ c. search needs) (λ c. search needs) (λ c. search needs) (λ c. search needs) returns-2)

@@ -1,4 +1,5 @@
 -- What the check says is put into the words, or there are too few of them. Assumes nothing.
+use mathlib.Core.Path.{refl}
 use native.Mathlib.Omega.{arith}
 use Rattle.loader.proofs.Telling.{check-long, few, put}
 use borrow.Author.Needs.{needs}
@@ -7,9 +8,11 @@ use Rattle.loader.proofs.orc_check_column.Tie as tie
 
 returns-2 : tie.Need-returns-2
 returns-2 c =
-    let p = c .before .before in
-    let a = p .before .before in
-    put check-long (a .check .ensures) (a .before .if1 .left) (p .put-checked .ensures)
+    let at-lay = c .before .before in
+    let at-of = at-lay .before .before .before in
+    let a = at-of .before in
+    put check-long (a .check .ensures) (a .before .if1 .left) (record { number-is = refl; words-are = rw (at-of .of-checked .ensures) at (at-lay .lay .ensures) })
 
 pub orc-check-column-spec : {M : Type 1} → statement M
-orc-check-column-spec = tie.close (tie.spec (λ c. few check-long (omega arith)) (λ c κs. search needs) (λ c κs. search needs) (λ c. search needs) returns-2)
+orc-check-column-spec =
+    tie.close (tie.spec (λ c. few check-long (omega arith)) (λ c κs. search needs) (λ c κs. search needs) (λ c. search needs) (λ c κs. search needs) (λ c. search needs) returns-2)

@@ -1,15 +1,17 @@
 -- The count of true booleans is put into the words, or there are too few of them. Assumes nothing.
 use native.Mathlib.Omega.{arith}
 use borrow.Author.Needs.{needs}
-use Rattle.loader.proofs.Telling.{count-long, few, put}
+use Rattle.loader.proofs.Telling.{count-long, few, put, laid}
 use Rattle.loader.proofs.orc_count_true.Statement.{statement}
 use Rattle.loader.proofs.orc_count_true.Tie as tie
 
 returns-2 : tie.Need-returns-2
 returns-2 c =
-    let p = c .before .before in
-    let a = p .before .before in
-    put count-long (a .count-true .ensures) (a .before .if1 .left) (p .put-count .ensures)
+    let at-lay = c .before .before in
+    let at-of = at-lay .before .before .before in
+    let a = at-of .before in
+    put count-long (a .count-true .ensures) (a .before .if1 .left) (laid (at-of .of .ensures) (at-lay .lay .ensures))
 
 pub orc-count-true-spec : {M : Type 1} → statement M
-orc-count-true-spec = tie.close (tie.spec (λ c. few count-long (omega arith)) (λ c κs. search needs) (λ c κs. search needs) (λ c. search needs) returns-2)
+orc-count-true-spec =
+    tie.close (tie.spec (λ c. few count-long (omega arith)) (λ c κs. search needs) (λ c κs. search needs) (λ c. search needs) (λ c κs. search needs) (λ c. search needs) (λ c. search needs) returns-2)

@@ -1,15 +1,17 @@
 -- The row's label is put into the words, or there are too few of them. Assumes nothing.
 use native.Mathlib.Omega.{arith}
 use borrow.Author.Needs.{needs}
-use Rattle.loader.proofs.Telling.{label-long, few, put}
+use Rattle.loader.proofs.Telling.{label-long, few, put, laid}
 use Rattle.loader.proofs.orc_label.Statement.{statement}
 use Rattle.loader.proofs.orc_label.Tie as tie
 
 returns-2 : tie.Need-returns-2
 returns-2 c =
-    let p = c .before .before in
-    let a = p .before .before in
-    put label-long (a .label-of .ensures .answer) (a .before .if1 .left) (p .put-label .ensures)
+    let at-lay = c .before .before in
+    let at-of = at-lay .before .before .before in
+    let a = at-of .before in
+    put label-long (a .label-of .ensures .answer) (a .before .if1 .left) (laid (at-of .of .ensures) (at-lay .lay .ensures))
 
 pub orc-label-spec : {M : Type 1} → statement M
-orc-label-spec = tie.close (tie.spec (λ c. few label-long (omega arith)) (λ c κs. search needs) (λ c κs. search needs) (λ c. search needs) returns-2)
+orc-label-spec =
+    tie.close (tie.spec (λ c. few label-long (omega arith)) (λ c κs. search needs) (λ c κs. search needs) (λ c. search needs) (λ c κs. search needs) (λ c. search needs) (λ c. search needs) returns-2)

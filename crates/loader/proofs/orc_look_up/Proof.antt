@@ -1,15 +1,17 @@
 -- The entry is put into the words, or there are too few of them. Assumes nothing.
 use native.Mathlib.Omega.{arith}
 use borrow.Author.Needs.{needs}
-use Rattle.loader.proofs.Telling.{found-long, few, put}
+use Rattle.loader.proofs.Telling.{found-long, few, put, laid}
 use Rattle.loader.proofs.orc_look_up.Statement.{statement}
 use Rattle.loader.proofs.orc_look_up.Tie as tie
 
 returns-2 : tie.Need-returns-2
 returns-2 c =
-    let p = c .before .before in
-    let a = p .before .before in
-    put found-long (a .look-up .ensures) (a .before .if1 .left) (p .put-found .ensures)
+    let at-lay = c .before .before in
+    let at-of = at-lay .before .before .before in
+    let a = at-of .before in
+    put found-long (a .look-up .ensures) (a .before .if1 .left) (laid (at-of .of-found .ensures) (at-lay .lay .ensures))
 
 pub orc-look-up-spec : {M : Type 1} → statement M
-orc-look-up-spec = tie.close (tie.spec (λ c. few found-long (omega arith)) (λ c κs. search needs) (λ c κs. search needs) (λ c. search needs) returns-2)
+orc-look-up-spec =
+    tie.close (tie.spec (λ c. few found-long (omega arith)) (λ c κs. search needs) (λ c κs. search needs) (λ c. search needs) (λ c κs. search needs) (λ c. search needs) (λ c. search needs) returns-2)

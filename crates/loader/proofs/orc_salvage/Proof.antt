@@ -2,7 +2,7 @@
 use native.Mathlib.Omega.{arith}
 use borrow.Author.Needs.{needs}
 use mir.Facts.{toZ-ofZ}
-use Rattle.loader.proofs.Telling.{salvage-long, few-of, put-of}
+use Rattle.loader.proofs.Telling.{salvage-long, few-of, put-of, laid}
 use Rattle.loader.proofs.orc_salvage.Statement.{statement}
 use Rattle.loader.proofs.orc_salvage.Tie as tie
 
@@ -11,17 +11,18 @@ returns c = record { stream-told = few-of salvage-long (omega arith); report-tol
 
 returns-2 : tie.Need-returns-2
 returns-2 c =
-    let back-6 = c .before .before .before .before .before .before in
-    let back-12 = back-6 .before .before .before .before .before .before in
-    let p = c .before .before in
-    let a = p .before .before .before .before .before .before in
+    let at-lay = c .before .before in
+    let at-of = at-lay .before .before .before in
+    let a = at-of .before .before .before .before .before in
     let e = a .before .before .before in
-    let s = back-12 .before .before .before .before .before .before in
+    let s = e .before .before .before .before .before .before .before in
     let w = rw (toZ-ofZ (s .fits .fill)) at (a .salvage .ensures) in
+    let p = laid (at-of .of .ensures) (at-lay .lay .ensures) in
     record {
-      stream-told = put-of salvage-long (w .answer) (e .if1 .left) (w .new-stream) (p .put-outcome .ensures);
-      report-told = put-of salvage-long (w .answer) (e .if1 .left) (w .report-is) (p .put-outcome .ensures);
+      stream-told = put-of salvage-long (w .answer) (e .if1 .left) (w .new-stream) p;
+      report-told = put-of salvage-long (w .answer) (e .if1 .left) (w .report-is) p;
     }
 
 pub orc-salvage-spec : {M : Type 1} → statement M
-orc-salvage-spec = tie.close (tie.spec returns (λ c κs. search needs) (λ c κs. search needs) (λ c. search needs) (λ c. search needs) (λ c. search needs) returns-2)
+orc-salvage-spec =
+    tie.close (tie.spec returns (λ c κs. search needs) (λ c κs. search needs) (λ c. search needs) (λ c κs. search needs) (λ c. search needs) (λ c. search needs) (λ c. search needs) (λ c. search needs) returns-2)

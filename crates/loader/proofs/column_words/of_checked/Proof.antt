@@ -10,7 +10,7 @@ returns c = rw (c .before .checked .given .1)
 
 returns-2 : tie.Need-returns-2
 unfolding checkWords
-returns-2 c = rw (c .before .checked2 .given .1)
+returns-2 c = rw (c .enum-told .given .1)
 
 pub of-checked-spec : {M : Type 1} → statement M
-of-checked-spec = tie.close (tie.spec (λ c. search needs) (λ c. search needs) (λ c. search needs) returns returns-2)
+of-checked-spec = tie.close (tie.spec (λ c. search needs) (λ c. search needs) returns returns-2)
