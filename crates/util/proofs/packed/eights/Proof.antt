@@ -42,7 +42,9 @@ eight-requires c κs =
     (p .0, (rw (p .1 .0) (at-join .before .before .loop .inv .0), rw (p .1 .0) (room (at-join .before)), word-there at-join, omega arith))
 
 add-b : tie.Need-add-b Inv-loop μ-loop
-add-b c = omega (arith, room (c .before .before .before .before), c .before .before .before .before .before .before .before .pre .1 .0)
+add-b c =
+    let at-in = c .before .before .before .before in
+    omega (arith, room at-in, at-in .before .before .before .pre .1 .0)
 
 loop-again : tie.Need-loop-again Inv-loop μ-loop
 loop-again c =

@@ -31,7 +31,8 @@ returns c = laid-all _ _ _ _ _ (c .before .few .ensures)
 
 field-requires : tie.Need-field-requires Inv-loop μ-loop
 field-requires c κs =
-    let at-start = c .before .before .before .before .before .before .before in
+    let at-eights = c .before .before .before in
+    let at-start = at-eights .before .before .before .before in
     let a = at-start .args in
     (at-start .pre .0, (omega arith, field-there (a .w) (a .n) (c .before .loop .k) (a .s .now) (c .loop-test .taken) (at-start .pre .1 .2)))
 
