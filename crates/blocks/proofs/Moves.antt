@@ -1,13 +1,13 @@
 -- A line's beginning moved to the front of the input. Assumes nothing.
-use mathlib.Core.Path.{_≡_, ap}
+use mathlib.Core.Path.{_≡_, sym, ap, _∙_}
 use Prim.Native.Nat.{ℕ, _+_, _-_, _<_, _≤_, min}
 use native.Mathlib.Omega.{arith}
 use native.Mathlib.Decide.{decLt}
 use mathlib.Core.List.{List, [], _∷_, _++_}
-use lib.ListN.{length, take, drop, getD, set, length-take, length-drop}
+use lib.ListN.{length, take, drop, getD, set, length-take, length-drop, drop-of-length-le}
 use lib.Seq.{getD-drop, take-all, take-suc, take-suc-set, take-take, take-add, drop-at, length-take-le}
 use native.Mathlib.Numerals.{add-one}
-use Rattle.blocks.specs.Blocks.{tooLong, kept, part}
+use Rattle.blocks.specs.Blocks.{tooLong, kept, part, Kept}
 
 -- one byte more is moved to the front
 module _ (x x₀ : List ℕ) (from i : ℕ) (h : from + i < length x) (l : length x ≡ length x₀) (f : take i x ≡ take i (drop from x₀)) (d : drop i x ≡ drop i x₀) where
@@ -45,3 +45,35 @@ module _ (from end n : ℕ) (s : List ℕ) (h : from ≤ end) (l : end ≤ lengt
       by (no q) =
           let e : n ≡ 8801 = omega arith in
           rw (e, take-take 8801 (end - from) (drop from s) (omega arith))
+
+-- ---- places behind the input have nothing in them
+
+take-within : (end : ℕ) (s : List ℕ) → take (min end (length s)) s ≡ take end s
+take-within end s = by (decLt end (length s))
+  where
+    by : Dec (end < length s) → take (min end (length s)) s ≡ take end s
+    by (yes q) =
+        let e : min end (length s) ≡ end = omega arith in
+        rw e
+    by (no q) = take-all (min end (length s)) s (omega arith) ∙ sym (take-all end s (omega arith))
+
+drop-within : (from : ℕ) (s : List ℕ) → drop (min from (length s)) s ≡ drop from s
+drop-within from s = by (decLt from (length s))
+  where
+    by : Dec (from < length s) → drop (min from (length s)) s ≡ drop from s
+    by (yes q) =
+        let e : min from (length s) ≡ from = omega arith in
+        rw e
+    by (no q) = drop-of-length-le s {i = min from (length s)} (omega arith) ∙ sym (drop-of-length-le s {i = from} (omega arith))
+
+pub clamped : (from end : ℕ) (s : List ℕ) → part (min from (min end (length s))) (min end (length s)) s ≡ part from end s
+clamped from end s =
+    rw (take-within end s) (ap (λ (n : ℕ). drop (min from n) (take end s)) (sym (length-take end s)) ∙ drop-within from (take end s))
+
+pub part-le : (from end : ℕ) (s : List ℕ) → length (part from end s) ≤ length s
+part-le from end s = rw (length-drop, length-take) (omega arith)
+
+pub kept-clamped : (from end a b : ℕ) (s : List ℕ) {s′ : List ℕ} {n : ℕ} → a ≡ min from b → b ≡ min end (length s) → Kept (part a b s) s s′ n → Kept (part from end s) s s′ n
+kept-clamped from end a b s {s′ = s′} {n = n} f e k =
+    let g : part a b s ≡ part from end s = rw (f, e) (clamped from end s) in
+    rw g at k

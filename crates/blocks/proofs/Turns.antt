@@ -33,12 +33,12 @@ pub came-is : (z : ℤ) (n : ℕ) → Moved n z → clamped z n ≡ came z
 came-is (pos k) n h = omega arith
 came-is (negsuc k) n h = refl
 
--- what is kept has room before a block
-pub kept-le : (line x₀ x : List ℕ) (n : ℕ) → Kept line x₀ x n → 8801 ≤ length x₀ → length x ≡ length x₀ → n ≤ length x
+-- what is kept of a part of the input has room in it
+pub kept-le : (line x₀ x : List ℕ) (n : ℕ) → Kept line x₀ x n → length line ≤ length x₀ → length x ≡ length x₀ → n ≤ length x
 kept-le line x₀ x n k w e = omega (arith, k .count, length-take 8801 line, w, e)
 
 -- ---- a read: `x` after what is kept was moved, and the bytes `new` in the places behind it
-module _ (line x₀ x new : List ℕ) (n : ℕ) (k : Kept line x₀ x n) (w : 8801 ≤ length x₀) (e : length x ≡ length x₀) (l : length new ≡ length (take (length x - n) (drop n x))) where
+module _ (line x₀ x new : List ℕ) (n : ℕ) (k : Kept line x₀ x n) (w : length line ≤ length x₀) (e : length x ≡ length x₀) (l : length new ≡ length (take (length x - n) (drop n x))) where
   h : n ≤ length x
   h = kept-le line x₀ x n k w e
 

@@ -3,7 +3,7 @@
 use mathlib.Core.Path.{_≡_}
 use Prim.Native.Nat.{ℕ, suc, _+_, _≤_}
 use Prim.Native.Char.{code}
-use mathlib.Core.Bool.{false}
+use mathlib.Core.Bool.{Bool, false, _||_}
 use mathlib.Core.List.{List, [], _∷_, _++_}
 use lib.ListN.{length, take, drop}
 use lib.Dec.{eqb}
@@ -62,6 +62,11 @@ pub record Kept (line input input′ : List ℕ) (n : ℕ) : Type 0 where
 abbrev pub came : ℤ → ℕ
 came (pos k) = k
 came (negsuc k) = 0
+
+-- a failed read that is tried again, by the system's error: a signal broke it off (EINTR), or nothing was ready (EAGAIN)
+unfoldable pub notReady : ℤ → Bool
+notReady (pos n) = eqb n 4 || eqb n 11
+notReady (negsuc n) = false
 
 -- AFTER A READ that a line's beginning was left for: what is kept of it stands at the front of the input, and what came behind it, up to `stop`
 pub record Came (line input : List ℕ) (held stop : ℕ) (got : ℤ) : Type 0 where

@@ -2,8 +2,8 @@
 // line of any length takes no more room.
 ghost use mathlib.Core.Path.{_≡_};
 ghost use Prim.Native.Nat.{_+_, _≤_};
-ghost use lib.ListN.{length, drop};
-ghost use Rattle.blocks.specs.Blocks.{lineLength, tooLong, part, Kept, Came};
+ghost use lib.ListN.{length, drop, replicate};
+ghost use Rattle.blocks.specs.Blocks.{lineLength, part, Kept, Came, notReady};
 use libc::STDIN_FILENO;
 use util::number;
 
@@ -22,14 +22,13 @@ pub struct Block {
 
 // A block, after as much as a line's beginning can take.
 pub fn input_places() -> [u8; MAX_HELD + BLOCK]
-    ensures { λ r. ⌜ length r ≡ 74337 ⌝ }
+    ensures { λ r. ⌜ r ≡ replicate 74337 0 ⌝ }
 {
     [0; MAX_HELD + BLOCK]
 }
 
-// Where the line that begins at a place ends: at its newline, or with the input.
+// Where the line that begins at a place ends: at its newline, or with the input. Behind the input there is no line, and it ends where it begins.
 pub fn line_end(input: &[u8], at: usize) -> usize
-    requires { ⌜ at ≤ length (now input) ⌝ }
     ensures { λ r. ⌜ r ≡ at + lineLength (drop at (now (input .entry))) ⌝ }
 {
     let mut i = at;
@@ -57,28 +56,21 @@ fn keep(input: &mut [u8], from: usize, end: usize) -> usize
     n
 }
 
-// One read: what is left of the block before is moved to the front, and what is read stands behind it. What the system answers goes on as it is: no
-// contract can name it before.
+// One read: what is left of the block before is moved to the front, and what is read stands behind it. Places behind the input have nothing left in
+// them. What the system answers goes on as it is: no contract can name it before.
 pub fn read_on(input: &mut [u8], from: usize, end: usize) -> Block
-    requires { ⌜ (from ≤ end) × (end ≤ length (now input)) × (tooLong ≤ length (now input)) ⌝ }
     ensures { λ r. ⌜ Came (part from end (now (input .entry))) (now (input .exit)) (r .held) (r .stop) (r .got) ⌝ }
 {
-    let held = keep(input, from, end);
+    let last = number::least(end, input.len());
+    let held = keep(input, number::least(from, last), last);
     let got = libc::read(STDIN_FILENO, &mut input[held..]);
     let stop = held + io::count(got, &input[held..]);
     Block { held, stop, got }
 }
 
-// A read that a signal broke off, or that found nothing ready, is no end: it is tried again. Any other failure is told, in the program's words.
-pub fn is_not_ready(words: &[u8]) -> bool {
-    let error = os::errno();
-    if error == libc::EINTR {
-        return true;
-    }
-    if error == libc::EAGAIN {
-        libc::sched_yield();
-        return true;
-    }
-    os::fail(words);
-    false
+// A read that a signal broke off, or that found nothing ready, is no end: it is tried again. The error is handed in, so that the answer is determined.
+pub fn is_not_ready(error: i32) -> bool
+    ensures { λ r. ⌜ r ≡ notReady error ⌝ }
+{
+    error == libc::EINTR || error == libc::EAGAIN
 }

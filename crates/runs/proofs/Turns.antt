@@ -1,19 +1,27 @@
 -- A turn, and all turns: what stands in the input after a read, and that all that is handed over is what the program writes for the whole input.
 -- Assumes nothing.
-use mathlib.Core.Path.{_≡_, sym, ap, _∙_}
-use Prim.Native.Nat.{ℕ, _≤_}
+use mathlib.Core.Path.{_≡_, refl, sym, ap, _∙_}
+use Prim.Native.Nat.{ℕ, _+_}
+use native.Mathlib.Omega.{arith}
+use mathlib.Core.Bool.{false}
 use mathlib.Core.List.{List, [], _++_, append-nil}
 use lib.ListN.{length, take}
-use lib.IntN.{ℤ}
-use Rattle.blocks.specs.Blocks.{blockLines, begunFrom, NoNewline, kept, part, Came, Carried, joinedBlocks}
+use lib.IntN.{ℤ, pos}
+use lib.Signed.{ltZ}
+use Rattle.blocks.specs.Blocks.{blockLines, begunFrom, NoNewline, kept, part, came, Came, Carried, joinedBlocks}
 use Rattle.blocks.proofs.Begun.{no-take}
-use Rattle.blocks.proofs.Turns.{carried, cut-is, left-is}
+use Rattle.blocks.proofs.Turns.{held-all, carried, cut-is, left-is}
 use Rattle.runs.specs.Program.{answersFrom, programText, LeftIn, Turned, HandsOver, blockText}
 use Rattle.runs.specs.Program.HandsOver.{ends, turns}
 use Rattle.runs.specs.declared.Left.{Left}
 use Rattle.runs.specs.declared.Left.the-variants.{Begun, Done}
 use Rattle.runs.proofs.Blocks.{answers-append, no-open, block-turn, program-blocks}
 use Rattle.runs.proofs.Pieces.{whole-text, open-text}
+
+-- nothing came: all that is left is what was held
+pub held-left : (s : List ℕ) (n : ℕ) (z : ℤ) → length s ≡ n + came z → ltZ (pos 0) z ≡ false → NoNewline (take n s) → LeftIn s (Begun 0 n)
+unfolding begunFrom
+held-left s n z l h o = let (e, k) = held-all s n z l h o in (e, omega arith, refl, k)
 
 -- what is left of a read
 pub turned : (line input : List ℕ) (held stop : ℕ) (got : ℤ) → Came line input held stop got → (r : Left) → LeftIn (take stop input) r → Turned line input r
@@ -22,11 +30,11 @@ turned line input held stop got c Done t = tt
 
 -- what is left is what a turn may be given
 abbrev pub Ready : List ℕ → Left → Type 0
-Ready input (Begun from end) = (from ≤ end) × (end ≤ length input) × NoNewline (part from end input)
+Ready input (Begun from end) = NoNewline (part from end input)
 Ready input Done = Unit {0}
 
 pub turned-ready : (line input : List ℕ) (r : Left) → Turned line input r → Ready input r
-turned-ready line input (Begun from end) t = (t .order, t .within, t .begun)
+turned-ready line input (Begun from end) t = t .begun
 turned-ready line input Done t = tt
 
 -- ---- all turns

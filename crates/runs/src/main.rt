@@ -7,7 +7,7 @@ ghost use mathlib.Core.Path.{_≡_};
 ghost use Prim.Native.Nat.{_+_, _≤_};
 ghost use lib.ListN.{length, take};
 ghost use Rattle.lines.specs.Line.{answerRoom};
-ghost use Rattle.blocks.specs.Blocks.{tooLong, part, came, NoNewline};
+ghost use Rattle.blocks.specs.Blocks.{part, came, NoNewline};
 ghost use Rattle.runs.specs.Program.{programText, LeftIn, Turned};
 
 // From where to where in the input a line has begun; or that nothing more is to be read or can be written.
@@ -72,15 +72,20 @@ fn answer_came(input: &[u8], held: usize, got: isize, output: &mut [u8]) -> Left
         answer_last(input, output);
         return Left::Done;
     }
-    if !blocks::is_not_ready(b"runs: the output is cut, standard input cannot be read") {
+    let error = os::errno();
+    if !blocks::is_not_ready(error) {
+        os::fail(b"runs: the output is cut, standard input cannot be read");
         return Left::Done;
+    }
+    if error == libc::EAGAIN {
+        libc::sched_yield();
     }
     Left::Begun(0, held)
 }
 
 // One block, behind what is left of the one before.
 fn turn(input: &mut [u8], from: usize, end: usize, output: &mut [u8]) -> Left
-    requires { ⌜ (from ≤ end) × (end ≤ length (now input)) × (tooLong ≤ length (now input)) × (answerRoom ≤ length (now output)) × NoNewline (part from end (now input)) ⌝ }
+    requires { ⌜ (answerRoom ≤ length (now output)) × NoNewline (part from end (now input)) ⌝ }
     ensures { λ r. ⌜ Turned (part from end (now (input .entry))) (now (input .exit)) r ⌝ }
 {
     let block = blocks::read_on(input, from, end);

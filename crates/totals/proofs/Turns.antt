@@ -1,15 +1,16 @@
 -- A turn, and all turns: that what is taken is what the whole input's lines give. Assumes nothing.
 use mathlib.Core.Path.{_≡_, refl, sym, ap, _∙_}
-use Prim.Native.Nat.{ℕ}
+use Prim.Native.Nat.{ℕ, _+_}
 use native.Mathlib.Omega.{arith}
-use mathlib.Core.Bool.{true}
+use mathlib.Core.Bool.{true, false}
 use mathlib.Core.List.{List, [], _∷_, _++_, map-append, append-nil, append-assoc}
 use lib.ListN.{length, take, drop, take-append-drop}
 use lib.Seq.{length-take-le, take-all}
-use lib.IntN.{ℤ}
-use Rattle.blocks.specs.Blocks.{linesFrom, begunFrom, lastLine, linesIn, NoNewline, kept, part, Came, Carried, blockLines, joinedBlocks}
+use lib.IntN.{ℤ, pos}
+use lib.Signed.{ltZ}
+use Rattle.blocks.specs.Blocks.{linesFrom, begunFrom, lastLine, linesIn, NoNewline, kept, part, came as bytesCame, Came, Carried, blockLines, joinedBlocks}
 use Rattle.blocks.proofs.Lines.{lines-append, lines-open}
-use Rattle.blocks.proofs.Turns.{front-held, carried, cut-is, left-is}
+use Rattle.blocks.proofs.Turns.{held-all, front-held, carried, cut-is, left-is}
 use Rattle.blocks.proofs.Joined.{blocks-joined}
 use Rattle.season.specs.declared.Totals.{Totals}
 use Rattle.season.specs.declared.Taken.{Taken}
@@ -53,9 +54,11 @@ module _ (before : Totals) (line input : List ℕ) (n stop : ℕ) (got : ℤ) (c
 pub last-held : (before : Totals) (n : ℕ) (input : List ℕ) (t : Totals) (next : Next) → n ≡ length input → After before input input t next → After before (take n input) input t next
 last-held before n input t next h a = rw (take-all n input (omega (arith, h))) a
 
-pub rest-none : (before : Totals) (n : ℕ) (input : List ℕ) → n ≡ length input → NoNewline input → Rest before input before 0 n
+pub rest-held : (before : Totals) (input : List ℕ) (n : ℕ) (z : ℤ) → length input ≡ n + bytesCame z → ltZ (pos 0) z ≡ false → NoNewline (take n input) → Rest before input before 0 n
 unfolding linesFrom begunFrom takeAll
-rest-none before n input h o = record { ends = h; order = omega arith; whole = refl; begun = o; taken = refl }
+rest-held before input n z l h o =
+    let (e, k) = held-all input n z l h o in
+    record { ends = e; order = omega arith; whole = refl; begun = k; taken = refl }
 
 -- ---- from turn to turn
 
@@ -74,13 +77,13 @@ reached-on t t′ line input from end (blocks, go) g =
 
 -- what is left is what a turn may be given, and what is told is what was taken
 pub turned-ready : (t : Totals) (line input : List ℕ) (t′ : Totals) (next : Next) → Reached t line → Turned t line input t′ next → Ready t′ input next
-turned-ready t line input t′ (Begun from end) r g = (g .carried .order, g .carried .within, g .carried .begun, reached-on t t′ line input from end r g)
+turned-ready t line input t′ (Begun from end) r g = (g .carried .begun, reached-on t t′ line input from end r g)
 turned-ready t line input t′ Ended r g = reached-ends t line (going t′) r g
 turned-ready t line input t′ Stopped r g = reached-stops t t′ line r g
 turned-ready t line input t′ Failed r g = tt
 
 pub ready-first : (t : Totals) (input : List ℕ) → t ≡ held empty → Ready t input (Begun 0 0)
-ready-first t input e = (omega arith, omega arith, tt, ([], λ later r h. rw e at h))
+ready-first t input e = (tt, ([], λ later r h. rw e at h))
 
 pub ready-finished : (t : Totals) (input : List ℕ) (next : Next) → Ready t input next → Finished t next
 ready-finished t input (Begun from end) h = tt

@@ -112,7 +112,7 @@ Final t halted = (blocks : List (List ℕ)) × Takes [] blocks (held empty) (ove
 
 -- what a turn may be given, and what is left where there is none more
 abbrev pub Ready : Totals → List ℕ → Next → Type 0
-Ready t input (Begun from end) = (from ≤ end) × (end ≤ length input) × NoNewline (part from end input) × Reached t (part from end input)
+Ready t input (Begun from end) = NoNewline (part from end input) × Reached t (part from end input)
 Ready t input Ended = Final t false
 Ready t input Stopped = Final t true
 Ready t input Failed = Unit {0}

@@ -7,9 +7,9 @@ use season::Totals;
 use taking::Next;
 use taking::Turn;
 ghost use mathlib.Core.Path.{_≡_};
-ghost use Prim.Native.Nat.{_+_, _≤_};
+ghost use Prim.Native.Nat.{_+_};
 ghost use lib.ListN.{length, take};
-ghost use Rattle.blocks.specs.Blocks.{tooLong, part, came, NoNewline};
+ghost use Rattle.blocks.specs.Blocks.{part, came, NoNewline};
 ghost use Rattle.totals.specs.Program.{Piece, After, Turned, Final, Finished};
 
 const REFUSED_20: [u8; 11] = *b"refused 20\n";
@@ -51,11 +51,16 @@ fn take_came(before: Totals, input: &[u8], held: usize, got: isize, rows: &mut [
     if got == 0 {
         return taking::take_last(before, input, rows);
     }
-    if !blocks::is_not_ready(b"totals: nothing is written, standard input cannot be read") {
+    let error = os::errno();
+    if !blocks::is_not_ready(error) {
+        os::fail(b"totals: nothing is written, standard input cannot be read");
         return Turn {
             totals: before,
             next: Next::Failed,
         };
+    }
+    if error == libc::EAGAIN {
+        libc::sched_yield();
     }
     Turn {
         totals: before,
@@ -65,7 +70,7 @@ fn take_came(before: Totals, input: &[u8], held: usize, got: isize, rows: &mut [
 
 // One block, behind what is left of the one before.
 fn turn(before: Totals, input: &mut [u8], from: usize, end: usize, rows: &mut [i64]) -> Turn
-    requires { ⌜ (from ≤ end) × (end ≤ length (now input)) × (tooLong ≤ length (now input)) × (length (now rows) ≡ 512) × NoNewline (part from end (now input)) ⌝ }
+    requires { ⌜ (length (now rows) ≡ 512) × NoNewline (part from end (now input)) ⌝ }
     ensures { λ r. ⌜ Turned before (part from end (now (input .entry))) (now (input .exit)) (r .totals) (r .next) ⌝ }
 {
     let block = blocks::read_on(input, from, end);

@@ -1,8 +1,9 @@
 -- `runs::main` is safe and ends. The loop's invariant: the arrays are as long as they were, and what is left is a line's beginning. Assumes nothing.
-use mathlib.Core.Path.{_≡_, sym, _∙_}
+use mathlib.Core.Path.{_≡_, sym, ap, _∙_}
+use Prim.Native.Nat.{ℕ}
 use native.Mathlib.Omega.{arith}
 use borrow.Author.Needs.{needs}
-use lib.ListN.{length}
+use lib.ListN.{length, length-replicate}
 use Rattle.blocks.specs.Blocks.{part}
 use Rattle.runs.proofs.Turns.{Ready, turned-ready}
 use Rattle.runs.proofs.main.Statement.{statement}
@@ -15,7 +16,7 @@ abbrev μ-loop : tie.MeasureT-loop
 μ-loop input₀ output₀ left₀ turns₀ input output left turns = turns
 
 loop-holds : tie.Need-loop-holds Inv-loop μ-loop
-loop-holds c = (sym (c .before .input-places .ensures), c .large-buffer .ensures, (omega arith, omega arith, tt))
+loop-holds c = (sym (ap length (c .before .input-places .ensures) ∙ length-replicate {A = ℕ} 74337 0), c .large-buffer .ensures, tt)
 
 slice-aggregate-turn : tie.Need-slice-aggregate-turn Inv-loop μ-loop
 slice-aggregate-turn c = c .before .before .before .before .before .loop .inv .0
@@ -27,7 +28,7 @@ turn-requires : tie.Need-turn-requires Inv-loop μ-loop
 turn-requires c κs =
     let l = c .before .before .before .before .before .before .loop in
     let r = rw (c .before .before .before .left .given .1) at (l .inv .2) in
-    (r .0, r .1, omega arith, omega arith, r .2)
+    (omega arith, r)
 
 loop-again : tie.Need-loop-again Inv-loop μ-loop
 loop-again c =

@@ -20,7 +20,7 @@ answer-came-requires c κs =
     let r = c .before .before .before .before .before in
     let s = r .before .before .before .before in
     let e = toZ-ofZ {w = w64} {z = r .read-on .result .got} (record { sfits = c .struct-told .given .1 .1 .0 .1 }) in
-    (stop-long _ _ _ _ _ (r .read-on .ensures) ∙ ap (λ (z : ℤ). r .read-on .result .held + came z) (sym e), held-open _ _ _ _ _ (r .read-on .ensures) (s .pre .4), s .pre .3)
+    (stop-long _ _ _ _ _ (r .read-on .ensures) ∙ ap (λ (z : ℤ). r .read-on .result .held + came z) (sym e), held-open _ _ _ _ _ (r .read-on .ensures) (s .pre .1), s .pre .0)
 
 returns : tie.Need-returns
 returns c =

@@ -1,8 +1,9 @@
 -- `main` is safe and ends. The loop's invariant: the arrays are as long as they were, and what is left is a line's beginning. Assumes nothing.
-use mathlib.Core.Path.{_≡_, sym, _∙_}
+use mathlib.Core.Path.{_≡_, sym, ap, _∙_}
+use Prim.Native.Nat.{ℕ}
 use native.Mathlib.Omega.{arith}
 use borrow.Author.Needs.{needs}
-use lib.ListN.{length}
+use lib.ListN.{length, length-replicate}
 use Rattle.blocks.specs.Blocks.{part}
 use Rattle.totals.specs.Program.{Ready}
 use Rattle.totals.proofs.Turns.{ready-first, ready-finished, turned-ready}
@@ -16,7 +17,7 @@ abbrev μ-loop : tie.MeasureT-loop
 μ-loop input₀ rows₀ totals₀ next₀ turns₀ input rows totals next turns = turns
 
 loop-holds : tie.Need-loop-holds Inv-loop μ-loop
-loop-holds c = (sym (c .before .before .input-places .ensures), sym (c .before .row-places .ensures), ready-first (c .empty .result) (c .before .before .input-places .result) (c .empty .ensures))
+loop-holds c = (sym (ap length (c .before .before .input-places .ensures) ∙ length-replicate {A = ℕ} 74337 0), sym (c .before .row-places .ensures), ready-first (c .empty .result) (c .before .before .input-places .result) (c .empty .ensures))
 
 finish-requires : tie.Need-finish-requires Inv-loop μ-loop
 finish-requires c κs = let l = c .before .before .loop in ready-finished (l .totals) (l .input) (l .next) (l .inv .2)
@@ -31,7 +32,7 @@ turn-requires : tie.Need-turn-requires Inv-loop μ-loop
 turn-requires c κs =
     let l = c .before .before .before .before .before .before .loop in
     let r = rw (c .before .before .before .next .given .1) at (l .inv .2) in
-    (r .0, r .1, omega (arith, l .inv .0), sym (l .inv .1), r .2)
+    (sym (l .inv .1), r .0)
 
 loop-again : tie.Need-loop-again Inv-loop μ-loop
 loop-again c =
@@ -43,7 +44,7 @@ loop-again c =
     let r = rw (n .given .1) at (l .inv .2) in (
       l .inv .0 ∙ sym (t .turn .kept .1 .0),
       l .inv .1 ∙ sym (t .turn .kept .1 .1 .1 .1 .0),
-      turned-ready (l .totals) (part (g .0) (g .1 .0) (l .input)) (t .turn .last .1 .0) (t .turn .result .totals) (t .turn .result .next) (r .3) (t .turn .ensures),
+      turned-ready (l .totals) (part (g .0) (g .1 .0) (l .input)) (t .turn .last .1 .0) (t .turn .result .totals) (t .turn .result .next) (r .1) (t .turn .ensures),
     )
 
 pub main-spec : {M : Type 1} → statement M

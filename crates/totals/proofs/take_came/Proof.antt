@@ -3,7 +3,7 @@ use borrow.Author.Needs.{needs}
 use denote.Ref.{now}
 use mir.Facts.{toZ-ofZ}
 use Rattle.blocks.proofs.Turns.{held-all}
-use Rattle.totals.proofs.Turns.{last-held, rest-none}
+use Rattle.totals.proofs.Turns.{last-held, rest-held}
 use Rattle.totals.proofs.take_came.Statement.{statement}
 use Rattle.totals.proofs.take_came.Tie as tie
 
@@ -23,12 +23,17 @@ returns-2 c =
 
 returns-4 : tie.Need-returns-4
 returns-4 c =
-    let e = c .before .before .before .before in
+    let e = c .before .before .before .before .before .before in
     let s = e .before .before in
-    let (l, h) = held-all (now (s .args .input)) (s .args .held) (s .args .got) (s .pre .0) (rw (toZ-ofZ (s .fits .got)) at (e .if1 .left)) (s .pre .1) in
-    rest-none _ _ _ l h
+    rest-held (s .args .before) (now (s .args .input)) (s .args .held) (s .args .got) (s .pre .0) (rw (toZ-ofZ (s .fits .got)) at (e .if1 .left)) (s .pre .1)
+
+returns-5 : tie.Need-returns-5
+returns-5 c =
+    let e = c .before .before .before .before .before in
+    let s = e .before .before in
+    rest-held (s .args .before) (now (s .args .input)) (s .args .held) (s .args .got) (s .pre .0) (rw (toZ-ofZ (s .fits .got)) at (e .if1 .left)) (s .pre .1)
 
 pub take-came-spec : {M : Type 1} → statement M
 take-came-spec =
     tie.close (tie.spec (λ c κs. search needs) (λ c. search needs) (λ c. c .before .take-block .ensures _) take-last-requires (λ c. search needs) returns-2
-    (λ c. search needs) (λ c κs. search needs) (λ c. search needs) returns-4)
+    (λ c κs. search needs) (λ c κs. search needs) (λ c. search needs) (λ c κs. search needs) (λ c. search needs) (λ c κs. search needs) returns-4 returns-5)

@@ -69,6 +69,6 @@ returns-2 c =
 
 pub answer-lines-spec : {M : Type 1} → statement M
 answer-lines-spec =
-    tie.close (tie.spec Inv-loop μ-loop (λ c. going-first _ _) (λ c. omega arith) (λ c κs. omega arith) same-length returns (λ c. omega arith) (λ c. omega arith)
+    tie.close (tie.spec Inv-loop μ-loop (λ c. going-first _ _) (λ c. omega arith) (λ c κs. tt) same-length returns (λ c. omega arith) (λ c. omega arith)
     part-answer-line-end (λ c. omega arith) (λ c. omega arith) (λ c. omega arith) (λ c κs. tt) add-written add-taken loop-less loop-again
     (λ c. c .before .loop .inv .long) returns-2)

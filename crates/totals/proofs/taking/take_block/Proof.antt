@@ -66,5 +66,5 @@ loop-again c =
 
 pub take-block-spec : {M : Type 1} → statement M
 take-block-spec =
-    tie.close (tie.spec Inv-loop μ-loop (λ c. (refl, onward-first _ _)) (λ c κs. c .loop .inv .1 .within) (λ c. c .before .before .loop .inv .0) returns sub-take-line
+    tie.close (tie.spec Inv-loop μ-loop (λ c. (refl, onward-first _ _)) (λ c κs. search needs) (λ c. c .before .before .loop .inv .0) returns sub-take-line
     part-take-line-start part-take-line-end take-line-requires (λ c κs. search needs) same-length-2 returns-2 add-from loop-less loop-again)
