@@ -1,72 +1,60 @@
 -- `direct::write_over` meets its contract. Assumes nothing.
-use mathlib.Core.Path.{refl}
+use mathlib.Core.Path.{_≡_, refl}
+use mathlib.Core.List.{map}
+use Prim.Native.Nat.{_+_, _*_}
 use native.Mathlib.Omega.{arith}
-use lib.ListN.{length, drop}
+use lib.ListN.{length, take}
 use denote.Ref.{now}
 use Rattle.format.specs.declared.Form.the-variants.{Direct}
 use Rattle.format.specs.declared.Kind.the-variants as kind
+use Rattle.format.specs.Fields.{bytesFor}
+use Rattle.format.specs.Rows.{asU64}
 use Rattle.format.specs.Runs.{head}
+use Rattle.format.specs.Writing.{valuesOf}
 use Rattle.writer.proofs.Pieces.{width-known}
-use Rattle.writer.proofs.PackedForms.{Packed, direct-packed, values-below, too-wide, too-few, packed}
+use Rattle.writer.proofs.PackedForms.{Packed, direct-packed, direct-values, all-of-it, values-below, packed}
 use borrow.Author.Needs.{needs}
 use Rattle.writer.proofs.direct.write_over.Statement.{statement}
 use Rattle.writer.proofs.direct.write_over.Tie as tie
-use Rattle.format.proofs.Fields.{block-small}
 
--- ---- what is known once the values are tested
+-- ---- what is known once the values stand
 
-module _ (t : tie.After-all-fit) where
-  abbrev kept : tie.After-store
-  kept = t .before .before .before .before
-
+module _ (kept : tie.After-store) where
   abbrev sized : tie.After-bits-of
   sized = kept .before .before
 
   abbrev entry : tie.Start
   entry = sized .before .before .before
 
-  known : Packed (now (entry .args .rows)) (entry .args .signed) Direct kind.Direct (entry .args .code) (head 1 (entry .args .code) (length (now (entry .args .rows)))) (length (now (entry .args .rows))) (sized .bits-of .result) (kept .store .last .1 .1 .0) (t .all-fit .result)
-  known =
-      direct-packed (now (entry .args .rows)) (entry .args .signed) (entry .args .code) (sized .bits-of .result) (kept .store .last .1 .1 .0) (drop (length (now (entry .args .rows))) (now (entry .args .vals))) (t .all-fit .result)
-      (omega arith) (omega arith) (entry .pre .1) (sized .bits-of .ensures) (kept .store .ensures) (t .all-fit .ensures)
+  known : Packed (now (entry .args .rows)) (entry .args .signed) Direct kind.Direct (entry .args .code) (head 1 (entry .args .code) (length (now (entry .args .rows)))) (length (now (entry .args .rows))) (sized .bits-of .result)
+  known = direct-packed (now (entry .args .rows)) (entry .args .signed) (entry .args .code) (omega arith) (omega arith) (entry .pre .1 .0) (sized .bits-of .ensures)
 
-all-fit-requires : tie.Need-all-fit-requires
-all-fit-requires c κs = let s = c .before .before .before .before .before in (search needs, width-known (s .before .before .before .args .code) (s .bits-of .ensures) .le)
+  size-is : entry .args .bytes ≡ 2 + bytesFor (length (now (entry .args .rows)) * sized .bits-of .result)
+  size-is = all-of-it known (entry .pre .1 .1) (omega arith)
 
-returns : tie.Need-returns
-returns c = let t = c .before .before in too-wide (known t) (now (entry t .args .out)) (c .refused .result) (c .before .if1 .taken) (c .refused .ensures)
+  stand : take (length (now (entry .args .rows))) (kept .store .last .1 .1 .0) ≡ valuesOf (entry .args .signed) Direct (map asU64 (now (entry .args .rows)))
+  stand = direct-values (now (entry .args .rows)) (entry .args .signed) (kept .store .last .1 .1 .0) _ (kept .store .ensures)
 
-block-size-requires : tie.Need-block-size-requires
-block-size-requires c κs = let t = c .before in (width-known (entry t .args .code) (sized t .bits-of .ensures) .le, omega arith)
-
-add-size : tie.Need-add-size
-add-size c =
-    let t = c .before .before in
-    omega (arith, c .block-size .ensures, block-small (length (now (entry t .args .rows))) (sized t .bits-of .result) (omega arith) (width-known (entry t .args .code) (sized t .bits-of .ensures) .le))
-
-returns-2 : tie.Need-returns-2
-returns-2 c =
-    let t = c .before .before .before .before in
-    too-few (known t) (now (entry t .args .out)) (c .refused2 .result) (c .before .before .before .if1 .left) (rw (← (c .before .before .block-size .ensures)) (c .before .if2 .taken)) (c .refused2 .ensures)
+write-requires : tie.Need-write-requires
+write-requires c κs = omega (arith, size-is (c .before .before .before))
 
 pack-requires : tie.Need-pack-requires
 pack-requires c κs =
-    let z = c .before .before .before .before in
-    let t = z .before .before .before .before .before in
-    let w = width-known (entry t .args .code) (sized t .bits-of .ensures) in
-    ((w .pos, w .le, w .window), (search needs, values-below (known t) (z .before .before .before .before .if1 .left)))
+    let w = c .before .before .before .before in
+    let k = w .before .before .before .before in
+    let i = width-known (entry k .args .code) (sized k .bits-of .ensures) in (
+      (i .pos, i .le, i .window),
+      (omega (arith, size-is k, k .store .kept .1 .1 .0), values-below (known k) (entry k .pre .1 .1) (omega arith) _ (stand k)),
+    )
 
-returns-3 : tie.Need-returns-3
-returns-3 c =
+returns : tie.Need-returns
+returns c =
     let p = c .before .before .before in
     let w = p .before .before .before .before .before in
-    let z = w .before .before .before in
-    let t = z .before .before in
-    let e = z .block-size .ensures in
-    packed (known t) (now (entry t .args .out)) (w .write .last .1 .1 .1 .0) (p .pack .last .1 .1 .1 .0) 2 (c .run .result) (z .before .if1 .left) (rw (← e) (w .before .before .if2 .left))
-    (rw (← e) (c .run .ensures)) refl (w .write .ensures) (p .pack .ensures)
+    let k = w .before .before .before .before in
+    packed (known k) (entry k .pre .1 .1) (omega arith) _ (now (entry k .args .out)) (w .write .last .1 .1 .1 .0) (p .pack .last .1 .1 .1 .0) 2 (c .run .result) (stand k) (omega arith)
+    (c .run .ensures) refl (w .write .ensures) (p .pack .ensures)
 
 pub write-over-spec : {M : Type 1} → statement M
 write-over-spec =
-    tie.close (tie.spec (λ c κs. search needs) (λ c κs. search needs) all-fit-requires (λ c κs. search needs) (λ c. search needs) returns block-size-requires add-size
-    (λ c κs. search needs) (λ c. search needs) returns-2 (λ c κs. search needs) pack-requires (λ c κs. search needs) (λ c. search needs) (λ c. search needs) returns-3)
+    tie.close (tie.spec (λ c κs. search needs) (λ c κs. search needs) write-requires pack-requires (λ c κs. search needs) (λ c. search needs) (λ c. search needs) returns)

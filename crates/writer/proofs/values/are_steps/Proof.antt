@@ -5,17 +5,17 @@ use mathlib.Core.List.{List, map}
 use Prim.Native.Nat.{ℕ, _+_, _-_, _≤_, _<_}
 use native.Mathlib.Omega.{arith}
 use lib.Dec.{eqb}
-use lib.ListN.{length, getD, length-map}
+use lib.ListN.{length, getD, drop, length-map}
 use borrow.Author.Tests.{ne-eqb, eq-eqb}
 use denote.Ref.{now}
 use Rattle.format.specs.Rows.{asU64}
-use Rattle.format.specs.Writing.{stepTo}
-use Rattle.writer.proofs.Laws.{StepsLeft, steps-stop, steps-go, steps-done}
+use Rattle.format.specs.Writing.{stepTo, stepsOf}
+use Rattle.writer.proofs.Laws.{Left, stops, goes, done, steps-next, steps-end}
 use Rattle.writer.proofs.values.are_steps.Statement.{statement}
 use Rattle.writer.proofs.values.are_steps.Tie as tie
 
 abbrev Inv-loop : tie.InvT-loop
-Inv-loop rows value i₀ i = (i ≤ length rows) × StepsLeft (λ x. eqb x value) (map asU64 rows) i
+Inv-loop rows value i₀ i = (i ≤ length rows) × Left (λ x. eqb x value) (stepsOf false (map asU64 rows)) (stepsOf false (drop i (map asU64 rows)))
 
 abbrev μ-loop : tie.MeasureT-loop
 μ-loop rows value i₀ i = length rows - i
@@ -43,20 +43,20 @@ returns c =
     let s = c .before in
     let l = at-loop s .loop in
     let v = entry s .args .value in
-    steps-stop (λ x. eqb x v) (rs s) (l .i) (l .inv .1) (more s) (rw (← (step-is s)) (ne-eqb _ _ (c .if1 .taken)))
+    stops (λ x. eqb x v) (stepsOf false (rs s)) (l .inv .1) (steps-next false (rs s) (l .i) (more s)) (rw (← (step-is s)) (ne-eqb _ _ (c .if1 .taken)))
 
 loop-again : tie.Need-loop-again Inv-loop μ-loop
 loop-again c =
     let s = c .before in
     let l = at-loop s .loop in
     let v = entry s .args .value in
-    (omega arith, steps-go (λ x. eqb x v) (rs s) (l .i) (l .inv .1) (more s) (rw (← (step-is s)) (eq-eqb _ _ (c .if1 .left))))
+    (omega arith, goes (λ x. eqb x v) (stepsOf false (rs s)) (l .inv .1) (steps-next false (rs s) (l .i) (more s)) (rw (← (step-is s)) (eq-eqb _ _ (c .if1 .left))))
 
 returns-2 : tie.Need-returns-2 Inv-loop μ-loop
 returns-2 c =
     let l = c .before .loop in
     let a = c .before .before .args in
-    steps-done (λ x. eqb x (a .value)) (map asU64 (now (a .rows))) (l .i) (l .inv .1) (rw (length-map (now (a .rows)) asU64) (omega arith))
+    done (λ x. eqb x (a .value)) (stepsOf false (map asU64 (now (a .rows)))) (l .inv .1) (steps-end false (map asU64 (now (a .rows))) (l .i) (rw (length-map (now (a .rows)) asU64) (omega arith)))
 
 pub are-steps-spec : {M : Type 1} → statement M
 are-steps-spec =
