@@ -14,7 +14,7 @@ use Rattle.format.specs.Runs.{Description, layout, rowCount}
 use Rattle.format.specs.Rows.{asU64}
 use Rattle.format.specs.Parse.{Parsed, got, refused, plain}
 use Rattle.format.specs.Promises.{answerOf, kindOf, widthOf}
-use Rattle.format.specs.Writing.{countAllowed, haveForm, widthAllowed, fitWidth, described, writing, bytesIn, Written}
+use Rattle.format.specs.Writing.{countAllowed, haveForm, widthAllowed, described, writing, bytesIn, Written}
 use Rattle.format.proofs.Tests.{and-false}
 use Rattle.writer.specs.Sizes.{Sized, unfit, fit}
 

@@ -1,9 +1,9 @@
 // Delta: the header, the first row and the base delta as varints; a packed delta's magnitudes follow in a packed block.
 ghost use mathlib.Core.Path.{_≡_};
 ghost use mathlib.Core.Bool.{true};
-ghost use mathlib.Core.List.{_++_, map};
+ghost use mathlib.Core.List.{map};
 ghost use Prim.Native.Nat.{_+_, _<_, _≤_};
-ghost use lib.ListN.{length, drop};
+ghost use lib.ListN.{length};
 ghost use Rattle.format.specs.Fields.{zigzagged, shortest};
 ghost use Rattle.format.specs.Kept.{isKept};
 ghost use Rattle.format.specs.Rows.{asU64};

@@ -1,5 +1,5 @@
 -- `values::all_are` meets its contract. The loop's invariant: all rows pass exactly if those from the row reached on do. Assumes nothing.
-use mathlib.Core.Path.{refl, sym, _∙_, ap}
+use mathlib.Core.Path.{refl}
 use mathlib.Core.List.{List, map}
 use Prim.Native.Nat.{ℕ, _-_, _≤_, _<_}
 use native.Mathlib.Omega.{arith}
