@@ -8,7 +8,7 @@ ghost use Rattle.format.specs.Fields.{zigzagged, shortest};
 ghost use Rattle.format.specs.Kept.{isKept};
 ghost use Rattle.format.specs.Rows.{asU64};
 ghost use Rattle.format.specs.Writing.{firstOf, baseDelta, Written};
-ghost use Rattle.writer.specs.Sizes.{Sized};
+ghost use Rattle.writer.specs.Sizes.{Sized, Lays};
 ghost use Rattle.writer.specs.Start.{start, Started, StartSize};
 use crate::head;
 use crate::values;
@@ -107,7 +107,7 @@ pub(crate) fn size_packed(rows: &[i64], signed: bool, code: u8) -> usize
     start_size(rows, signed) + packed::block_size(bits, rows.len() - 2)
 }
 
-// Writes a packed delta, that has so many bytes; the places hold its magnitudes on the way.
+// Lays down a packed delta, that has so many bytes; the places hold its magnitudes on the way.
 fn write_packed_over(
     rows: &[i64],
     signed: bool,
@@ -115,11 +115,11 @@ fn write_packed_over(
     bytes: usize,
     vals: &mut [u64],
     out: &mut [u8],
-) -> Answer
+)
     requires { ⌜ (2 ≤ length (now rows)) × (length (now rows) ≤ 512) × (1 ≤ code) × (code ≤ 31) × (length (now rows) ≤ length (now vals)) × (1 ≤ bytes) × (bytes ≤ length (now out)) ⌝ }
     requires { ⌜ isKept code ≡ true ⌝ }
     requires { ⌜ Sized signed Form.PackedDelta code (map asU64 (now rows)) bytes ⌝ }
-    ensures { λ r. ⌜ Written (now (rows .entry)) signed Form.PackedDelta code (now (out .entry)) (now (out .exit)) r ⌝ }
+    ensures { λ _. ⌜ Lays (now (rows .entry)) signed Form.PackedDelta code Kind.Delta bytes (now (out .entry)) (now (out .exit)) ⌝ }
 {
     let n = rows.len();
     let bits = width::bits_of(code);
@@ -129,12 +129,6 @@ fn write_packed_over(
     let base = base_of(rows);
     let at = write_start(code, n, first, base, out);
     packed::pack(vals, n - 2, bits, out, at);
-    Answer::run(
-        Kind::Delta,
-        bits,
-        RowNumber { rows: n },
-        ByteOffset { bytes },
-    )
 }
 
 pub(crate) fn write_packed(rows: &[i64], signed: bool, code: u8, out: &mut [u8]) -> Answer
@@ -152,8 +146,10 @@ pub(crate) fn write_packed(rows: &[i64], signed: bool, code: u8, out: &mut [u8])
     // a short run pays for a few places, and not for 512
     if rows.len() <= values::FEW {
         let mut few = values::few();
-        return write_packed_over(rows, signed, code, bytes, &mut few, out);
+        write_packed_over(rows, signed, code, bytes, &mut few, out);
+        return head::answer(Kind::Delta, code, rows.len(), bytes);
     }
     let mut all = values::scratch();
-    write_packed_over(rows, signed, code, bytes, &mut all, out)
+    write_packed_over(rows, signed, code, bytes, &mut all, out);
+    head::answer(Kind::Delta, code, rows.len(), bytes)
 }

@@ -7,14 +7,12 @@ ghost use lib.ListN.{length};
 ghost use Rattle.format.specs.Kept.{isKept};
 ghost use Rattle.format.specs.Rows.{asU64};
 ghost use Rattle.format.specs.Writing.{Written};
-ghost use Rattle.writer.specs.Sizes.{Sized};
+ghost use Rattle.writer.specs.Sizes.{Sized, Lays};
 use crate::head;
 use crate::values;
 use format::Answer;
-use format::ByteOffset;
 use format::Form;
 use format::Kind;
-use format::RowNumber;
 use util::packed;
 use util::width;
 
@@ -31,31 +29,19 @@ pub(crate) fn size(rows: &[i64], signed: bool, code: u8) -> usize
     2 + packed::block_size(bits, rows.len())
 }
 
-// Writes the run, that has so many bytes; the places hold its values on the way.
-fn write_over(
-    rows: &[i64],
-    signed: bool,
-    code: u8,
-    bytes: usize,
-    vals: &mut [u64],
-    out: &mut [u8],
-) -> Answer
+// Lays down the run, that has so many bytes; the places hold its values on the way. It makes no answer: one that comes back from a call goes
+// through memory.
+fn write_over(rows: &[i64], signed: bool, code: u8, bytes: usize, vals: &mut [u64], out: &mut [u8])
     requires { ⌜ (1 ≤ length (now rows)) × (length (now rows) ≤ 512) × (code ≤ 31) × (length (now rows) ≤ length (now vals)) × (1 ≤ bytes) × (bytes ≤ length (now out)) ⌝ }
     requires { ⌜ isKept code ≡ true ⌝ }
     requires { ⌜ Sized signed Form.Direct code (map asU64 (now rows)) bytes ⌝ }
-    ensures { λ r. ⌜ Written (now (rows .entry)) signed Form.Direct code (now (out .entry)) (now (out .exit)) r ⌝ }
+    ensures { λ _. ⌜ Lays (now (rows .entry)) signed Form.Direct code Kind.Direct bytes (now (out .entry)) (now (out .exit)) ⌝ }
 {
     let n = rows.len();
     let bits = width::bits_of(code);
     values::store(rows, signed, vals);
     head::write(1, code, n, out);
     packed::pack(vals, n, bits, out, 2);
-    Answer::run(
-        Kind::Direct,
-        bits,
-        RowNumber { rows: n },
-        ByteOffset { bytes },
-    )
 }
 
 pub(crate) fn write(rows: &[i64], signed: bool, code: u8, out: &mut [u8]) -> Answer
@@ -73,8 +59,10 @@ pub(crate) fn write(rows: &[i64], signed: bool, code: u8, out: &mut [u8]) -> Ans
     // a short run pays for a few places, and not for 512
     if rows.len() <= values::FEW {
         let mut few = values::few();
-        return write_over(rows, signed, code, bytes, &mut few, out);
+        write_over(rows, signed, code, bytes, &mut few, out);
+        return head::answer(Kind::Direct, code, rows.len(), bytes);
     }
     let mut all = values::scratch();
-    write_over(rows, signed, code, bytes, &mut all, out)
+    write_over(rows, signed, code, bytes, &mut all, out);
+    head::answer(Kind::Direct, code, rows.len(), bytes)
 }

@@ -20,7 +20,7 @@ pub(crate) fn scratch() -> [u64; Kind::MAX_ROWS] {
 }
 
 // The rows of a short run: all places of a run are 4 KB, and to clear them costs more than to write a few rows.
-pub(crate) const FEW: usize = 32;
+pub(crate) const FEW: usize = 16;
 
 // Room for a short run's values.
 pub(crate) fn few() -> [u64; FEW] {

@@ -1,5 +1,5 @@
 -- `delta::write_packed_over` meets its contract. Assumes nothing.
-use mathlib.Core.Path.{_≡_, ap}
+use mathlib.Core.Path.{_≡_, sym, ap, _∙_}
 use mathlib.Core.List.{List, map}
 use Prim.Native.Nat.{ℕ, _+_, _-_, _*_}
 use native.Mathlib.Omega.{arith}
@@ -7,6 +7,7 @@ use lib.ListN.{length, take}
 use denote.Ref.{now}
 use Rattle.format.specs.declared.Form.the-variants.{PackedDelta}
 use Rattle.format.specs.declared.Kind.the-variants as kind
+use Rattle.format.specs.Answers.{ran}
 use Rattle.format.specs.Fields.{zigzagged, shortest, bytesFor}
 use Rattle.format.specs.Rows.{asU64}
 use Rattle.format.specs.Writing.{firstOf, baseDelta, valuesOf}
@@ -96,14 +97,14 @@ pack-requires c κs =
     )
 
 returns : tie.Need-returns
-returns c =
-    let p = c .before .before .before in
+returns c r e =
+    let p = c .before .before in
     let w = p .before .before .before .before .before in
     let k = values w in
-    packed (known k) (first w .pre .1 .1) (first w .pre .0 .5) _ (now (first w .args .out)) (w .write-start .last .1 .1 .1 .1 .0) (p .pack .last .1 .1 .1 .0) (w .write-start .result) (c .run .result) (stand k) (first w .pre .0 .6)
-    (c .run .ensures) (begun w .next) (begun w .places) (p .pack .ensures)
+    packed (known k) (first w .pre .1 .1) (first w .pre .0 .5) _ (now (first w .args .out)) (w .write-start .last .1 .1 .1 .1 .0) (p .pack .last .1 .1 .1 .0) (w .write-start .result) r (stand k) (first w .pre .0 .6)
+    (e ∙ ap (λ (b : ℕ). ran kind.Delta b (n k) (first w .args .bytes)) (sym (sized k .bits-of .ensures))) (begun w .next) (begun w .places) (p .pack .ensures)
 
 pub write-packed-over-spec : {M : Type 1} → statement M
 write-packed-over-spec =
     tie.close (tie.spec (λ c κs. search needs) (λ c κs. search needs) (λ c. search needs) (λ c. search needs) (λ c. search needs) (λ c κs. search needs)
-    (λ c κs. search needs) (λ c κs. search needs) write-start-requires (λ c. search needs) pack-requires (λ c κs. search needs) (λ c. search needs) (λ c. search needs) returns)
+    (λ c κs. search needs) (λ c κs. search needs) write-start-requires (λ c. search needs) pack-requires (λ c. search needs) (λ c. search needs) returns)

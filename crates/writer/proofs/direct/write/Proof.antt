@@ -37,7 +37,13 @@ write-over-requires-2 c κs =
     let m = c .before .before .before .before .before .before in
     (search needs, (entry m .pre .1, m .size .ensures))
 
+returns-3 : tie.Need-returns-3
+returns-3 c = c .before .before .before .before .write-over .ensures (c .answer .result) (c .answer .ensures)
+
+returns-4 : tie.Need-returns-4
+returns-4 c = c .before .before .before .before .write-over2 .ensures (c .answer2 .result) (c .answer2 .ensures)
+
 pub write-spec : {M : Type 1} → statement M
 write-spec =
     tie.close (tie.spec (λ c κs. search needs) (λ c κs. search needs) returns (λ c κs. search needs) returns-2 (λ c κs. search needs) (λ c. search needs)
-    write-over-requires (λ c. search needs) (λ c. search needs) (λ c κs. search needs) (λ c. search needs) write-over-requires-2 (λ c. search needs) (λ c. search needs))
+    write-over-requires (λ c κs. search needs) (λ c. search needs) returns-3 (λ c κs. search needs) (λ c. search needs) write-over-requires-2 (λ c κs. search needs) (λ c. search needs) returns-4)

@@ -1,12 +1,13 @@
 -- `direct::write_over` meets its contract. Assumes nothing.
-use mathlib.Core.Path.{_≡_, refl}
+use mathlib.Core.Path.{_≡_, refl, sym, ap, _∙_}
 use mathlib.Core.List.{map}
-use Prim.Native.Nat.{_+_, _*_}
+use Prim.Native.Nat.{ℕ, _+_, _*_}
 use native.Mathlib.Omega.{arith}
 use lib.ListN.{length, take}
 use denote.Ref.{now}
 use Rattle.format.specs.declared.Form.the-variants.{Direct}
 use Rattle.format.specs.declared.Kind.the-variants as kind
+use Rattle.format.specs.Answers.{ran}
 use Rattle.format.specs.Fields.{bytesFor}
 use Rattle.format.specs.Rows.{asU64}
 use Rattle.format.specs.Runs.{head}
@@ -48,13 +49,12 @@ pack-requires c κs =
     )
 
 returns : tie.Need-returns
-returns c =
-    let p = c .before .before .before in
+returns c r e =
+    let p = c .before .before in
     let w = p .before .before .before .before .before in
     let k = w .before .before .before .before in
-    packed (known k) (entry k .pre .1 .1) (omega arith) _ (now (entry k .args .out)) (w .write .last .1 .1 .1 .0) (p .pack .last .1 .1 .1 .0) 2 (c .run .result) (stand k) (omega arith)
-    (c .run .ensures) refl (w .write .ensures) (p .pack .ensures)
+    packed (known k) (entry k .pre .1 .1) (omega arith) _ (now (entry k .args .out)) (w .write .last .1 .1 .1 .0) (p .pack .last .1 .1 .1 .0) 2 r (stand k) (omega arith)
+    (e ∙ ap (λ (b : ℕ). ran kind.Direct b (length (now (entry k .args .rows))) (entry k .args .bytes)) (sym (sized k .bits-of .ensures))) refl (w .write .ensures) (p .pack .ensures)
 
 pub write-over-spec : {M : Type 1} → statement M
-write-over-spec =
-    tie.close (tie.spec (λ c κs. search needs) (λ c κs. search needs) write-requires pack-requires (λ c κs. search needs) (λ c. search needs) (λ c. search needs) returns)
+write-over-spec = tie.close (tie.spec (λ c κs. search needs) (λ c κs. search needs) write-requires pack-requires (λ c. search needs) (λ c. search needs) returns)
