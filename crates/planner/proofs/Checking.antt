@@ -6,10 +6,11 @@ use mathlib.Core.Bool.{Bool, true, false}
 use mathlib.Core.List.{List, _∷_}
 use lib.ListN.{length, drop}
 use lib.IntN.{ℤ}
+use Rattle.writer.specs.Sizes.{sizeIn}
 use Rattle.planner.specs.declared.segment.Segment.{Segment}
 use Rattle.planner.specs.declared.Checked.the-variants as checked
 use Rattle.planner.specs.Check.{Columns, equalLengths, segments, anyRun, accepted, checkedAs}
-use Rattle.planner.specs.Walk.{segmentAt, stepIn, Ran}
+use Rattle.planner.specs.Walk.{segmentAt, stepIn}
 use Rattle.planner.proofs.Segments.{segment-next, segment-none}
 use Rattle.planner.proofs.Walks.{Taken, none, some, verdict, verdict-first, verdict-out, verdict-next, verdict-full, verdict-short, verdict-end}
 
@@ -37,20 +38,16 @@ module _ (signed : Bool) (rows : List ℤ) (c : Columns) (room : ℕ) where
         → checked.Accepted (record { runs = k; rows = record { rows = row }; bytes = record { bytes = bytes } }) ≡ checkedAs signed rows c room
     along-end h l = sym (a .so-far ∙ rw (segment-none c k h) (verdict-end signed rows room k row bytes (omega (arith, a .row-in)) (a .bytes-in)))
 
-    -- the next one, written to a place that has room for any run
-    module _ (h : k < length (c .starts)) (s : Segment) (e : s ≡ segmentAt c k) (out out′ : List ℕ) (n : ℕ) (m : length out ≡ anyRun)
-        (r : Ran (stepIn signed rows row s (length out)) out out′ n) where
+    -- the next one, by the bytes of its run
+    module _ (h : k < length (c .starts)) (s : Segment) (e : s ≡ segmentAt c k) (n : ℕ) (r : n ≡ sizeIn (stepIn signed rows row s anyRun)) where
       left : drop k (segments c) ≡ s ∷ drop (k + 1) (segments c)
       left = rw e (segment-next c k h)
 
-      ran : Ran (stepIn signed rows row s anyRun) out out′ n
-      ran = rw m at r
-
       pub along-out : n ≡ 0 → checked.Rejected ≡ checkedAs signed rows c room
-      along-out z = sym (a .so-far ∙ rw left (verdict-out signed rows room k row bytes s (drop (k + 1) (segments c)) (a .row-in) (none signed rows row s anyRun out out′ n ran z)))
+      along-out z = sym (a .so-far ∙ rw left (verdict-out signed rows room k row bytes s (drop (k + 1) (segments c)) (a .row-in) (none signed rows row s anyRun n r z)))
 
-      pub along-taken : (n ≡ 0 → ⊥) → Taken signed rows row s anyRun n out out′
-      along-taken z = some signed rows row s anyRun out out′ n ran z
+      pub along-taken : (n ≡ 0 → ⊥) → Taken signed rows row s anyRun n
+      along-taken z = some signed rows row s anyRun n r z
 
       pub along-full : (n ≡ 0 → ⊥) → room - bytes < n → checked.Rejected ≡ checkedAs signed rows c room
       along-full z l = sym (a .so-far ∙ rw left (verdict-full signed rows room k row bytes s (drop (k + 1) (segments c)) n (along-taken z) (a .bytes-in) l))

@@ -1,12 +1,13 @@
 -- One segment, by its form's writer. Assumes nothing.
-use mathlib.Core.Path.{_≡_, refl, ap, _∙_}
+use mathlib.Core.Path.{_≡_, refl, sym, ap, _∙_}
 use Prim.Native.Nat.{ℕ, zero, suc, _-_, _<_, _≤_}
 use native.Mathlib.Omega.{arith}
 use mathlib.Core.Bool.{Bool, true, false, not, _&&_}
-use mathlib.Core.List.{List, map}
+use mathlib.Core.List.{List, [], map}
 use lib.ListN.{length, take, drop}
+use lib.Dec.{leb, eqb, leb→le}
 use lib.IntN.{ℤ}
-use borrow.Author.Tests.{lt-leb, ne-eqb, le-leb, eq-eqb}
+use borrow.Author.Tests.{lt-leb, ne-eqb, le-leb, eqb-true, not-true, not-false}
 use Rattle.format.specs.declared.Form.{Form}
 use Rattle.format.specs.declared.Form.the-variants.{ShortRepeat, Direct, FixedDelta, PackedDelta}
 use Rattle.format.specs.declared.Answer.{Answer}
@@ -20,9 +21,11 @@ use Rattle.format.specs.Writing.{between, countAllowed, haveForm, widthAllowed,
 use Rattle.format.specs.PatchedWriting.{writingPatched, PatchedWritten}
 use Rattle.format.proofs.Kept.{no-code-kept, wide-not-kept}
 use Rattle.format.proofs.Patterns.{as-back}
+use Rattle.writer.specs.Sizes.{sizeIn}
 use Rattle.planner.specs.declared.segment.Segment.{Segment}
 use Rattle.planner.specs.Check.{writeIn, isRun}
-use Rattle.planner.specs.Walk.{formOf, stepIn, sizeOf, Ran}
+use Rattle.planner.specs.Walk.{formOf, inPlace, stepIn, Ran}
+use Rattle.planner.proofs.Segments.{both}
 
 -- ---- nothing accepted: no bytes, and nothing touched
 
@@ -75,7 +78,7 @@ no-form signed (suc (suc (suc (suc (suc n))))) width base part room h = refl
 
 -- ---- by the form's writer
 
-told-size : (m : Parsed Description) → answerBytes (answerOf 0 0 m) ≡ sizeOf m
+told-size : (m : Parsed Description) → answerBytes (answerOf 0 0 m) ≡ sizeIn m
 told-size end = refl
 told-size (got d rest) = refl
 told-size (refused r) = refl
@@ -84,7 +87,11 @@ told-size (refused r) = refl
 pub ran : (m : Parsed Description) (out out′ : List ℕ) (a : Answer) → a ≡ answerOf 0 0 m → out′ ≡ bytesIn out m → Ran m out out′ (answerBytes a)
 ran m out out′ a e p = record { size = ap (λ (x : Answer). answerBytes x) e ∙ told-size m; places = p }
 
-by-form : (signed : Bool) (form width base : ℕ) (part : List ℤ) (room : ℕ) → form < 4
+-- .. and its bytes alone, where it has none
+pub size-none : (m : Parsed Description) → isRun m ≡ false → 0 ≡ sizeIn m
+size-none m e = ran-none m [] e .size
+
+pub by-form : (signed : Bool) (form width base : ℕ) (part : List ℤ) (room : ℕ) → form < 4
     → writeIn signed form width base part room ≡ writing signed (formOf form) width (map asU64 part) room
 unfolding writeIn formOf
 by-form signed zero width base part room h = refl
@@ -109,19 +116,22 @@ module _ (signed : Bool) (form width base : ℕ) (part : List ℤ) (out out′ :
 
 -- ---- where it stands
 
+-- it begins at this row, and ends within the column
+pub here-is : (at rows : ℕ) (s : Segment) (b : Bool) → b ≡ inPlace rows at s → not b ≡ false → s .start ≡ at
+here-is at rows s b e h = eqb-true (s .start) at (both (eqb (s .start) at) (leb (s .count) (rows - at)) (sym e ∙ not-false b h) .0)
+
+pub within-is : (at rows : ℕ) (s : Segment) (b : Bool) → b ≡ inPlace rows at s → not b ≡ false → s .count ≤ rows - at
+within-is at rows s b e h = leb→le (s .count) (rows - at) (rw (both (eqb (s .start) at) (leb (s .count) (rows - at)) (sym e ∙ not-false b h) .1) tt)
+
 module _ (signed : Bool) (rows : List ℤ) (at : ℕ) (s : Segment) (room : ℕ) where
-  pub step-elsewhere : (s .start ≡ at → ⊥) → isRun (stepIn signed rows at s room) ≡ false
+  pub step-elsewhere : (b : Bool) → b ≡ inPlace (length rows) at s → not b ≡ true → isRun (stepIn signed rows at s room) ≡ false
   unfolding stepIn
-  step-elsewhere h = rw (ne-eqb (s .start) at h)
+  step-elsewhere b e h = rw (← e, not-true b h)
 
-  pub step-beyond : s .start ≡ at → length rows - at < s .count → isRun (stepIn signed rows at s room) ≡ false
-  unfolding stepIn
-  step-beyond e h = rw (eq-eqb (s .start) at e, lt-leb (s .count) (length rows - at) h)
-
-  pub step-here : s .start ≡ at → s .count ≤ length rows - at
+  pub step-here : (b : Bool) → b ≡ inPlace (length rows) at s → not b ≡ false
       → stepIn signed rows at s room ≡ writeIn signed (s .form) (s .width) (s .base) (take (s .count) (drop at rows)) room
   unfolding stepIn
-  step-here e h = rw (eq-eqb (s .start) at e, le-leb (s .count) (length rows - at) h, e)
+  step-here b e h = rw (sym e ∙ not-false b h, here-is at (length rows) s b e h)
 
 pub form-packed : (n : ℕ) → (n ≡ 0 → ⊥) → (n ≡ 1 → ⊥) → (n ≡ 2 → ⊥) → PackedDelta ≡ formOf n
 unfolding formOf

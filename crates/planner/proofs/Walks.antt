@@ -13,14 +13,14 @@ use Rattle.format.specs.Fields.{pick}
 use Rattle.format.specs.Runs.{Description, rowCount, layout, joined}
 use Rattle.format.specs.Parse.{plain, Parsed, end, got, refused}
 use Rattle.format.specs.Streams.{totalRows}
-use Rattle.format.specs.Writing.{bytesIn}
 use Rattle.format.proofs.Runs.{layout-pos}
+use Rattle.writer.specs.Sizes.{sizeIn}
 use Rattle.planner.specs.declared.segment.Segment.{Segment}
 use Rattle.planner.specs.declared.Columned.{Columned}
 use Rattle.planner.specs.declared.Checked.{Checked}
 use Rattle.planner.specs.declared.Checked.the-variants as checked
 use Rattle.planner.specs.Check.{Columns, equalLengths, segments, covers, anyRun, runIn, runOf, isRun, allRuns, runs, accepted, checkedAs}
-use Rattle.planner.specs.Walk.{stepIn, sizeOf, Ran}
+use Rattle.planner.specs.Walk.{stepIn, Ran}
 use Rattle.planner.proofs.Segments.{both, and-false, covers-le, covers-over}
 use Rattle.planner.proofs.Writers.{rows-given, in-room}
 
@@ -28,44 +28,42 @@ module _ (signed : Bool) (rows : List ℤ) where
   -- ---- one segment
 
   -- it was accepted in so much room: its run
-  pub record Taken (at : ℕ) (s : Segment) (room n : ℕ) (out out′ : List ℕ) : Type 0 where
+  pub record Taken (at : ℕ) (s : Segment) (room n : ℕ) : Type 0 where
     pub which : Description
     pub rest : List ℕ
     pub here : s .start ≡ at
     pub within : s .count ≤ length rows - at
     pub written : runIn signed rows s room ≡ got which rest
     pub size : n ≡ length (layout which)
-    pub bytes : out′ ≡ layout which ++ drop (length (layout which)) out
 
   module _ (at : ℕ) (s : Segment) (room : ℕ) where
     -- no bytes: nothing was accepted
-    pub none : (out out′ : List ℕ) (n : ℕ) → Ran (stepIn signed rows at s room) out out′ n → n ≡ 0 → isRun (stepIn signed rows at s room) ≡ false
-    none out out′ n r e = go (stepIn signed rows at s room) (r .size)
+    pub none : (n : ℕ) → n ≡ sizeIn (stepIn signed rows at s room) → n ≡ 0 → isRun (stepIn signed rows at s room) ≡ false
+    none n r e = go (stepIn signed rows at s room) r
       where
-        go : (m : Parsed Description) → n ≡ sizeOf m → isRun m ≡ false
+        go : (m : Parsed Description) → n ≡ sizeIn m → isRun m ≡ false
         go end f = refl
         go (got d rest) f = absurd (omega (arith, f, e, layout-pos d))
         go (refused q) f = refl
 
-    pub some : (out out′ : List ℕ) (n : ℕ) → Ran (stepIn signed rows at s room) out out′ n → (n ≡ 0 → ⊥) → Taken at s room n out out′
+    pub some : (n : ℕ) → n ≡ sizeIn (stepIn signed rows at s room) → (n ≡ 0 → ⊥) → Taken at s room n
     unfolding stepIn
-    some out out′ n r e = go (eqb (s .start) at) (leb (s .count) (length rows - at)) (runIn signed rows s room) refl refl refl (r .size) (r .places)
+    some n r e = go (eqb (s .start) at) (leb (s .count) (length rows - at)) (runIn signed rows s room) refl refl refl r
       where
         go : (a b : Bool) (m : Parsed Description) → eqb (s .start) at ≡ a → leb (s .count) (length rows - at) ≡ b → runIn signed rows s room ≡ m
-            → n ≡ sizeOf (pick (a && b) m (refused (plain 10))) → out′ ≡ bytesIn out (pick (a && b) m (refused (plain 10))) → Taken at s room n out out′
-        go false b m f g w z p = absurd (e z)
-        go true false m f g w z p = absurd (e z)
-        go true true end f g w z p = absurd (e z)
-        go true true (got d rest) f g w z p = record {
+            → n ≡ sizeIn (pick (a && b) m (refused (plain 10))) → Taken at s room n
+        go false b m f g w z = absurd (e z)
+        go true false m f g w z = absurd (e z)
+        go true true end f g w z = absurd (e z)
+        go true true (got d rest) f g w z = record {
           which = d;
           rest = rest;
           here = eqb-true (s .start) at f;
           within = leb-true (s .count) (length rows - at) g;
           written = w;
           size = z;
-          bytes = p;
         }
-        go true true (refused q) f g w z p = absurd (e z)
+        go true true (refused q) f g w z = absurd (e z)
 
   -- ---- what the check says of the segments that are left, behind k runs of so many rows and bytes
 
@@ -96,7 +94,7 @@ module _ (signed : Bool) (rows : List ℤ) where
         go true false t f g w z = rw (f, covers-over (length rows) (row + s .count) ss (omega (arith, leb-false (s .count) (length rows - row) g)))
         go true true t f g w z = rw (f, z, and-false (covers (length rows) (row + s .count) ss) false refl)
 
-    module _ (k row bytes : ℕ) (s : Segment) (ss : List Segment) (n : ℕ) {out out′ : List ℕ} (t : Taken row s anyRun n out out′) where
+    module _ (k row bytes : ℕ) (s : Segment) (ss : List Segment) (n : ℕ) (t : Taken row s anyRun n) where
       abbrev ds : List Description
       ds = runs signed rows ss
 

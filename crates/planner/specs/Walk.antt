@@ -9,9 +9,10 @@ use lib.IntN.{ℤ}
 use Rattle.format.specs.declared.Form.{Form}
 use Rattle.format.specs.declared.Form.the-variants.{ShortRepeat, Direct, FixedDelta, PackedDelta}
 use Rattle.format.specs.Fields.{pick}
-use Rattle.format.specs.Runs.{Description, layout, joined}
-use Rattle.format.specs.Parse.{plain, Parsed, end, got, refused}
+use Rattle.format.specs.Runs.{Description, joined}
+use Rattle.format.specs.Parse.{plain, Parsed, refused}
 use Rattle.format.specs.Writing.{bytesIn}
+use Rattle.writer.specs.Sizes.{sizeIn}
 use Rattle.planner.specs.declared.segment.Segment.{Segment}
 use Rattle.planner.specs.declared.Columned.{Columned}
 use Rattle.planner.specs.Check.{Columns, runIn, wide, told}
@@ -42,15 +43,9 @@ inPlace rows at s = eqb (s .start) at && leb (s .count) (rows - at)
 unfoldable pub stepIn : Bool → List ℤ → ℕ → Segment → ℕ → Parsed Description
 stepIn signed rows at s room = pick (inPlace (length rows) at s) (runIn signed rows s room) (refused (plain 10))
 
--- how many bytes: none where nothing is accepted
-abbrev pub sizeOf : Parsed Description → ℕ
-sizeOf end = 0
-sizeOf (got d rest) = length (layout d)
-sizeOf (refused r) = 0
-
 -- a writer's answer m, told by its bytes, and the lent bytes at exit
 pub record Ran (m : Parsed Description) (out out′ : List ℕ) (r : ℕ) : Type 0 where
-  pub size : r ≡ sizeOf m
+  pub size : r ≡ sizeIn m
   pub places : out′ ≡ bytesIn out m
 
 -- ---- ALL OF THEM

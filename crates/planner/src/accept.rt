@@ -1,4 +1,4 @@
-// The check: a walk over the segments, each of them written to a place apart.
+// The check: a walk over the segments, by the bytes of each.
 ghost use mathlib.Core.Path.{_≡_};
 ghost use mathlib.Core.Bool.{true, _&&_};
 ghost use lib.Dec.{eqb};
@@ -29,7 +29,7 @@ pub(crate) fn are_equal(n: usize, counts: usize, forms: usize, widths: usize, ba
     bases == n
 }
 
-// Room for any run.
+// Room for any run: a patched one is written to tell its bytes.
 fn bytes_room() -> [u8; Kind::MAX_BYTES] {
     [0u8; Kind::MAX_BYTES]
 }
@@ -54,7 +54,7 @@ pub(crate) fn walk(
     let mut bytes: usize = 0;
     while k < first.len() {
         let s = segment::at(first, counts, forms, widths, bases, k);
-        let n = segment::step(rows, signed, row, s, &mut run);
+        let n = segment::step_size(rows, signed, row, s, &mut run);
         if n == 0 {
             return Checked::Rejected;
         }

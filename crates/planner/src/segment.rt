@@ -2,8 +2,9 @@
 ghost use mathlib.Core.Path.{_≡_};
 ghost use Prim.Native.Nat.{_<_, _≤_};
 ghost use lib.ListN.{length};
-ghost use Rattle.planner.specs.Check.{proposal, writeIn};
-ghost use Rattle.planner.specs.Walk.{formOf, segmentAt, stepIn, Ran};
+ghost use Rattle.writer.specs.Sizes.{sizeIn};
+ghost use Rattle.planner.specs.Check.{proposal, anyRun, writeIn};
+ghost use Rattle.planner.specs.Walk.{formOf, segmentAt, inPlace, stepIn, Ran};
 use format::Form;
 use util::pattern;
 
@@ -73,16 +74,49 @@ fn write(part: &[i64], signed: bool, s: Segment, out: &mut [u8]) -> usize
     a.consumed()
 }
 
+// The bytes of that run, where there is room for any: nothing is written, but for a patched run, into the place that is lent for it.
+fn size(part: &[i64], signed: bool, s: Segment, run: &mut [u8]) -> usize
+    requires { ⌜ length (now run) ≡ anyRun ⌝ }
+    ensures { λ r. ⌜ r ≡ sizeIn (writeIn signed (s .form) (s .width) (s .base) (now (part .entry)) anyRun) ⌝ }
+{
+    if 3 < s.form {
+        return write(part, signed, s, run);
+    }
+    if s.width < 256 {
+        return writer::size_of_run(part, signed, form_of(s.form), s.width as u8);
+    }
+    0
+}
+
+// Whether it begins at this row, and ends within the column.
+fn is_in_place(rows: usize, at: usize, s: Segment) -> bool
+    requires { ⌜ at ≤ rows ⌝ }
+    ensures { λ r. ⌜ r ≡ inPlace rows at s ⌝ }
+{
+    if s.start != at as u64 {
+        return false;
+    }
+    s.count <= (rows - at) as u64
+}
+
 // A segment of the rows, where it begins at this row and ends within the column: its bytes, or 0 where it is not accepted.
 pub(crate) fn step(rows: &[i64], signed: bool, at: usize, s: Segment, out: &mut [u8]) -> usize
     requires { ⌜ at ≤ length (now rows) ⌝ }
     ensures { λ r. ⌜ Ran (stepIn signed (now (rows .entry)) at s (length (now (out .entry)))) (now (out .entry)) (now (out .exit)) r ⌝ }
 {
-    if s.start != at as u64 {
-        return 0;
-    }
-    if ((rows.len() - at) as u64) < s.count {
+    if !is_in_place(rows.len(), at, s) {
         return 0;
     }
     write(&rows[at..at + s.count as usize], signed, s, out)
+}
+
+// The same bytes, where there is room for any run.
+pub(crate) fn step_size(rows: &[i64], signed: bool, at: usize, s: Segment, run: &mut [u8]) -> usize
+    requires { ⌜ (at ≤ length (now rows)) × (length (now run) ≡ anyRun) ⌝ }
+    ensures { λ r. ⌜ r ≡ sizeIn (stepIn signed (now (rows .entry)) at s anyRun) ⌝ }
+{
+    if !is_in_place(rows.len(), at, s) {
+        return 0;
+    }
+    size(&rows[at..at + s.count as usize], signed, s, run)
 }

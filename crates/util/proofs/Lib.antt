@@ -2,6 +2,7 @@
 pub mod BigEndian
 pub mod Grow
 pub mod Varints
+pub mod VarintSize
 pub mod Widths
 pub mod Window
 pub mod Packing

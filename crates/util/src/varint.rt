@@ -57,17 +57,15 @@ pub fn read(s: &[u8], at: usize) -> Varint
     Varint::TooLong
 }
 
-// How many bytes the shortest varint of x has.
+// How many bytes the shortest varint of x has: one for each seven bits, and one at least.
 pub fn size(x: u64) -> usize
     ensures { λ r. ⌜ r ≡ length (shortest x) ⌝ }
 {
-    let mut rest = x;
-    let mut n: usize = 1;
-    while 128 <= rest {
-        rest /= 128;
-        n += 1;
+    if x == 0 {
+        return 1;
     }
-    n
+    let bits = (64 - u64::leading_zeros(x)) as usize;
+    (bits + 6) / 7
 }
 
 // The lowest group of x with the top bit set: a byte that others follow.

@@ -23,27 +23,25 @@ pub and-true : (b : Bool) → b && true ≡ b
 and-true true = refl
 and-true false = refl
 
--- ---- a loop that tests n numbers: the whole passes exactly if what is left of it passes
+-- ---- a loop that tests all numbers of a list: the whole passes exactly if what is left of it passes
 
-abbrev pub Left : (ℕ → Bool) → List ℕ → ℕ → ℕ → Type 0
-Left test l n i = every test (take n l) ≡ every test (slice i n l)
+abbrev pub Left : (ℕ → Bool) → List ℕ → List ℕ → Type 0
+Left test all l = every test all ≡ every test l
 
-module _ (test : ℕ → Bool) (l : List ℕ) (n i : ℕ) (left : Left test l n i) where
-  next : i < n → n ≤ length l → every test (take n l) ≡ test (getD l i 0) && every test (slice (i + 1) n l)
+module _ (test : ℕ → Bool) (all : List ℕ) {l : List ℕ} (left : Left test all l) where
+  next : {x : ℕ} {t : List ℕ} → l ≡ x ∷ t → every test all ≡ test x && every test t
   unfolding every
-  next h k = left ∙ rw (add-one, slice-cons i n l 0 h k)
+  next e = left ∙ ap (λ (k : List ℕ). every test k) e
 
-  pub stops : i < n → n ≤ length l → test (getD l i 0) ≡ false → false ≡ every test (take n l)
-  stops h k e = sym (next h k ∙ rw e)
+  pub stops : {x : ℕ} {t : List ℕ} → l ≡ x ∷ t → test x ≡ false → false ≡ every test all
+  stops e h = sym (next e ∙ rw h)
 
-  pub goes : i < n → n ≤ length l → test (getD l i 0) ≡ true → Left test l n (i + 1)
-  goes h k e = next h k ∙ rw e
+  pub goes : {x : ℕ} {t : List ℕ} → l ≡ x ∷ t → test x ≡ true → Left test all t
+  goes e h = next e ∙ rw h
 
-  pub done : i ≤ n → n ≤ i → true ≡ every test (take n l)
+  pub done : l ≡ [] → true ≡ every test all
   unfolding every
-  done h k =
-      let e : i ≡ n = omega arith in
-      sym (left ∙ rw (e, slice-empty n l))
+  done e = sym (left ∙ ap (λ (k : List ℕ). every test k) e)
 
 -- ---- a loop that looks for the largest of n numbers: a bound holds for all exactly if it holds for the largest so far and for those that are left
 
@@ -102,8 +100,11 @@ shifted-out x bits = by (decLt x (2 ^ bits))
 pub pattern-at : (rows : List ℤ) (i : ℕ) → getD (map asU64 rows) i 0 ≡ asU64 (getD rows i (pos 0))
 pattern-at rows i = List·getD-map asU64 rows i (pos 0)
 
+pub row-next : (l : List ℕ) (i : ℕ) → i < length l → drop i l ≡ getD l i 0 ∷ drop (i + 1) l
+row-next l i h = rw (add-one, drop-cons l i 0 h)
+
 pub map-next : (f : ℕ → ℕ) (l : List ℕ) (i : ℕ) → i < length l → map f (drop i l) ≡ f (getD l i 0) ∷ map f (drop (i + 1) l)
-map-next f l i h = rw (add-one, drop-cons l i 0 h)
+map-next f l i h = rw (row-next l i h)
 
 pub map-end : (f : ℕ → ℕ) (l : List ℕ) (i : ℕ) → length l ≤ i → map f (drop i l) ≡ []
 map-end f l i h = rw (drop-of-length-le l h)

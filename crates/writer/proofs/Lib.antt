@@ -1,6 +1,7 @@
 -- What the proofs of several functions cite.
 pub mod Laws
 pub mod Pieces
+pub mod Sizes
 pub mod Promised
 pub mod PackedForms
 pub mod FixedForm

@@ -2,14 +2,17 @@
 use mathlib.Core.Path.{_≡_, refl, sym, _∙_}
 use Prim.Native.Nat.{ℕ, _+_, _≤_}
 use native.Mathlib.Omega.{arith}
-use mathlib.Core.Bool.{true, _&&_}
+use mathlib.Core.Bool.{Bool, true, false, not, _&&_}
 use mathlib.Core.List.{List, [], _∷_, _++_}
 use lib.Dec.{leb, leb→le}
+use borrow.Author.Tests.{not-false, eqb-true}
 use lib.ListN.{length, drop, take, set, length-append}
 use lib.Seq.{take-at, drop-append-add, drop-drop}
+use Rattle.format.specs.declared.Form.{Form}
+use Rattle.format.specs.declared.Form.the-variants.{ShortRepeat, Direct, FixedDelta, PackedDelta}
 use Rattle.format.specs.Fields.{width}
 use Rattle.format.specs.Kept.{isKept}
-use Rattle.format.specs.Writing.{between}
+use Rattle.format.specs.Writing.{between, countAllowed, widthAllowed}
 use Rattle.format.proofs.Kept.{kept-code}
 use Rattle.format.proofs.Tests.{between-le, T-true}
 use Rattle.format.proofs.Widths.{and-left, and-right, IsWidth, width-is}
@@ -56,7 +59,38 @@ pub within : (low high n : ℕ) → between low high n ≡ true → (low ≤ n) 
 within low high n e = between-le low high n (rw e tt)
 
 -- a packed delta's code
-pub packed-kept : (w : ℕ) → leb 1 w && isKept w ≡ true → (1 ≤ w) × (w ≤ 31) × (isKept w ≡ true)
+packed-kept : (w : ℕ) → leb 1 w && isKept w ≡ true → (1 ≤ w) × (w ≤ 31) × (isKept w ≡ true)
 packed-kept w e =
     let k : isKept w ≡ true = T-true (isKept w) (and-right (leb 1 w) (isKept w) (rw e tt)) in
     (leb→le 1 w (and-left (leb 1 w) (isKept w) (rw e tt)), omega (arith, kept-code w k), k)
+
+-- .. by the two tests
+module _ (f : Form) (n w : ℕ) {a b : Bool} (c : a ≡ countAllowed f n) (y : not a ≡ false) (d : b ≡ widthAllowed f w) (z : not b ≡ false) where
+  count-is : countAllowed f n ≡ true
+  count-is = sym c ∙ not-false a y
+
+  width-is-allowed : widthAllowed f w ≡ true
+  width-is-allowed = sym d ∙ not-false b z
+
+  pub short-allowed : f ≡ ShortRepeat → (3 ≤ n) × (n ≤ 10) × (1 ≤ w) × (w ≤ 8)
+  short-allowed e =
+      let p = within 3 10 n (rw e at count-is) in
+      let q = within 1 8 w (rw e at width-is-allowed) in
+      (p .0, p .1, q .0, q .1)
+
+  pub direct-allowed : f ≡ Direct → ((1 ≤ n) × (n ≤ 512) × (w ≤ 31)) × (isKept w ≡ true)
+  direct-allowed e =
+      let p = within 1 512 n (rw e at count-is) in
+      let k : isKept w ≡ true = rw e at width-is-allowed in
+      ((p .0, p .1, omega (arith, kept-code w k)), k)
+
+  pub fixed-allowed : f ≡ FixedDelta → (1 ≤ n) × (n ≤ 512) × (w ≡ 0)
+  fixed-allowed e =
+      let p = within 1 512 n (rw e at count-is) in
+      (p .0, p .1, eqb-true w 0 (rw e at width-is-allowed))
+
+  pub packed-allowed : f ≡ PackedDelta → ((2 ≤ n) × (n ≤ 512) × (1 ≤ w) × (w ≤ 31)) × (isKept w ≡ true)
+  packed-allowed e =
+      let p = within 2 512 n (rw e at count-is) in
+      let q = packed-kept w (rw e at width-is-allowed) in
+      ((p .0, p .1, q .0, q .1), q .2)

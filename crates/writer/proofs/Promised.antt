@@ -1,5 +1,6 @@
 -- From the tests of a form, and what was laid down, to the promise. Assumes nothing.
 use mathlib.Core.Path.{_≡_, refl}
+use native.Mathlib.Omega.{arith}
 use Prim.Native.Nat.{ℕ, _<_, _≤_}
 use mathlib.Core.Bool.{Bool, true, false, _&&_}
 use mathlib.Core.List.{List, [], _++_, map}
@@ -13,8 +14,9 @@ use Rattle.format.specs.Runs.{Description, layout, rowCount}
 use Rattle.format.specs.Rows.{asU64}
 use Rattle.format.specs.Parse.{Parsed, got, refused, plain}
 use Rattle.format.specs.Promises.{answerOf, kindOf, widthOf}
-use Rattle.format.specs.Writing.{countAllowed, haveForm, widthAllowed, fitWidth, described, writing, bytesIn, Written}
+use Rattle.format.specs.Writing.{countAllowed, haveForm, widthAllowed, described, writing, bytesIn, Written}
 use Rattle.format.proofs.Tests.{and-false}
+use Rattle.writer.specs.Sizes.{Sized, unfit, fit}
 
 pub and-same : (b : Bool) → b && b ≡ b
 and-same true = refl
@@ -41,17 +43,21 @@ module _ (rows : List ℤ) (signed : Bool) (f : Form) (w : ℕ) (out : List ℕ)
     unfolding writing
     bad-form e p = told out (refused (plain 10)) (rw (c, e)) p refl
 
-    pub bad-fit : haveForm f rs ≡ true → fitWidth signed f w rs ≡ false → r ≡ refusedAt 11 0 → Written rows signed f w out out r
+    -- .. told by the size
+    pub bad-fit : {n : ℕ} → Sized signed f w rs n → n ≡ 0 → haveForm f rs ≡ true → r ≡ refusedAt 11 0 → Written rows signed f w out out r
     unfolding writing
-    bad-fit h e p = told out (refused (plain 11)) (rw (c, s, h, e)) p refl
+    bad-fit (unfit e) z h p = told out (refused (plain 11)) (rw (c, s, h, rw h at e)) p refl
+    bad-fit (fit h e l a b) z _ p = absurd (omega arith)
 
-    pub no-room : haveForm f rs ≡ true → fitWidth signed f w rs ≡ true → length out < length (layout (described signed f w rs)) → r ≡ refusedAt 8 0
-        → Written rows signed f w out out r
+    pub no-room : {n : ℕ} → Sized signed f w rs n → 1 ≤ n → length out < n → r ≡ refusedAt 8 0 → Written rows signed f w out out r
     unfolding writing
-    no-room h e l p = told out (refused (plain 8)) (rw (c, s, h, e, lt-ltb (length out) (length (layout (described signed f w rs))) l)) p refl
+    no-room (unfit e) y k p = absurd (omega arith)
+    no-room (fit h e l a b) y k p = told out (refused (plain 8)) (rw (c, s, h, e, lt-ltb (length out) (length (layout (described signed f w rs))) (rw l at k))) p refl
 
-    pub laid : haveForm f rs ≡ true → fitWidth signed f w rs ≡ true → (out′ : List ℕ) → length (layout (described signed f w rs)) ≤ length out
-        → r ≡ ran (kindOf (described signed f w rs)) (widthOf (described signed f w rs)) (rowCount (described signed f w rs)) (length (layout (described signed f w rs)))
+    pub laid : {n : ℕ} → Sized signed f w rs n → 1 ≤ n → n ≤ length out → (out′ : List ℕ)
+        → r ≡ ran (kindOf (described signed f w rs)) (widthOf (described signed f w rs)) (rowCount (described signed f w rs)) n
         → out′ ≡ layout (described signed f w rs) ++ drop (length (layout (described signed f w rs))) out → Written rows signed f w out out′ r
     unfolding writing
-    laid h e out′ l p q = told out′ (got (described signed f w rs) []) (rw (c, s, h, e, le-ltb (length out) (length (layout (described signed f w rs))) l)) p q
+    laid (unfit e) y k out′ p q = absurd (omega arith)
+    laid (fit h e l a b) y k out′ p q =
+        told out′ (got (described signed f w rs) []) (rw (c, s, h, e, le-ltb (length out) (length (layout (described signed f w rs))) (rw l at k))) (rw l at p) q

@@ -1,14 +1,15 @@
 // Delta: the header, the first row and the base delta as varints; a packed delta's magnitudes follow in a packed block.
 ghost use mathlib.Core.Path.{_≡_};
 ghost use mathlib.Core.Bool.{true};
-ghost use mathlib.Core.List.{_++_, map};
+ghost use mathlib.Core.List.{map};
 ghost use Prim.Native.Nat.{_+_, _<_, _≤_};
-ghost use lib.ListN.{length, drop};
-ghost use Rattle.format.specs.Fields.{shortest};
+ghost use lib.ListN.{length};
+ghost use Rattle.format.specs.Fields.{zigzagged, shortest};
 ghost use Rattle.format.specs.Kept.{isKept};
 ghost use Rattle.format.specs.Rows.{asU64};
-ghost use Rattle.format.specs.Writing.{baseDelta, Written};
-ghost use Rattle.writer.specs.Start.{start, Started};
+ghost use Rattle.format.specs.Writing.{firstOf, baseDelta, Written};
+ghost use Rattle.writer.specs.Sizes.{Sized, Lays};
+ghost use Rattle.writer.specs.Start.{start, Started, StartSize};
 use crate::head;
 use crate::values;
 use format::Answer;
@@ -32,11 +33,26 @@ fn base_delta(rows: &[i64]) -> u64
     pattern::sub(values::pattern_of(rows, 1), values::pattern_of(rows, 0))
 }
 
-// The bytes of the header and of both varints.
-fn start_size(first: u64, base: u64) -> usize
-    ensures { λ r. ⌜ r ≡ 2 + length (shortest first) + length (shortest base) ⌝ }
+// The first row and the base delta, as they are stored.
+fn first_of(rows: &[i64], signed: bool) -> u64
+    requires { ⌜ 1 ≤ length (now rows) ⌝ }
+    ensures { λ r. ⌜ r ≡ firstOf signed (map asU64 (now (rows .entry))) ⌝ }
 {
-    2 + varint::size(first) + varint::size(base)
+    values::stored(signed, values::pattern_of(rows, 0))
+}
+
+fn base_of(rows: &[i64]) -> u64
+    ensures { λ r. ⌜ r ≡ zigzagged (baseDelta (map asU64 (now (rows .entry)))) ⌝ }
+{
+    pattern::zigzag_of(base_delta(rows))
+}
+
+// The bytes of the header and of both varints.
+fn start_size(rows: &[i64], signed: bool) -> usize
+    requires { ⌜ 1 ≤ length (now rows) ⌝ }
+    ensures { λ r. ⌜ StartSize (firstOf signed (map asU64 (now (rows .entry)))) (zigzagged (baseDelta (map asU64 (now (rows .entry))))) r ⌝ }
+{
+    2 + varint::size(first_of(rows, signed)) + varint::size(base_of(rows))
 }
 
 fn write_start(code: u8, rows: usize, first: u64, base: u64, out: &mut [u8]) -> usize
@@ -48,30 +64,71 @@ fn write_start(code: u8, rows: usize, first: u64, base: u64, out: &mut [u8]) -> 
     varint::write(base, out, at)
 }
 
+// The bytes of a fixed delta: 0 where the steps differ.
+pub(crate) fn size_fixed(rows: &[i64], signed: bool, code: u8) -> usize
+    requires { ⌜ (1 ≤ length (now rows)) × (length (now rows) ≤ 512) × (code ≡ 0) ⌝ }
+    ensures { λ r. ⌜ Sized signed Form.FixedDelta code (map asU64 (now (rows .entry))) r ⌝ }
+{
+    if !values::are_steps(rows, base_delta(rows)) {
+        return 0;
+    }
+    start_size(rows, signed)
+}
+
 pub(crate) fn write_fixed(rows: &[i64], signed: bool, code: u8, out: &mut [u8]) -> Answer
     requires { ⌜ (1 ≤ length (now rows)) × (length (now rows) ≤ 512) × (code ≡ 0) ⌝ }
     ensures { λ r. ⌜ Written (now (rows .entry)) signed Form.FixedDelta code (now (out .entry)) (now (out .exit)) r ⌝ }
 {
-    let n = rows.len();
-    let step = base_delta(rows);
-    let mut steps = values::scratch();
-    values::steps(rows, false, &mut steps);
-    if !values::all_are(&steps, n - 1, step) {
+    let bytes = size_fixed(rows, signed, code);
+    if bytes == 0 {
         return Answer::refused(10, 0);
     }
-    let first = values::stored(signed, values::pattern_of(rows, 0));
-    let base = pattern::zigzag_of(step);
-    let size = start_size(first, base);
-    if out.len() < size {
+    if out.len() < bytes {
         return Answer::refused(8, 0);
     }
+    let n = rows.len();
+    let first = first_of(rows, signed);
+    let base = base_of(rows);
     write_start(0, n, first, base, out);
-    Answer::run(
-        Kind::Delta,
-        0,
-        RowNumber { rows: n },
-        ByteOffset { bytes: size },
-    )
+    Answer::run(Kind::Delta, 0, RowNumber { rows: n }, ByteOffset { bytes })
+}
+
+// The bytes of a packed delta: 0 where a magnitude does not fit the width.
+pub(crate) fn size_packed(rows: &[i64], signed: bool, code: u8) -> usize
+    requires { ⌜ (2 ≤ length (now rows)) × (length (now rows) ≤ 512) × (1 ≤ code) × (code ≤ 31) ⌝ }
+    requires { ⌜ isKept code ≡ true ⌝ }
+    ensures { λ r. ⌜ Sized signed Form.PackedDelta code (map asU64 (now (rows .entry))) r ⌝ }
+{
+    let bits = width::bits_of(code);
+    let falling = TOP_BIT <= base_delta(rows);
+    if !values::all_steps_fit(&rows[1..], falling, bits) {
+        return 0;
+    }
+    start_size(rows, signed) + packed::block_size(bits, rows.len() - 2)
+}
+
+// Lays down a packed delta, that has so many bytes; the places hold its magnitudes on the way.
+fn write_packed_over(
+    rows: &[i64],
+    signed: bool,
+    code: u8,
+    bytes: usize,
+    vals: &mut [u64],
+    out: &mut [u8],
+)
+    requires { ⌜ (2 ≤ length (now rows)) × (length (now rows) ≤ 512) × (1 ≤ code) × (code ≤ 31) × (length (now rows) ≤ length (now vals)) × (1 ≤ bytes) × (bytes ≤ length (now out)) ⌝ }
+    requires { ⌜ isKept code ≡ true ⌝ }
+    requires { ⌜ Sized signed Form.PackedDelta code (map asU64 (now rows)) bytes ⌝ }
+    ensures { λ _. ⌜ Lays (now (rows .entry)) signed Form.PackedDelta code Kind.Delta bytes (now (out .entry)) (now (out .exit)) ⌝ }
+{
+    let n = rows.len();
+    let bits = width::bits_of(code);
+    let falling = TOP_BIT <= base_delta(rows);
+    values::steps(&rows[1..], falling, vals);
+    let first = first_of(rows, signed);
+    let base = base_of(rows);
+    let at = write_start(code, n, first, base, out);
+    packed::pack(vals, n - 2, bits, out, at);
 }
 
 pub(crate) fn write_packed(rows: &[i64], signed: bool, code: u8, out: &mut [u8]) -> Answer
@@ -79,26 +136,20 @@ pub(crate) fn write_packed(rows: &[i64], signed: bool, code: u8, out: &mut [u8])
     requires { ⌜ isKept code ≡ true ⌝ }
     ensures { λ r. ⌜ Written (now (rows .entry)) signed Form.PackedDelta code (now (out .entry)) (now (out .exit)) r ⌝ }
 {
-    let n = rows.len();
-    let bits = width::bits_of(code);
-    let step = base_delta(rows);
-    let mut magnitudes = values::scratch();
-    values::steps(&rows[1..], TOP_BIT <= step, &mut magnitudes);
-    if !values::all_fit(&magnitudes, n - 2, bits) {
+    let bytes = size_packed(rows, signed, code);
+    if bytes == 0 {
         return Answer::refused(11, 0);
     }
-    let first = values::stored(signed, values::pattern_of(rows, 0));
-    let base = pattern::zigzag_of(step);
-    let size = start_size(first, base) + packed::block_size(bits, n - 2);
-    if out.len() < size {
+    if out.len() < bytes {
         return Answer::refused(8, 0);
     }
-    let at = write_start(code, n, first, base, out);
-    packed::pack(&magnitudes, n - 2, bits, out, at);
-    Answer::run(
-        Kind::Delta,
-        bits,
-        RowNumber { rows: n },
-        ByteOffset { bytes: size },
-    )
+    // a short run pays for a few places, and not for 512
+    if rows.len() <= values::FEW {
+        let mut few = values::few();
+        write_packed_over(rows, signed, code, bytes, &mut few, out);
+        return head::answer(Kind::Delta, code, rows.len(), bytes);
+    }
+    let mut all = values::scratch();
+    write_packed_over(rows, signed, code, bytes, &mut all, out);
+    head::answer(Kind::Delta, code, rows.len(), bytes)
 }

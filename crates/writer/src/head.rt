@@ -1,9 +1,16 @@
-// The two bytes that open a direct or delta run: 2 bits kind, 5 bits width code, 9 bits rows less 1.
+// What direct and delta runs have in common: the two bytes that open them, 2 bits kind, 5 bits width code, 9 bits rows less 1; and the answer.
 ghost use mathlib.Core.Path.{_≡_};
 ghost use mathlib.Core.List.{_++_};
 ghost use Prim.Native.Nat.{_<_, _≤_};
 ghost use lib.ListN.{length, drop};
+ghost use Rattle.format.specs.Answers.{ran};
+ghost use Rattle.format.specs.Fields as Fields;
 ghost use Rattle.format.specs.Runs as Runs;
+use format::Answer;
+use format::ByteOffset;
+use format::Kind;
+use format::RowNumber;
+use util::width;
 
 pub(crate) fn write(kind: u8, code: u8, rows: usize, out: &mut [u8])
     requires { ⌜ (kind < 4) × (code < 32) × (1 ≤ rows) × (rows ≤ 512) × (2 ≤ length (now out)) ⌝ }
@@ -12,4 +19,13 @@ pub(crate) fn write(kind: u8, code: u8, rows: usize, out: &mut [u8])
     let less = rows - 1;
     out[0] = kind * 64 + code * 2 + (less / 256) as u8;
     out[1] = (less % 256) as u8;
+}
+
+// A run that was written: so many rows at the width of a code, in so many bytes.
+pub(crate) fn answer(kind: Kind, code: u8, rows: usize, bytes: usize) -> Answer
+    requires { ⌜ code < 32 ⌝ }
+    ensures { λ r. ⌜ r ≡ ran kind (Fields.width code) rows bytes ⌝ }
+{
+    let bits = width::bits_of(code);
+    Answer::run(kind, bits, RowNumber { rows }, ByteOffset { bytes })
 }

@@ -1,7 +1,11 @@
 // The run writer: rows, flag, form and width in, a run's bytes out. Every test comes before the first byte that is written.
+ghost use mathlib.Core.Path.{_≡_};
+ghost use mathlib.Core.List.{map};
 ghost use Rattle.format.specs.Kept.{NarrowestKept};
-ghost use Rattle.format.specs.Writing.{Written};
+ghost use Rattle.format.specs.Rows.{asU64};
+ghost use Rattle.format.specs.Writing.{writing, Written};
 ghost use Rattle.format.specs.PatchedWriting.{PatchedWritten};
+ghost use Rattle.writer.specs.Sizes.{sizeIn};
 use format::Answer;
 use format::Form;
 use format::Kind;
@@ -30,6 +34,25 @@ pub fn write_run(rows: &[i64], signed: bool, form: Form, width: u8, out: &mut [u
         Form::Direct => direct::write(rows, signed, width, out),
         Form::FixedDelta => delta::write_fixed(rows, signed, width, out),
         Form::PackedDelta => delta::write_packed(rows, signed, width, out),
+    }
+}
+
+// The bytes that `write_run` would write where it has room for any run: 0 where it would refuse. Nothing is written.
+pub fn size_of_run(rows: &[i64], signed: bool, form: Form, width: u8) -> usize
+    ensures { λ r. ⌜ r ≡ sizeIn (writing signed form width (map asU64 (now (rows .entry))) 4356) ⌝ }
+{
+    let n = rows.len();
+    if !allowed::count(form, n) {
+        return 0;
+    }
+    if !allowed::width(form, width) {
+        return 0;
+    }
+    match form {
+        Form::ShortRepeat => short_repeat::size(rows, signed, width),
+        Form::Direct => direct::size(rows, signed, width),
+        Form::FixedDelta => delta::size_fixed(rows, signed, width),
+        Form::PackedDelta => delta::size_packed(rows, signed, width),
     }
 }
 

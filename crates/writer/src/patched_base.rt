@@ -92,7 +92,7 @@ fn sign_magnitude(base: u64, size: usize) -> u64
 
 // The header for the rows, with the values and the list that it describes. A patch of 64 bits leaves no bit for a gap.
 fn header_of(rows: &[i64], base: u64, bits: usize, vals: &mut [u64], list: &mut [u64]) -> Found
-    requires { ⌜ (1 ≤ length (now rows)) × (length (now rows) ≤ 512) × (length (now vals) ≡ 512) × (length (now list) ≡ 31) ⌝ }
+    requires { ⌜ (1 ≤ length (now rows)) × (length (now rows) ≤ 512) × (length (now rows) ≤ length (now vals)) × (length (now list) ≡ 31) ⌝ }
     ensures { λ r. ⌜ HeaderOf base bits (map asU64 (now (rows .entry))) (now (vals .exit)) (now (list .exit)) r ⌝ }
 {
     let n = rows.len();
@@ -161,17 +161,17 @@ fn lay(h: Header, base: u64, vals: &[u64], list: &[u64], out: &mut [u8]) -> Answ
     )
 }
 
-fn write_kept(rows: &[i64], base: i64, width: u8, out: &mut [u8]) -> Answer
-    requires { ⌜ (1 ≤ length (now rows)) × (length (now rows) ≤ 512) ⌝ }
+// Writes a run of a kept width; the places hold its values on the way.
+fn write_over(rows: &[i64], base: i64, width: u8, vals: &mut [u64], out: &mut [u8]) -> Answer
+    requires { ⌜ (1 ≤ length (now rows)) × (length (now rows) ≤ 512) × (length (now rows) ≤ length (now vals)) ⌝ }
     requires { ⌜ isKeptWidth width ≡ true ⌝ }
     ensures { λ r. ⌜ PatchedWritten (now (rows .entry)) base width (now (out .entry)) (now (out .exit)) r ⌝ }
 {
     let base_bits = pattern::to_u64(base);
-    let mut vals = values::scratch();
     let mut list = patch_list::scratch();
-    match header_of(rows, base_bits, width as usize, &mut vals, &mut list) {
+    match header_of(rows, base_bits, width as usize, vals, &mut list) {
         Found::None => Answer::refused(10, 0),
-        Found::Header(h) => lay(h, base_bits, &vals, &list, out),
+        Found::Header(h) => lay(h, base_bits, vals, &list, out),
     }
 }
 
@@ -183,5 +183,11 @@ pub(crate) fn write(rows: &[i64], base: i64, width: u8, out: &mut [u8]) -> Answe
     if !is_kept(width as usize) {
         return Answer::refused(10, 0);
     }
-    write_kept(rows, base, width, out)
+    // a short run pays for a few places, and not for 512
+    if rows.len() <= values::FEW {
+        let mut few = values::few();
+        return write_over(rows, base, width, &mut few, out);
+    }
+    let mut all = values::scratch();
+    write_over(rows, base, width, &mut all, out)
 }

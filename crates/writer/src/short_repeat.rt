@@ -1,9 +1,11 @@
 // Short repeat: 2 bits kind, 3 bits size less 1, 3 bits count less 3; then the one value, highest byte first.
 ghost use mathlib.Core.Path.{_≡_};
-ghost use mathlib.Core.List.{_∷_};
+ghost use mathlib.Core.List.{_∷_, map};
 ghost use Prim.Native.Nat.{_+_, _-_, _*_, _≤_};
 ghost use lib.ListN.{length, drop};
-ghost use Rattle.format.specs.Writing.{Written};
+ghost use Rattle.format.specs.Rows.{asU64};
+ghost use Rattle.format.specs.Writing.{haveForm, Written};
+ghost use Rattle.writer.specs.Sizes.{Sized};
 use crate::values;
 use format::Answer;
 use format::ByteOffset;
@@ -12,11 +14,6 @@ use format::Kind;
 use format::RowNumber;
 use util::big_endian;
 
-// Room for a short repeat's rows.
-fn scratch() -> [u64; Kind::MAX_REPEAT] {
-    [0u64; Kind::MAX_REPEAT]
-}
-
 fn write_head(bytes: usize, rows: usize, out: &mut [u8])
     requires { ⌜ (1 ≤ bytes) × (bytes ≤ 8) × (3 ≤ rows) × (rows ≤ 10) × (1 ≤ length (now out)) ⌝ }
     ensures { λ _. ⌜ now (out .exit) ≡ ((bytes - 1) * 8 + (rows - 3)) ∷ drop 1 (now (out .entry)) ⌝ }
@@ -24,32 +21,52 @@ fn write_head(bytes: usize, rows: usize, out: &mut [u8])
     out[0] = ((bytes - 1) * 8 + (rows - Kind::MIN_REPEAT)) as u8;
 }
 
-pub(crate) fn write(rows: &[i64], signed: bool, size: u8, out: &mut [u8]) -> Answer
-    requires { ⌜ (3 ≤ length (now rows)) × (length (now rows) ≤ 10) × (1 ≤ size) × (size ≤ 8) ⌝ }
-    ensures { λ r. ⌜ Written (now (rows .entry)) signed Form.ShortRepeat size (now (out .entry)) (now (out .exit)) r ⌝ }
+fn are_same(rows: &[i64]) -> bool
+    requires { ⌜ 1 ≤ length (now rows) ⌝ }
+    ensures { λ r. ⌜ r ≡ haveForm Form.ShortRepeat (map asU64 (now (rows .entry))) ⌝ }
 {
-    let n = rows.len();
-    let first = values::pattern_of(rows, 0);
-    let mut patterns = scratch();
-    values::store(rows, false, &mut patterns);
-    if !values::all_are(&patterns, n, first) {
+    values::all_are(rows, values::pattern_of(rows, 0))
+}
+
+// The bytes of the run: 0 where the rows differ or don't fit.
+pub(crate) fn size(rows: &[i64], signed: bool, width: u8) -> usize
+    requires { ⌜ (3 ≤ length (now rows)) × (length (now rows) ≤ 10) × (1 ≤ width) × (width ≤ 8) ⌝ }
+    ensures { λ r. ⌜ Sized signed Form.ShortRepeat width (map asU64 (now (rows .entry))) r ⌝ }
+{
+    if !are_same(rows) {
+        return 0;
+    }
+    let bytes = width as usize;
+    let value = values::stored(signed, values::pattern_of(rows, 0));
+    if !values::fits(value, 8 * bytes) {
+        return 0;
+    }
+    1 + bytes
+}
+
+pub(crate) fn write(rows: &[i64], signed: bool, width: u8, out: &mut [u8]) -> Answer
+    requires { ⌜ (3 ≤ length (now rows)) × (length (now rows) ≤ 10) × (1 ≤ width) × (width ≤ 8) ⌝ }
+    ensures { λ r. ⌜ Written (now (rows .entry)) signed Form.ShortRepeat width (now (out .entry)) (now (out .exit)) r ⌝ }
+{
+    let bytes = size(rows, signed, width);
+    if bytes == 0 {
+        if are_same(rows) {
+            return Answer::refused(11, 0);
+        }
         return Answer::refused(10, 0);
     }
-    let bytes = size as usize;
-    let bits = 8 * bytes;
-    let value = values::stored(signed, first);
-    if !values::fits(value, bits) {
-        return Answer::refused(11, 0);
-    }
-    if out.len() < 1 + bytes {
+    if out.len() < bytes {
         return Answer::refused(8, 0);
     }
-    write_head(bytes, n, out);
-    big_endian::write(value, bytes, out, 1);
+    let n = rows.len();
+    let w = width as usize;
+    let value = values::stored(signed, values::pattern_of(rows, 0));
+    write_head(w, n, out);
+    big_endian::write(value, w, out, 1);
     Answer::run(
         Kind::ShortRepeat,
-        bits,
+        8 * w,
         RowNumber { rows: n },
-        ByteOffset { bytes: 1 + bytes },
+        ByteOffset { bytes },
     )
 }

@@ -1,5 +1,6 @@
 // The numbers that a run stores: rows, zigzagged if signed, and the steps between rows.
 ghost use mathlib.Core.Path.{_≡_};
+ghost use mathlib.Core.Bool.{false};
 ghost use mathlib.Core.List.{_++_, map};
 ghost use Prim.Native.Nat.{_+_, _-_, _/_, _^_, _≤_, _<_};
 ghost use lib.ListN.{length, getD, take, drop};
@@ -16,6 +17,14 @@ use util::pattern;
 // Room for a run's values.
 pub(crate) fn scratch() -> [u64; Kind::MAX_ROWS] {
     [0u64; Kind::MAX_ROWS]
+}
+
+// The rows of a short run: all places of a run are 4 KB, and to clear them costs more than to write a few rows.
+pub(crate) const FEW: usize = 16;
+
+// Room for a short run's values.
+pub(crate) fn few() -> [u64; FEW] {
+    [0u64; FEW]
 }
 
 // A row's 64 bits.
@@ -131,14 +140,13 @@ pub(crate) fn steps(rows: &[i64], falling: bool, vals: &mut [u64])
     }
 }
 
-// No value needs more bits.
-pub(crate) fn all_fit(vals: &[u64], n: usize, bits: usize) -> bool
-    requires { ⌜ (n ≤ length (now vals)) × (bits ≤ 64) ⌝ }
-    ensures { λ r. ⌜ r ≡ every (λ x. ltb x (2 ^ bits)) (take n (now (vals .entry))) ⌝ }
+// Every step from a row to the next is the one given. The first that is another decides, and no step is kept.
+pub(crate) fn are_steps(rows: &[i64], value: u64) -> bool
+    ensures { λ r. ⌜ r ≡ every (λ x. eqb x value) (stepsOf false (map asU64 (now (rows .entry)))) ⌝ }
 {
     let mut i: usize = 0;
-    while i < n {
-        if !fits(vals[i], bits) {
+    while i + 1 < rows.len() {
+        if step(false, pattern_of(rows, i), pattern_of(rows, i + 1)) != value {
             return false;
         }
         i += 1;
@@ -146,14 +154,44 @@ pub(crate) fn all_fit(vals: &[u64], n: usize, bits: usize) -> bool
     true
 }
 
-// Every value is the one given.
-pub(crate) fn all_are(vals: &[u64], n: usize, value: u64) -> bool
-    requires { ⌜ n ≤ length (now vals) ⌝ }
-    ensures { λ r. ⌜ r ≡ every (λ x. eqb x value) (take n (now (vals .entry))) ⌝ }
+// Every row is the one given.
+pub(crate) fn all_are(rows: &[i64], value: u64) -> bool
+    ensures { λ r. ⌜ r ≡ every (λ x. eqb x value) (map asU64 (now (rows .entry))) ⌝ }
 {
     let mut i: usize = 0;
-    while i < n {
-        if vals[i] != value {
+    while i < rows.len() {
+        if pattern_of(rows, i) != value {
+            return false;
+        }
+        i += 1;
+    }
+    true
+}
+
+// No row, as it is stored, needs more bits. The first that does decides, and none is kept.
+pub(crate) fn all_stored_fit(rows: &[i64], signed: bool, bits: usize) -> bool
+    requires { ⌜ bits ≤ 64 ⌝ }
+    ensures { λ r. ⌜ r ≡ every (λ x. ltb x (2 ^ bits)) (map (Writing.stored signed) (map asU64 (now (rows .entry)))) ⌝ }
+{
+    let mut i: usize = 0;
+    while i < rows.len() {
+        if !fits(stored(signed, pattern_of(rows, i)), bits) {
+            return false;
+        }
+        i += 1;
+    }
+    true
+}
+
+// No step from a row to the next needs more bits.
+pub(crate) fn all_steps_fit(rows: &[i64], falling: bool, bits: usize) -> bool
+    requires { ⌜ bits ≤ 64 ⌝ }
+    ensures { λ r. ⌜ r ≡ every (λ x. ltb x (2 ^ bits)) (stepsOf falling (map asU64 (now (rows .entry)))) ⌝ }
+{
+    let mut i: usize = 0;
+    while i + 1 < rows.len() {
+        let x = step(falling, pattern_of(rows, i), pattern_of(rows, i + 1));
+        if !fits(x, bits) {
             return false;
         }
         i += 1;

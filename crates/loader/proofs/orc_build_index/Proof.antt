@@ -9,7 +9,8 @@ returns-2 : tie.Need-returns-2
 returns-2 c =
     let at-lay = c .before .before in
     let at-of = at-lay .before .before .before in
-    let a = at-of .before .before .before .before .before .before .before in
+    let at-counts = at-of .before .before in
+    let a = at-counts .before .before .before .before .before in
     index-put (a .build .ensures) (a .before .before .before .before .if1 .left) (laid (at-of .of-built .ensures) (at-lay .lay .ensures))
 
 pub orc-build-index-spec : {M : Type 1} → statement M

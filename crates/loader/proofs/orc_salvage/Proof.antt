@@ -15,7 +15,8 @@ returns-2 c =
     let at-of = at-lay .before .before .before in
     let a = at-of .before .before .before .before .before in
     let e = a .before .before .before in
-    let s = e .before .before .before .before .before .before .before in
+    let at-columns = e .before .before .before .before in
+    let s = at-columns .before .before .before in
     let w = rw (toZ-ofZ (s .fits .fill)) at (a .salvage .ensures) in
     let p = laid (at-of .of .ensures) (at-lay .lay .ensures) in
     record {

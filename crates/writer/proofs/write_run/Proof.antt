@@ -1,12 +1,10 @@
 -- `write_run` meets its contract. Assumes nothing.
 use mathlib.Core.Path.{sym, _∙_}
-use native.Mathlib.Omega.{arith}
 use lib.ListN.{length, length-map}
-use borrow.Author.Tests.{not-true, not-false, eqb-true}
+use borrow.Author.Tests.{not-true, not-false}
 use denote.Ref.{now}
 use Rattle.format.specs.Rows.{asU64}
-use Rattle.format.proofs.Kept.{kept-code}
-use Rattle.writer.proofs.Pieces.{within, packed-kept}
+use Rattle.writer.proofs.Pieces.{short-allowed, direct-allowed, fixed-allowed, packed-allowed}
 use Rattle.writer.proofs.Promised.{bad-count, bad-width}
 use borrow.Author.Needs.{needs}
 use Rattle.writer.proofs.write_run.Statement.{statement}
@@ -29,39 +27,27 @@ returns-2 c =
 
 write-requires : tie.Need-write-requires
 write-requires c κs =
-    let back-6 = c .before .before .before .before .before .before in
-    let a = back-6 .before .before .args in
-    let e = c .before .enum-told .given .1 in
-    let n = within 3 10 (length (now (a .rows))) (rw e at (sym (c .before .before .before .before .before .before .count .ensures) ∙ not-false _ (c .before .before .before .before .before .if1 .left))) in
-    let w = within 1 8 (a .width) (rw e at (sym (c .before .before .before .before .width .ensures) ∙ not-false _ (c .before .before .before .if2 .left))) in
-    (n .0, n .1, w .0, w .1)
+    let w = c .before .before .before .before in
+    let a = w .before .before .before .before .args in
+    short-allowed (a .form) (length (now (a .rows))) (a .width) (w .before .before .count .ensures) (w .before .if1 .left) (w .width .ensures) (c .before .before .before .if2 .left) (c .before .enum-told .given .1)
 
 write-requires-2 : tie.Need-write-requires-2
 write-requires-2 c κs =
-    let back-6 = c .before .before .before .before .before .before in
-    let a = back-6 .before .before .args in
-    let e = c .before .enum-told2 .given .1 in
-    let n = within 1 512 (length (now (a .rows))) (rw e at (sym (c .before .before .before .before .before .before .count .ensures) ∙ not-false _ (c .before .before .before .before .before .if1 .left))) in
-    let w = rw e at (sym (c .before .before .before .before .width .ensures) ∙ not-false _ (c .before .before .before .if2 .left)) in
-    let k = kept-code (a .width) w in
-    ((n .0, n .1, omega arith), w)
+    let w = c .before .before .before .before in
+    let a = w .before .before .before .before .args in
+    direct-allowed (a .form) (length (now (a .rows))) (a .width) (w .before .before .count .ensures) (w .before .if1 .left) (w .width .ensures) (c .before .before .before .if2 .left) (c .before .enum-told2 .given .1)
 
 write-fixed-requires : tie.Need-write-fixed-requires
 write-fixed-requires c κs =
-    let back-6 = c .before .before .before .before .before .before in
-    let a = back-6 .before .before .args in
-    let e = c .before .enum-told3 .given .1 in
-    let n = within 1 512 (length (now (a .rows))) (rw e at (sym (c .before .before .before .before .before .before .count .ensures) ∙ not-false _ (c .before .before .before .before .before .if1 .left))) in
-    (n .0, n .1, eqb-true (a .width) 0 (rw e at (sym (c .before .before .before .before .width .ensures) ∙ not-false _ (c .before .before .before .if2 .left))))
+    let w = c .before .before .before .before in
+    let a = w .before .before .before .before .args in
+    fixed-allowed (a .form) (length (now (a .rows))) (a .width) (w .before .before .count .ensures) (w .before .if1 .left) (w .width .ensures) (c .before .before .before .if2 .left) (c .before .enum-told3 .given .1)
 
 write-packed-requires : tie.Need-write-packed-requires
 write-packed-requires c κs =
-    let back-6 = c .before .before .before .before .before .before in
-    let a = back-6 .before .before .args in
-    let e = c .before .enum-told4 .given .1 in
-    let n = within 2 512 (length (now (a .rows))) (rw e at (sym (c .before .before .before .before .before .before .count .ensures) ∙ not-false _ (c .before .before .before .before .before .if1 .left))) in
-    let w = packed-kept (a .width) (rw e at (sym (c .before .before .before .before .width .ensures) ∙ not-false _ (c .before .before .before .if2 .left))) in
-    ((n .0, n .1, w .0, w .1), w .2)
+    let w = c .before .before .before .before in
+    let a = w .before .before .before .before .args in
+    packed-allowed (a .form) (length (now (a .rows))) (a .width) (w .before .before .count .ensures) (w .before .if1 .left) (w .width .ensures) (c .before .before .before .if2 .left) (c .before .enum-told4 .given .1)
 
 returns-3 : tie.Need-returns-3
 returns-3 c = rw (c .before .before .before .before .enum-told .given .1) (c .before .before .write .ensures)

@@ -29,18 +29,18 @@ at-requires c κs =
     let e = are-equal (proposal (now (a .first)) (now (a .counts)) (now (a .forms)) (now (a .widths)) (now (a .bases))) (s .pre) in
     omega (arith, e .counts, e .forms, e .widths, e .bases)
 
-slice-aggregate-step : tie.Need-slice-aggregate-step Inv-loop μ-loop
-slice-aggregate-step c = sym (c .before .before .before .loop .inv .0)
+slice-aggregate-step-size : tie.Need-slice-aggregate-step-size Inv-loop μ-loop
+slice-aggregate-step-size c = sym (c .before .before .before .loop .inv .0)
 
-step-requires : tie.Need-step-requires Inv-loop μ-loop
-step-requires c κs = c .before .before .before .loop .inv .1 .row-in
+step-size-requires : tie.Need-step-size-requires Inv-loop μ-loop
+step-size-requires c κs = let l = c .before .before .before .loop in (l .inv .1 .row-in, l .inv .0)
 
 returns : tie.Need-returns Inv-loop μ-loop
 returns c =
     let x = c .before .before in
     let i = x .before .before .before in
     let l = i .before .loop in
-    along-out _ _ _ _ (l .k) (l .row) (l .bytes) (l .inv .1) (i .loop-test .taken) (x .before .before .at .result) (x .before .before .at .ensures) _ _ _ (l .inv .0) (x .step .ensures) (c .if1 .taken)
+    along-out _ _ _ _ (l .k) (l .row) (l .bytes) (l .inv .1) (i .loop-test .taken) (x .before .before .at .result) (x .before .before .at .ensures) _ (x .step-size .ensures) (c .if1 .taken)
 
 sub-if2 : tie.Need-sub-if2 Inv-loop μ-loop
 sub-if2 c = c .before .before .before .before .before .before .loop .inv .1 .bytes-in
@@ -50,14 +50,14 @@ returns-2 c =
     let x = c .before .before .before in
     let i = x .before .before .before in
     let l = i .before .loop in
-    along-full _ _ _ _ (l .k) (l .row) (l .bytes) (l .inv .1) (i .loop-test .taken) (x .before .before .at .result) (x .before .before .at .ensures) _ _ _ (l .inv .0) (x .step .ensures) (c .before .if1 .left) (c .if2 .taken)
+    along-full _ _ _ _ (l .k) (l .row) (l .bytes) (l .inv .1) (i .loop-test .taken) (x .before .before .at .result) (x .before .before .at .ensures) _ (x .step-size .ensures) (c .before .if1 .left) (c .if2 .taken)
 
 add-row : tie.Need-add-row Inv-loop μ-loop
 add-row c =
     let x = c .before .before .before in
     let i = x .before .before .before in
     let l = i .before .loop in
-    let t = along-taken _ _ _ _ (l .k) (l .row) (l .bytes) (l .inv .1) (i .loop-test .taken) (x .before .before .at .result) (x .before .before .at .ensures) _ _ _ (l .inv .0) (x .step .ensures) (c .before .if1 .left) in
+    let t = along-taken _ _ _ _ (l .k) (l .row) (l .bytes) (l .inv .1) (i .loop-test .taken) (x .before .before .at .result) (x .before .before .at .ensures) _ (x .step-size .ensures) (c .before .if1 .left) in
     let r = i .before .before in
     omega (arith, t .within, l .inv .1 .row-in, r .before .before .before .before .before .before .good .0 .0)
 
@@ -74,7 +74,7 @@ loop-again c =
     let x = c .before .before .before in
     let i = x .before .before .before in
     let l = i .before .loop in
-    (search needs, along-next _ _ _ _ (l .k) (l .row) (l .bytes) (l .inv .1) (i .loop-test .taken) (x .before .before .at .result) (x .before .before .at .ensures) _ _ _ (l .inv .0) (x .step .ensures) (c .before .if1 .left) (c .if2 .left))
+    (search needs, along-next _ _ _ _ (l .k) (l .row) (l .bytes) (l .inv .1) (i .loop-test .taken) (x .before .before .at .result) (x .before .before .at .ensures) _ (x .step-size .ensures) (c .before .if1 .left) (c .if2 .left))
 
 returns-3 : tie.Need-returns-3 Inv-loop μ-loop
 returns-3 c =
@@ -88,5 +88,5 @@ returns-4 c =
 
 pub walk-spec : {M : Type 1} → statement M
 walk-spec =
-    tie.close (tie.spec Inv-loop μ-loop (λ c κs. search needs) loop-holds at-requires slice-aggregate-step step-requires returns sub-if2 returns-2 (λ c. search needs)
+    tie.close (tie.spec Inv-loop μ-loop (λ c κs. search needs) loop-holds at-requires slice-aggregate-step-size step-size-requires returns sub-if2 returns-2 (λ c. search needs)
     add-row add-bytes (λ c. omega arith) loop-again returns-3 returns-4)

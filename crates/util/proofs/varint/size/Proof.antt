@@ -1,34 +1,27 @@
--- `varint::size` meets its contract. The loop's invariant: the bytes counted, and those of the rest, are all. Assumes nothing.
-use mathlib.Core.Path.{_≡_, refl, ap}
-use Prim.Native.Nat.{ℕ, _≤_, _<_, _-_, _+_, _^_}
+-- `varint::size` meets its contract: the leading zeros give the bits that x has. Assumes nothing.
+use mathlib.Core.Path.{_≡_, sym, ap}
+use Prim.Native.Nat.{_-_}
 use native.Mathlib.Omega.{arith}
+use lib.Count.{leadingZeros, leading-le, leading-length}
 use lib.ListN.{length}
-use Rattle.format.proofs.Varints.{shortest-last, shortest-more, shortest-length}
-use Rattle.format.specs.Fields.{shortestIn, shortest}
+use borrow.Author.Needs.{needs}
+use Rattle.format.specs.Fields.{shortest}
+use Rattle.format.proofs.Varints.{shortest-last}
+use Rattle.util.proofs.VarintSize.{bits-some, sized}
 use Rattle.util.proofs.varint.size.Statement.{statement}
 use Rattle.util.proofs.varint.size.Tie as tie
 
-abbrev Inv-loop : tie.InvT-loop
-Inv-loop x rest₀ n₀ rest n = (k : ℕ) × (1 ≤ k) × (rest < 128 ^ k) × (n + length (shortestIn k rest) ≡ 1 + length (shortest x))
-
-abbrev μ-loop : tie.MeasureT-loop
-μ-loop x rest₀ n₀ rest n = rest
-
-loop-holds : tie.Need-loop-holds Inv-loop μ-loop
+returns : tie.Need-returns
 unfolding shortest
-loop-holds c = (10, omega arith, omega arith, refl)
+returns c = sym (ap length (shortest-last 10 (c .before .args .x) (omega arith) (omega arith)))
 
-add-n : tie.Need-add-n Inv-loop μ-loop
-add-n c = let l = c .before .loop in omega (arith, shortest-length (c .before .before .args .x) (omega arith))
-
-loop-again : tie.Need-loop-again Inv-loop μ-loop
-loop-again c =
-    let l = c .before .loop in
-    let m = shortest-more (l .inv .0) (l .rest) (omega arith) (l .inv .2) in
-    (l .inv .0 - 1, omega (arith, m .bytes), m .below, omega (arith, ap length (m .bytesOf)))
-
-returns : tie.Need-returns Inv-loop μ-loop
-returns c = let l = c .before .loop in omega (arith, ap length (shortest-last (l .inv .0) (l .rest) (l .inv .1) (omega arith)))
+returns-2 : tie.Need-returns-2
+unfolding shortest
+returns-2 c =
+    let x = c .before .args .x in
+    let l = leading-length 64 x (c .before .fits .x .fits) in
+    let e : 64 - leadingZeros 64 x ≡ l .0 = omega (arith, l .1) in
+    rw e (sym (sized 10 x (l .0) (omega arith) (bits-some x (l .0) (omega arith) (l .2), l .2, l .3)))
 
 pub size-spec : {M : Type 1} → statement M
-size-spec = tie.close (tie.spec Inv-loop μ-loop loop-holds add-n (λ c. omega arith) loop-again returns)
+size-spec = tie.close (tie.spec returns (λ c. leading-le 64 (c .before .args .x)) (λ c. search needs) (λ c. search needs) returns-2)

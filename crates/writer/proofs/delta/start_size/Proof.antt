@@ -6,17 +6,33 @@ use Rattle.writer.proofs.delta.start_size.Statement.{statement}
 use Rattle.writer.proofs.delta.start_size.Tie as tie
 
 add-result : tie.Need-add-result
-add-result c = omega (arith, c .size .ensures, shortest-length (c .before .args .first) (omega arith))
+add-result c = omega (arith, c .size .ensures, shortest-length (c .before .first-of .result) (omega (arith, c .before .first-of .ok)))
 
 add-result-2 : tie.Need-add-result-2
 add-result-2 c =
+    let f = c .before .before .before in
     omega (
       arith,
-      c .before .size .ensures,
+      c .before .before .size .ensures,
       c .size2 .ensures,
-      shortest-length (c .before .before .args .first) (omega arith),
-      shortest-length (c .before .before .args .base) (omega arith),
+      shortest-length (f .first-of .result) (omega (arith, f .first-of .ok)),
+      shortest-length (c .before .base-of .result) (omega (arith, c .before .base-of .ok)),
     )
 
+returns : tie.Need-returns
+returns c =
+    let f = c .before .before .before in
+    record {
+      bytes = rw (c .before .before .size .ensures, c .size2 .ensures, f .first-of .ensures, c .before .base-of .ensures);
+      few = omega (
+        arith,
+        c .before .before .size .ensures,
+        c .size2 .ensures,
+        shortest-length (f .first-of .result) (omega (arith, f .first-of .ok)),
+        shortest-length (c .before .base-of .result) (omega (arith, c .before .base-of .ok)),
+      );
+    }
+
 pub start-size-spec : {M : Type 1} → statement M
-start-size-spec = tie.close (tie.spec (λ c κs. search needs) add-result (λ c κs. search needs) add-result-2 (λ c. search needs))
+start-size-spec =
+    tie.close (tie.spec (λ c κs. search needs) (λ c κs. search needs) add-result (λ c κs. search needs) (λ c κs. search needs) add-result-2 returns)

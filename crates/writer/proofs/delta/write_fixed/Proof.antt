@@ -1,69 +1,57 @@
 -- `delta::write_fixed` meets its contract. Assumes nothing.
 use mathlib.Core.Path.{_≡_, ap, _∙_}
-use mathlib.Core.List.{map}
-use Prim.Native.Nat.{ℕ, _-_}
+use mathlib.Core.List.{List, map}
+use Prim.Native.Nat.{ℕ, _+_, _≤_}
 use native.Mathlib.Omega.{arith}
-use lib.ListN.{length, drop}
+use lib.ListN.{length}
 use denote.Ref.{now}
-use Rattle.format.specs.Fields.{zigzagged}
+use Rattle.format.specs.Fields.{zigzagged, shortest}
 use Rattle.format.specs.Rows.{asU64}
-use Rattle.format.specs.Writing as Writing
 use Rattle.format.specs.Writing.{firstOf, baseDelta}
-use Rattle.writer.proofs.FixedForm.{Fixed, fixed-known, uneven, too-short, opened, start-sized, started}
+use Rattle.writer.proofs.FixedForm.{Fixed, fixed-known, uneven-refused, too-short, opening-size, opened, start-length, started}
 use borrow.Author.Needs.{needs}
 use Rattle.writer.proofs.delta.write_fixed.Statement.{statement}
 use Rattle.writer.proofs.delta.write_fixed.Tie as tie
 
--- ---- what is known once the steps are tested
-
-module _ (t : tie.After-all-are) where
-  abbrev kept : tie.After-steps2
-  kept = t .before .before .before
-
-  abbrev stepped : tie.After-base-delta
-  stepped = kept .before .before .before
-
+module _ (m : tie.After-size-fixed) where
   abbrev entry : tie.Start
-  entry = stepped .before .before
+  entry = m .before .before
 
-  known : Fixed (now (entry .args .rows)) (entry .args .signed) (entry .args .code) (t .all-are .result)
-  known =
-      fixed-known (now (entry .args .rows)) (entry .args .signed) (entry .args .code) (stepped .base-delta .result) (kept .steps2 .last .1 .1 .0) (drop (length (now (entry .args .rows)) - 1) (kept .before .before .scratch .result)) (t .all-are .result)
-      (omega arith) (omega arith) (omega arith) (stepped .base-delta .ensures) (kept .steps2 .ensures) (t .all-are .ensures)
+  abbrev rs : List ℕ
+  rs = map asU64 (now (entry .args .rows))
 
--- ---- what the start of the run was measured from
+  known : Fixed (now (entry .args .rows)) (entry .args .signed) (entry .args .code)
+  known = fixed-known (now (entry .args .rows)) (entry .args .signed) (entry .args .code) (omega arith) (omega arith) (omega arith)
 
-module _ (m : tie.After-start-size) where
-  abbrev tested : tie.After-all-are
-  tested = m .before .before .before .before .before
-
-  first-is : m .before .before .stored .result ≡ firstOf (entry tested .args .signed) (map asU64 (now (entry tested .args .rows)))
-  first-is = m .before .before .stored .ensures ∙ ap (λ (x : ℕ). Writing.stored (entry tested .args .signed) x) (m .before .before .before .pattern-of .ensures)
-
-  base-is : m .before .zigzag-of .result ≡ zigzagged (baseDelta (map asU64 (now (entry tested .args .rows))))
-  base-is = m .before .zigzag-of .ensures ∙ ap zigzagged (stepped tested .base-delta .ensures)
+  size-is : 1 ≤ m .size-fixed .result → m .size-fixed .result ≡ 2 + length (shortest (firstOf (entry .args .signed) rs)) + length (shortest (zigzagged (baseDelta rs)))
+  size-is h = opening-size known (m .size-fixed .ensures) h ∙ start-length 0 (length (now (entry .args .rows))) (firstOf (entry .args .signed) rs) (zigzagged (baseDelta rs))
 
 returns : tie.Need-returns
-returns c = let t = c .before .before in uneven (known t) (now (entry t .args .out)) (c .refused .result) (c .before .if1 .taken) (c .refused .ensures)
+returns c = let m = c .before .before in uneven-refused (known m) (m .size-fixed .ensures) (c .before .if1 .taken) (now (entry m .args .out)) (c .refused .result) (c .refused .ensures)
 
 returns-2 : tie.Need-returns-2
 returns-2 c =
-    let m = c .before .before in
-    let a = entry (tested m) .args in
-    let z = start-sized 0 (length (now (a .rows))) (first-is m) (base-is m) (m .start-size .ensures) in
-    too-short (known (tested m)) (now (a .out)) (c .refused2 .result) (m .before .before .before .before .if1 .left) (rw (← z) (c .before .if2 .taken)) (c .refused2 .ensures)
+    let m = c .before .before .before in
+    too-short (known m) (m .size-fixed .ensures) (omega arith) (now (entry m .args .out)) (c .refused2 .result) (c .before .if2 .taken) (c .refused2 .ensures)
+
+write-start-requires : tie.Need-write-start-requires
+write-start-requires c κs =
+    let b = c .before in
+    let e = b .before .before in
+    let m = e .before .before in
+    omega (arith, size-is m (omega arith), ap (λ (x : ℕ). length (shortest x)) (b .before .first-of .ensures), ap (λ (x : ℕ). length (shortest x)) (b .base-of .ensures))
 
 returns-3 : tie.Need-returns-3
 returns-3 c =
     let s = c .before .before .before in
-    let m = s .before .before .before in
-    let a = entry (tested m) .args in
-    let z = start-sized 0 (length (now (a .rows))) (first-is m) (base-is m) (m .start-size .ensures) in
-    opened (known (tested m)) (now (a .out)) (s .write-start .last .1 .1 .1 .1 .0) (c .run .result) (m .before .before .before .before .if1 .left) (rw (← z) (s .before .before .if2 .left)) (rw (← z) (c .run .ensures))
-    (started 0 (length (now (a .rows))) (first-is m) (base-is m) (s .write-start .ensures) .places)
+    let b = s .before .before in
+    let e = b .before .before in
+    let m = e .before .before in
+    let a = entry m .args in
+    opened (known m) (m .size-fixed .ensures) (omega arith) (now (a .out)) (s .write-start .last .1 .1 .1 .1 .0) (c .run .result) (e .if2 .left) (c .run .ensures)
+    (started 0 (length (now (a .rows))) (b .before .first-of .ensures) (b .base-of .ensures) (s .write-start .ensures) .places)
 
 pub write-fixed-spec : {M : Type 1} → statement M
 write-fixed-spec =
-    tie.close (tie.spec (λ c κs. search needs) (λ c κs. search needs) (λ c. search needs) (λ c κs. search needs) (λ c. search needs) (λ c. search needs)
-    (λ c κs. search needs) (λ c κs. search needs) returns (λ c κs. search needs) (λ c κs. search needs) (λ c κs. search needs) (λ c κs. search needs)
-    (λ c κs. search needs) returns-2 (λ c κs. search needs) (λ c κs. search needs) (λ c. search needs) returns-3)
+    tie.close (tie.spec (λ c κs. search needs) (λ c κs. search needs) returns (λ c κs. search needs) returns-2 (λ c κs. search needs) (λ c κs. search needs)
+    write-start-requires (λ c κs. search needs) (λ c. search needs) returns-3)

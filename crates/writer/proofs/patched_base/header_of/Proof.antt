@@ -56,7 +56,7 @@ module _ (c : tie.After-differences) where
   stand : take (length rows) (c .differences .last .1 .1 .0) ≡ ds
   stand = ap (λ (l : List ℕ). take (length rows) l) (c .differences .ensures) ∙ take-at ds (drop (length rows) (start .args .vals .now)) (length rows) length-ds
 
-  long-vals : length (c .differences .last .1 .1 .0) ≡ 512
+  long-vals : length rows ≤ length (c .differences .last .1 .1 .0)
   long-vals = omega (arith, c .differences .kept .1 .1 .0)
 
 module _ (c : tie.After-narrowest-code) where
@@ -146,9 +146,8 @@ fill-requires c κs =
     let v : AllBelow (2 ^ (pw e + a .bits)) (take (length (now (a .rows))) (d .differences .last .1 .1 .0)) =
     rw (stand d) (values-held (a .bits) (c .before .before .before .before .before .before .largest .result) (n .narrowest-code .result) (ds d) (most n) (pw e) h) in
     let t : length (now (a .rows)) ≤ 512 = back-12 .before .before .before .before .before .before .pre .1 in
-    let r : length (now (a .rows)) ≤ length (d .differences .last .1 .1 .0) = omega (arith, long-vals d, t) in
     let l : length (now (a .list)) ≤ 31 = omega (arith, back-12 .before .before .before .before .before .before .pre .3) in
-    ((r, t, bits-le (back-12 .before), pw-le e, l), v)
+    ((long-vals d, t, bits-le (back-12 .before), pw-le e, l), v)
 
 returns-4 : tie.Need-returns-4
 returns-4 c = no-list _ _ _ (omega (arith, listed (c .before .before .before) .over (c .if4 .taken), long-list (c .before .before .before)))
@@ -190,7 +189,7 @@ returns-5 c =
     (ap (λ (l : List ℕ). take (length (now (a .rows))) l) vs ∙ take-at (lows (a .bits) (ds d)) _ (length (now (a .rows))) (length-map (ds d) (λ x. x % 2 ^ a .bits) ∙ length-ds d))
     (subst (λ (x : ℕ). take k ls ≡ map (field x) es) pw-code (fields-are m))
     (is-code (d .before .before .before)) (rw (length-map (now (a .rows)) asU64) (s₀ .pre .0)) (rw (length-map (now (a .rows)) asU64) (s₀ .pre .1))
-    (rw (length-map (now (a .rows)) asU64) (omega (arith, s₀ .pre .1, c .before .before .keep-low .kept .0, long-vals d)))
+    (rw (length-map (now (a .rows)) asU64) (omega (arith, c .before .before .keep-low .kept .0, long-vals d)))
     (omega (arith, d .before .before .before .before .base-size .ensures, d .before .before .if2 .left)) (n .narrowest-code .ensures .isCode) (λ z. back-12 .before .if3 .left (pw-code ∙ z)) (width-le code) few-entries (few m)
 
 pub header-of-spec : {M : Type 1} → statement M
