@@ -32,7 +32,9 @@ impl Project {
         let tools = self.0.join("tools");
         fs::create_dir_all(&tools).unwrap();
         let path = env::var_os("PATH").unwrap_or_default();
-        for tool in ["cc", "ld", "as", "rustc"] {
+        // where cargo builds for another processor, that one's linker too
+        let other = env::var("CARGO_TARGET_X86_64_UNKNOWN_LINUX_GNU_LINKER").ok();
+        for tool in ["cc", "ld", "as", "rustc"].into_iter().chain(other.as_deref()) {
             let found = env::split_paths(&path).map(|folder| folder.join(tool)).find(|tool| tool.is_file());
             if let Some(found) = found.filter(|_| !tools.join(tool).exists()) {
                 std::os::unix::fs::symlink(found, tools.join(tool)).unwrap();
