@@ -327,7 +327,7 @@ pub extern "C" fn orc_part_take(
     }
     let reader = words::parts::reader_of(state);
     let step = parts::take(reader, part, flag != 0, held, rows);
-    words::parts::put_step(step, state, words)
+    words::parts::put_taken(step, state, words)
 }
 
 // The closing call: the stream's end, or the refusal of the run that is unfinished.

@@ -212,13 +212,26 @@ fn store_part(step: PartStep, words: &mut [u64]) -> u64
     a.number() as u64
 }
 
-fn store_any(step: PartStep, state: &mut [u64], words: &mut [u64]) -> u64
+fn store_step(step: PartStep, state: &mut [u64], words: &mut [u64]) -> u64
     requires { ⌜ stateWordCount ≤ length (now state) ⌝ }
     requires { ⌜ partWordCount ≤ length (now words) ⌝ }
     ensures { λ r. ⌜ PartPut step (now (state .entry)) (now (state .exit)) (now (words .entry)) (now (words .exit)) r ⌝ }
 {
     store_reader(step.reader, state);
     store_part(step, words)
+}
+
+// What a call does, told: the answer, and the reader for the next call.
+pub fn put_step(step: PartStep, state: &mut [u64], words: &mut [u64]) -> u64
+    ensures { λ r. ⌜ StepTold step (now (state .entry)) (now (state .exit)) (now (words .entry)) (now (words .exit)) r ⌝ }
+{
+    if state.len() < STATE_COUNT {
+        return TOO_FEW;
+    }
+    if words.len() < COUNT {
+        return TOO_FEW;
+    }
+    store_step(step, state, words)
 }
 
 // The words of a call that refuses nothing: of a run, or of none.
@@ -248,7 +261,7 @@ fn lay(
     words[10] = taken;
 }
 
-fn store_step(step: PartStep, state: &mut [u64], words: &mut [u64]) -> u64
+fn store_taken(step: PartStep, state: &mut [u64], words: &mut [u64]) -> u64
     requires { ⌜ stateWordCount ≤ length (now state) ⌝ }
     requires { ⌜ partWordCount ≤ length (now words) ⌝ }
     ensures { λ r. ⌜ PartPut step (now (state .entry)) (now (state .exit)) (now (words .entry)) (now (words .exit)) r ⌝ }
@@ -277,13 +290,13 @@ fn store_step(step: PartStep, state: &mut [u64], words: &mut [u64]) -> u64
             lay(3, 0, 0, 0, 0, 0, step.taken.bytes as u64, words);
             0
         }
-        PartAnswer::Refused(_) => store_any(step, state, words),
-        PartAnswer::End => store_any(step, state, words),
+        PartAnswer::Refused(_) => store_step(step, state, words),
+        PartAnswer::End => store_step(step, state, words),
     }
 }
 
-// What a call does, told: the answer, and the reader for the next call.
-pub fn put_step(step: PartStep, state: &mut [u64], words: &mut [u64]) -> u64
+// The same as `put_step`, for the call that is made most: what a run or a held part is told by is known before a word is stored.
+pub fn put_taken(step: PartStep, state: &mut [u64], words: &mut [u64]) -> u64
     ensures { λ r. ⌜ StepTold step (now (state .entry)) (now (state .exit)) (now (words .entry)) (now (words .exit)) r ⌝ }
 {
     if state.len() < STATE_COUNT {
@@ -292,5 +305,5 @@ pub fn put_step(step: PartStep, state: &mut [u64], words: &mut [u64]) -> u64
     if words.len() < COUNT {
         return TOO_FEW;
     }
-    store_step(step, state, words)
+    store_taken(step, state, words)
 }

@@ -23,7 +23,7 @@ returns-3 c =
     let q = k .before .before .before in
     let e = q .before .before in
     let a = e .before .before .before .before .before .before .args in
-    part-done (k .take .result) (is-enough (now (a .state)) (now (a .words)) (e .before .if1 .left) (e .if2 .left)) (p .put-step .ensures) (rw (q .reader-of .ensures) at (k .take .ensures))
+    part-done (k .take .result) (is-enough (now (a .state)) (now (a .words)) (e .before .if1 .left) (e .if2 .left)) (p .put-taken .ensures) (rw (q .reader-of .ensures) at (k .take .ensures))
 
 pub orc-part-take-spec : {M : Type 1} → statement M
 orc-part-take-spec =

@@ -1,36 +1,14 @@
--- A run's words, or those of a held part, laid down at once; else as in every step. Assumes nothing.
+-- The state's words, then the answer's. Assumes nothing.
 use borrow.Author.Needs.{needs}
-use Rattle.words.specs.Parts.{partWords}
 use Rattle.words.proofs.PartWords.{state-long}
 use Rattle.words.proofs.parts.store_step.Statement.{statement}
 use Rattle.words.proofs.parts.store_step.Tie as tie
 
 returns : tie.Need-returns
-unfolding partWords
 returns c =
-    let l = c .before .before in
-    let n = l .before .before in
-    let p = n .before .before .before in
-    let e = p .before .before .before .before .before .said .given .1 in
-    record {
-      told = record { number-is = rw e; words-are = rw e (rw (n .number .ensures) at (l .lay .ensures)) };
-      left = rw (state-long _) at (p .store-reader .ensures .words-are);
-    }
-
-returns-2 : tie.Need-returns-2
-unfolding partWords
-returns-2 c =
-    let l = c .before .before in
-    let p = l .before .before .before .before in
-    let e = p .before .before .enum-told .given .1 in
-    record {
-      told = record { number-is = rw e; words-are = rw e (l .lay2 .ensures) };
-      left = rw (state-long _) at (p .store-reader2 .ensures .words-are);
-    }
+    let p = c .before .before in
+    let s = p .before .before .before .before in
+    record { told = p .store-part .ensures; left = rw (state-long _) at (s .store-reader .ensures .words-are) }
 
 pub store-step-spec : {M : Type 1} → statement M
-store-step-spec =
-    tie.close (tie.spec (λ c. search needs) (λ c κs. search needs) (λ c κs. search needs) (λ c. search needs) (λ c κs. search needs) (λ c. search needs)
-    (λ c κs. search needs) (λ c κs. search needs) (λ c. search needs) (λ c κs. search needs) (λ c. search needs) (λ c κs. search needs) (λ c. search needs)
-    (λ c. search needs) returns (λ c. search needs) (λ c. search needs) returns-2 (λ c. search needs) (λ c. search needs) (λ c. search needs) (λ c. search needs)
-    (λ c. search needs) (λ c. search needs))
+store-step-spec = tie.close (tie.spec (λ c κs. search needs) (λ c κs. search needs) (λ c. search needs) (λ c. search needs) returns)
