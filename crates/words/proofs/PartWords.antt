@@ -54,6 +54,12 @@ module _ {step : PartStep} {state words : List ℕ} where
   pub step-few : enough state words ≡ false → StepTold step state state words words tooFewWords
   step-few e = record { number-is = rw e; words-are = rw e; state-is = rw e }
 
+  pub few-of-state : length state < stateWordCount → StepTold step state state words words tooFewWords
+  few-of-state h = step-few (few-state state words h)
+
+  pub few-of-words : stateWordCount ≤ length state → length words < partWordCount → StepTold step state state words words tooFewWords
+  few-of-words h l = step-few (few-words state words h l)
+
   module _ {state′ words′ : List ℕ} {r : ℕ} (e : enough state words ≡ true) where
     pub step-done : PartPut step state state′ words words′ r → StepTold step state state′ words words′ r
     step-done p = record { number-is = rw e (p .told .number-is); words-are = rw e (rw (part-long step) at (p .told .words-are)); state-is = rw e (p .left) }
@@ -61,6 +67,10 @@ module _ {step : PartStep} {state words : List ℕ} where
     -- as the loader's promises have it
     pub step-put : StepTold step state state′ words words′ r → PartPut step state state′ words words′ r
     step-put t = record { told = record { number-is = rw e at (t .number-is); words-are = rw (part-long step) (rw e at (t .words-are)) }; left = rw e at (t .state-is) }
+
+pub stored : {step : PartStep} {state state′ words words′ : List ℕ} {r : ℕ} → stateWordCount ≤ length state → partWordCount ≤ length words
+    → PartPut step state state′ words words′ r → StepTold step state state′ words words′ r
+stored {step} {state} {state′} {words} h l p = step-done (is-enough state words h l) p
 
 -- ---- what a call leaves is what the next one reads
 
