@@ -93,7 +93,7 @@ fn frame_of(line: &[u8], frame: &mut [u8]) -> usize
     if MAX_LINE < len {
         return 0;
     }
-    if !text::hexadecimal::bytes(line, len / 2, frame) {
+    if !text::hexadecimal::bytes(line, frame) {
         return 0;
     }
     if 1 < frame[0] {

@@ -1,59 +1,16 @@
--- The reader in parts over words: what a state's words stand for, and what a call with lent words promises. Assumes nothing.
-use mathlib.Core.Path.{_≡_, refl, sym, ap, _∙_}
-use mathlib.Core.Logic.{_≢_}
-use Prim.Native.Nat.{ℕ, zero, suc, _<_, _≤_, _%_}
-use native.Mathlib.Omega.{arith}
-use mathlib.Core.Bool.{Bool, true, false, not}
-use mathlib.Core.List.{List, _++_}
-use lib.ListN.{length}
-use lib.Dec.{T, leb}
+-- The reader in parts over words: what a call with lent words promises. Assumes nothing.
+use mathlib.Core.Path.{_≡_, refl, sym, _∙_}
+use Prim.Native.Nat.{ℕ}
+use mathlib.Core.Bool.{Bool, true, false}
+use mathlib.Core.List.{List}
 use lib.IntN.{ℤ}
-use borrow.Author.Tests.{le-leb, lt-leb}
-use Rattle.format.specs.declared.CutField.{CutField}
-use Rattle.format.specs.declared.CutField.the-variants as field
-use Rattle.format.specs.declared.Refusal.{Refusal}
-use Rattle.format.specs.declared.Standing.{Standing}
-use Rattle.format.specs.declared.Standing.the-variants.{Opened, Broken, Closed}
-use Rattle.format.specs.declared.PartReader.{PartReader}
 use Rattle.format.specs.declared.PartStep.{PartStep}
-use Rattle.format.specs.Fields.{pick}
-use Rattle.format.specs.Answers.{answerNumber}
 use Rattle.format.specs.Parts.{Takes, Closes}
 use Rattle.format.specs.Loader.{isSigned}
 use Rattle.format.specs.Words.{tooFewWords}
-use Rattle.loader.specs.Parts.{repeated, standingOf, cutOf, stateWords, stateWordCount, readerOf, StateKept, partWords, partWordCount, enough, PartPut, Untouched, Taken, ClosedBy, PartTold, CloseTold, SameLent, PartToldDetermined, CloseToldDetermined}
-
-pub state-long : (s : PartReader) → length (stateWords s) ≡ stateWordCount
-unfolding stateWords
-state-long s = refl
-
-pub part-long : (s : PartStep) → length (partWords s) ≡ partWordCount
-unfolding partWords
-part-long s = refl
-
--- every number but 0 says that a field is cut, and every one but 0 and 1 that the reader is closed
-pub cut-at : (n b : ℕ) → n ≢ 0 → field.At (record { bytes = b }) ≡ cutOf n b
-unfolding cutOf
-cut-at zero b h = absurd (h refl)
-cut-at (suc n) b h = refl
-
-pub stands-closed : (n : ℕ) (f : Refusal) → n ≢ 0 → n ≢ 1 → Closed ≡ standingOf n f
-unfolding standingOf
-stands-closed zero f h k = absurd (h refl)
-stands-closed (suc zero) f h k = absurd (k refl)
-stands-closed (suc (suc n)) f h k = refl
-
--- ---- words enough, or too few
-
-module _ (state words : List ℕ) where
-  pub few-state : length state < stateWordCount → enough state words ≡ false
-  few-state h = rw (lt-leb stateWordCount (length state) h)
-
-  pub few-words : stateWordCount ≤ length state → length words < partWordCount → enough state words ≡ false
-  few-words h l = rw (le-leb stateWordCount (length state) h, lt-leb partWordCount (length words) l)
-
-  pub is-enough : stateWordCount ≤ length state → partWordCount ≤ length words → enough state words ≡ true
-  is-enough h l = rw (le-leb stateWordCount (length state) h, le-leb partWordCount (length words) l)
+use Rattle.words.specs.Parts.{readerOf, enough, PartPut, StepTold}
+use Rattle.words.proofs.PartWords.{step-put}
+use Rattle.loader.specs.Parts.{Untouched, Taken, ClosedBy, PartTold, CloseTold, SameLent, PartToldDetermined, CloseToldDetermined}
 
 module _ {state held words : List ℕ} {rows : List ℤ} where
   untouched : Untouched state state held held rows rows words words tooFewWords
@@ -65,34 +22,13 @@ module _ {state held words : List ℕ} {rows : List ℤ} where
   pub close-few : {flag : ℕ} → enough state words ≡ false → CloseTold state state held held flag rows rows words words tooFewWords
   close-few e = record { done = λ t. absurd (rw e at t); few = λ t. untouched }
 
-  module _ {state′ held′ words′ : List ℕ} {rows′ : List ℤ} {r : ℕ} (step : PartStep) (e : enough state words ≡ true) (p : PartPut step state state′ words words′ r) where
+  module _ {state′ held′ words′ : List ℕ} {rows′ : List ℤ} {r : ℕ} (step : PartStep) (e : enough state words ≡ true) (p : StepTold step state state′ words words′ r) where
     pub part-done : {part : List ℕ} {flag : ℕ} → Takes (readerOf state) part held held′ (isSigned flag) rows rows′ step
         → PartTold state state′ held held′ part flag rows rows′ words words′ r
-    part-done t = record { done = λ u. record { step = step; takes = t; put = p }; few = λ u. absurd (rw e at u) }
+    part-done t = record { done = λ u. record { step = step; takes = t; put = step-put e p }; few = λ u. absurd (rw e at u) }
 
     pub close-done : {flag : ℕ} → held′ ≡ held → Closes (readerOf state) held (isSigned flag) rows rows′ step → CloseTold state state′ held held′ flag rows rows′ words words′ r
-    close-done h t = record { done = λ u. record { step = step; closes = t; held-stays = h; put = p }; few = λ u. absurd (rw e at u) }
-
--- ---- what a call leaves is what the next one reads
-
-pub state-kept : StateKept
-unfolding stateWords standingOf cutOf
-state-kept s ws h = go (s .standing) refl h
-  where
-    with-standing : Standing → PartReader
-    with-standing t = record { held = s .held; at = s .at; standing = t }
-
-    go : (t : Standing) → s .standing ≡ t → answerNumber (repeated t) < 256 → readerOf (stateWords (with-standing t) ++ ws) ≡ with-standing t
-    go Opened e l = refl
-    go Closed e l = refl
-    go (Broken f) e l = by-cut (f .cut) refl
-      where
-        small : f .number % 256 ≡ f .number
-        small = omega arith
-
-        by-cut : (c : CutField) → f .cut ≡ c → readerOf (stateWords (with-standing (Broken f)) ++ ws) ≡ with-standing (Broken f)
-        by-cut field.None z = rw (small, z)
-        by-cut (field.At b) z = rw (small, z)
+    close-done h t = record { done = λ u. record { step = step; closes = t; held-stays = h; put = step-put e p }; few = λ u. absurd (rw e at u) }
 
 -- ---- the promises determine what is lent and the number
 

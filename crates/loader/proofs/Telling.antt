@@ -3,9 +3,9 @@ use mathlib.Core.Path.{_≡_, refl, sym, ap, _∙_}
 use Prim.Native.Nat.{ℕ, _<_, _≤_}
 use mathlib.Core.List.{List, _++_}
 use lib.ListN.{length, drop, getD}
+use lib.Dec.{leb}
 use borrow.Author.Tests.{le-leb, lt-leb}
-use Rattle.format.specs.declared.Answer.{Answer}
-use Rattle.format.specs.declared.Stream.{Stream}
+use Rattle.format.specs.Fields.{pick}
 use Rattle.labels.specs.declared.Label.{Label}
 use Rattle.labels.specs.declared.Label.the-variants as label
 use Rattle.index.specs.Promises.{BuiltIn}
@@ -33,41 +33,36 @@ use Rattle.planner.specs.declared.Checked.the-variants as check
 use Rattle.planner.specs.declared.ColumnAnswer.{ColumnAnswer}
 use Rattle.planner.specs.declared.ColumnAnswer.the-variants as column
 use Rattle.loader.specs.Columns.{checkWords, checkWordCount, CheckToldDetermined, columnWords, columnWordCount, ColumnToldDetermined}
-use Rattle.format.specs.Words.{answerWords, streamWords, wordCount, streamWordCount, tooFewWords, Put, Told, ToldOf}
+use Rattle.format.specs.Words.{tooFewWords, Told, ToldOf}
+use Rattle.words.proofs.Telling.{few}
 
--- an answer's words, laid in the first of those lent, and its number, word 1
-pub laid : {B : Type 0} {wordsOf : B → List ℕ} {b : B} {said words words′ : List ℕ} → said ≡ wordsOf b → words′ ≡ said ++ drop (length said) words
-    → Put wordsOf (numberIn wordsOf) b words words′ (getD said 1 0)
-laid e q = record { number-is = ap (λ w. getD w 1 0) e; words-are = rw e at q }
+-- what was told is a callee's answer
+pub told : {B : Type 0} {wordsOf : B → List ℕ} {numberOf : B → ℕ} {a b : B} {words words′ : List ℕ} {r : ℕ} → a ≡ b → Told wordsOf numberOf a words words′ r
+    → Told wordsOf numberOf b words words′ r
+told q p = rw q at p
 
 -- over any answers whose words are counted
 module _ {B : Type 0} {wordsOf : B → List ℕ} {numberOf : B → ℕ} {n : ℕ} (long : (b : B) → length (wordsOf b) ≡ n) where
   -- too few words: nothing is touched
-  pub few : {b : B} {words : List ℕ} → length words < n → Told wordsOf numberOf b words words tooFewWords
-  few {b} {words} h = let e = lt-leb n (length words) h in record { number-is = rw (long b, e); words-are = rw (long b, e) }
-
   pub few-of : {A : Type 0} {b : B} {words : List ℕ} {done places : List A} → length words < n → ToldOf wordsOf numberOf b words words tooFewWords done places places
-  few-of {A} {b} {words} h = let e = lt-leb n (length words) h in record { told = few h; places-are = rw (long b, e) }
+  few-of {A} {b} {words} h = let e = lt-leb n (length words) h in record { told = few long h; places-are = rw (long b, e) }
 
-  -- enough: the answer that was put is a callee's
-  pub put : {a b : B} {words words′ : List ℕ} {r : ℕ} → a ≡ b → n ≤ length words → Put wordsOf numberOf a words words′ r → Told wordsOf numberOf b words words′ r
-  put {a} {b} {words} q h p =
-      let e = le-leb n (length words) h in
-      record { number-is = rw (long b, e, ← q) (p .number-is); words-are = rw (long b, e, ← q) (rw (long a) at (p .words-are)) }
+  -- enough: the words that were laid down are the answer's
+  pub laid-by : {b : B} {said words words′ : List ℕ} {r : ℕ} → n ≤ length words → r ≡ numberOf b → said ≡ wordsOf b
+      → words′ ≡ pick (leb (length said) (length words)) (said ++ drop (length said) words) words → Told wordsOf numberOf b words words′ r
+  laid-by {b} {said} {words} h z e q = record { number-is = rw (long b, le-leb n (length words) h) z; words-are = rw e at q }
 
-  pub put-of : {A : Type 0} {a b : B} {words words′ : List ℕ} {r : ℕ} {done places places′ : List A} → a ≡ b → n ≤ length words → places′ ≡ done
-      → Put wordsOf numberOf a words words′ r → ToldOf wordsOf numberOf b words words′ r done places places′
-  put-of {A} {a} {b} {words} q h d p = let e = le-leb n (length words) h in record { told = put q h p; places-are = rw (long b, e) d }
+  -- and the other lent places are what the callee made of them
+  pub told-of : {A : Type 0} {a b : B} {words words′ : List ℕ} {r : ℕ} {done places places′ : List A} → a ≡ b → n ≤ length words → places′ ≡ done
+      → Told wordsOf numberOf a words words′ r → ToldOf wordsOf numberOf b words words′ r done places places′
+  told-of {A} {a} {b} {words} q h d p = record { told = told q p; places-are = rw (long b, le-leb n (length words) h) d }
+
+-- the number is word 1 of them
+pub laid : {B : Type 0} {wordsOf : B → List ℕ} {n : ℕ} {b : B} {said words words′ : List ℕ} → ((b : B) → length (wordsOf b) ≡ n) → n ≤ length words → said ≡ wordsOf b
+    → words′ ≡ pick (leb (length said) (length words)) (said ++ drop (length said) words) words → Told wordsOf (numberIn wordsOf) b words words′ (getD said 1 0)
+laid long h e q = laid-by long h (ap (λ w. getD w 1 0) e) e q
 
 -- every answer has as many words as its function says, and its promise determines the number, the words and every other lent place
-
-pub answer-long : (a : Answer) → length (answerWords a) ≡ wordCount
-unfolding answerWords
-answer-long a = refl
-
-pub stream-long : (s : Stream) → length (streamWords s) ≡ streamWordCount
-unfolding streamWords
-stream-long s = refl
 
 pub label-long : (l : Label) → length (labelWords l) ≡ labelWordCount
 unfolding labelWords
@@ -96,14 +91,14 @@ unfolding builtWords
 built-long (built.Index s) = refl
 built-long (built.Refused f) = refl
 
--- what building told: too few words, or what was built put into them
+-- what building told: too few words, or what was built laid into them
 module _ {input first at counts words : List ℕ} where
   pub index-few : length words < builtWordCount → IndexTold input first at counts first at counts words words tooFewWords
   index-few h = record { told = few built-long h; columns-are = rw (lt-leb builtWordCount (length words) h) }
 
-  pub index-put : {first′ at′ counts′ words′ : List ℕ} {b : Built} {r : ℕ} → BuiltIn input first at counts first′ at′ counts′ b → builtWordCount ≤ length words
-      → Put builtWords (numberIn builtWords) b words words′ r → IndexTold input first at counts first′ at′ counts′ words words′ r
-  index-put q h p = record { told = put built-long (q .answer) h p; columns-are = rw (le-leb builtWordCount (length words) h) (q .columns) }
+  pub index-told : {first′ at′ counts′ words′ : List ℕ} {b : Built} {r : ℕ} → BuiltIn input first at counts first′ at′ counts′ b → builtWordCount ≤ length words
+      → Told builtWords (numberIn builtWords) b words words′ r → IndexTold input first at counts first′ at′ counts′ words words′ r
+  index-told q h p = record { told = told (q .answer) p; columns-are = rw (le-leb builtWordCount (length words) h) (q .columns) }
 
 pub found-long : (v : Found) → length (foundWords v) ≡ foundWordCount
 unfolding foundWords

@@ -9,7 +9,7 @@ use Rattle.planner.specs.declared.Checked.{Checked}
 use Rattle.planner.specs.declared.Checked.the-variants.{Accepted, Rejected}
 use Rattle.planner.specs.declared.ColumnAnswer.{ColumnAnswer}
 use Rattle.planner.specs.declared.ColumnAnswer.the-variants.{Planned, Direct, Refused}
-use Rattle.planner.specs.Check.{Columns, checkedAs, column, toldAs, bytesIn}
+use Rattle.planner.specs.Check.{Columns, checkedAs, column, toldAs, columnBytes}
 use Rattle.planner.specs.Plan.{Proposes}
 use Rattle.format.specs.Loader.{isSigned}
 use Rattle.format.specs.Words.{Told, ToldOf}
@@ -55,7 +55,7 @@ columnWordCount = 6
 abbrev pub ColumnTold : List ℤ → ℕ → Columns → List ℕ → List ℕ → List ℕ → List ℕ → ℕ → Type 0
 ColumnTold rows flag c out out′ words words′ r =
     let m = column (isSigned flag) rows c (length out) in
-    ToldOf columnWords (numberIn columnWords) (toldAs m) words words′ r (bytesIn out m) out out′
+    ToldOf columnWords (numberIn columnWords) (toldAs m) words words′ r (columnBytes out m) out out′
 
 -- ---- any two outcomes that the promises allow are equal
 

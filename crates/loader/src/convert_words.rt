@@ -2,9 +2,9 @@
 // that was cut.
 ghost use mathlib.Core.Path.{_≡_};
 ghost use Rattle.loader.specs.Converting.{convertWords};
-use crate::words::cut_byte;
-use crate::words::cut_case;
 use convert::Converted;
+use words::cut_byte;
+use words::cut_case;
 
 // How many words it has.
 pub const COUNT: usize = 7;

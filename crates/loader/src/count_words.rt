@@ -1,9 +1,9 @@
 // A count of true booleans as words: the case, the refusal's number and place, the count, and the field that was cut.
 ghost use mathlib.Core.Path.{_≡_};
 ghost use Rattle.loader.specs.Counts.{countWords};
-use crate::words::cut_byte;
-use crate::words::cut_case;
 use season::Count;
+use words::cut_byte;
+use words::cut_case;
 
 // How many words a count has.
 pub const COUNT: usize = 6;

@@ -2,11 +2,11 @@
 // was found the entry; of what was read how many rows.
 ghost use mathlib.Core.Path.{_≡_};
 ghost use Rattle.loader.specs.Index.{builtWords, foundWords, previewWords};
-use crate::words::cut_byte;
-use crate::words::cut_case;
 use index::Built;
 use index::Found;
 use index::Preview;
+use words::cut_byte;
+use words::cut_case;
 
 // How many words each has.
 pub const BUILT_COUNT: usize = 8;

@@ -23,9 +23,7 @@ mod count_words;
 mod forms;
 mod index_words;
 mod label_words;
-mod part_words;
 mod salvage_words;
-mod words;
 
 // The version of these functions: one more with each change of what they take or answer.
 #[no_mangle]
@@ -302,10 +300,10 @@ pub extern "C" fn orc_label(
 pub extern "C" fn orc_part_start(state: &mut [u64]) -> u64
     ensures { λ r. ⌜ StartTold (now (state .entry)) (now (state .exit)) r ⌝ }
 {
-    if state.len() < part_words::STATE_COUNT {
+    if state.len() < words::parts::STATE_COUNT {
         return words::TOO_FEW;
     }
-    part_words::put_reader(parts::start(), state)
+    words::parts::put_reader(parts::start(), state)
 }
 
 // A call with a part: it is taken up to the end of a run, whose rows go into the first of the rows lent, or all of it, or, where the call
@@ -321,15 +319,15 @@ pub extern "C" fn orc_part_take(
 ) -> u64
     ensures { λ r. ⌜ PartTold (now (state .entry)) (now (state .exit)) (now (held .entry)) (now (held .exit)) (now (part .entry)) flag (now (rows .entry)) (now (rows .exit)) (now (words .entry)) (now (words .exit)) r ⌝ }
 {
-    if state.len() < part_words::STATE_COUNT {
+    if state.len() < words::parts::STATE_COUNT {
         return words::TOO_FEW;
     }
-    if words.len() < part_words::COUNT {
+    if words.len() < words::parts::COUNT {
         return words::TOO_FEW;
     }
-    let reader = part_words::reader_of(state);
+    let reader = words::parts::reader_of(state);
     let step = parts::take(reader, part, flag != 0, held, rows);
-    part_words::put_taken(step, state, words)
+    words::parts::put_taken(step, state, words)
 }
 
 // The closing call: the stream's end, or the refusal of the run that is unfinished.
@@ -343,15 +341,15 @@ pub extern "C" fn orc_part_close(
 ) -> u64
     ensures { λ r. ⌜ CloseTold (now (state .entry)) (now (state .exit)) (now (held .entry)) (now (held .exit)) flag (now (rows .entry)) (now (rows .exit)) (now (words .entry)) (now (words .exit)) r ⌝ }
 {
-    if state.len() < part_words::STATE_COUNT {
+    if state.len() < words::parts::STATE_COUNT {
         return words::TOO_FEW;
     }
-    if words.len() < part_words::COUNT {
+    if words.len() < words::parts::COUNT {
         return words::TOO_FEW;
     }
-    let reader = part_words::reader_of(state);
+    let reader = words::parts::reader_of(state);
     let step = parts::close(reader, flag != 0, held, rows);
-    part_words::put_step(step, state, words)
+    words::parts::put_step(step, state, words)
 }
 
 // How many of the first n booleans are true, of booleans packed eight to a byte, highest bit first.

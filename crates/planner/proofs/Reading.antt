@@ -17,7 +17,7 @@ use Rattle.format.proofs.Rows.{joined-count}
 use Rattle.format.proofs.Streams.{stream-whole}
 use Rattle.planner.specs.declared.segment.Segment.{Segment}
 use Rattle.planner.specs.declared.ColumnAnswer.{ColumnAnswer}
-use Rattle.planner.specs.Check.{Columns, segmentsFrom, segments, anyRun, Column, planned, direct, eight, column, bytesIn, toldAs}
+use Rattle.planner.specs.Check.{Columns, segmentsFrom, segments, anyRun, Column, planned, direct, eight, column, columnBytes, toldAs}
 use Rattle.planner.specs.Laws.{sumRows, Accept, none, more, Accepted, Answers, as-planned, as-direct, Reads, WhateverProposed, when-planned, when-direct, when-eight, Whatever, CheckDetermined, ColumnDetermined}
 use Rattle.planner.proofs.Accepting.{check-exactly}
 use Rattle.planner.proofs.Direct.{fit-take, fit-drop, wide-is}
@@ -92,7 +92,7 @@ whatever signed rows c out out′ r h hb w =
     subst (λ (a : ColumnAnswer). WhateverProposed signed rows out out′ a) (sym (w .answer))
     (go (column signed rows c (length out)) (check-exactly signed rows c (length out) .writes (column signed rows c (length out)) .0 refl) (w .places))
   where
-    go : (x : Column) → Answers signed rows c (length out) x → out′ ≡ bytesIn out x → WhateverProposed signed rows out out′ (toldAs x)
+    go : (x : Column) → Answers signed rows c (length out) x → out′ ≡ columnBytes out x → WhateverProposed signed rows out out′ (toldAs x)
     go (planned ds) a p =
         let g = of-planned signed rows h c hb (length out) a in
         when-planned {ds = ds} (reads signed rows out out′ ds (g .fits) (g .valid) (g .rows-are) p)

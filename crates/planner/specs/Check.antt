@@ -128,10 +128,10 @@ column signed rows c room =
     (pick (leb (length (joined (wide signed rows))) room) (direct (wide signed rows)) eight)
 
 -- the lent bytes at exit: the runs in the first of them, and what stood in the others
-abbrev pub bytesIn : List ℕ → Column → List ℕ
-bytesIn out (planned ds) = joined ds ++ drop (length (joined ds)) out
-bytesIn out (direct ds) = joined ds ++ drop (length (joined ds)) out
-bytesIn out eight = out
+abbrev pub columnBytes : List ℕ → Column → List ℕ
+columnBytes out (planned ds) = joined ds ++ drop (length (joined ds)) out
+columnBytes out (direct ds) = joined ds ++ drop (length (joined ds)) out
+columnBytes out eight = out
 
 -- ---- THE PROMISES
 
@@ -151,4 +151,4 @@ toldAs eight = answer.Refused (refusing 8 0)
 
 pub record Wrote (signed : Bool) (rows : List ℤ) (c : Columns) (out out′ : List ℕ) (r : ColumnAnswer) : Type 0 where
   pub answer : r ≡ toldAs (column signed rows c (length out))
-  pub places : out′ ≡ bytesIn out (column signed rows c (length out))
+  pub places : out′ ≡ columnBytes out (column signed rows c (length out))

@@ -21,7 +21,8 @@ use Rattle.format.specs.Parts as reader
 use Rattle.format.specs.Parts.{Handed, Reply, handed, more, broke, ended, State, Call, onPart, takePart, close, answered, room}
 use Rattle.format.proofs.Below.{below-append}
 use Rattle.format.proofs.Runs.{Outcome, nothing, run, refusal, outcome}
-use Rattle.promises.specs.Parts.{Fed, goOn, offer, NoRun, Lent}
+use Rattle.promises.specs.Parts.{Fed, goOn, offer, NoRun}
+use Rattle.promises.specs.PartsCalls.{Lent}
 use Rattle.promises.proofs.Feeding.{Waits, nothing-held, bytes-held, Result, waiting, barred, offered, ends-in, lengths}
 use Rattle.promises.proofs.PartsRefused.{more-places}
 

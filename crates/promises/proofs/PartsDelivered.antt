@@ -21,7 +21,8 @@ use Rattle.format.specs.Parts.{Handed, State, Call, takePart, close, stateOf, a
 use Rattle.format.proofs.Below.{append-below, below-drop}
 use Rattle.format.proofs.Runs.{run}
 use Rattle.format.proofs.Rows.{i64-count, joined-count}
-use Rattle.promises.specs.Parts.{Fed, goOn, offer, feed, Given, readParts, together, starting, lastAnswer, streamGives, rowsIn, rowsShown, AsStreamHolds, Shown, shown, Offers, last, gives, Offered, no-part, a-part, Delivers}
+use Rattle.promises.specs.Parts.{Fed, goOn, offer, feed, Given, readParts, together, starting, lastAnswer, streamGives, rowsIn}
+use Rattle.promises.specs.PartsCalls.{rowsShown, AsStreamHolds, Shown, shown, Offers, last, gives, Offered, no-part, a-part, Delivers}
 use Rattle.promises.proofs.Feeding.{nothing-held}
 use Rattle.promises.proofs.Parts.{same-as-stream}
 use Rattle.promises.proofs.PartsFollow.{follows}

@@ -11,7 +11,8 @@ use Rattle.format.specs.Promises.{answerOf, placesOf}
 use Rattle.format.specs.Booleans as b
 use Rattle.format.specs.Booleans.{booleansInto, booleansAnswer, booleansPlaces}
 use Rattle.format.proofs.Examples.{told}
-use Rattle.promises.specs.Table.{Line, integers, booleans, integerPlaces, bytePlaces, answerSaid, placesSaid, LineHolds, Holds, starred, others, specification}
+use Rattle.promises.specs.Table.{Line, integers, booleans, integerPlaces, bytePlaces, answerSaid, placesSaid, LineHolds, Holds, starred}
+use Rattle.promises.specs.Samples.{others, specification}
 
 -- the answer and the places at exit, of either kind, as the reader gives them and as the line says
 abbrev Seen : Type 0

@@ -2,6 +2,7 @@
 -- each of them is checked against.
 -- FORMAT.md's sample runs and its table of refusals
 pub mod Table
+pub mod Samples
 pub mod Refusals
 -- its demands
 pub mod Demand2
@@ -18,6 +19,7 @@ pub mod BrokeOff
 pub mod Longest
 pub mod Patched
 pub mod Parts
+pub mod PartsCalls
 pub mod FlippedByte
 -- any two outcomes are equal
 pub mod Outcomes

@@ -33,10 +33,10 @@ unfolding counted
 counted-append test [] ys = omega arith
 counted-append test (l ∷ xs) ys = omega (arith, counted-append test xs ys)
 
-pub rows-append : (xs ys : List Line) → rowsOver (xs ++ ys) ≡ rowsOver xs ++ rowsOver ys
+pub rows-over-append : (xs ys : List Line) → rowsOver (xs ++ ys) ≡ rowsOver xs ++ rowsOver ys
 unfolding rowsOver
-rows-append [] ys = refl
-rows-append (l ∷ xs) ys = rw (rows-append xs ys) (sym (append-assoc (rowsIn l) (rowsOver xs) (rowsOver ys)))
+rows-over-append [] ys = refl
+rows-over-append (l ∷ xs) ys = rw (rows-over-append xs ys) (sym (append-assoc (rowsIn l) (rowsOver xs) (rowsOver ys)))
 
 pub sum-append : (zs ys : List ℤ) → sumOf (zs ++ ys) ≡ sumOf zs +ℤ sumOf ys
 unfolding sumOf
@@ -47,10 +47,10 @@ pub joined : (xs ys : List Line) → totals (xs ++ ys) ≡ combine (totals xs) (
 unfolding totals
 joined xs ys =
     same (length-append xs ys) (counted-append isBad xs ys) (counted-append isEnd xs ys) (λ k. counted-append (isRefusal k) xs ys) (λ k. counted-append (isRun k) xs ys)
-    (ap length (rows-append xs ys) ∙ length-append (rowsOver xs) (rowsOver ys))
-    (ap (ofAll lower) (rows-append xs ys) ∙ ofAll-append _ lower lowers (rowsOver xs) (rowsOver ys))
-    (ap (ofAll higher) (rows-append xs ys) ∙ ofAll-append _ higher highers (rowsOver xs) (rowsOver ys))
-    (ap sumOf (rows-append xs ys) ∙ sum-append (rowsOver xs) (rowsOver ys))
+    (ap length (rows-over-append xs ys) ∙ length-append (rowsOver xs) (rowsOver ys))
+    (ap (ofAll lower) (rows-over-append xs ys) ∙ ofAll-append _ lower lowers (rowsOver xs) (rowsOver ys))
+    (ap (ofAll higher) (rows-over-append xs ys) ∙ ofAll-append _ higher highers (rowsOver xs) (rowsOver ys))
+    (ap sumOf (rows-over-append xs ys) ∙ sum-append (rowsOver xs) (rowsOver ys))
 
 none-right : (choice : ℤ → ℤ → ℤ) (e : Extreme) → ofTwo choice e None ≡ e
 none-right choice None = refl

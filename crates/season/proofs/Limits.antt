@@ -11,11 +11,11 @@ use borrow.Author.Tests.{ltb-true, ltb-false}
 use Rattle.format.specs.Fields.{pick}
 use Rattle.season.specs.Totals.{Line, rowsIn, rowsOver, totals, empty, step, limit, passes, Outcome, all, twenty, takeLines}
 use Rattle.season.specs.Laws.{Within, Reads, reads-all, stops, LimitsHold, TwoInputs}
-use Rattle.season.proofs.Combining.{rows-append, joined}
+use Rattle.season.proofs.Combining.{rows-over-append, joined}
 
 -- the rows of two inputs
 pub count-append : (xs ys : List Line) → length (rowsOver (xs ++ ys)) ≡ length (rowsOver xs) + length (rowsOver ys)
-count-append xs ys = ap length (rows-append xs ys) ∙ length-append (rowsOver xs) (rowsOver ys)
+count-append xs ys = ap length (rows-over-append xs ys) ∙ length-append (rowsOver xs) (rowsOver ys)
 
 pub within-before : (xs ys : List Line) → Within (xs ++ ys) → Within xs
 within-before xs ys w = omega (arith, w .few-lines, w .few-rows, length-append xs ys, count-append xs ys)

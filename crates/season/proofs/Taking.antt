@@ -21,7 +21,7 @@ use Rattle.season.specs.declared.Taken.{Taken}
 use Rattle.season.specs.Totals.{Line, isBad, isEnd, isRefusal, isRun, counted, rowsOver, sumOf, totals, empty, step, limit, tooMany, passes, twenty, takeLines}
 use Rattle.season.specs.Held.{numbers, kinds, held, eachPlus, together, going, stopped, combined, takeLine, unlessStopped, takeAll, heldOutcome}
 use Rattle.season.specs.Laws.{Within, I64, CodeHolds, CodeTells}
-use Rattle.season.proofs.Combining.{rows-append, joined, counted-append}
+use Rattle.season.proofs.Combining.{rows-over-append, joined, counted-append}
 use Rattle.season.proofs.Limits.{count-append, Passing, passing, staying, passing-is}
 use Rattle.season.proofs.Sizes.{rows-size}
 use Rattle.season.proofs.Sums.{value, added}
@@ -79,7 +79,7 @@ sum-small ls h l = omega (arith, rows-size (rowsOver ls) h)
 pub together-held : (xs ys : List Line) → I64 (xs ++ ys) → Within (xs ++ ys) → together (held (totals xs)) (held (totals ys)) ≡ held (totals (xs ++ ys))
 unfolding together held totals
 together-held xs ys f w =
-    let g : AllI64 (rowsOver xs ++ rowsOver ys) = rw (rows-append xs ys) at f in
+    let g : AllI64 (rowsOver xs ++ rowsOver ys) = rw (rows-over-append xs ys) at f in
     let n = count-append xs ys in
     same (exact (length xs) (length ys) (length-append xs ys) (w .few-lines)) (counts xs ys w isBad) (counts xs ys w isEnd)
     (each-exact _ _ _ numbers (λ k. counts xs ys w (isRefusal k))) (each-exact _ _ _ kinds (λ k. counts xs ys w (isRun k)))
@@ -111,7 +111,7 @@ lines-from done (l ∷ ls) f =
     snoc = rw (append-snoc done l ls) f
 
     first : I64 (done ++ (l ∷ []))
-    first = fit-left (rowsOver (done ++ (l ∷ []))) (rowsOver ls) (rw (rows-append (done ++ (l ∷ [])) ls) at snoc)
+    first = fit-left (rowsOver (done ++ (l ∷ []))) (rowsOver ls) (rw (rows-over-append (done ++ (l ∷ [])) ls) at snoc)
 
     go : (t : Bool) (r : Taken) → r ≡ pick t (stopped (held (totals done))) (going (held (totals (done ++ (l ∷ [])))))
         → takeAll (held (totals (done ++ (l ∷ [])))) ls ≡ heldOutcome (takeLines (step (totals done) l) ls)

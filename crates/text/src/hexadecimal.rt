@@ -1,9 +1,8 @@
 // A line of hexadecimal, either letter case, as bytes.
 ghost use mathlib.Core.Path.{_≡_};
-ghost use mathlib.Core.Bool.{true};
-ghost use Prim.Native.Nat.{_*_, _≤_};
-ghost use lib.ListN.{length, take};
-ghost use Rattle.text.specs.Hexadecimal.{hexValue, allHex, hexBytes};
+ghost use Prim.Native.Nat.{_*_, _%_, _≤_};
+ghost use lib.ListN.{length};
+ghost use Rattle.text.specs.Hexadecimal.{hexValue, HexRead};
 
 // The value of a digit; 16 for a character that is none.
 fn digit(c: u8) -> u8
@@ -26,11 +25,13 @@ fn digit(c: u8) -> u8
     }
 }
 
-// The n bytes that the line writes, in the first places of the frame; false where a character is no digit.
-pub fn bytes(line: &[u8], n: usize, frame: &mut [u8]) -> bool
-    requires { ⌜ (length (now line) ≡ 2 * n) × (n ≤ length (now frame)) ⌝ }
-    ensures { λ r. ⌜ (r ≡ allHex (now (line .entry))) × (r ≡ true → take n (now (frame .exit)) ≡ hexBytes (now (line .entry))) ⌝ }
+// Whether every character of the line is a digit. The bytes that its pairs of digits write go into the first places of the frame, up to the first
+// pair that is none; the places after them are not touched.
+pub fn bytes(line: &[u8], frame: &mut [u8]) -> bool
+    requires { ⌜ (length (now line) % 2 ≡ 0) × (length (now line) ≤ 2 * length (now frame)) ⌝ }
+    ensures { λ r. ⌜ HexRead (now (line .entry)) (now (frame .entry)) (now (frame .exit)) r ⌝ }
 {
+    let n = line.len() / 2;
     let mut i = 0;
     while i < n {
         let high = digit(line[2 * i]);

@@ -1,6 +1,6 @@
 //! `bench [--print | --smoke]`: times every case, prints the tables, and writes docs/BENCH.md and
-//! docs/bench.svg of the repository (with `--print` it writes nothing; `--smoke` takes three samples of
-//! some cases, and writes nothing).
+//! docs/bench.svg of the repository, on Arm docs/BENCH-ARM.md and docs/bench-arm.svg (with `--print` it
+//! writes nothing; `--smoke` takes three samples of some cases, and writes nothing).
 #![forbid(unsafe_code)]
 
 mod booleans;
@@ -43,9 +43,20 @@ A long buffer has 32,768 rows, in runs of 512 (short repeats: of 10). Of one sho
 time has the making of its reader in it, which takes a buffer of 512 rows. Each candidate's rows are
 compared with the model's before its time counts. `cargo run --release -p bench` in `rust/` writes
 this page and the plot.
-
-![Nanoseconds a row](bench.svg)
 ";
+
+/// The page, its plot, and what it says of the library: what is released is x86-64 code, and other processors
+/// have pages of their own.
+const PAGE: [&str; 3] = if cfg!(target_arch = "x86_64") {
+    ["BENCH.md", "bench.svg", ""]
+} else {
+    [
+        "BENCH-ARM.md",
+        "bench-arm.svg",
+        "\nThe library is the same proved module, compiled for this processor by `.ci/native`. What is released is for\n\
+         x86-64: BENCH.md.\n",
+    ]
+};
 
 /// How much is timed, and whether it is written.
 #[derive(Clone, Copy, PartialEq, Eq)]
@@ -105,10 +116,11 @@ fn main() -> ExitCode {
         return ExitCode::SUCCESS;
     }
     let docs = Path::new(concat!(env!("CARGO_MANIFEST_DIR"), "/../../docs"));
-    let page = format!("{ABOUT}{}{tables}", machine());
+    let [page, plot, library] = PAGE;
+    let text = format!("{ABOUT}{library}\n![Nanoseconds a row]({plot})\n{}{tables}", machine());
     let written = fs::create_dir_all(docs)
-        .and_then(|()| fs::write(docs.join("BENCH.md"), page))
-        .and_then(|()| fs::write(docs.join("bench.svg"), plot::svg(&rows)));
+        .and_then(|()| fs::write(docs.join(page), text))
+        .and_then(|()| fs::write(docs.join(plot), plot::svg(&rows)));
     match written {
         Ok(()) => ExitCode::SUCCESS,
         Err(error) => {
@@ -126,6 +138,6 @@ fn machine() -> String {
     let load = load.split(' ').next().filter(|load| !load.is_empty()).unwrap_or("unknown");
     let cores = std::thread::available_parallelism().map_or(1, usize::from);
     let ours = if cfg!(feature = "ours") { "" } else { "\nOurs was not linked into this run.\n" };
-    let name = name.unwrap_or("a machine that does not say");
+    let name = name.unwrap_or(env::consts::ARCH);
     format!("\nTaken on: {name}, {cores} cores, load average {load} (over {cores}, other programs took part of it).\n{ours}")
 }

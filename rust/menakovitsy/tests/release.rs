@@ -1,5 +1,6 @@
 //! A release, made by `.ci/release` and carried elsewhere: what it holds, and that it builds where there is
-//! neither the repository nor its toolchain.
+//! neither the repository nor its toolchain. A release is of the x86-64 library.
+#![cfg(target_arch = "x86_64")]
 mod project;
 
 use std::collections::BTreeSet;

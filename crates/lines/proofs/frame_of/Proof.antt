@@ -3,6 +3,7 @@ use mathlib.Core.Path.{sym, _∙_}
 use denote.Ref.{now}
 use native.Mathlib.Omega.{arith}
 use Rattle.lines.proofs.Frames.{bad-empty, bad-odd, bad-long, bad-digit, bad-flag, framed}
+use Rattle.text.proofs.HexDigits.{all-written}
 use borrow.Author.Needs.{needs}
 use borrow.Author.Tests.{not-true, not-false}
 use Rattle.lines.proofs.frame_of.Statement.{statement}
@@ -28,7 +29,7 @@ returns-4 c =
     let b = c .before .before .before in
     let i = b .before .before in
     let a = i .before .before .before .before .before .args in
-    bad-digit (now (a .line)) _ (i .before .before .if1 .left) (i .before .if2 .left) (i .if3 .left) (sym (b .bytes .ensures .0) ∙ not-true _ (c .if4 .taken))
+    bad-digit (now (a .line)) _ (i .before .before .if1 .left) (i .before .if2 .left) (i .if3 .left) (sym (b .bytes .ensures .answer) ∙ not-true _ (c .if4 .taken))
 
 returns-5 : tie.Need-returns-5
 returns-5 c =
@@ -36,7 +37,7 @@ returns-5 c =
     let i = b .before .before in
     let a = i .before .before .before .before .before .args in
     let t = not-false _ (c .before .before .if4 .left) in
-    bad-flag (now (a .line)) _ (i .before .before .if1 .left) (i .before .if2 .left) (i .if3 .left) (sym (b .bytes .ensures .0) ∙ t) (b .bytes .ensures .1 t) (omega (arith, b .bytes .kept .1 .1 .0)) (c .if5 .taken)
+    bad-flag (now (a .line)) _ (i .before .before .if1 .left) (i .before .if2 .left) (i .if3 .left) (sym (b .bytes .ensures .answer) ∙ t) (all-written (b .bytes .ensures) t) (omega (arith, b .bytes .kept .1 .0)) (c .if5 .taken)
 
 returns-6 : tie.Need-returns-6
 returns-6 c =
@@ -44,7 +45,7 @@ returns-6 c =
     let i = b .before .before in
     let a = i .before .before .before .before .before .args in
     let t = not-false _ (c .before .before .if4 .left) in
-    framed (now (a .line)) _ (i .before .before .if1 .left) (i .before .if2 .left) (i .if3 .left) (sym (b .bytes .ensures .0) ∙ t) (b .bytes .ensures .1 t) (omega (arith, b .bytes .kept .1 .1 .0)) (c .if5 .left)
+    framed (now (a .line)) _ (i .before .before .if1 .left) (i .before .if2 .left) (i .if3 .left) (sym (b .bytes .ensures .answer) ∙ t) (all-written (b .bytes .ensures) t) (omega (arith, b .bytes .kept .1 .0)) (c .if5 .left)
 
 pub frame-of-spec : {M : Type 1} → statement M
 frame-of-spec =

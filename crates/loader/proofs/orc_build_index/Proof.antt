@@ -1,7 +1,7 @@
 -- What was built is put into the words, or there are too few of them. Assumes nothing.
 use native.Mathlib.Omega.{arith}
 use borrow.Author.Needs.{needs}
-use Rattle.loader.proofs.Telling.{index-few, index-put, laid}
+use Rattle.loader.proofs.Telling.{built-long, index-few, index-told, laid}
 use Rattle.loader.proofs.orc_build_index.Statement.{statement}
 use Rattle.loader.proofs.orc_build_index.Tie as tie
 
@@ -11,7 +11,8 @@ returns-2 c =
     let at-of = at-lay .before .before .before in
     let at-counts = at-of .before .before in
     let a = at-counts .before .before .before .before .before in
-    index-put (a .build .ensures) (a .before .before .before .before .if1 .left) (laid (at-of .of-built .ensures) (at-lay .lay .ensures))
+    let h = a .before .before .before .before .if1 .left in
+    index-told (a .build .ensures) h (laid built-long h (at-of .of-built .ensures) (at-lay .lay .ensures))
 
 pub orc-build-index-spec : {M : Type 1} → statement M
 orc-build-index-spec =

@@ -1,7 +1,8 @@
 -- What the check says is put into the words, or there are too few of them. Assumes nothing.
 use mathlib.Core.Path.{refl}
 use native.Mathlib.Omega.{arith}
-use Rattle.loader.proofs.Telling.{check-long, few, put}
+use Rattle.words.proofs.Telling.{few}
+use Rattle.loader.proofs.Telling.{check-long, laid-by, told}
 use borrow.Author.Needs.{needs}
 use Rattle.loader.proofs.orc_check_column.Statement.{statement}
 use Rattle.loader.proofs.orc_check_column.Tie as tie
@@ -11,7 +12,7 @@ returns-2 c =
     let at-lay = c .before .before in
     let at-of = at-lay .before .before .before in
     let a = at-of .before in
-    put check-long (a .check .ensures) (a .before .if1 .left) (record { number-is = refl; words-are = rw (at-of .of-checked .ensures) at (at-lay .lay .ensures) })
+    told (a .check .ensures) (laid-by check-long (a .before .if1 .left) refl (at-of .of-checked .ensures) (at-lay .lay .ensures))
 
 pub orc-check-column-spec : {M : Type 1} → statement M
 orc-check-column-spec =

@@ -1,7 +1,7 @@
 -- The converter's answer is put into the words, or there are too few of them. Assumes nothing.
 use native.Mathlib.Omega.{arith}
 use borrow.Author.Needs.{needs}
-use Rattle.loader.proofs.Telling.{convert-long, few-of, put-of, laid}
+use Rattle.loader.proofs.Telling.{convert-long, few-of, laid, told-of}
 use Rattle.loader.proofs.orc_convert.Statement.{statement}
 use Rattle.loader.proofs.orc_convert.Tie as tie
 
@@ -10,7 +10,8 @@ returns-2 c =
     let at-lay = c .before .before in
     let at-of = at-lay .before .before .before in
     let a = at-of .before .before .before in
-    put-of convert-long (a .convert .ensures .answer) (a .before .before .if1 .left) (a .convert .ensures .places) (laid (at-of .of .ensures) (at-lay .lay .ensures))
+    let h = a .before .before .if1 .left in
+    told-of convert-long (a .convert .ensures .answer) h (a .convert .ensures .places) (laid convert-long h (at-of .of .ensures) (at-lay .lay .ensures))
 
 pub orc-convert-spec : {M : Type 1} → statement M
 orc-convert-spec =

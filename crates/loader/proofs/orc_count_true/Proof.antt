@@ -1,7 +1,8 @@
 -- The count of true booleans is put into the words, or there are too few of them. Assumes nothing.
 use native.Mathlib.Omega.{arith}
 use borrow.Author.Needs.{needs}
-use Rattle.loader.proofs.Telling.{count-long, few, put, laid}
+use Rattle.words.proofs.Telling.{few}
+use Rattle.loader.proofs.Telling.{count-long, laid, told}
 use Rattle.loader.proofs.orc_count_true.Statement.{statement}
 use Rattle.loader.proofs.orc_count_true.Tie as tie
 
@@ -10,7 +11,7 @@ returns-2 c =
     let at-lay = c .before .before in
     let at-of = at-lay .before .before .before in
     let a = at-of .before in
-    put count-long (a .count-true .ensures) (a .before .if1 .left) (laid (at-of .of .ensures) (at-lay .lay .ensures))
+    told (a .count-true .ensures) (laid count-long (a .before .if1 .left) (at-of .of .ensures) (at-lay .lay .ensures))
 
 pub orc-count-true-spec : {M : Type 1} → statement M
 orc-count-true-spec =

@@ -1,7 +1,8 @@
 -- The row's label is put into the words, or there are too few of them. Assumes nothing.
 use native.Mathlib.Omega.{arith}
 use borrow.Author.Needs.{needs}
-use Rattle.loader.proofs.Telling.{label-long, few, put, laid}
+use Rattle.words.proofs.Telling.{few}
+use Rattle.loader.proofs.Telling.{label-long, laid, told}
 use Rattle.loader.proofs.orc_label.Statement.{statement}
 use Rattle.loader.proofs.orc_label.Tie as tie
 
@@ -10,7 +11,7 @@ returns-2 c =
     let at-lay = c .before .before in
     let at-of = at-lay .before .before .before in
     let a = at-of .before in
-    put label-long (a .label-of .ensures .answer) (a .before .if1 .left) (laid (at-of .of .ensures) (at-lay .lay .ensures))
+    told (a .label-of .ensures .answer) (laid label-long (a .before .if1 .left) (at-of .of .ensures) (at-lay .lay .ensures))
 
 pub orc-label-spec : {M : Type 1} → statement M
 orc-label-spec =

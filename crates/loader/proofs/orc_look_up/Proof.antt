@@ -1,7 +1,8 @@
 -- The entry is put into the words, or there are too few of them. Assumes nothing.
 use native.Mathlib.Omega.{arith}
 use borrow.Author.Needs.{needs}
-use Rattle.loader.proofs.Telling.{found-long, few, put, laid}
+use Rattle.words.proofs.Telling.{few}
+use Rattle.loader.proofs.Telling.{found-long, laid, told}
 use Rattle.loader.proofs.orc_look_up.Statement.{statement}
 use Rattle.loader.proofs.orc_look_up.Tie as tie
 
@@ -10,7 +11,7 @@ returns-2 c =
     let at-lay = c .before .before in
     let at-of = at-lay .before .before .before in
     let a = at-of .before in
-    put found-long (a .look-up .ensures) (a .before .if1 .left) (laid (at-of .of-found .ensures) (at-lay .lay .ensures))
+    told (a .look-up .ensures) (laid found-long (a .before .if1 .left) (at-of .of-found .ensures) (at-lay .lay .ensures))
 
 pub orc-look-up-spec : {M : Type 1} → statement M
 orc-look-up-spec =

@@ -2,7 +2,8 @@
 use mathlib.Core.Path.{refl}
 use denote.Ref.{now}
 use borrow.Author.Needs.{needs}
-use Rattle.loader.proofs.PartWords.{few-state, few-words, is-enough, close-few, close-done}
+use Rattle.words.proofs.PartWords.{few-state, few-words, is-enough}
+use Rattle.loader.proofs.PartWords.{close-few, close-done}
 use Rattle.loader.proofs.orc_part_close.Statement.{statement}
 use Rattle.loader.proofs.orc_part_close.Tie as tie
 

@@ -1,8 +1,9 @@
 -- The fresh reader is put into the words, or there are too few of them. Assumes nothing.
 use native.Mathlib.Omega.{arith}
 use borrow.Author.Needs.{needs}
-use Rattle.loader.proofs.Telling.{few, put}
-use Rattle.loader.proofs.PartWords.{state-long}
+use Rattle.words.proofs.Telling.{few}
+use Rattle.loader.proofs.Telling.{told}
+use Rattle.words.proofs.PartWords.{state-long}
 use Rattle.loader.proofs.orc_part_start.Statement.{statement}
 use Rattle.loader.proofs.orc_part_start.Tie as tie
 
@@ -10,7 +11,7 @@ returns-2 : tie.Need-returns-2
 returns-2 c =
     let p = c .before .before in
     let a = p .before .before in
-    put state-long (a .start .ensures) (a .before .if1 .left) (p .put-reader .ensures)
+    told (a .start .ensures) (p .put-reader .ensures)
 
 pub orc-part-start-spec : {M : Type 1} → statement M
 orc-part-start-spec = tie.close (tie.spec (λ c. few state-long (omega arith)) (λ c κs. search needs) (λ c κs. search needs) (λ c. search needs) returns-2)

@@ -1,7 +1,8 @@
 -- The call's answer and state are put into the words, or there are too few of them. Assumes nothing.
 use denote.Ref.{now}
 use borrow.Author.Needs.{needs}
-use Rattle.loader.proofs.PartWords.{few-state, few-words, is-enough, part-few, part-done}
+use Rattle.words.proofs.PartWords.{few-state, few-words, is-enough}
+use Rattle.loader.proofs.PartWords.{part-few, part-done}
 use Rattle.loader.proofs.orc_part_take.Statement.{statement}
 use Rattle.loader.proofs.orc_part_take.Tie as tie
 

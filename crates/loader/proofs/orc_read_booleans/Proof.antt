@@ -1,7 +1,8 @@
 -- The boolean reader's answer is put into the words, or there are too few of them. Assumes nothing.
 use native.Mathlib.Omega.{arith}
 use borrow.Author.Needs.{needs}
-use Rattle.loader.proofs.Telling.{answer-long, few-of, put-of}
+use Rattle.words.proofs.Telling.{answer-long}
+use Rattle.loader.proofs.Telling.{few-of, told-of}
 use Rattle.loader.proofs.orc_read_booleans.Statement.{statement}
 use Rattle.loader.proofs.orc_read_booleans.Tie as tie
 
@@ -9,7 +10,7 @@ returns-2 : tie.Need-returns-2
 returns-2 c =
     let p = c .before .before in
     let a = p .before .before .before .before in
-    put-of answer-long (a .read-booleans .ensures .answer) (a .before .before .if1 .left) (a .read-booleans .ensures .places) (p .put-answer .ensures)
+    told-of answer-long (a .read-booleans .ensures .answer) (a .before .before .if1 .left) (a .read-booleans .ensures .places) (p .put-answer .ensures)
 
 pub orc-read-booleans-spec : {M : Type 1} → statement M
 orc-read-booleans-spec =

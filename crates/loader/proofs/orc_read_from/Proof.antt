@@ -1,7 +1,7 @@
 -- How many rows were read is put into the words, or there are too few of them. Assumes nothing.
 use native.Mathlib.Omega.{arith}
 use borrow.Author.Needs.{needs}
-use Rattle.loader.proofs.Telling.{preview-long, few-of, put-of, laid}
+use Rattle.loader.proofs.Telling.{preview-long, few-of, laid, told-of}
 use Rattle.loader.proofs.orc_read_from.Statement.{statement}
 use Rattle.loader.proofs.orc_read_from.Tie as tie
 
@@ -10,7 +10,8 @@ returns-2 c =
     let at-lay = c .before .before in
     let at-of = at-lay .before .before .before in
     let a = at-of .before .before in
-    put-of preview-long (a .read-from .ensures .answer) (a .before .before .if1 .left) (a .read-from .ensures .places) (laid (at-of .of-preview .ensures) (at-lay .lay .ensures))
+    let h = a .before .before .if1 .left in
+    told-of preview-long (a .read-from .ensures .answer) h (a .read-from .ensures .places) (laid preview-long h (at-of .of-preview .ensures) (at-lay .lay .ensures))
 
 pub orc-read-from-spec : {M : Type 1} → statement M
 orc-read-from-spec =

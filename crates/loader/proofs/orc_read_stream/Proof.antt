@@ -1,7 +1,8 @@
 -- The stream reader's answer is put into the words, or there are too few of them. Assumes nothing.
 use native.Mathlib.Omega.{arith}
 use borrow.Author.Needs.{needs}
-use Rattle.loader.proofs.Telling.{stream-long, few-of, put-of}
+use Rattle.words.proofs.Telling.{stream-long}
+use Rattle.loader.proofs.Telling.{few-of, told-of}
 use Rattle.loader.proofs.orc_read_stream.Statement.{statement}
 use Rattle.loader.proofs.orc_read_stream.Tie as tie
 
@@ -9,7 +10,7 @@ returns-2 : tie.Need-returns-2
 returns-2 c =
     let p = c .before .before in
     let a = p .before .before .before in
-    put-of stream-long (a .read-stream .ensures .answer) (a .before .before .if1 .left) (a .read-stream .ensures .places) (p .put-stream .ensures)
+    told-of stream-long (a .read-stream .ensures .answer) (a .before .before .if1 .left) (a .read-stream .ensures .places) (p .put-stream .ensures)
 
 pub orc-read-stream-spec : {M : Type 1} → statement M
 orc-read-stream-spec =

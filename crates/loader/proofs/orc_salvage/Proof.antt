@@ -2,7 +2,7 @@
 use native.Mathlib.Omega.{arith}
 use borrow.Author.Needs.{needs}
 use mir.Facts.{toZ-ofZ}
-use Rattle.loader.proofs.Telling.{salvage-long, few-of, put-of, laid}
+use Rattle.loader.proofs.Telling.{salvage-long, few-of, laid, told-of}
 use Rattle.loader.proofs.orc_salvage.Statement.{statement}
 use Rattle.loader.proofs.orc_salvage.Tie as tie
 
@@ -18,10 +18,11 @@ returns-2 c =
     let at-columns = e .before .before .before .before in
     let s = at-columns .before .before .before in
     let w = rw (toZ-ofZ (s .fits .fill)) at (a .salvage .ensures) in
-    let p = laid (at-of .of .ensures) (at-lay .lay .ensures) in
+    let h = e .if1 .left in
+    let p = laid salvage-long h (at-of .of .ensures) (at-lay .lay .ensures) in
     record {
-      stream-told = put-of salvage-long (w .answer) (e .if1 .left) (w .new-stream) p;
-      report-told = put-of salvage-long (w .answer) (e .if1 .left) (w .report-is) p;
+      stream-told = told-of salvage-long (w .answer) h (w .new-stream) p;
+      report-told = told-of salvage-long (w .answer) h (w .report-is) p;
     }
 
 pub orc-salvage-spec : {M : Type 1} → statement M

@@ -1,6 +1,6 @@
 -- What the column writer did is put into the words, or there are too few of them. Assumes nothing.
 use native.Mathlib.Omega.{arith}
-use Rattle.loader.proofs.Telling.{column-long, few-of, put-of, laid}
+use Rattle.loader.proofs.Telling.{column-long, few-of, laid, told-of}
 use borrow.Author.Needs.{needs}
 use Rattle.loader.proofs.orc_write_column.Statement.{statement}
 use Rattle.loader.proofs.orc_write_column.Tie as tie
@@ -10,7 +10,8 @@ returns-2 c =
     let at-lay = c .before .before in
     let at-of = at-lay .before .before .before in
     let a = at-of .before .before .before in
-    put-of column-long (a .write-column .ensures .answer) (a .before .before .if1 .left) (a .write-column .ensures .places) (laid (at-of .of .ensures) (at-lay .lay .ensures))
+    let h = a .before .before .if1 .left in
+    told-of column-long (a .write-column .ensures .answer) h (a .write-column .ensures .places) (laid column-long h (at-of .of .ensures) (at-lay .lay .ensures))
 
 pub orc-write-column-spec : {M : Type 1} → statement M
 orc-write-column-spec =

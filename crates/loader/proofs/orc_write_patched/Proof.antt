@@ -2,7 +2,8 @@
 use native.Mathlib.Omega.{arith}
 use borrow.Author.Needs.{needs}
 use mir.Facts.{toZ-ofZ}
-use Rattle.loader.proofs.Telling.{answer-long, few-of, put-of}
+use Rattle.words.proofs.Telling.{answer-long}
+use Rattle.loader.proofs.Telling.{few-of, told-of}
 use Rattle.loader.proofs.orc_write_patched.Statement.{statement}
 use Rattle.loader.proofs.orc_write_patched.Tie as tie
 
@@ -11,7 +12,7 @@ returns-2 c =
     let p = c .before .before in
     let a = p .before .before .before .before in
     let w = rw (toZ-ofZ (a .before .before .before .before .before .fits .base)) at (a .write-patched .ensures) in
-    put-of answer-long (w .answer) (a .before .before .if1 .left) (w .places) (p .put-answer .ensures)
+    told-of answer-long (w .answer) (a .before .before .if1 .left) (w .places) (p .put-answer .ensures)
 
 pub orc-write-patched-spec : {M : Type 1} → statement M
 orc-write-patched-spec =

@@ -1,7 +1,8 @@
 -- The writer's answer is put into the words, or there are too few of them. Assumes nothing.
 use native.Mathlib.Omega.{arith}
 use borrow.Author.Needs.{needs}
-use Rattle.loader.proofs.Telling.{answer-long, few-of, put-of}
+use Rattle.words.proofs.Telling.{answer-long}
+use Rattle.loader.proofs.Telling.{few-of, told-of}
 use Rattle.loader.proofs.orc_write_run.Statement.{statement}
 use Rattle.loader.proofs.orc_write_run.Tie as tie
 
@@ -9,7 +10,7 @@ returns-2 : tie.Need-returns-2
 returns-2 c =
     let p = c .before .before in
     let a = p .before .before .before .before in
-    put-of answer-long (a .write .ensures .answer) (a .before .before .if1 .left) (a .write .ensures .places) (p .put-answer .ensures)
+    told-of answer-long (a .write .ensures .answer) (a .before .before .if1 .left) (a .write .ensures .places) (p .put-answer .ensures)
 
 pub orc-write-run-spec : {M : Type 1} → statement M
 orc-write-run-spec =

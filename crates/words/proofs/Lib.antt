@@ -1,0 +1,3 @@
+-- The laws that the proofs cite, here and in the loader.
+pub mod Telling
+pub mod PartWords
