@@ -7,7 +7,7 @@ use native.Mathlib.Decide.{decLt}
 use Rattle.format.specs.Fields.{width, widths, two64, Narrowest}
 use Rattle.format.specs.Kept.{nextKept}
 use Rattle.format.proofs.Kept.{narrowest-next, narrowest-kept-unique}
-use Rattle.promises.specs.Outcomes.{Determines, RunDetermined, StreamDetermined, BooleansDetermined, ValueDetermined, WriterDetermined, LoaderDetermined, RunToldDetermined, StreamToldDetermined, BooleansToldDetermined, ValueToldDetermined, WriteToldDetermined, VersionDetermined, NarrowestDetermined, PatchedDetermined, PartDetermined, ClosingDetermined}
+use Rattle.promises.specs.Outcomes.{Determines, RunDetermined, StreamDetermined, RunMeasuredDetermined, StreamMeasuredDetermined, BooleansDetermined, ValueDetermined, WriterDetermined, LoaderDetermined, RunToldDetermined, StreamToldDetermined, BooleansToldDetermined, ValueToldDetermined, WriteToldDetermined, VersionDetermined, NarrowestDetermined, PatchedDetermined, PartDetermined, ClosingDetermined}
 
 -- a promise that says what the places and the answer are
 determined : {P A : Type 0} (Allows : P → A → Type 0) (p₀ : P) (r₀ : A) → Allows p₀ r₀ → ((p : P) (r : A) → Allows p r → (p ≡ p₀) × (r ≡ r₀)) → Determines P A Allows
@@ -25,6 +25,12 @@ run-determined input at signed out = determined _ _ _ (record { answer = refl; p
 
 pub stream-determined : StreamDetermined
 stream-determined input at signed out = determined _ _ _ (record { answer = refl; places = refl }) (λ p r a. (a .places, a .answer))
+
+pub run-measured-determined : RunMeasuredDetermined
+run-measured-determined input at = determined _ tt _ refl (λ p r a. (refl, a))
+
+pub stream-measured-determined : StreamMeasuredDetermined
+stream-measured-determined input at = determined _ tt _ refl (λ p r a. (refl, a))
 
 pub booleans-determined : BooleansDetermined
 booleans-determined input at n out = determined _ _ _ (record { answer = refl; places = refl }) (λ p r a. (a .places, a .answer))

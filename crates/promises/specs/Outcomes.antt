@@ -9,7 +9,7 @@ use Rattle.format.specs.declared.Answer.{Answer}
 use Rattle.format.specs.declared.Stream.{Stream}
 use Rattle.format.specs.Fields.{two64}
 use Rattle.format.specs.Kept.{NarrowestKept}
-use Rattle.format.specs.Promises.{RunRead, StreamRead}
+use Rattle.format.specs.Promises.{RunRead, RunMeasured, StreamRead, StreamMeasured}
 use Rattle.format.specs.Booleans.{BooleansRead}
 use Rattle.format.specs.ByteValues.{ValueRead, ValueGiven}
 use Rattle.format.specs.Loader.{Loaded, faceVersion, RunTold, StreamTold, BooleansTold, ValueTold, WriteTold}
@@ -32,6 +32,13 @@ RunDetermined = (input : List ℕ) (at : ℕ) (signed : Bool) (out : List ℤ) �
 
 abbrev pub StreamDetermined : Type 0
 StreamDetermined = (input : List ℕ) (at : ℕ) (signed : Bool) (out : List ℤ) → Determines (List ℤ) Stream (λ p r. StreamRead input at signed out p r)
+
+-- the measures lend no place: for every input and position
+abbrev pub RunMeasuredDetermined : Type 0
+RunMeasuredDetermined = (input : List ℕ) (at : ℕ) → Determines (Unit {0}) Answer (λ p r. RunMeasured input at r)
+
+abbrev pub StreamMeasuredDetermined : Type 0
+StreamMeasuredDetermined = (input : List ℕ) (at : ℕ) → Determines (Unit {0}) Stream (λ p r. StreamMeasured input at r)
 
 -- for every input, position, number of booleans and lent places
 abbrev pub BooleansDetermined : Type 0

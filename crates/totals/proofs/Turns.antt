@@ -1,31 +1,32 @@
--- A turn, and all turns: that what is taken is what the whole input's lines give. Assumes nothing.
+-- From turn to turn: what is left is what the next turn may be given, and what is told is what was taken. Assumes nothing.
 use mathlib.Core.Path.{_≡_, refl, sym, ap, _∙_}
-use Prim.Native.Nat.{ℕ, _+_}
+use Prim.Native.Nat.{ℕ, zero, suc, _+_}
 use native.Mathlib.Omega.{arith}
-use mathlib.Core.Bool.{true, false}
-use mathlib.Core.List.{List, [], _∷_, _++_, map-append, append-nil, append-assoc}
-use lib.ListN.{length, take, drop, take-append-drop}
+use mathlib.Core.Bool.{Bool, true, false}
+use mathlib.Core.List.{List, [], _∷_, _++_, append-nil, append-assoc}
+use lib.ListN.{length, take, drop, take-append-drop, length-append}
 use lib.Seq.{length-take-le, take-all}
-use lib.IntN.{ℤ, pos}
-use lib.Signed.{ltZ}
-use Rattle.blocks.specs.Blocks.{linesFrom, begunFrom, lastLine, linesIn, NoNewline, kept, part, came as bytesCame, Came, Carried, blockLines, joinedBlocks}
-use Rattle.blocks.proofs.Lines.{lines-append, lines-open}
-use Rattle.blocks.proofs.Turns.{held-all, front-held, carried, cut-is, left-is}
-use Rattle.blocks.proofs.Joined.{blocks-joined}
+use lib.IntN.{ℤ, pos, negsuc}
+use Rattle.blocks.specs.Blocks.{linesFrom, begunFrom, lastLine, NoNewline, kept, part, came as bytesCame, notReady, Came}
+use Rattle.blocks.proofs.Begun.{no-take}
+use Rattle.blocks.proofs.Turns.{stop-long, front-held, carried}
 use Rattle.season.specs.declared.Totals.{Totals}
-use Rattle.season.specs.declared.Taken.{Taken}
-use Rattle.season.specs.Totals.{Line, empty, takeLines}
-use Rattle.season.specs.Held.{held, going, stopped, takeAll, heldOutcome}
-use Rattle.season.proofs.Taking.{code-holds}
-use Rattle.totals.specs.Program.{answerTo, answersTo, takenText, programText, Rest, Stops, in-block, at-end, After, Going, Stopping, with-block, with-last, Turned, Takes, Reached, Final, Ready, Finished}
+use Rattle.season.specs.Totals.{empty}
+use Rattle.season.specs.Held.{held, stopped, takeAll}
+use Rattle.totals.specs.Program.{answersTo, Rest, AfterBlock, AfterEnd, AfterFailure, After, noReads, Turned, Going, Reached, over, Final, at-end, in-block, Ready, Finished}
 use Rattle.totals.specs.Program.Takes.{ends, stops, turns}
+use Rattle.totals.specs.declared.reading.Reads.{Reads}
 use Rattle.totals.specs.declared.taking.Next.{Next}
 use Rattle.totals.specs.declared.taking.Next.the-variants.{Begun, Ended, Stopped, Failed}
-use Rattle.totals.proofs.Answers.{long-alike, all-i64}
-use Rattle.totals.proofs.Onward.{all-going, all-stopped}
 
--- ---- what is left of a read
-module _ (before : Totals) (line input : List ℕ) (n stop : ℕ) (got : ℤ) (c : Came line input n stop got) where
+-- ---- what comes of a read
+
+-- nothing came, and the read is tried again: all that is left is what was held
+pub rest-held : (before : Totals) (input : List ℕ) (n : ℕ) → n ≡ length input → NoNewline input → Rest before input before 0 n
+unfolding linesFrom begunFrom takeAll
+rest-held before input n e k = record { ends = e; order = omega arith; whole = refl; begun = k; taken = refl }
+
+module _ (line input : List ℕ) (n stop : ℕ) (got : ℤ) (c : Came line input n stop got) where
   abbrev came : List ℕ
   came = take stop input
 
@@ -35,97 +36,83 @@ module _ (before : Totals) (line input : List ℕ) (n stop : ℕ) (got : ℤ) (c
   whole-input : kept line ++ drop n came ≡ came
   whole-input = ap (λ (l : List ℕ). l ++ drop n came) (sym front) ∙ take-append-drop n came
 
-  rest-going : (t : Totals) (from end : ℕ) → Rest before came t from end → Going before line input t from end
-  rest-going t from end r =
+  rest-going : (before t : Totals) (from end : ℕ) → Rest before came t from end → Going before line input t from end
+  rest-going before t from end r =
       let e : end ≡ stop = r .ends ∙ length-take-le stop input (c .within) in
       record { carried = carried line input n stop got c from end (r .ends) (r .order) (r .whole) (r .begun); taken = rw e (r .taken) }
 
-  stopping : (t : Totals) → Stops before (take n came) came t → Stopping before line t
-  stopping t (in-block e) = with-block (drop n came) (ap (λ (i : List ℕ). takeAll before (answersTo (linesFrom [] i))) whole-input ∙ e)
-  stopping t (at-end e) = with-last (rw front at e)
-
-  pub turned : (t : Totals) (next : Next) → After before (take n came) came t next → Turned before line input t next
-  turned t (Begun from end) a = rest-going t from end a
-  turned t Ended a = rw front at a
-  turned t Stopped a = stopping t a
-  turned t Failed a = tt
-
--- nothing came: there is only what was held
-pub last-held : (before : Totals) (n : ℕ) (input : List ℕ) (t : Totals) (next : Next) → n ≡ length input → After before input input t next → After before (take n input) input t next
-last-held before n input t next h a = rw (take-all n input (omega (arith, h))) a
-
-pub rest-held : (before : Totals) (input : List ℕ) (n : ℕ) (z : ℤ) → length input ≡ n + bytesCame z → ltZ (pos 0) z ≡ false → NoNewline (take n input) → Rest before input before 0 n
-unfolding linesFrom begunFrom takeAll
-rest-held before input n z l h o =
-    let (e, k) = held-all input n z l h o in
-    record { ends = e; order = omega arith; whole = refl; begun = k; taken = refl }
+  -- nothing came: there is only what was held
+  only-held : bytesCame got ≡ 0 → (n ≡ length came) × (kept line ≡ came)
+  only-held z =
+      let e : n ≡ length came = omega (arith, stop-long line input n stop got c, z) in
+      (e, sym front ∙ take-all n came (omega (arith, e)))
 
 -- ---- from turn to turn
 
-reached-ends : (t : Totals) (line : List ℕ) (r : Taken) → Reached t line → takeAll t (answersTo (lastLine (kept line))) ≡ r
-    → (blocks : List (List ℕ)) × Takes [] blocks (held empty) r
-reached-ends t line r (blocks, go) e = (blocks ++ [], go [] r (rw e at (ends {line = line} {t = t})))
+-- one block more
+module _ (count : ℕ) (t : Totals) (line : List ℕ) (g : Reached count t line) where
+  reached-on : (t′ : Totals) (input : List ℕ) (from end : ℕ) → Going t line input t′ from end → Reached (count + 1) t′ (part from end input)
+  reached-on t′ input from end s =
+      let block = part (length (kept line)) end input in
+      record {
+        blocks = g .blocks ++ (block ∷ []);
+        all = omega (arith, g .all, length-append (g .blocks) (block ∷ []));
+        takes = λ later r h. rw (append-assoc (g .blocks) (block ∷ []) later) (g .takes (block ∷ later) r (turns s h));
+      }
 
-reached-stops : (t t′ : Totals) (line : List ℕ) → Reached t line → Stopping t line t′ → Final t′ true
-reached-stops t t′ line (blocks, go) (with-block block e) = (blocks ++ (block ∷ []), go (block ∷ []) (stopped t′) (stops e))
-reached-stops t t′ line g (with-last e) = reached-ends t line (stopped t′) g e
+  -- the last of them
+  module _ (reads : Reads) (e : reads .count ≡ count + 1) (t′ : Totals) where
+    reached-end : (halted : Bool) → reads .got ≡ pos 0 → takeAll t (answersTo (lastLine (kept line))) ≡ over t′ halted → Final reads t′ halted
+    reached-end halted z h =
+        at-end (g .blocks ++ []) z (omega (arith, e, g .all, ap length (append-nil (g .blocks)))) (g .takes [] (over t′ halted) (rw h at (ends {line = line} {t = t})))
 
-reached-on : (t t′ : Totals) (line input : List ℕ) (from end : ℕ) → Reached t line → Going t line input t′ from end → Reached t′ (part from end input)
-reached-on t t′ line input from end (blocks, go) g =
-    let block = part (length (kept line)) end input in
-    (blocks ++ (block ∷ []), λ later r h. rw (append-assoc blocks (block ∷ []) later) (go (block ∷ later) r (turns g h)))
+    reached-stop : (block : List ℕ) → takeAll t (answersTo (linesFrom [] (kept line ++ block))) ≡ stopped t′ → Final reads t′ true
+    reached-stop block h =
+        in-block (g .blocks ++ (block ∷ [])) refl (omega (arith, e, g .all, length-append (g .blocks) (block ∷ [])))
+        (λ later. rw (append-assoc (g .blocks) (block ∷ []) later) (g .takes (block ∷ later) (stopped t′) (stops h)))
 
 -- what is left is what a turn may be given, and what is told is what was taken
-pub turned-ready : (t : Totals) (line input : List ℕ) (t′ : Totals) (next : Next) → Reached t line → Turned t line input t′ next → Ready t′ input next
-turned-ready t line input t′ (Begun from end) r g = (g .carried .begun, reached-on t t′ line input from end r g)
-turned-ready t line input t′ Ended r g = reached-ends t line (going t′) r g
-turned-ready t line input t′ Stopped r g = reached-stops t t′ line r g
-turned-ready t line input t′ Failed r g = tt
+module _ (t : Totals) (reads reads′ : Reads) (line input : List ℕ) (o : NoNewline line) (g : Reached (reads .count) t line) (e : reads′ .count ≡ reads .count + 1) where
+  ready-on : (t′ : Totals) (from end : ℕ) → Going t line input t′ from end → Ready reads′ t′ input (Begun from end)
+  ready-on t′ from end s = (s .carried .begun, rw e (reached-on (reads .count) t line g t′ input from end s))
 
-pub ready-first : (t : Totals) (input : List ℕ) → t ≡ held empty → Ready t input (Begun 0 0)
-ready-first t input e = (tt, ([], λ later r h. rw e at h))
+  module _ (n stop : ℕ) (got : ℤ) (is : reads′ .got ≡ got) (c : Came line input n stop got) (t′ : Totals) where
+    ready-block : (next : Next) → AfterBlock t (take stop input) t′ next → Ready reads′ t′ input next
+    ready-block (Begun from end) a = ready-on t′ from end (rest-going line input n stop got c t t′ from end a)
+    ready-block Ended a = absurd a
+    ready-block Stopped a =
+        let w = whole-input line input n stop got c in
+        reached-stop (reads .count) t line g reads′ e t′ (drop n (take stop input)) (ap (λ (i : List ℕ). takeAll t (answersTo (linesFrom [] i))) w ∙ a)
+    ready-block Failed a = absurd a
 
-pub ready-finished : (t : Totals) (input : List ℕ) (next : Next) → Ready t input next → Finished t next
-ready-finished t input (Begun from end) h = tt
-ready-finished t input Ended h = h
-ready-finished t input Stopped h = h
-ready-finished t input Failed h = tt
+    ready-end : bytesCame got ≡ 0 → got ≡ pos 0 → (next : Next) → AfterEnd t (take stop input) t′ next → Ready reads′ t′ input next
+    ready-end z y (Begun from end) a = absurd a
+    ready-end z y Ended a = reached-end (reads .count) t line g reads′ e t′ false (is ∙ y) (rw (only-held line input n stop got c z .1) a)
+    ready-end z y Stopped a = reached-end (reads .count) t line g reads′ e t′ true (is ∙ y) (rw (only-held line input n stop got c z .1) a)
+    ready-end z y Failed a = absurd a
 
--- ---- all turns
+    ready-failure : bytesCame got ≡ 0 → (again : Bool) (next : Next) → AfterFailure t n again t′ next → Ready reads′ t′ input next
+    ready-failure z true next a =
+        let h = only-held line input n stop got c z in
+        let k : NoNewline (take stop input) = rw (h .1) at (no-take 8801 line o) in
+        let s : Going t line input t 0 n = rest-going line input n stop got c t t 0 n (rest-held t (take stop input) n (h .0) k) in
+        rw (a .goes-on, a .nothing) (ready-on t 0 n s)
+    ready-failure z false next a = rw (a .goes-on) tt
 
--- a turn's whole lines are those of what was kept and of its block
-lines-are : (line input : List ℕ) (from end : ℕ) → Carried line input from end
-    → linesFrom [] (kept line ++ part (length (kept line)) end input) ≡ linesFrom [] (take from (take end input))
-lines-are line input from end c =
-    let p = take from (take end input) in
-    let q = part from end input in
-    ap (λ (s : List ℕ). linesFrom [] s) (cut-is line input from end c)
-    ∙ lines-append [] p q ∙ rw (c .whole, lines-open [] q (c .begun)) (append-nil (linesFrom [] p))
+pub turned-ready : (t : Totals) (reads : Reads) (line input : List ℕ) (t′ : Totals) (next : Next) (reads′ : Reads) → NoNewline line → Reached (reads .count) t line
+    → Turned t reads line input t′ next reads′ → Ready reads′ t′ input next
+turned-ready t reads line input t′ next reads′ o g u = by (reads′ .got) refl (u .came) (u .after)
+  where
+    by : (got : ℤ) → reads′ .got ≡ got → Came line input (u .held) (u .stop) got → After t (take (u .stop) input) (u .held) got (reads′ .error) t′ next → Ready reads′ t′ input next
+    by (pos zero) e c a = ready-end t reads reads′ line input o g (u .count) (u .held) (u .stop) (pos zero) e c t′ refl refl next a
+    by (pos (suc k)) e c a = ready-block t reads reads′ line input o g (u .count) (u .held) (u .stop) (pos (suc k)) e c t′ next a
+    by (negsuc k) e c a = ready-failure t reads reads′ line input o g (u .count) (u .held) (u .stop) (negsuc k) e c t′ refl (notReady (reads′ .error)) next a
 
-takes-lines : (line : List ℕ) (blocks : List (List ℕ)) (t : Totals) (r : Taken) → Takes line blocks t r → r ≡ takeAll t (answersTo (blockLines (kept line) blocks))
-unfolding blockLines
-takes-lines line _ t _ ends = refl
-takes-lines line _ t _ (stops {block = block} {blocks = blocks} {t′ = t′} e) =
-    let ls = linesFrom [] (kept line ++ block) in
-    let more = blockLines (kept (begunFrom [] (kept line ++ block))) blocks in
-    sym (rw (map-append answerTo ls more) (all-stopped t t′ (answersTo ls) e (answersTo more)))
-takes-lines line _ t r (turns {input = input} {from = from} {end = end} {blocks = blocks} {t′ = t′} g h) =
-    let ls = linesFrom [] (take from (take end input)) in
-    let more = blockLines (kept (part from end input)) blocks in
-    rw (lines-are line input from end (g .carried), left-is line input from end (g .carried), map-append answerTo ls more)
-    (takes-lines (part from end input) blocks t′ r h ∙ sym (all-going t t′ (answersTo ls) (g .taken) (answersTo more)))
+pub ready-first : (t : Totals) (reads : Reads) (input : List ℕ) → t ≡ held empty → reads ≡ noReads → Ready reads t input (Begun 0 0)
+ready-first t reads input e h = (tt, record { blocks = []; all = ap (λ (x : Reads). x .count) h; takes = λ later r k. rw e at k })
 
--- the code's totals of all lines of an input are the definition's
-pub lines-taken : (lines : List (List ℕ)) → takeAll (held empty) (answersTo lines) ≡ heldOutcome (takeLines empty (answersTo lines))
-lines-taken lines = code-holds .lines (answersTo lines) (all-i64 lines)
-
--- ALL THAT IS TAKEN, by turns that each meet their contract, is what the program's definition takes of the whole input, and so is the text
-pub turns-take : (blocks : List (List ℕ)) (r : Taken) → Takes [] blocks (held empty) r → r ≡ heldOutcome (takeLines empty (answersTo (linesIn (joinedBlocks blocks))))
-turns-take blocks r h =
-    takes-lines [] blocks (held empty) r h
-    ∙ ap (λ (ls : List Line). takeAll (held empty) ls) (blocks-joined Line answerTo long-alike blocks)
-    ∙ lines-taken (linesIn (joinedBlocks blocks))
-
-pub turns-say : (blocks : List (List ℕ)) (r : Taken) → Takes [] blocks (held empty) r → takenText r ≡ programText (joinedBlocks blocks)
-unfolding programText
-turns-say blocks r h = ap takenText (turns-take blocks r h)
+pub ready-finished : (t : Totals) (reads : Reads) (input : List ℕ) (next : Next) → Ready reads t input next → Finished reads t next
+ready-finished t reads input (Begun from end) h = tt
+ready-finished t reads input Ended h = h
+ready-finished t reads input Stopped h = h
+ready-finished t reads input Failed h = tt
