@@ -1,2 +1,3 @@
--- The lines of an input, and of an input that comes in blocks.
+-- The lines of an input, and of an input that comes in blocks; and that any two answers are equal.
 pub mod Blocks
+pub mod Outcomes

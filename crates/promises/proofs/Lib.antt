@@ -35,6 +35,8 @@ pub mod PatchedLeast
 pub mod Patched
 pub mod PatchedTable
 pub mod PatchedExamples
+pub mod LongestByForm
+pub mod LongestWritten
 pub mod Feeding
 pub mod Parts
 pub mod PartsRefused

@@ -15,7 +15,7 @@ use Rattle.format.specs.ByteValues.{ValueRead, ValueGiven}
 use Rattle.format.specs.Loader.{Loaded, faceVersion, RunTold, StreamTold, BooleansTold, ValueTold, WriteTold}
 use Rattle.format.specs.Writing.{Written}
 use Rattle.format.specs.PatchedWriting.{PatchedWritten}
-use Rattle.format.specs.Parts.{Takes, Closes}
+use Rattle.format.specs.Parts.{fresh, Takes, Closes}
 use Rattle.format.specs.declared.Form.{Form}
 use Rattle.format.specs.declared.PartReader.{PartReader}
 use Rattle.format.specs.declared.PartStep.{PartStep}
@@ -92,6 +92,14 @@ VersionDetermined = Determines (Unit {0}) ℕ (λ p r. r ≡ faceVersion)
 
 abbrev pub NarrowestDetermined : Type 0
 NarrowestDetermined = (x : ℕ) → x < two64 → Determines (Unit {0}) ℕ (λ p r. NarrowestKept x r)
+
+-- a promise that is an equation, `r ≡ ..`, of a call with no lent place: the constructors of the answers, and every other function like them
+abbrev pub EquationDetermined : Type 1
+EquationDetermined = (A : Type 0) (a : A) → Determines (Unit {0}) A (λ p r. r ≡ a)
+
+-- a reader in parts that has taken nothing
+abbrev pub StartDetermined : Type 0
+StartDetermined = Determines (Unit {0}) PartReader (λ p r. r ≡ fresh)
 
 -- the lent bytes and places, and what a call with a part does: for every reader, part, flag and all that is lent; the closing call leaves the lent bytes
 abbrev pub PartDetermined : Type 0
