@@ -34,7 +34,8 @@ pub record SeasonDetermined : Type 0 where
   pub plus : (w v : Words) → One Words (λ r. r ≡ addWords w v)
   pub is-negative : (w : Words) → One Bool (λ r. r ≡ isNegative (wordsValue w))
   pub size : (w : Words) → One Words (λ r. OfWords r × (sizeOf r ≡ natAbs (wordsValue w)))
-  pub tenth : (w : Words) → One Tenth (λ r. OfWords (r .quotient) × IsTenth (sizeOf w) (sizeOf (r .quotient)) (r .digit))
+  pub tenth : (w : Words) (r r′ : Tenth) → OfWords (r .quotient) × IsTenth (sizeOf w) (sizeOf (r .quotient)) (r .digit)
+      → OfWords (r′ .quotient) × IsTenth (sizeOf w) (sizeOf (r′ .quotient)) (r′ .digit) → r ≡ r′
   -- of `Extreme`: `lower`, `higher`; of `Reply`: `to`
   pub lower-of : (a b : Extreme) → One Extreme (λ r. r ≡ ofTwo lower a b)
   pub higher-of : (a b : Extreme) → One Extreme (λ r. r ≡ ofTwo higher a b)
