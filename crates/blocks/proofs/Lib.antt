@@ -4,3 +4,4 @@ pub mod Lines
 pub mod Moves
 pub mod Turns
 pub mod Joined
+pub mod Brought

@@ -1,2 +1,3 @@
--- The lines of an input, and of an input that comes in blocks.
+-- The lines of an input, and of an input that comes in blocks; and the reads that they come by.
 pub mod Blocks
+pub mod Reading

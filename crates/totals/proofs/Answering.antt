@@ -4,7 +4,6 @@ use Prim.Native.Nat.{ℕ, zero, suc}
 use native.Mathlib.Omega.{arith}
 use mathlib.Core.Bool.{Bool, true, false, not}
 use mathlib.Core.List.{List}
-use lib.ListN.{take}
 use lib.IntN.{ℤ, pos, negsuc}
 use lib.Signed.{ltZ}
 use mir.Syntax.{w64}
@@ -13,9 +12,7 @@ use borrow.Author.Tests.{lt-ltb}
 use Rattle.format.specs.Fields.{pick}
 use Rattle.blocks.specs.Blocks.{notReady}
 use Rattle.season.specs.declared.Totals.{Totals}
-use Rattle.totals.specs.Program.{AfterBlock, AfterEnd, AfterFailure, After, ReadOnce, Turned}
-use Rattle.totals.specs.declared.reading.Reads.{Reads}
-use Rattle.totals.specs.declared.reading.Read.{Read}
+use Rattle.totals.specs.Program.{AfterBlock, AfterEnd, AfterFailure, After}
 use Rattle.totals.specs.declared.taking.Next.{Next}
 use Rattle.totals.specs.declared.taking.Next.the-variants.{Begun, Failed}
 use Rattle.totals.proofs.Onward.{clash}
@@ -45,12 +42,3 @@ module _ (before : Totals) (n : ℕ) (again : Bool) where
   pub tried-again : (r : Bool) → r ≡ again → not r ≡ false → AfterFailure before n again before (Begun 0 n)
   tried-again true e h = record { nothing = refl; goes-on = ap (λ (b : Bool). pick b (Begun 0 n) Failed) e }
   tried-again false e h = clash h
-
--- what came of it is by its own answer
-pub once-turned : (before : Totals) (reads : Reads) (line input : List ℕ) (r : Read) (t : Totals) (next : Next) → ReadOnce reads line input r
-    → After before (take (r .stop) input) (r .held) (r .got) (r .error) t next → Turned before reads line input t next (r .reads)
-once-turned before reads line input r t next o a =
-    let c = ap (λ (x : Reads). x .count) (o .reads) in
-    let g : r .reads .got ≡ r .got = ap (λ (x : Reads). x .got) (o .reads) in
-    let e : r .reads .error ≡ r .error = ap (λ (x : Reads). x .error) (o .reads) in
-    record { count = c; held = r .held; stop = r .stop; came = rw g (o .came); after = rw (g, e) a }

@@ -40,7 +40,7 @@ turn-requires : tie.Need-turn-requires Inv-loop μ-loop
 turn-requires c κs =
     let l = c .before .before .before .before .before .before .loop in
     let r = rw (c .before .before .before .next .given .1) at (l .inv .3) in
-    (omega (arith, l .inv .2), r .0, sym (l .inv .1))
+    (r .0, sym (l .inv .1))
 
 loop-again : tie.Need-loop-again Inv-loop μ-loop
 loop-again c =
@@ -51,8 +51,8 @@ loop-again c =
     let r = rw (n .given .1) at (l .inv .3) in (
       l .inv .0 ∙ sym (t .turn .kept .1 .1 .0),
       l .inv .1 ∙ sym (t .turn .kept .1 .1 .1 .1 .1 .0),
-      omega (arith, t .turn .ensures .count, l .inv .2),
-      turned-ready (l .totals) (l .reads) (part (g .0) (g .1 .0) (l .input)) (t .turn .last .1 .1 .0) (t .turn .result .totals) (t .turn .result .next) (t .turn .result .reads) (r .0) (r .1) (t .turn .ensures),
+      rw (t .turn .ensures .is, t .turn .ensures .once .reads) (omega (arith, l .inv .2)),
+      turned-ready (l .totals) (l .reads) (part (g .0) (g .1 .0) (l .input)) (t .turn .last .1 .1 .0) (t .turn .result .totals) (t .turn .result .next) (t .turn .result .reads) (r .0) (r .1) (omega (arith, l .inv .2)) (t .turn .ensures),
     )
 
 pub main-spec : {M : Type 1} → statement M
