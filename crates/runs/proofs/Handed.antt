@@ -5,6 +5,7 @@ use native.Mathlib.Omega.{arith}
 use mathlib.Core.Bool.{true, false}
 use mathlib.Core.List.{List, [], _∷_, _++_, append-assoc, append-nil}
 use lib.ListN.{length, take, drop, take-append-drop, length-append}
+use lib.Seq.{take-at}
 use lib.IntN.{ℤ, pos, negsuc}
 use Rattle.blocks.specs.Blocks.{linesFrom, begunFrom, lastLine, linesIn, NoNewline, kept, part, came, joinedBlocks, blockLines}
 use Rattle.blocks.specs.Reading.{noReads, ReadOnce, Brought, BroughtAll}
@@ -13,7 +14,8 @@ use Rattle.blocks.specs.declared.reading.Read.{Read}
 use Rattle.blocks.proofs.Begun.{begun-append, begun-open, no-take}
 use Rattle.blocks.proofs.Turns.{block-long, input-whole, only-held}
 use Rattle.blocks.proofs.Brought.{none-brought, unread-only, brought-on}
-use Rattle.runs.specs.Program.{answersTo, answersFrom, lastAnswer, programText, blockText, nothingSaid, SaidOn, SaidAs, Due, in-block, at-end, SaidAll, Reached, Pending, Last, Given, NoneUnread}
+use Rattle.runs.specs.Program.{answersTo, answersFrom, lastAnswer, programText, blockText, nothingSaid, SaidOn, SaidAs, Due, in-block, at-end, SaidAll, Reached, Pending, Last, Given, Begins, Pieces, FinalSays, NoneUnread}
+use Rattle.runs.specs.Program.Pieces.{nothing, piece}
 use Rattle.runs.specs.declared.saying.Said.{Said}
 use Rattle.runs.proofs.Blocks.{answers-append, no-open, block-turn, program-blocks}
 
@@ -50,11 +52,11 @@ module _ (reads : Reads) (said : Said) (line input : List ℕ) (read : Read) (on
     brought = more block (block-long line input (read .held) (read .stop) (read .got) (once .came));
     handed = g .handed;
     text = λ later.
-      ap (λ (bs : List (List ℕ)). programText (joinedBlocks bs)) (append-assoc (g .blocks) (block ∷ []) later)
-      ∙ g .text (block ∷ later)
-      ∙ ap (λ (t : List ℕ). g .before ++ t) (block-turn (kept line) block later)
-      ∙ ap (λ (s : List ℕ). g .before ++ (answersFrom [] s ++ blockText (kept (begunFrom [] s)) later))
-      (input-whole line input (read .held) (read .stop) (read .got) (once .came));
+        ap (λ (bs : List (List ℕ)). programText (joinedBlocks bs)) (append-assoc (g .blocks) (block ∷ []) later)
+        ∙ g .text (block ∷ later)
+        ∙ ap (λ (t : List ℕ). g .before ++ t) (block-turn (kept line) block later)
+        ∙ ap (λ (s : List ℕ). g .before ++ (answersFrom [] s ++ blockText (kept (begunFrom [] s)) later))
+        (input-whole line input (read .held) (read .stop) (read .got) (once .came));
   }
 
   only : came (read .got) ≡ 0 → kept line ≡ all
@@ -139,6 +141,27 @@ module _ (reads : Reads) (said : Said) (line : List ℕ) (g : Last reads said li
   pub none-last : lastAnswer line ≡ [] → SaidAll reads said
   none-last e = record { blocks = g .blocks; brought = g .brought; all = rw (g .text, e, append-nil (g .before)) (g .handed) }
 
+-- ---- all pieces
+
+begun-alike : (before said all : List ℕ) (rest more : List ℕ) → all ≡ before ++ rest → all ≡ said ++ more → length before ≡ length said → before ≡ said
+begun-alike before said all rest more e h l =
+    sym (take-at before rest (length before) refl) ∙ ap (λ (t : List ℕ). take (length before) t) (sym e ∙ h) ∙ take-at said more (length before) (sym l)
+
+-- THE PIECES of one input, each due after those before it, are its text in order
+pub final-says : (all said : List ℕ) → Pieces all said → FinalSays all said
+final-says all said p = record { begins = begins said p; whole = whole (begins said p) }
+  where
+    begins : (said : List ℕ) → Pieces all said → Begins said all
+    begins _ nothing = (all, refl)
+    begins _ (piece before said text p l b) =
+        let (rest, e) = b in
+        let (more, h) = begins said p in
+        let q : before ≡ said = begun-alike before said all (text ++ rest) more (e ∙ append-assoc before text rest) h l in
+        (rest, rw (← q) e)
+
+    whole : Begins said all → length said ≡ length all → said ≡ all
+    whole (rest, e) l = begun-alike said all all rest [] e (sym (append-nil all)) l
+
 -- ---- without a read
 
 begins-none : (before text rest : List ℕ) → [] ≡ (before ++ text) ++ rest → text ≡ []
@@ -153,10 +176,10 @@ no-end : (blocks : List (List ℕ)) → BroughtAll noReads blocks → ⊥
 no-end blocks b = absurd (omega (arith, b .brought .each, length-append blocks ([] ∷ [])))
 
 pub none-unread : NoneUnread
-none-unread = record { nothing = nothing; no-end = λ said s. no-end (s .blocks) (s .brought) }
+none-unread = record { nothing = unread; no-end = λ said s. no-end (s .blocks) (s .brought) }
   where
-    nothing : (said : Said) (text : List ℕ) → Due noReads said text → text ≡ []
-    nothing said text (in-block blocks before b a h) =
+    unread : (said : Said) (text : List ℕ) → Due noReads said text → text ≡ []
+    unread said text (in-block blocks before b a h) =
         let (rest, e) = h [] in
         begins-none before text rest (sym none-text ∙ rw (unread-only blocks b) at e)
-    nothing said text (at-end blocks before b a h) = absurd (no-end blocks b)
+    unread said text (at-end blocks before b a h) = absurd (no-end blocks b)

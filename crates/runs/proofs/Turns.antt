@@ -8,6 +8,7 @@ use mathlib.Core.List.{List, [], _++_, append-nil}
 use lib.ListN.{length, take, drop}
 use lib.Seq.{length-take-le}
 use lib.IntN.{ℤ, pos, negsuc}
+use Rattle.format.specs.Fields.{pick}
 use Rattle.blocks.specs.Blocks.{blockLines, begunFrom, NoNewline, kept, part, came, notReady, Carried, joinedBlocks}
 use Rattle.blocks.specs.Reading.{isBroken, ReadOnce}
 use Rattle.blocks.specs.declared.reading.Reads.{Reads}
@@ -64,6 +65,28 @@ pub turned-ready : (reads : Reads) (before : Said) (line input : List ℕ) (left
     → reads .count < 18446744073709551615 → Turned reads before line input left reads′ said → Ready input left reads′ said
 turned-ready reads before line input left reads′ said o g few u =
     rw (u .is) (by-answer reads before line input (u .read) (u .once) o g few (u .read .got) refl left said (rw (u .is) at (u .after)))
+
+-- what is left of a turn
+pub turned-carried : (reads : Reads) (before : Said) (line input : List ℕ) (from end : ℕ) (reads′ : Reads) (said : Said) → NoNewline line
+    → Turned reads before line input (Begun from end) reads′ said → Carried line input from end
+unfolding begunFrom
+turned-carried reads before line input from end reads′ said o u = by (u .read .got) refl (u .after)
+  where
+    rest : Rest (take (u .read .stop) input) from end → Carried line input from end
+    rest r = carried line input (u .read .held) (u .read .stop) (u .read .got) (u .once .came) from end (r .ends) (r .order) (r .whole) (r .begun)
+
+    held-left : came (u .read .got) ≡ 0 → (again : Bool) → Begun from end ≡ pick again (Begun 0 (u .read .held)) Failed → Rest (take (u .read .stop) input) from end
+    held-left z true e =
+        let f : from ≡ 0 = cc in
+        let g : end ≡ u .read .held = cc in
+        let n = only-held line input (u .read .held) (u .read .stop) (u .read .got) (u .once .came) z in
+        rw (f, g) (record { ends = n .0; order = omega arith; whole = refl; begun = rw (n .1) at (no-take 8801 line o) })
+    held-left z false e = let n : _≡_ {A = ℕ} 0 1 = cc in absurd (omega arith)
+
+    by : (got : ℤ) → u .read .got ≡ got → After reads′ before (take (u .read .stop) input) (u .read .held) got (u .read .error) (Begun from end) said → Carried line input from end
+    by (pos zero) e a = absurd a
+    by (pos (suc k)) e a = rest (a .0)
+    by (negsuc k) e a = rest (held-left (rw e refl) (notReady (u .read .error)) (a .goes-on))
 
 pub ready-over : (input : List ℕ) (left : Left) (reads : Reads) (said : Said) → reads .count ≡ 18446744073709551615 → Ready input left reads said → Over left reads said
 ready-over input (Begun from end) reads said e r = e

@@ -80,8 +80,8 @@ pub record SaidAs (said : Said) (text : List ℕ) : Type 0 where
 abbrev pub Begins : List ℕ → List ℕ → Type 0
 Begins begin all = (rest : List ℕ) × (all ≡ begin ++ rest)
 
--- WHAT MAY BE HANDED OVER, after some reads and after what was handed over before: what comes next of the program's text for the blocks that the reads
--- brought, whatever comes after them; or, where the last read found the end of the input, the rest of its text
+-- WHAT MAY BE HANDED OVER, after some reads and after what was handed over before: what comes next of the program's text for the blocks that the
+-- reads brought, whatever comes after them; or, where the last read found the end of the input, the rest of its text
 pub data Due (reads : Reads) (said : Said) (text : List ℕ) : Type 0 where
   in-block : (blocks : List (List ℕ)) (before : List ℕ) → Brought reads blocks → SaidAs said before
       → ((later : List (List ℕ)) → Begins (before ++ text) (programText (joinedBlocks (blocks ++ later)))) → Due reads said text
@@ -94,7 +94,8 @@ pub record SaidAll (reads : Reads) (said : Said) : Type 0 where
   pub brought : BroughtAll reads blocks
   pub all : SaidAs said (programText (joinedBlocks blocks))
 
--- WHERE A TURN STANDS: the text for the blocks that the reads brought and for what comes is what was handed over, and what follows from a line's beginning on
+-- WHERE A TURN STANDS: the text for the blocks that the reads brought and for what comes is what was handed over, and what follows from a line's
+-- beginning on
 pub record Reached (reads : Reads) (said : Said) (line : List ℕ) : Type 0 where
   pub blocks : List (List ℕ)
   pub before : List ℕ
@@ -108,7 +109,8 @@ pub record Pending (reads : Reads) (said : Said) (input : List ℕ) : Type 0 whe
   pub before : List ℕ
   pub brought : Brought reads blocks
   pub handed : SaidAs said before
-  pub text : (later : List (List ℕ)) → programText (joinedBlocks (blocks ++ later)) ≡ before ++ (answersFrom [] input ++ blockText (kept (begunFrom [] input)) later)
+  pub text : (later : List (List ℕ))
+      → programText (joinedBlocks (blocks ++ later)) ≡ before ++ (answersFrom [] input ++ blockText (kept (begunFrom [] input)) later)
 
 -- and after the last: what follows is the answer to the last line
 pub record Last (reads : Reads) (said : Said) (line : List ℕ) : Type 0 where
@@ -165,15 +167,19 @@ pub record Turned (reads : Reads) (before : Said) (line input : List ℕ) (left 
   pub is : reads′ ≡ read .reads
   pub after : After reads′ before (take (read .stop) input) (read .held) (read .got) (read .error) left said
 
--- what a turn may be given, and what holds where there is none more
+-- what a turn may be given
+abbrev pub Open : Reads → Said → List ℕ → Type 0
+Open reads said line = NoNewline line × Reached reads said line
+
+-- and what holds where there is none more
 abbrev pub Ready : List ℕ → Left → Reads → Said → Type 0
-Ready input (Begun from end) reads said = NoNewline (part from end input) × Reached reads said (part from end input)
+Ready input (Begun from end) reads said = Open reads said (part from end input)
 Ready input Ended reads said = SaidAll reads said
 Ready input Failed reads said = isBroken (reads .got) (reads .error) ≡ true
 Ready input Unwritten reads said = said .cut ≡ true
 
--- WHERE THE PROGRAM ENDS: at the end of its input, with all handed over; after a read that failed, or a text that the system did not take; or after 2^64 - 1
--- reads, which no input takes
+-- WHERE THE PROGRAM ENDS: at the end of its input, with all handed over; after a read that failed, or a text that the system did not take; or
+-- after 2^64 - 1 reads, which no input takes
 abbrev pub Over : Left → Reads → Said → Type 0
 Over (Begun from end) reads said = reads .count ≡ 18446744073709551615
 Over Ended reads said = SaidAll reads said
@@ -181,6 +187,17 @@ Over Failed reads said = isBroken (reads .got) (reads .error) ≡ true
 Over Unwritten reads said = said .cut ≡ true
 
 -- ---- what follows
+
+-- THE PIECES THAT ARE HANDED OVER for one input, whose text is `all`: each comes next after as many bytes as were handed over before it
+pub data Pieces (all : List ℕ) : List ℕ → Type 0 where
+  nothing : Pieces all []
+  piece : (before said text : List ℕ) → Pieces all said → length before ≡ length said → Begins (before ++ text) all
+      → Pieces all (said ++ text)
+
+-- so together they are what the text begins with, in order and with no gap; and where as many bytes were handed over as it has, all of it
+pub record FinalSays (all said : List ℕ) : Type 0 where
+  pub begins : Begins said all
+  pub whole : length said ≡ length all → said ≡ all
 
 -- before the first read no text may be handed over but the empty one, and the input has not ended
 pub record NoneUnread : Type 0 where

@@ -11,7 +11,7 @@ ghost use Prim.Native.Nat.{_+_, _<_, _≤_, _^_};
 ghost use lib.ListN.{length};
 ghost use Rattle.lines.specs.Line.{answerRoom};
 ghost use Rattle.blocks.specs.Blocks.{part, came, NoNewline};
-ghost use Rattle.runs.specs.Program.{Pending, Last, Given, Reached, AfterBlock, AfterEnd, After, Turned, Over};
+ghost use Rattle.runs.specs.Program.{Pending, Last, Given, Open, AfterBlock, AfterEnd, After, Turned, Over};
 
 // From where to where in the input a line has begun; that the input has ended; that reading failed; or that the output cannot be written.
 enum Left {
@@ -88,7 +88,8 @@ fn answer_last(reads: Reads, before: Said, line: &[u8], output: &mut [u8]) -> Ou
     }
 }
 
-// What to do with what is held and what came behind it, by what the system answered. The error is handed in, so that the answer is determined.
+// What to do with what is held and what came behind it, by what the system answered. The error is handed in, so that the answer is
+// determined.
 fn answer_came(
     reads: Reads,
     before: Said,
@@ -132,7 +133,7 @@ fn turn(
     end: usize,
     output: &mut [u8],
 ) -> Standing
-    requires { ⌜ (reads .count + 1 < 2 ^ 64) × NoNewline (part from end (now input)) × Reached reads before (part from end (now input)) × (answerRoom ≤ length (now output)) ⌝ }
+    requires { ⌜ (reads .count + 1 < 2 ^ 64) × Open reads before (part from end (now input)) × (answerRoom ≤ length (now output)) ⌝ }
     ensures { λ r. ⌜ Turned reads before (part from end (now (input .entry))) (now (input .exit)) (r .left) (r .reads) (r .said) ⌝ }
 {
     let block = reading::one_more(reads, input, from, end);
@@ -156,8 +157,8 @@ fn turn(
     }
 }
 
-// Reads and answers to the end. A proved loop has to end, and nothing says that the input does: the loop counts its turns down, from a number that
-// no input uses up.
+// Reads and answers to the end. A proved loop has to end, and nothing says that the input does: the loop counts its turns down, from a number
+// that no input uses up.
 fn run() -> Standing
     ensures { λ r. ⌜ Over (r .left) (r .reads) (r .said) ⌝ }
 {

@@ -8,7 +8,7 @@ use lib.ListN.{length, take}
 use lib.Seq.{length-take-le}
 use lib.IntN.{ℤ, pos, negsuc}
 use Rattle.blocks.specs.Blocks.{linesFrom, begunFrom, lastLine, NoNewline, kept, part, came, notReady}
-use Rattle.blocks.specs.Reading.{noReads, ReadOnce, Brought}
+use Rattle.blocks.specs.Reading.{noReads, isBroken, ReadOnce, Brought}
 use Rattle.blocks.specs.declared.reading.Reads.{Reads}
 use Rattle.blocks.specs.declared.reading.Read.{Read}
 use Rattle.blocks.proofs.Begun.{no-take}
@@ -17,7 +17,7 @@ use Rattle.blocks.proofs.Brought.{none-brought, brought-on}
 use Rattle.season.specs.declared.Totals.{Totals}
 use Rattle.season.specs.Totals.{empty}
 use Rattle.season.specs.Held.{held, stopped, takeAll}
-use Rattle.totals.specs.Program.{answersTo, Rest, AfterBlock, AfterEnd, AfterFailure, After, Turned, Going, Reached, over, Final, at-end, in-block, Ready, Finished}
+use Rattle.totals.specs.Program.{answersTo, Rest, AfterBlock, AfterEnd, AfterFailure, After, Turned, Going, Reached, over, Final, at-end, in-block, Ready, Over}
 use Rattle.totals.specs.Program.Takes.{ends, stops, turns}
 use Rattle.totals.specs.declared.taking.Next.{Next}
 use Rattle.totals.specs.declared.taking.Next.the-variants.{Begun, Ended, Stopped, Failed}
@@ -43,19 +43,21 @@ module _ (t : Totals) (reads : Reads) (line input : List ℕ) (read : Read) (onc
   more-block = more block (block-long line input (read .held) (read .stop) (read .got) (once .came))
 
   -- the beginning of a line is left
-  ready-on : (t′ : Totals) (from end : ℕ) → Rest t all t′ from end → Ready (read .reads) t′ input (Begun from end)
+  ready-on : (t′ : Totals) (from end : ℕ) → Rest t all t′ from end → Ready input (Begun from end) (read .reads) t′
   ready-on t′ from end r =
       let e : end ≡ read .stop = r .ends ∙ length-take-le (read .stop) input (once .came .within) in
       let c = carried line input (read .held) (read .stop) (read .got) (once .came) from end (r .ends) (r .order) (r .whole) (r .begun) in
       let s : Going t line input t′ from end = record { carried = c; taken = rw e (r .taken) } in
-      let b : block ≡ part (length (kept line)) end input = rw (e, ← once .came .count) in
-      (c .begun, record {
-        blocks = g .blocks ++ (block ∷ []);
-        brought = more-block;
-        takes = λ later r h. rw (append-assoc (g .blocks) (block ∷ []) later, b) (g .takes (part (length (kept line)) end input ∷ later) r (turns s h));
-      })
+      let b : block ≡ part (length (kept line)) end input = rw (e, ← once .came .count) in (
+        c .begun,
+        record {
+          blocks = g .blocks ++ (block ∷ []);
+          brought = more-block;
+          takes = λ later r h. rw (append-assoc (g .blocks) (block ∷ []) later, b) (g .takes (part (length (kept line)) end input ∷ later) r (turns s h));
+        },
+      )
 
-  ready-block : (t′ : Totals) (next : Next) → AfterBlock t all t′ next → Ready (read .reads) t′ input next
+  ready-block : (t′ : Totals) (next : Next) → AfterBlock t all t′ next → Ready input next (read .reads) t′
   ready-block t′ (Begun from end) a = ready-on t′ from end a
   ready-block t′ Ended a = absurd a
   ready-block t′ Stopped a =
@@ -73,36 +75,38 @@ module _ (t : Totals) (reads : Reads) (line input : List ℕ) (read : Read) (onc
       at-end (g .blocks) (record { end = ap (λ (x : Reads). x .got) (once .reads) ∙ z; brought = more [] (sym n) })
       (rw (append-nil (g .blocks)) at (g .takes [] (over t′ halted) (rw k at (ends {line = line} {t = t}))))
 
-  ready-end : read .got ≡ pos 0 → (t′ : Totals) (next : Next) → AfterEnd t all t′ next → Ready (read .reads) t′ input next
+  ready-end : read .got ≡ pos 0 → (t′ : Totals) (next : Next) → AfterEnd t all t′ next → Ready input next (read .reads) t′
   ready-end z t′ (Begun from end) a = absurd a
   ready-end z t′ Ended a = final-end t′ false z a
   ready-end z t′ Stopped a = final-end t′ true z a
   ready-end z t′ Failed a = absurd a
 
   -- the read failed
-  ready-failure : NoNewline line → came (read .got) ≡ 0 → (again : Bool) (t′ : Totals) (next : Next) → AfterFailure t (read .held) again t′ next
-      → Ready (read .reads) t′ input next
-  ready-failure o z true t′ next a =
+  ready-failure : NoNewline line → (k : ℕ) → read .got ≡ negsuc k → (again : Bool) → notReady (read .error) ≡ again → (t′ : Totals) (next : Next) → AfterFailure t (read .held) again t′ next
+      → Ready input next (read .reads) t′
+  unfolding isBroken
+  ready-failure o k e true b t′ next a =
+      let z : came (read .got) ≡ 0 = rw e refl in
       let h = only-held line input (read .held) (read .stop) (read .got) (once .came) z in
-      let k : NoNewline all = rw (h .1) at (no-take 8801 line o) in
-      rw (a .goes-on, a .nothing) (ready-on t 0 (read .held) (rest-held t all (read .held) (h .0) k))
-  ready-failure o z false t′ next a = rw (a .goes-on) tt
+      let n : NoNewline all = rw (h .1) at (no-take 8801 line o) in
+      rw (a .goes-on, a .nothing) (ready-on t 0 (read .held) (rest-held t all (read .held) (h .0) n))
+  ready-failure o k e false b t′ next a = rw (a .goes-on, once .reads, e, b)
 
-  by-answer : NoNewline line → (got : ℤ) → read .got ≡ got → (t′ : Totals) (next : Next) → After t all (read .held) got (read .error) t′ next → Ready (read .reads) t′ input next
+  by-answer : NoNewline line → (got : ℤ) → read .got ≡ got → (t′ : Totals) (next : Next) → After t all (read .held) got (read .error) t′ next → Ready input next (read .reads) t′
   by-answer o (pos zero) e t′ next a = ready-end e t′ next a
   by-answer o (pos (suc k)) e t′ next a = ready-block t′ next a
-  by-answer o (negsuc k) e t′ next a = ready-failure o (rw e refl) (notReady (read .error)) t′ next a
+  by-answer o (negsuc k) e t′ next a = ready-failure o k e (notReady (read .error)) refl t′ next a
 
 -- what is left is what a turn may be given, and what is told is what was taken
 pub turned-ready : (t : Totals) (reads : Reads) (line input : List ℕ) (t′ : Totals) (next : Next) (reads′ : Reads) → NoNewline line → Reached reads t line
-    → reads .count < 18446744073709551615 → Turned t reads line input t′ next reads′ → Ready reads′ t′ input next
+    → reads .count < 18446744073709551615 → Turned t reads line input t′ next reads′ → Ready input next reads′ t′
 turned-ready t reads line input t′ next reads′ o g few u = rw (u .is) (by-answer t reads line input (u .read) (u .once) g few o (u .read .got) refl t′ next (u .after))
 
-pub ready-first : (t : Totals) (reads : Reads) (input : List ℕ) → t ≡ held empty → reads ≡ noReads → Ready reads t input (Begun 0 0)
+pub ready-first : (t : Totals) (reads : Reads) (input : List ℕ) → t ≡ held empty → reads ≡ noReads → Ready input (Begun 0 0) reads t
 ready-first t reads input e h = (tt, record { blocks = []; brought = none-brought reads h; takes = λ later r k. rw e at k })
 
-pub ready-finished : (t : Totals) (reads : Reads) (input : List ℕ) (next : Next) → Ready reads t input next → Finished reads t next
-ready-finished t reads input (Begun from end) h = tt
-ready-finished t reads input Ended h = h
-ready-finished t reads input Stopped h = h
-ready-finished t reads input Failed h = tt
+pub ready-over : (input : List ℕ) (next : Next) (reads : Reads) (t : Totals) → reads .count ≡ 18446744073709551615 → Ready input next reads t → Over next reads t
+ready-over input (Begun from end) reads t e r = e
+ready-over input Ended reads t e r = r
+ready-over input Stopped reads t e r = r
+ready-over input Failed reads t e r = r

@@ -10,7 +10,7 @@ use Rattle.format.specs.Fields.{pick}
 use Rattle.text.specs.Ascii.{ascii}
 use Rattle.lines.specs.Line.{frameOf}
 use Rattle.blocks.specs.Blocks.{linesFrom, begunFrom, lastLine, linesIn, NoNewline, kept, part, notReady, Carried, joinedBlocks}
-use Rattle.blocks.specs.Reading.{noReads, ReadOnce, Brought, BroughtAll}
+use Rattle.blocks.specs.Reading.{noReads, isBroken, ReadOnce, Brought, BroughtAll}
 use Rattle.blocks.specs.declared.reading.Reads.{Reads}
 use Rattle.blocks.specs.declared.reading.Read.{Read}
 use Rattle.season.specs.Totals.{Line, answered, empty, takeLines}
@@ -115,30 +115,32 @@ abbrev pub over : Totals → Bool → Taken
 over t false = going t
 over t true = stopped t
 
--- THE TOTALS THAT ARE TOLD are those of the blocks that all reads brought: the last read found the end of the input; or a line of the last block would
--- pass a limit, whatever comes after it
+-- THE TOTALS THAT ARE TOLD are those of the blocks that all reads brought: the last read found the end of the input; or a line of the last block
+-- would pass a limit, whatever comes after it
 pub data Final (reads : Reads) (t : Totals) (halted : Bool) : Type 0 where
   at-end : (blocks : List (List ℕ)) → BroughtAll reads blocks → Takes [] blocks (held empty) (over t halted) → Final reads t halted
   in-block : (blocks : List (List ℕ)) → halted ≡ true → Brought reads blocks
       → ((later : List (List ℕ)) → Takes [] (blocks ++ later) (held empty) (stopped t)) → Final reads t halted
 
--- what a turn may be given, and what is left where there is none more
-abbrev pub Ready : Reads → Totals → List ℕ → Next → Type 0
-Ready reads t input (Begun from end) = NoNewline (part from end input) × Reached reads t (part from end input)
-Ready reads t input Ended = Final reads t false
-Ready reads t input Stopped = Final reads t true
-Ready reads t input Failed = Unit {0}
+-- what a turn may be given, and what holds where there is none more
+abbrev pub Ready : List ℕ → Next → Reads → Totals → Type 0
+Ready input (Begun from end) reads t = NoNewline (part from end input) × Reached reads t (part from end input)
+Ready input Ended reads t = Final reads t false
+Ready input Stopped reads t = Final reads t true
+Ready input Failed reads t = isBroken (reads .got) (reads .error) ≡ true
 
--- what is to be told where nothing more is to be read
-abbrev pub Finished : Reads → Totals → Next → Type 0
-Finished reads t (Begun from end) = Unit {0}
-Finished reads t Ended = Final reads t false
-Finished reads t Stopped = Final reads t true
-Finished reads t Failed = Unit {0}
+-- WHERE READING ENDS: at the end of the input; at a line that would pass a limit; after a read that failed; or after 2^64 - 1 reads, which no
+-- input takes
+abbrev pub Over : Next → Reads → Totals → Type 0
+Over (Begun from end) reads t = reads .count ≡ 18446744073709551615
+Over Ended reads t = Final reads t false
+Over Stopped reads t = Final reads t true
+Over Failed reads t = isBroken (reads .got) (reads .error) ≡ true
 
 -- ---- what follows
 
--- so all that is told is the program's text for what came by all reads: the whole input; or as much of it that nothing that comes after it changes the text
+-- so all that is told is the program's text for what came by all reads: the whole input; or as much of it that nothing that comes after it
+-- changes the text
 pub data Told (reads : Reads) (text : List ℕ) : Type 0 where
   of-input : (blocks : List (List ℕ)) → BroughtAll reads blocks → text ≡ programText (joinedBlocks blocks) → Told reads text
   whatever-comes : (blocks : List (List ℕ)) → Brought reads blocks

@@ -13,7 +13,7 @@ ghost use Prim.Native.Nat.{_+_, _≤_};
 ghost use lib.ListN.{length, take};
 ghost use Rattle.blocks.specs.Blocks.{part, came, NoNewline};
 ghost use Rattle.text.specs.Written.{TextWritten};
-ghost use Rattle.totals.specs.Program.{writtenFor, After, Turned, Final, Finished};
+ghost use Rattle.totals.specs.Program.{writtenFor, After, Turned, Final, Over};
 
 const REFUSED_20: [u8; 11] = *b"refused 20\n";
 
@@ -24,8 +24,8 @@ struct Standing {
     reads: Reads,
 }
 
-// Every byte that the program writes to its output goes through here, and is what the definition writes for the totals of all that was read. No
-// contract can say what the system writes, so that it is said here of what is handed over.
+// Every byte that the program writes to its output goes through here, and is what the definition writes for the totals of all that was read.
+// No contract can say what the system writes, so that it is said here of what is handed over.
 fn say(totals: Totals, stopped: bool, reads: Reads, text: &[u8])
     requires { ⌜ Final reads totals stopped × (now text ≡ writtenFor totals stopped) ⌝ }
 {
@@ -56,7 +56,8 @@ fn tell(totals: Totals, stopped: bool, reads: Reads)
     say(totals, stopped, reads, &out[..end]);
 }
 
-// What to do with what is held and what came after it, by what the system answered. The error is handed in, so that the answer is determined.
+// What to do with what is held and what came after it, by what the system answered. The error is handed in, so that the answer is
+// determined.
 fn take_came(
     before: Totals,
     input: &[u8],
@@ -122,20 +123,11 @@ fn turn(
     }
 }
 
-// Where nothing more is to be read: the totals, unless reading failed.
-fn finish(totals: Totals, next: Next, reads: Reads)
-    requires { ⌜ Finished reads totals next ⌝ }
+// Reads and takes to the end. A proved loop has to end, and nothing says that the input does: the loop counts its turns down, from a number
+// that no input uses up.
+fn take_all() -> Standing
+    ensures { λ r. ⌜ Over (r .next) (r .reads) (r .totals) ⌝ }
 {
-    match next {
-        Next::Ended => tell(totals, false, reads),
-        Next::Stopped => tell(totals, true, reads),
-        Next::Failed => {}
-        Next::Begun(_, _) => {}
-    }
-}
-
-// A proved loop has to end, and nothing says that the input does: the loop counts its turns down, from a number that no input uses up.
-fn main() {
     let mut input = blocks::input_places();
     let mut rows = taking::row_places();
     let mut totals = Totals::empty();
@@ -144,13 +136,35 @@ fn main() {
     let mut turns = u64::MAX;
     while 0 < turns {
         let Next::Begun(from, end) = next else {
-            finish(totals, next, reads);
-            return;
+            return Standing {
+                totals,
+                next,
+                reads,
+            };
         };
         let taken = turn(totals, reads, &mut input, from, end, &mut rows);
         totals = taken.totals;
         next = taken.next;
         reads = taken.reads;
         turns -= 1;
+    }
+    Standing {
+        totals,
+        next,
+        reads,
+    }
+}
+
+// The totals are told, unless reading failed.
+fn main() {
+    let all = take_all();
+    let totals = all.totals;
+    let next = all.next;
+    let reads = all.reads;
+    match next {
+        Next::Ended => tell(totals, false, reads),
+        Next::Stopped => tell(totals, true, reads),
+        Next::Failed => {}
+        Next::Begun(_, _) => {}
     }
 }

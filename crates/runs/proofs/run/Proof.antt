@@ -60,7 +60,7 @@ turn-requires : tie.Need-turn-requires Inv-loop μ-loop
 turn-requires c κs =
     let l = c .before .before .before .before .before .before .loop in
     let r = rw (c .before .before .before .left .given .1) at (l .inv .3) in
-    (omega (arith, l .inv .2), r .0, r .1, omega (arith, l .inv .1))
+    (omega (arith, l .inv .2), r, omega (arith, l .inv .1))
 
 loop-again : tie.Need-loop-again Inv-loop μ-loop
 loop-again c =
@@ -73,7 +73,7 @@ loop-again c =
       l .inv .1 ∙ sym (t .turn .kept .1 .1 .1 .1 .1 .0),
       rw (t .turn .ensures .is, t .turn .ensures .once .reads) (omega (arith, l .inv .2)),
       turned-ready (l .reads) (l .said) (part (g .0) (g .1 .0) (l .input)) (t .turn .last .1 .1 .0) (t .turn .result .left) (t .turn .result .reads) (t .turn .result .said) (r .0) (r .1)
-      (omega (arith, l .inv .2)) (t .turn .ensures),
+          (omega (arith, l .inv .2)) (t .turn .ensures),
     )
 
 returns-2 : tie.Need-returns-2 Inv-loop μ-loop

@@ -17,7 +17,7 @@ answer-came-requires c κs =
     let r = (let back-6 = c .before .before .before .before .before .before in back-6 .before) in
     let s = r .before .before .before .before in
     let g = toZ-ofZ {w = w64} {z = r .one-more .result .got} (record { sfits = c .before .struct-told .given .1 .1 .0 .1 }) in
-    (rw g (read-given _ _ _ _ (r .one-more .result) (r .one-more .ensures) (s .pre .2) (omega (arith, s .pre .0)) (s .pre .1) (r .one-more .result .got) refl), s .pre .3)
+    (rw g (read-given _ _ _ _ (r .one-more .result) (r .one-more .ensures) (s .pre .1 .1) (omega (arith, s .pre .0)) (s .pre .1 .0) (r .one-more .result .got) refl), s .pre .2)
 
 returns : tie.Need-returns
 returns c =
