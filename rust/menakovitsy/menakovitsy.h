@@ -297,7 +297,8 @@ enum orc_form {
     ORC_FORM_DIRECT = 1,
     /* 1 to 512 rows with one step; the width is the code 0. */
     ORC_FORM_FIXED_DELTA = 2,
-    /* 2 to 512 rows that all rise, or all fall; the width, of the steps, is such a code, but not 0. */
+    /* 2 to 512 rows, whatever they are; the width, of the steps after the first, is such a code, but not 0.
+     * A step against the direction of the first counts modulo 2^64, so that it needs 64 bits. */
     ORC_FORM_PACKED_DELTA = 3
 };
 
@@ -360,8 +361,8 @@ uint64_t orc_count_true(const uint8_t *packed, size_t packed_len, uint64_t n, ui
  * place 0; ORC_WRONG_INDEX is for columns of unequal length before all else, in building too.
  *
  * Builds it: the entries stand in the first places of first, at and counts. Refused, with no place
- * touched: the stream's own, then ORC_TOO_FEW_PLACES where an entry lacks a place (input_len / 2 hold
- * any stream's). */
+ * touched: the stream's own, then ORC_TOO_FEW_PLACES if an entry lacks a place (input_len / 2 hold any
+ * stream's), or if the stream has 2^64 rows or more, which no number of places mends. */
 uint64_t orc_build_index(const uint8_t *input, size_t input_len, uint64_t *first, size_t first_len,
                          uint64_t *at, size_t at_len, uint64_t *counts, size_t counts_len,
                          uint64_t *words, size_t words_len);
@@ -402,9 +403,10 @@ uint64_t orc_convert(const uint8_t *input, size_t input_len, uint64_t flag, uint
  * as the bits of the int64_t (of the other forms than patched they are not looked at).
  *
  * The planner: it proposes runs for all rows, in the first places of the five columns, and answers how
- * many; 0 where the shortest column has too few places, or there are no rows (rows_len places are always
- * enough). The segments are the same whatever more is lent. The places behind them may have changed, and
- * none else has. What it proposes is not given: another version may propose other runs. */
+ * many. rows_len places in each column are always enough for the planner's best. If its best lacks places,
+ * it proposes direct runs of 64 bits; 0 only if there are no rows, or if the shortest column has fewer
+ * places than there are direct runs, one for every 512 rows begun. The places after the segments may have
+ * changed, and nothing else has. Which runs it proposes is not promised: another version may cut otherwise. */
 uint64_t orc_plan(const int64_t *rows, size_t rows_len, uint64_t flag, uint64_t *first, size_t first_len,
                   uint64_t *counts, size_t counts_len, uint64_t *forms, size_t forms_len,
                   uint64_t *widths, size_t widths_len, uint64_t *bases, size_t bases_len);

@@ -1,10 +1,10 @@
--- One run: what an altered run is; that it is valid, has the same rows and no odd width. Assumes nothing.
+-- One run: what an altered run is; that it is valid, has the same rows and no odd width, and is the writer's. Assumes nothing.
 use mathlib.Core.Path.{_≡_, refl, sym, ap, _∙_}
-use Prim.Native.Nat.{ℕ, _<_}
+use Prim.Native.Nat.{ℕ, _<_, _≤_}
 use native.Mathlib.Omega.{arith}
 use native.Mathlib.Nat.{le-refl, le-trans}
 use mathlib.Core.Bool.{Bool, true, false, not}
-use mathlib.Core.List.{List}
+use mathlib.Core.List.{List, [], map}
 use lib.ListN.{length}
 use lib.Pow.{pow-pos, pow-mono}
 use Rattle.format.specs.declared.Form.{Form}
@@ -12,10 +12,10 @@ use Rattle.format.specs.declared.Form.the-variants.{Direct, PackedDelta}
 use Rattle.format.specs.Fields.{pick, width, two64, Block, IsBlock, varintValue, shortest, Shortest}
 use Rattle.format.specs.Runs.{Description, short, direct, fixed, delta, patched, Valid, layout}
 use Rattle.format.specs.Rows.{rowsOf, i64Rows, asI64, asU64}
-use Rattle.format.specs.Parse.{Parsed}
+use Rattle.format.specs.Parse.{Parsed, got}
 use Rattle.format.specs.Promises.{answerOf}
 use Rattle.format.specs.Answers.{answerNumber}
-use Rattle.format.specs.Writing.{padded, described, AsWritten, direct-run, packed-delta}
+use Rattle.format.specs.Writing.{padded, described, writing, AsWritten, direct-run, packed-delta}
 use Rattle.format.proofs.Patterns.{as-back}
 use Rattle.format.proofs.Varints.{varint-lt, shortest-stands, shortest-varint, shortest-value}
 use Rattle.format.proofs.Rows.{rows-below}
@@ -26,7 +26,7 @@ use Rattle.format.proofs.Writing.{accepted, written, writes-back}
 use Rattle.format.specs.Kept.{nextKept}
 use Rattle.format.proofs.Kept.{next-kept, next-code, next-wider}
 use Rattle.convert.specs.Convert.{isOdd, rewritten, converted}
-use Rattle.convert.specs.Laws.{RunsHold, Altered}
+use Rattle.convert.specs.Laws.{RunsHold, Altered, AlteredWritten}
 
 -- a run as the writer lays it down is the writer's own of its rows
 pub described-again : (signed : Bool) (f : Form) (w : ℕ) (d : Description) → Valid d → AsWritten f w d → described signed f w (rowsOf signed d) ≡ d
@@ -128,3 +128,33 @@ unfolding converted
 runs-hold signed d v =
     let g = good signed d v in
     record { valid = g .valid; rows = g .rows; not-odd = g .not-odd; copied = λ e. rw e }
+
+-- ---- the writer takes the rows of a run of an odd width, and writes what it is converted to
+
+module _ (signed : Bool) where
+  direct-again : (code : ℕ) (k : Block) (places : ℕ) → Valid (direct code k) → length (layout (rewritten signed (direct code k))) ≤ places
+      → writing signed Direct (nextKept code) (map asU64 (i64Rows signed (direct code k))) places ≡ got (rewritten signed (direct code k)) []
+  unfolding i64Rows rowsOf
+  direct-again code k places v room =
+      let d : Description = direct (nextKept code) (padded (k .values)) in
+      let w : Valid d = direct-valid code k v in
+      rw (altered signed .direct-run code k v)
+      (writes-back signed Direct (nextKept code) d places w (direct-run (next-kept code (v .head .code-fits))) (rw (altered signed .direct-run code k v) at room))
+
+  delta-again : (code : ℕ) (first base : List ℕ) (k : Block) (places : ℕ) → Valid (delta code first base k)
+      → length (layout (rewritten signed (delta code first base k))) ≤ places
+      → writing signed PackedDelta (nextKept code) (map asU64 (i64Rows signed (delta code first base k))) places ≡ got (rewritten signed (delta code first base k)) []
+  unfolding i64Rows rebuilt
+  delta-again code first base k places v room =
+      let d : Description = rebuilt code first base k in
+      let w : Valid d = delta-valid code first base k v in
+      let s = delta-shortest code first base k v in
+      rw (altered signed .delta-run code first base k v, ← (delta-rows code first base k signed v))
+      (writes-back signed PackedDelta (nextKept code) d places w (packed-delta (next-kept code (v .head .code-fits)) (s .0) (s .1)) (rw (altered signed .delta-run code first base k v) at room))
+
+pub altered-written : AlteredWritten
+unfolding converted
+altered-written signed places = record {
+  direct-run = λ code k v o room. rw o (direct-again signed code k places v (rw o at room));
+  delta-run = λ code first base k v o room. rw o (delta-again signed code first base k places v (rw o at room));
+}

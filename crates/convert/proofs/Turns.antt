@@ -8,28 +8,24 @@ use lib.IntN.{ℤ}
 use lib.ListN.{length, getD, take, drop, length-append, length-drop}
 use lib.Seq.{drop-drop, drop-at, take-at, getD-drop, paste}
 use borrow.Author.Tests.{lt-ltb, le-ltb}
-use Rattle.format.specs.declared.Form.the-variants.{Direct, PackedDelta}
 use Rattle.format.specs.declared.Answer.{Answer}
 use Rattle.format.specs.declared.Answer.the-variants as answer
 use Rattle.format.specs.declared.Run.{Run}
 use Rattle.format.specs.Digits.{AllBelow}
-use Rattle.format.specs.Fields.{Block}
 use Rattle.format.specs.Kept.{keptCodes, among, isKept, nextKept}
 use Rattle.format.specs.Runs.{Description, short, direct, fixed, delta, patched, Valid, layout, rowCount}
-use Rattle.format.specs.Rows.{asU64, rowsOf, i64Rows}
+use Rattle.format.specs.Rows.{asU64, i64Rows}
 use Rattle.format.specs.Parse.{Parsed, got, parse, into}
 use Rattle.format.specs.Promises.{answerOf, placesOf, RunRead}
 use Rattle.format.specs.Answers.{answerBytes}
-use Rattle.format.specs.Writing.{padded, writing, Written, direct-run, packed-delta}
+use Rattle.format.specs.Writing.{writing, Written}
 use Rattle.format.proofs.Below.{below-drop}
-use Rattle.format.proofs.Kept.{next-kept}
 use Rattle.format.proofs.Rows.{row-bounds, byte-bounds, i64-count}
 use Rattle.format.proofs.Streams.{Into, into-nothing, into-run, into-refusal, into-outcome}
 use Rattle.format.proofs.Runs.{layout-pos}
-use Rattle.format.proofs.Writing.{writes-back}
-use Rattle.convert.specs.Convert.{isOdd, rewritten, converted}
+use Rattle.convert.specs.Convert.{isOdd, converted}
 use Rattle.convert.specs.Turn.{oddFirst, formFirst, Turned, NoRun}
-use Rattle.convert.proofs.Runs.{altered, direct-valid, rebuilt, delta-valid, delta-rows, delta-shortest, runs-hold}
+use Rattle.convert.proofs.Runs.{runs-hold, altered-written}
 
 -- ---- the first byte says whether the width is odd
 
@@ -57,41 +53,26 @@ odd-first (patched code base pc gw k l) rest v =
     let e : (2 * 64 + code * 2 + (n - 1) / 256) / 64 % 2 ≡ 0 = omega (arith, v .head .code-fits, v .head .rows-fit) in
     rw e
 
--- ---- the writer takes the rows of a run of an odd width, and writes what it is converted to
+-- ---- the writer takes the rows of a run of an odd width, and writes what it is converted to: by the run's first byte, in room for any run
 
-module _ (signed : Bool) where
-  direct-again : (code : ℕ) (k : Block) → Valid (direct code k)
-      → writing signed Direct (nextKept code) (map asU64 (i64Rows signed (direct code k))) 4356 ≡ got (rewritten signed (direct code k)) []
-  unfolding i64Rows rowsOf
-  direct-again code k v =
-      let d : Description = direct (nextKept code) (padded (k .values)) in
-      let w : Valid d = direct-valid code k v in
-      rw (altered signed .direct-run code k v) (writes-back signed Direct (nextKept code) d 4356 w (direct-run (next-kept code (v .head .code-fits))) (byte-bounds d w))
-
-  delta-again : (code : ℕ) (first base : List ℕ) (k : Block) → Valid (delta code first base k)
-      → writing signed PackedDelta (nextKept code) (map asU64 (i64Rows signed (delta code first base k))) 4356 ≡ got (rewritten signed (delta code first base k)) []
-  unfolding i64Rows rebuilt
-  delta-again code first base k v =
-      let d : Description = rebuilt code first base k in
-      let w : Valid d = delta-valid code first base k v in
-      let s = delta-shortest code first base k v in
-      rw (altered signed .delta-run code first base k v, ← (delta-rows code first base k signed v))
-      (writes-back signed PackedDelta (nextKept code) d 4356 w (packed-delta (next-kept code (v .head .code-fits)) (s .0) (s .1)) (byte-bounds d w))
-
-  pub written-again : (d : Description) (rest : List ℕ) → Valid d → isOdd d ≡ true
-      → writing signed (formFirst (getD (layout d ++ rest) 0 0)) (nextKept (getD (layout d ++ rest) 0 0 / 2 % 32)) (map asU64 (i64Rows signed d)) 4356 ≡ got (converted signed d) []
-  unfolding layout formFirst converted
-  written-again (short count value) rest v o = let z : _≡_ {A = ℕ} 0 1 = cc in absurd (omega arith)
-  written-again (direct code k) rest v o =
-      let n = length (k .values) in
-      let f : (1 * 64 + code * 2 + (n - 1) / 256) / 2 % 32 ≡ code = omega (arith, v .head .code-fits, v .head .rows-fit) in
-      rw (f, lt-ltb (1 * 64 + code * 2 + (n - 1) / 256) 128 (omega (arith, v .head .code-fits, v .head .rows-fit)), o) (direct-again code k v)
-  written-again (fixed rows first base) rest v o = let z : _≡_ {A = ℕ} 0 1 = cc in absurd (omega arith)
-  written-again (delta code first base k) rest v o =
-      let n = length (k .values) + 2 in
-      let f : (3 * 64 + code * 2 + (n - 1) / 256) / 2 % 32 ≡ code = omega (arith, v .head .code-fits, v .head .rows-fit) in
-      rw (f, le-ltb (3 * 64 + code * 2 + (n - 1) / 256) 128 (omega arith), o) (delta-again code first base k v)
-  written-again (patched code base pc gw k l) rest v o = let z : _≡_ {A = ℕ} 0 1 = cc in absurd (omega arith)
+pub written-again : (signed : Bool) (d : Description) (rest : List ℕ) → Valid d → isOdd d ≡ true
+    → writing signed (formFirst (getD (layout d ++ rest) 0 0)) (nextKept (getD (layout d ++ rest) 0 0 / 2 % 32)) (map asU64 (i64Rows signed d)) 4356 ≡ got (converted signed d) []
+unfolding layout formFirst
+written-again signed d rest v o = by d rest v o (byte-bounds (converted signed d) (runs-hold signed d v .valid))
+  where
+    by : (d : Description) (rest : List ℕ) → Valid d → isOdd d ≡ true → length (layout (converted signed d)) ≤ 4356
+        → writing signed (formFirst (getD (layout d ++ rest) 0 0)) (nextKept (getD (layout d ++ rest) 0 0 / 2 % 32)) (map asU64 (i64Rows signed d)) 4356 ≡ got (converted signed d) []
+    by (short count value) rest v o l = let z : _≡_ {A = ℕ} 0 1 = cc in absurd (omega arith)
+    by (direct code k) rest v o l =
+        let n = length (k .values) in
+        let f : (1 * 64 + code * 2 + (n - 1) / 256) / 2 % 32 ≡ code = omega (arith, v .head .code-fits, v .head .rows-fit) in
+        rw (f, lt-ltb (1 * 64 + code * 2 + (n - 1) / 256) 128 (omega (arith, v .head .code-fits, v .head .rows-fit))) (altered-written signed 4356 .direct-run code k v o l)
+    by (fixed rows first base) rest v o l = let z : _≡_ {A = ℕ} 0 1 = cc in absurd (omega arith)
+    by (delta code first base k) rest v o l =
+        let n = length (k .values) + 2 in
+        let f : (3 * 64 + code * 2 + (n - 1) / 256) / 2 % 32 ≡ code = omega (arith, v .head .code-fits, v .head .rows-fit) in
+        rw (f, le-ltb (3 * 64 + code * 2 + (n - 1) / 256) 128 (omega arith)) (altered-written signed 4356 .delta-run code first base k v o l)
+    by (patched code base pc gw k l′) rest v o l = let z : _≡_ {A = ℕ} 0 1 = cc in absurd (omega arith)
 
 -- ---- what the run reader found, in room for any run
 

@@ -1,17 +1,18 @@
 -- What the converter's definition says. Assumes nothing.
 use mathlib.Core.Path.{_≡_}
-use mathlib.Core.Logic.{_↔_}
+use mathlib.Core.Logic.{_≢_, _↔_}
 use Prim.Native.Nat.{ℕ, _*_, _<_, _≤_}
-use mathlib.Core.Bool.{Bool, false}
-use mathlib.Core.List.{List}
+use mathlib.Core.Bool.{Bool, true, false}
+use mathlib.Core.List.{List, [], map}
 use lib.ListN.{length}
+use Rattle.format.specs.declared.Form.the-variants.{Direct, PackedDelta}
 use Rattle.format.specs.Digits.{AllBelow}
 use Rattle.format.specs.Fields.{Block, varintValue, shortest}
-use Rattle.format.specs.Runs.{Description, direct, delta, Valid, AllValid, joined}
-use Rattle.format.specs.Rows.{rowsOf}
-use Rattle.format.specs.Parse.{Reason}
+use Rattle.format.specs.Runs.{Description, direct, delta, Valid, AllValid, layout, joined}
+use Rattle.format.specs.Rows.{asU64, rowsOf, i64Rows}
+use Rattle.format.specs.Parse.{Reason, got}
 use Rattle.format.specs.Streams.{whole, broken, readAll, totalRows, joinedRows, stream}
-use Rattle.format.specs.Writing.{padded}
+use Rattle.format.specs.Writing.{padded, writing}
 use Rattle.format.specs.Kept.{nextKept}
 use Rattle.convert.specs.declared.Converted.{Converted}
 use Rattle.convert.specs.Convert.{isOdd, rewritten, converted, convertedAll, oddRuns, Outcome, result, own, eight, convert, Converts}
@@ -34,6 +35,19 @@ pub record Altered (signed : Bool) : Type 0 where
   pub delta-run : (code : ℕ) (first base : List ℕ) (k : Block) → Valid (delta code first base k)
       → rewritten signed (delta code first base k)
       ≡ delta (nextKept code) (shortest (varintValue first)) (shortest (varintValue base)) (padded (k .values))
+
+-- The writer accepts each altered run: of the rows, in the run's form, at the next kept width and in any room that holds it, it writes just
+-- that run. (A run of another kind is not odd, and is not altered.)
+pub record WriterAccepts (signed : Bool) (places : ℕ) : Type 0 where
+  pub direct-run : (code : ℕ) (k : Block) → let d : Description = direct code k in
+      Valid d → isOdd d ≡ true → length (layout (converted signed d)) ≤ places
+      → writing signed Direct (nextKept code) (map asU64 (i64Rows signed d)) places ≡ got (converted signed d) []
+  pub delta-run : (code : ℕ) (first base : List ℕ) (k : Block) → let d : Description = delta code first base k in
+      Valid d → isOdd d ≡ true → length (layout (converted signed d)) ≤ places
+      → writing signed PackedDelta (nextKept code) (map asU64 (i64Rows signed d)) places ≡ got (converted signed d) []
+
+abbrev pub AlteredWritten : Type 0
+AlteredWritten = (signed : Bool) (places : ℕ) → WriterAccepts signed places
 
 -- ---- THE STREAM
 
@@ -77,6 +91,17 @@ abbrev pub ResultsHold : Type 0
 ResultsHold =
     (signed : Bool) (bs : List ℕ) (places altered : ℕ) (out : List ℕ) → AllBelow 256 bs → convert signed bs places ≡ result altered out
     → Result signed bs altered out
+
+-- what comes out has at most twice the bytes that went in, so that twice the input's length is room for any: then 8 is never given
+pub record Twice (signed : Bool) : Type 0 where
+  pub run : (d : Description) → Valid d → length (layout (converted signed d)) ≤ 2 * length (layout d)
+  pub runs : (ds : List Description) → AllValid ds → length (joined (convertedAll signed ds)) ≤ 2 * length (joined ds)
+  pub stream : (bs : List ℕ) (places altered : ℕ) (out : List ℕ) → AllBelow 256 bs → convert signed bs places ≡ result altered out
+      → length out ≤ 2 * length bs
+  pub never-8 : (bs : List ℕ) (places : ℕ) → AllBelow 256 bs → 2 * length bs ≤ places → convert signed bs places ≢ eight
+
+abbrev pub TwiceHolds : Type 0
+TwiceHolds = (signed : Bool) → Twice signed
 
 -- the room that is enough: the stream's own refusals are those of any larger number of places, and never 8 for want of places
 abbrev pub RoomEnough : Type 0

@@ -146,13 +146,15 @@ placesAfter signed out more = out
 placesAfter signed out (broke f) = out
 placesAfter signed out ended = out
 
--- how many of the part's bytes are copied behind the h bytes held: where none are held, those that are held afterwards (a run that lies whole in its part
--- is read from there); else as many as the longest run can have behind them
-abbrev pub copied : ℕ → List ℕ → Call → ℕ
-copied h part c = pick (eqb h 0) (length (c .state .held)) (min (length part) (4356 - h))
-
-abbrev pub bufferAfter : List ℕ → List ℕ → List ℕ → Call → List ℕ
-bufferAfter held part buffer c = paste buffer (length held) part (copied (length held) part c)
+-- the lent bytes. A call that refuses leaves them as they were, and so does one that repeats its answer. If all of the part is taken, it stands after the
+-- bytes held. A run that lies whole in its part is read from there. A run that began earlier is read from the lent bytes: then the part stands after the
+-- bytes held, up to the most bytes that a run has.
+abbrev pub bufferAfter : List ℕ → List ℕ → List ℕ → Reply → List ℕ
+bufferAfter held part buffer (handed h) =
+    pick (eqb (length held) 0) buffer (paste buffer (length held) part (min (length part) (4356 - length held)))
+bufferAfter held part buffer more = paste buffer (length held) part (length part)
+bufferAfter held part buffer (broke f) = buffer
+bufferAfter held part buffer ended = buffer
 
 -- fewer than 4,356 lent bytes, the most that a run has, are like no places
 abbrev pub room : List ℕ → List ℤ → ℕ
@@ -161,8 +163,7 @@ room buffer out = pick (ltb (length buffer) 4356) 0 (length out)
 -- A CALL WITH A PART, for every reader and all that is lent: its answer, the bytes taken, the reader, the lent bytes and the places
 pub record Takes (s : PartReader) (part buffer buffer′ : List ℕ) (signed : Bool) (out out′ : List ℤ) (r : PartStep) : Type 0 where
   pub step : r ≡ stepOf s (takePart (room buffer out) (stateOf s buffer) part)
-  pub lent : buffer′ ≡ inPlaces (room buffer out) (s .standing) (λ a. buffer)
-      (bufferAfter (take (s .held) buffer) part buffer (takePart (room buffer out) (stateOf s buffer) part))
+  pub lent : buffer′ ≡ bufferAfter (take (s .held) buffer) part buffer (takePart (room buffer out) (stateOf s buffer) part .reply)
   pub places : out′ ≡ placesAfter signed out (takePart (room buffer out) (stateOf s buffer) part .reply)
 
 -- THE CLOSING CALL: the lent bytes stay

@@ -136,6 +136,9 @@ impl Kind {
     // The most bytes that a run has: a patched header, eight bytes of base, 512 values and 31 entries of 64 bits.
     pub const MAX_BYTES: usize = 4356;
 
+    // The most bytes in front of a run's packed rows: a delta header, and two varints of ten bytes.
+    pub const MAX_FRONT: usize = 22;
+
     // The fewest and the most rows of a short repeat: three bits of its header, and three.
     pub const MIN_REPEAT: usize = 3;
 

@@ -1,4 +1,5 @@
--- The laws that the proofs cite.
+-- The laws that the proofs cite, and that any two outcomes are equal.
 pub mod Frames
 pub mod Readings
 pub mod Examples
+pub mod Outcomes

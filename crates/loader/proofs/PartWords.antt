@@ -10,7 +10,7 @@ use Rattle.format.specs.Loader.{isSigned}
 use Rattle.format.specs.Words.{tooFewWords}
 use Rattle.words.specs.Parts.{readerOf, enough, PartPut, StepTold}
 use Rattle.words.proofs.PartWords.{step-put}
-use Rattle.loader.specs.Parts.{Untouched, Taken, ClosedBy, PartTold, CloseTold, SameLent, PartToldDetermined, CloseToldDetermined}
+use Rattle.loader.specs.Parts.{Untouched, Taken, ClosedBy, PartTold, CloseTold, SameLent, StartToldDetermined, PartToldDetermined, CloseToldDetermined}
 
 module _ {state held words : List ℕ} {rows : List ℤ} where
   untouched : Untouched state state held held rows rows words words tooFewWords
@@ -31,6 +31,9 @@ module _ {state held words : List ℕ} {rows : List ℤ} where
     close-done h t = record { done = λ u. record { step = step; closes = t; held-stays = h; put = step-put e p }; few = λ u. absurd (rw e at u) }
 
 -- ---- the promises determine what is lent and the number
+
+pub start-told-determined : StartToldDetermined
+start-told-determined state state′ state″ r r′ p q = (p .words-are ∙ sym (q .words-are), p .number-is ∙ sym (q .number-is))
 
 module _ {state words state′ state″ held′ held″ words′ words″ : List ℕ} {rows′ rows″ : List ℤ} {r r′ : ℕ} where
   same-untouched : {held : List ℕ} {rows : List ℤ} → Untouched state state′ held held′ rows rows′ words words′ r → Untouched state state″ held held″ rows rows″ words words″ r′

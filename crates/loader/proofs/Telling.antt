@@ -8,6 +8,7 @@ use borrow.Author.Tests.{le-leb, lt-leb}
 use Rattle.format.specs.Fields.{pick}
 use Rattle.labels.specs.declared.Label.{Label}
 use Rattle.labels.specs.declared.Label.the-variants as label
+use Rattle.index.specs.Columns.{Columns}
 use Rattle.index.specs.Promises.{BuiltIn}
 use Rattle.index.specs.declared.Built.{Built}
 use Rattle.index.specs.declared.Built.the-variants as built
@@ -16,7 +17,7 @@ use Rattle.index.specs.declared.Found.the-variants as found
 use Rattle.index.specs.declared.Preview.{Preview}
 use Rattle.index.specs.declared.Preview.the-variants as preview
 use Rattle.loader.specs.Numbers.{numberIn}
-use Rattle.loader.specs.Index.{builtWords, builtWordCount, IndexTold, foundWords, foundWordCount, previewWords, previewWordCount}
+use Rattle.loader.specs.Index.{builtWords, builtWordCount, IndexTold, IndexToldDetermined, foundWords, foundWordCount, LookUpToldDetermined, previewWords, previewWordCount, ReadFromToldDetermined}
 use Rattle.loader.specs.Labels.{labelWords, labelWordCount, LabelToldDetermined}
 use Rattle.loader.specs.Patched.{PatchedToldDetermined}
 use Rattle.convert.specs.declared.Converted.{Converted}
@@ -100,15 +101,32 @@ module _ {input first at counts words : List ℕ} where
       → Told builtWords (numberIn builtWords) b words words′ r → IndexTold input first at counts first′ at′ counts′ words words′ r
   index-told q h p = record { told = told (q .answer) p; columns-are = rw (le-leb builtWordCount (length words) h) (q .columns) }
 
+pub index-told-determined : IndexToldDetermined
+index-told-determined input first at counts f o n f′ o′ n′ words words′ words″ r r′ p q =
+    let e = p .columns-are ∙ sym (q .columns-are) in (
+      ap (λ (c : Columns). c .firsts) e,
+      ap (λ (c : Columns). c .offsets) e,
+      ap (λ (c : Columns). c .counts) e,
+      p .told .words-are ∙ sym (q .told .words-are),
+      p .told .number-is ∙ sym (q .told .number-is),
+    )
+
 pub found-long : (v : Found) → length (foundWords v) ≡ foundWordCount
 unfolding foundWords
 found-long (found.Entry e) = refl
 found-long (found.Refused f) = refl
 
+pub look-up-told-determined : LookUpToldDetermined
+look-up-told-determined input c row words words′ words″ r r′ p q = (p .words-are ∙ sym (q .words-are), p .number-is ∙ sym (q .number-is))
+
 pub preview-long : (p : Preview) → length (previewWords p) ≡ previewWordCount
 unfolding previewWords
 preview-long (preview.Rows n) = refl
 preview-long (preview.Refused f) = refl
+
+pub read-from-told-determined : ReadFromToldDetermined
+read-from-told-determined input c row flag rows rows′ rows″ words words′ words″ r r′ p q =
+    (p .places-are ∙ sym (q .places-are), p .told .words-are ∙ sym (q .told .words-are), p .told .number-is ∙ sym (q .told .number-is))
 
 pub salvage-long : (m : Outcome) → length (salvageWords m) ≡ salvageWordCount
 unfolding salvageWords

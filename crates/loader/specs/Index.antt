@@ -73,3 +73,22 @@ abbrev pub ReadFromTold : List ℕ → Columns → ℕ → ℕ → List ℤ → 
 ReadFromTold input c row flag rows rows′ words words′ r =
     let m = readingIn (isSigned flag) (length rows) c input row in
     ToldOf previewWords (numberIn previewWords) (previewOf m) words words′ r (placesOf rows m) rows rows′
+
+-- ---- any two outcomes that a promise allows are equal
+
+abbrev pub IndexToldDetermined : Type 0
+IndexToldDetermined =
+    (input first at counts f o n f′ o′ n′ words words′ words″ : List ℕ) (r r′ : ℕ)
+    → IndexTold input first at counts f o n words words′ r → IndexTold input first at counts f′ o′ n′ words words″ r′
+    → (f ≡ f′) × (o ≡ o′) × (n ≡ n′) × (words′ ≡ words″) × (r ≡ r′)
+
+abbrev pub LookUpToldDetermined : Type 0
+LookUpToldDetermined =
+    (input : List ℕ) (c : Columns) (row : ℕ) (words words′ words″ : List ℕ) (r r′ : ℕ)
+    → LookUpTold input c row words words′ r → LookUpTold input c row words words″ r′ → (words′ ≡ words″) × (r ≡ r′)
+
+abbrev pub ReadFromToldDetermined : Type 0
+ReadFromToldDetermined =
+    (input : List ℕ) (c : Columns) (row flag : ℕ) (rows rows′ rows″ : List ℤ) (words words′ words″ : List ℕ) (r r′ : ℕ)
+    → ReadFromTold input c row flag rows rows′ words words′ r → ReadFromTold input c row flag rows rows″ words words″ r′
+    → (rows′ ≡ rows″) × (words′ ≡ words″) × (r ≡ r′)

@@ -47,6 +47,10 @@ pub record CloseTold (state state′ held held′ : List ℕ) (flag : ℕ) (rows
 
 -- ---- any two outcomes that a promise allows are equal
 
+abbrev pub StartToldDetermined : Type 0
+StartToldDetermined =
+    (state state′ state″ : List ℕ) (r r′ : ℕ) → StartTold state state′ r → StartTold state state″ r′ → (state′ ≡ state″) × (r ≡ r′)
+
 pub record SameLent (state state′ held held′ : List ℕ) (rows rows′ : List ℤ) (words words′ : List ℕ) (r r′ : ℕ) : Type 0 where
   pub states : state ≡ state′
   pub helds : held ≡ held′

@@ -1,63 +1,58 @@
--- The lent bytes of a call with a part: a run is read from the part, or the part's bytes are copied behind those held. Assumes nothing.
+-- The lent bytes of a call with a part, if none is held: a run is read from the part, and what is held afterwards is copied. Assumes nothing.
 use mathlib.Core.Path.{_≡_, refl, sym, ap, _∙_}
-use mathlib.Core.Logic.{_≢_}
-use Prim.Native.Nat.{ℕ, _+_, _-_, _<_, _≤_, min}
+use Prim.Native.Nat.{ℕ, _+_, _<_, _≤_}
 use native.Mathlib.Nat.{le-refl}
 use native.Mathlib.Omega.{arith}
 use mathlib.Core.Bool.{Bool, true, false}
-use mathlib.Core.List.{List, [], _++_}
-use lib.ListN.{length, take, length-take}
-use lib.Seq.{paste, take-paste, take-length}
-use borrow.Author.Tests.{ne-eqb}
+use mathlib.Core.List.{List, []}
+use lib.ListN.{length, take}
+use lib.Seq.{paste, paste-zero, take-length}
 use lib.IntN.{ℤ}
 use Rattle.format.specs.declared.Answer.{Answer}
 use Rattle.format.specs.Digits.{AllBelow}
 use Rattle.format.specs.Runs.{Description}
 use Rattle.format.specs.Parse.{unfinished, Parsed, refused, parse}
 use Rattle.format.specs.Promises.{RunRead}
-use Rattle.format.proofs.Below.{below-append, below-take}
 use Rattle.format.proofs.Runs.{Outcome, nothing, run, outcome}
 use Rattle.format.proofs.Runs as runs
 use Rattle.format.specs.declared.ByteOffset.{ByteOffset}
 use Rattle.format.specs.declared.PartReader.{PartReader}
 use Rattle.format.specs.declared.Standing.{Standing}
 use Rattle.format.specs.declared.PartStep.{PartStep}
-use Rattle.format.specs.Parts.{Call, onPart, stateOf, stepOf, heldAfter, copied, room}
+use Rattle.format.specs.Parts.{Call, onPart, stateOf, stepOf, heldAfter, bufferAfter}
 use Rattle.format.proofs.Length.{unfinished-short}
-use Rattle.format.proofs.Parts.{take-min}
 use Rattle.parts.specs.Steps.{Goes, goes, byAnswer}
 use Rattle.parts.proofs.Seen.{Same, same}
 
--- ---- no byte is held: the run is read from the part, and what is held afterwards is copied
-
-record Kept (s : PartReader) (part : List ℕ) (c : Call) : Type 0 where
+record Kept (s : PartReader) (part buffer : List ℕ) (c : Call) : Type 0 where
   size : heldAfter (s .held) c (c .reply) ≡ length (c .state .held)
   in-part : length (c .state .held) ≤ length part
   in-lent : length (c .state .held) ≤ 4356
+  lent : paste buffer 0 part (length (c .state .held)) ≡ bufferAfter [] part buffer (c .reply)
 
 kept : (at : ByteOffset) (t : Standing) (part buffer : List ℕ) → AllBelow 256 part
-    → let s : PartReader = record { held = 0; at = at; standing = t } in Kept s part (goes s part buffer)
+    → let s : PartReader = record { held = 0; at = at; standing = t } in Kept s part buffer (goes s part buffer)
 unfolding onPart
 kept at t part buffer b = go (parse part) refl (outcome part b)
   where
     s : PartReader
     s = record { held = 0; at = at; standing = t }
 
-    go : (m : Parsed Description) → parse part ≡ m → Outcome part m → Kept s part (onPart (stateOf s buffer) part m)
-    go m p (nothing z) = record { size = refl; in-part = omega arith; in-lent = rw z (omega arith) }
-    go m p (run _) = record { size = refl; in-part = omega arith; in-lent = omega arith }
+    go : (m : Parsed Description) → parse part ≡ m → Outcome part m → Kept s part buffer (onPart (stateOf s buffer) part m)
+    go m p (nothing z) = record { size = refl; in-part = omega arith; in-lent = rw z (omega arith); lent = refl }
+    go m p (run _) = record { size = refl; in-part = omega arith; in-lent = omega arith; lent = sym (paste-zero buffer 0 part) }
     go m p (runs.refusal {r} _) = by-kind (unfinished r) refl
       where
-        by-kind : (u : Bool) → unfinished r ≡ u → Kept s part (onPart (stateOf s buffer) part (refused r))
+        by-kind : (u : Bool) → unfinished r ≡ u → Kept s part buffer (onPart (stateOf s buffer) part (refused r))
         by-kind true u =
             let l : length part < 4356 = unfinished-short part r b p (rw u tt) in
-            rw u (record { size = refl; in-part = omega arith; in-lent = omega arith })
-        by-kind false u = rw u (record { size = refl; in-part = omega arith; in-lent = omega arith })
+            rw u (record { size = refl; in-part = omega arith; in-lent = omega arith; lent = refl })
+        by-kind false u = rw u (record { size = refl; in-part = omega arith; in-lent = omega arith; lent = sym (paste-zero buffer 0 part) })
 
 module _ (s : PartReader) (z : s .held ≡ 0) (part buffer : List ℕ) (signed : Bool) (out out′ : List ℤ) (a : Answer) (r : PartStep)
     (b : AllBelow 256 part) (room : 512 ≤ length out) (long : 4356 ≤ length buffer)
     (g : RunRead part 0 signed out out′ a) (e : r ≡ byAnswer s 0 (length part) (length part) a) where
-  kept-here : Kept s part (goes s part buffer)
+  kept-here : Kept s part buffer (goes s part buffer)
   kept-here = rw z (kept (s .at) (s .standing) part buffer b)
 
   empty : take (s .held) buffer ≡ []
@@ -85,26 +80,6 @@ module _ (s : PartReader) (z : s .held ≡ 0) (part buffer : List ℕ) (signed :
   pub from-part : (buffer′ : List ℕ) → buffer′ ≡ paste buffer 0 part (r .reader .held) → Goes s part buffer buffer′ signed out out′ r (goes s part buffer)
   from-part buffer′ p = record {
     step = stepped;
-    lent = p ∙ ap (paste buffer 0 part) size-is ∙ sym (ap (λ (n : ℕ). paste buffer n part (copied n part (goes s part buffer))) no-length);
+    lent = p ∙ ap (paste buffer 0 part) size-is ∙ kept-here .lent ∙ sym (ap (λ (held : List ℕ). bufferAfter held part buffer (goes s part buffer .reply)) empty);
     places = same-part .places;
   }
-
--- ---- some are held: the part's bytes are copied behind them
-
-module _ (s : PartReader) (part buffer buffer′ : List ℕ) (signed : Bool) (out out′ : List ℤ) (a : Answer) (h k : ℕ)
-    (b : AllBelow 256 buffer) (c : AllBelow 256 part) (room : 512 ≤ length out) (long : 4356 ≤ length buffer) (eh : h ≡ min (s .held) (length buffer)) (some : h ≢ 0)
-    (ek : k ≡ min (length part) (4356 - h)) (p : buffer′ ≡ paste buffer h part k) (g : RunRead (take (h + k) buffer′) 0 signed out out′ a) where
-  pub crossing : Goes s part buffer buffer′ signed out out′ (byAnswer s h (h + k) (length part) a) (goes s part buffer)
-  crossing =
-      let l : length (take (s .held) buffer) ≡ h = length-take (s .held) buffer ∙ sym eh in
-      let front : take h buffer ≡ take (s .held) buffer = ap (λ (n : ℕ). take n buffer) eh ∙ take-min (s .held) buffer in
-      let seen : take (h + k) buffer′ ≡ take (s .held) buffer ++ take k part
-      = ap (take (h + k)) p ∙ take-paste buffer h part k (omega arith) (omega arith) ∙ ap (λ (x : List ℕ). x ++ take k part) front in
-      let m : Same s part buffer signed out out′ a k
-      = same s part buffer signed out out′ a k (below-append 256 (take (s .held) buffer) part (below-take 256 (s .held) buffer b) c) room (omega arith) (λ f. omega (arith, l)) (rw (← seen) g) in
-      let d : copied h part (goes s part buffer) ≡ k = rw (ne-eqb h 0 some) (sym ek) in
-      record {
-        step = rw (← l) (m .step);
-        lent = p ∙ ap (paste buffer h part) (sym d) ∙ ap (λ (n : ℕ). paste buffer n part (copied n part (goes s part buffer))) (sym l);
-        places = m .places;
-      }

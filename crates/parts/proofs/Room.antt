@@ -69,7 +69,7 @@ module _ (s : PartReader) (part buffer : List ℕ) (signed : Bool) (out : List �
     unfolding takePart
     takes-open buffer′ out′ r e g =
         let c : takePart (room buffer out) (stateOf s buffer) part ≡ goes s part buffer = goes-on (room buffer out) (s .standing) _ _ enough e in
-        record { step = rw c (g .step); lent = rw (c, goes-on (room buffer out) (s .standing) (λ a. buffer) _ enough e) (g .lent); places = rw c (g .places) }
+        record { step = rw c (g .step); lent = rw c (g .lent); places = rw c (g .places) }
 
 -- ---- closing
 

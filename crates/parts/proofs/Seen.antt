@@ -41,7 +41,7 @@ any-total at total total′ (cut n left) u =
     let z : _≡_ {A = ℕ} 0 1 = cc in
     absurd (omega arith)
 
-cut-is : (total : ℕ) (r : Reason) → cutShort (refusal 0 total r .number) (refusal 0 total r .cut) ≡ unfinished r
+pub cut-is : (total : ℕ) (r : Reason) → cutShort (refusal 0 total r .number) (refusal 0 total r .cut) ≡ unfinished r
 unfolding cutShort
 cut-is total (plain n) = refl
 cut-is total (cut n left) = refl

@@ -1,10 +1,11 @@
 -- The reader in parts from inside: what a call does by the run reader's answer to the bytes that were looked at. Assumes nothing.
 use mathlib.Core.Path.{_≡_}
-use Prim.Native.Nat.{ℕ, _+_, _-_, _%_}
-use mathlib.Core.Bool.{Bool, true}
+use Prim.Native.Nat.{ℕ, _+_, _-_, _%_, _<_, _≤_, min}
+use mathlib.Core.Bool.{Bool, true, false}
 use mathlib.Core.List.{List, _++_}
-use lib.ListN.{take}
+use lib.ListN.{length, take}
 use lib.Dec.{eqb}
+use lib.Seq.{paste}
 use lib.IntN.{ℤ}
 use Rattle.format.specs.declared.Run as run
 use Rattle.format.specs.declared.CutField.{CutField}
@@ -26,7 +27,20 @@ use Rattle.format.specs.Parts.{Call, onPart, stateOf, stepOf, bufferAfter, plac
 -- an open reader with room enough: c is what the call does
 pub record Goes (s : PartReader) (part buffer buffer′ : List ℕ) (signed : Bool) (out out′ : List ℤ) (r : PartStep) (c : Call) : Type 0 where
   pub step : r ≡ stepOf s c
-  pub lent : buffer′ ≡ bufferAfter (take (s .held) buffer) part buffer c
+  pub lent : buffer′ ≡ bufferAfter (take (s .held) buffer) part buffer (c .reply)
+  pub places : out′ ≡ placesAfter signed out (c .reply)
+
+-- a run that began before its part: h of the lent bytes are held, and the first k of the part's are all that can belong to it
+pub record Begun (s : PartReader) (part buffer : List ℕ) (h k : ℕ) : Type 0 where
+  pub long : 4356 ≤ length buffer
+  pub held : h ≡ min (s .held) (length buffer)
+  pub some : 0 < h
+  pub seen : k ≡ min (length part) (4356 - h)
+
+-- it is read in the lent bytes, whatever the answer is
+pub record Joins (s : PartReader) (part buffer buffer′ : List ℕ) (h k : ℕ) (signed : Bool) (out out′ : List ℤ) (r : PartStep) (c : Call) : Type 0 where
+  pub step : r ≡ stepOf s c
+  pub lent : buffer′ ≡ paste buffer h part k
   pub places : out′ ≡ placesAfter signed out (c .reply)
 
 abbrev pub goes : PartReader → List ℕ → List ℕ → Call
@@ -70,6 +84,25 @@ fromFirst at f = fieldFrom at (f .number) (f .cut)
 unfoldable pub cutShort : ℕ → CutField → Bool
 cutShort n field.None = eqb n 1
 cutShort n (field.At b) = true
+
+-- whether the run reader says so
+unfoldable pub isCut : Answer → Bool
+isCut answer.End = false
+isCut (answer.Run r) = false
+isCut (answer.Refused f) = cutShort (f .number) (f .cut)
+
+-- whether it reads the run
+unfoldable pub isWhole : Answer → Bool
+isWhole answer.End = false
+isWhole (answer.Run r) = true
+isWhole (answer.Refused f) = false
+
+-- whether a call refuses
+unfoldable pub isRefused : PartAnswer → Bool
+isRefused (Run at r) = false
+isRefused More = false
+isRefused (Refused f) = true
+isRefused End = false
 
 unfoldable pub byAnswer : PartReader → ℕ → ℕ → ℕ → Answer → PartStep
 byAnswer s held seen part answer.End = holds s seen part

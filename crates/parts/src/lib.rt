@@ -1,9 +1,10 @@
 // The reader in parts (FORMAT.md, "Reader in parts"): it takes the input in parts and hands out one run at a time.
 ghost use mathlib.Core.Path.{_≡_};
-ghost use Prim.Native.Nat.{_+_, _-_, _≤_};
+ghost use Prim.Native.Nat.{_+_, _-_, _/_, _<_, _≤_};
 ghost use lib.ListN.{length};
 ghost use Rattle.format.specs.Parts.{fresh, Takes, Closes};
-ghost use Rattle.parts.specs.Steps.{still, tooFew, holds, stops, refuses, hands, fromFirst, cutShort, byAnswer, byLast, Goes, goes};
+ghost use Rattle.parts.specs.Steps.{still, tooFew, holds, stops, refuses, hands, fromFirst, cutShort, isCut, isWhole, isRefused, byAnswer, byLast};
+ghost use Rattle.parts.specs.Steps.{Begun, Joins, Goes, goes};
 use format::Answer;
 use format::ByteOffset;
 use format::CutField;
@@ -175,6 +176,150 @@ fn on_part(reader: PartReader, held: usize, seen: usize, part: usize, a: Answer)
     }
 }
 
+// Whether the run reader says that the run is unfinished.
+fn is_cut(a: Answer) -> bool
+    ensures { λ r. ⌜ r ≡ isCut a ⌝ }
+{
+    match a {
+        Answer::Run(_) => false,
+        Answer::Refused(f) => cut_short(f),
+        Answer::End => false,
+    }
+}
+
+// Whether it reads the run.
+fn is_whole(a: Answer) -> bool
+    ensures { λ r. ⌜ r ≡ isWhole a ⌝ }
+{
+    match a {
+        Answer::Run(_) => true,
+        Answer::Refused(_) => false,
+        Answer::End => false,
+    }
+}
+
+// Whether a call refuses.
+fn is_refused(step: PartStep) -> bool
+    ensures { λ r. ⌜ r ≡ isRefused (step .answer) ⌝ }
+{
+    let answer = step.answer;
+    match answer {
+        PartAnswer::Run(_, _) => false,
+        PartAnswer::More => false,
+        PartAnswer::Refused(_) => true,
+        PartAnswer::End => false,
+    }
+}
+
+// A patched or delta run that began before the part, read in the lent bytes: the part's first k bytes are copied after the h bytes held.
+fn join(
+    reader: PartReader,
+    part: &[u8],
+    h: usize,
+    k: usize,
+    signed: bool,
+    buffer: &mut [u8],
+    out: &mut [i64],
+) -> PartStep
+    requires { ⌜ 512 ≤ length (now out) ⌝ }
+    requires { ⌜ Begun reader (now part) (now buffer) h k ⌝ }
+    ensures { λ r. ⌜ Joins reader (now (part .entry)) (now (buffer .entry)) (now (buffer .exit)) h k signed (now (out .entry)) (now (out .exit)) r (goes reader (now (part .entry)) (now (buffer .entry))) ⌝ }
+{
+    bytes::copy(part, k, buffer, h);
+    let a = rle_v2::read_run(&buffer[..h + k], ByteOffset { bytes: 0 }, signed, out);
+    on_part(reader, h, h + k, part.len(), a)
+}
+
+// The same, but a call that refuses puts back what stood after the bytes held.
+fn join_or_restore(
+    reader: PartReader,
+    part: &[u8],
+    h: usize,
+    k: usize,
+    signed: bool,
+    buffer: &mut [u8],
+    saved: &mut [u8],
+    out: &mut [i64],
+) -> PartStep
+    requires { ⌜ 512 ≤ length (now out) ⌝ }
+    requires { ⌜ k ≤ length (now saved) ⌝ }
+    requires { ⌜ Begun reader (now part) (now buffer) h k ⌝ }
+    ensures { λ r. ⌜ Goes reader (now (part .entry)) (now (buffer .entry)) (now (buffer .exit)) signed (now (out .entry)) (now (out .exit)) r (goes reader (now (part .entry)) (now (buffer .entry))) ⌝ }
+{
+    bytes::copy(&buffer[h..], k, saved, 0);
+    let step = join(reader, part, h, k, signed, buffer, out);
+    if is_refused(step) {
+        bytes::copy(saved, k, buffer, h);
+    }
+    step
+}
+
+// Places for the bytes that a short part and a long one overwrite. Zeros are laid into them at each call, so there are two.
+fn few() -> [u8; 128]
+    ensures { λ r. ⌜ length r ≡ 128 ⌝ }
+{
+    [0; 128]
+}
+
+fn most() -> [u8; Kind::MAX_BYTES]
+    ensures { λ r. ⌜ length r ≡ 4356 ⌝ }
+{
+    [0; Kind::MAX_BYTES]
+}
+
+fn restoring(
+    reader: PartReader,
+    part: &[u8],
+    h: usize,
+    k: usize,
+    signed: bool,
+    buffer: &mut [u8],
+    out: &mut [i64],
+) -> PartStep
+    requires { ⌜ 512 ≤ length (now out) ⌝ }
+    requires { ⌜ Begun reader (now part) (now buffer) h k ⌝ }
+    ensures { λ r. ⌜ Goes reader (now (part .entry)) (now (buffer .entry)) (now (buffer .exit)) signed (now (out .entry)) (now (out .exit)) r (goes reader (now (part .entry)) (now (buffer .entry))) ⌝ }
+{
+    if k <= 128 {
+        let mut saved = few();
+        return join_or_restore(reader, part, h, k, signed, buffer, &mut saved, out);
+    }
+    let mut saved = most();
+    join_or_restore(reader, part, h, k, signed, buffer, &mut saved, out)
+}
+
+// A patched or delta run that began before the part. If its front is held, that and the length tell whether it stays unfinished: then what stands
+// after the bytes held does not matter. Otherwise the call may refuse.
+fn begun(
+    reader: PartReader,
+    part: &[u8],
+    h: usize,
+    k: usize,
+    signed: bool,
+    buffer: &mut [u8],
+    out: &mut [i64],
+) -> PartStep
+    requires { ⌜ 512 ≤ length (now out) ⌝ }
+    requires { ⌜ Begun reader (now part) (now buffer) h k ⌝ }
+    ensures { λ r. ⌜ Goes reader (now (part .entry)) (now (buffer .entry)) (now (buffer .exit)) signed (now (out .entry)) (now (out .exit)) r (goes reader (now (part .entry)) (now (buffer .entry))) ⌝ }
+{
+    if Kind::MAX_FRONT <= h {
+        let a = rle_v2::measure(&buffer[..h + k], ByteOffset { bytes: 0 });
+        if is_cut(a) {
+            bytes::copy(part, k, buffer, h);
+            return hold(reader, h + k, part.len());
+        }
+        if is_whole(a) {
+            if 3 <= buffer[0] / 64 {
+                // a delta run's front tells that it is not refused
+                return join(reader, part, h, k, signed, buffer, out);
+            }
+        }
+        return restoring(reader, part, h, k, signed, buffer, out);
+    }
+    restoring(reader, part, h, k, signed, buffer, out)
+}
+
 // A call with a part of an open reader, with room enough.
 fn opened(
     reader: PartReader,
@@ -198,6 +343,10 @@ fn opened(
         return step;
     }
     let k = number::least(n, beyond(Kind::MAX_BYTES, h));
+    if 2 <= buffer[0] / 64 {
+        return begun(reader, part, h, k, signed, buffer, out);
+    }
+    // a short repeat or a direct run is never refused, only unfinished
     bytes::copy(part, k, buffer, h);
     let a = rle_v2::read_gathered(&buffer[..h + k], signed, out);
     on_part(reader, h, h + k, n, a)

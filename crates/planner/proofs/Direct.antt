@@ -74,7 +74,7 @@ module _ (signed : Bool) (part : List ℤ) where
       let b = reads-back signed Direct 31 part (length (layout run)) h e in
       (b .0, b .2)
 
-  run-bytes : length (layout run) ≡ 2 + 8 * length part
+  pub run-bytes : length (layout run) ≡ 2 + 8 * length part
   unfolding run described valuesOf width widths
   run-bytes = bytes-count (described signed Direct 31 (map asU64 part)) ∙ simp length-map (omega arith)
 

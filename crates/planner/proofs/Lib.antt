@@ -13,3 +13,4 @@ pub mod Columns
 pub mod Reading
 pub mod Examples
 pub mod Proposing
+pub mod Falling

@@ -25,7 +25,7 @@ use Rattle.planner.proofs.Growing.{Grown, grown-first, grown-next, grow
 -- ---- the parts
 
 -- 512 of them, or all that are left
-take-least : (l : List ℤ) → take 512 l ≡ take (min 512 (length l)) l
+pub take-least : (l : List ℤ) → take 512 l ≡ take (min 512 (length l)) l
 take-least l = go (decLe 512 (length l))
   where
     go : Dec (512 ≤ length l) → take 512 l ≡ take (min 512 (length l)) l
@@ -51,7 +51,7 @@ first-part (suc fuel) (z ∷ l) h m =
     let e : suc fuel - 1 ≡ fuel = omega arith in
     rw (← (take-least (z ∷ l)), ← (drop-least (z ∷ l)), e) refl
 
-no-part : (fuel : ℕ) (l : List ℤ) → length l ≡ 0 → parts fuel l ≡ []
+pub no-part : (fuel : ℕ) (l : List ℤ) → length l ≡ 0 → parts fuel l ≡ []
 unfolding parts
 no-part zero l h = refl
 no-part (suc fuel) [] h = refl

@@ -4,7 +4,7 @@ ghost use mathlib.Core.Bool.{true, _&&_};
 ghost use lib.Dec.{eqb};
 ghost use Rattle.cuts.specs.Proposed.{Proposed};
 ghost use Rattle.planner.specs.Check.{proposal, equalLengths, checkedAs};
-ghost use Rattle.planner.specs.Plan.{Proposes};
+ghost use Rattle.planner.specs.Plan.{Kept};
 use crate::Checked;
 use crate::Columned;
 use crate::segment;
@@ -87,7 +87,7 @@ pub(crate) fn sound(
     k: usize,
 ) -> usize
     requires { ⌜ Proposed (now first) (now counts) (now forms) (now widths) (now bases) k ⌝ }
-    ensures { λ r. ⌜ Proposes signed (now (rows .entry)) (proposal (now (first .entry)) (now (counts .entry)) (now (forms .entry)) (now (widths .entry)) (now (bases .entry))) r ⌝ }
+    ensures { λ r. ⌜ Kept signed (now (rows .entry)) (proposal (now (first .entry)) (now (counts .entry)) (now (forms .entry)) (now (widths .entry)) (now (bases .entry))) r ⌝ }
 {
     let c = walk(
         rows,

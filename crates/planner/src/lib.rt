@@ -8,6 +8,7 @@ use format::Refusal;
 use format::RowNumber;
 
 mod accept;
+mod fallback;
 mod segment;
 mod write;
 
@@ -80,8 +81,9 @@ pub fn write_column(
     }
 }
 
-// Proposes how a column is cut into runs, in the first places of the five columns: how many. None where a column has too few places. What is
-// proposed has passed the check, so it is written wherever there is room, and it has no more bytes than the direct runs of 64 bits.
+// Proposes how a column is cut into runs, in the first places of the five columns: how many. What is proposed has passed the check, so it is written
+// wherever there is room, and it has no more bytes than the direct runs of 64 bits. None if there are no rows, or if a column has fewer places than
+// there are direct runs and nothing shorter was found: the direct runs are proposed if nothing better is.
 pub fn plan(
     rows: &[i64],
     signed: bool,
@@ -93,6 +95,13 @@ pub fn plan(
 ) -> usize
     ensures { λ r. ⌜ Proposes signed (now (rows .entry)) (proposal (now (first .exit)) (now (counts .exit)) (now (forms .exit)) (now (widths .exit)) (now (bases .exit))) r ⌝ }
 {
+    if rows.len() == 0 {
+        return 0;
+    }
     let k = cuts::propose(rows, signed, first, counts, forms, widths, bases);
-    accept::sound(rows, signed, first, counts, forms, widths, bases, k)
+    let n = accept::sound(rows, signed, first, counts, forms, widths, bases, k);
+    if 0 < n {
+        return n;
+    }
+    fallback::propose(rows, first, counts, forms, widths, bases)
 }

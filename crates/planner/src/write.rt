@@ -66,7 +66,7 @@ pub(crate) fn is_longer(bytes: usize, rows: usize) -> bool
 }
 
 // Every row is an i64: what is read of the slice is known to be one. Nothing else comes of the loop, and the compiler drops it.
-fn know(rows: &[i64])
+pub(crate) fn know(rows: &[i64])
     ensures { λ _. ⌜ AllI64 (now (rows .entry)) ⌝ }
 {
     let mut i: usize = 0;
@@ -77,7 +77,7 @@ fn know(rows: &[i64])
 }
 
 // The rows of the next direct run, of so many that are left.
-fn part_rows(left: usize) -> usize
+pub(crate) fn part_rows(left: usize) -> usize
     ensures { λ r. ⌜ r ≡ min 512 left ⌝ }
 {
     if Kind::MAX_ROWS < left {

@@ -1,148 +1,161 @@
--- A file that is cut inside a run is refused there. Assumes nothing.
+-- A file that is cut inside a run is refused there, or with 8 at a run before it that lacks room. Assumes nothing.
 use mathlib.Core.Path.{_≡_, refl, sym, ap, _∙_}
 use mathlib.Core.Logic.{_≢_}
 use Prim.Native.Nat.{ℕ, suc, _+_, _-_, _<_, _≤_}
 use native.Mathlib.Decide.{decLt}
 use native.Mathlib.Omega.{arith}
-use mathlib.Core.List.{List, [], _∷_, _++_, append-assoc}
+use mathlib.Core.Bool.{Bool}
+use mathlib.Core.List.{List, [], _∷_, _++_}
 use lib.ListN.{length, take, drop, length-append, take-append-drop}
 use lib.Seq.{take-append-le, take-append-add, length-take-le}
 use lib.Dec.{T, eqb→eq}
+use lib.IntN.{ℤ}
+use Rattle.format.specs.declared.Stream.{Stream}
 use Rattle.format.specs.Answers.{refusal}
 use Rattle.format.specs.Digits.{AllBelow}
 use Rattle.format.specs.Runs.{Description, Valid, AllValid, layout, joined}
 use Rattle.format.specs.Parse.{Reason, unfinished, into}
-use Rattle.format.specs.Streams.{whole, broken, readAll, totalRows}
+use Rattle.format.specs.Streams.{broken, readAll, totalRows}
+use Rattle.format.specs.Promises.{StreamRead}
 use Rattle.format.proofs.Below.{append-below}
 use Rattle.format.proofs.Runs.{layout-below}
 use Rattle.format.proofs.Cut.{cut-number}
-use Rattle.format.proofs.Streams.{into-refused, stream-whole, stream-broken}
-use Rattle.promises.specs.CutFile.{EndInside, CutBetween, in-header, in-field, CutFileHolds}
+use Rattle.format.proofs.Joined.{joined-append, valid-behind}
+use Rattle.format.proofs.Streams.{into-refused, stream-broken}
+use Rattle.promises.specs.CutFile.{EndInside, CutBetween, in-header, in-field, Inside, Refuses, LacksRoom, CutFileHolds}
+use Rattle.promises.specs.Demand3.{IsWhole}
 use Rattle.promises.specs.Refusals.{Given, by-number, by-field}
-use Rattle.promises.proofs.Demand3.{demand3}
 use Rattle.promises.proofs.Refusals.{refusals, field-le, field-pos, field-here}
+use Rattle.promises.proofs.ShortOfRoom.{valid-front, Short, first-short, stops-short}
 
--- ---- where the cut is: the runs before it, the run that it is in, and the bytes of that run before it
+-- ---- the run that the cut is in
 
-record Place (n : ℕ) (ds : List Description) : Type 0 where
-  before : List Description
-  cut : Description
-  behind : List Description
-  left : List ℕ
-  right : List ℕ
-  runs : ds ≡ before ++ (cut ∷ behind)
-  valid-before : AllValid before
-  valid-cut : Valid cut
-  bytes : layout cut ≡ left ++ right
-  some-left : left ≢ []
-  some-right : right ≢ []
-  kept : take n (joined ds) ≡ joined before ++ left
-  size : n ≡ length (joined before) + length left
-  rows : totalRows before ≤ totalRows ds
+inside : (n : ℕ) (ds : List Description) → EndInside n ds → Inside n ds
+unfolding joined
+inside n [] (h, i) = absurd (omega arith)
+inside n (d ∷ ds) (h, i) = go (decLt n (length (layout d))) (λ j. inside (n - length (layout d)) ds j)
+  where
+    go : Dec (n < length (layout d)) → (EndInside (n - length (layout d)) ds → Inside (n - length (layout d)) ds) → Inside n (d ∷ ds)
+    go (yes l) ih =
+        let some : n ≢ 0 = i 0 in
+        record { before = []; cut = d; later = ds; runs = refl; begun = omega arith; ended = omega arith }
+    go (no l) ih =
+        let p : Inside (n - length (layout d)) ds =
+        ih (
+          omega (arith, length-append (layout d) (joined ds)),
+          λ k e. i (suc k) (omega (arith, l, length-append (layout d) (joined (take k ds)))),
+        ) in
+        record {
+          before = d ∷ p .before;
+          cut = p .cut;
+          later = p .later;
+          runs = ap (λ (t : List Description). d ∷ t) (p .runs);
+          begun = omega (arith, l, p .begun, length-append (layout d) (joined (p .before)));
+          ended = omega (arith, l, p .ended, length-append (layout d) (joined (p .before)));
+        }
 
 nonempty : (s : List ℕ) → 0 < length s → s ≢ []
 nonempty s h e = omega (arith, ap length e)
 
-some : (s : List ℕ) → s ≢ [] → 0 < length s
-some [] h = absurd (h refl)
-some (a ∷ s) h = omega arith
+module _ (n : ℕ) (ds : List Description) (v : AllValid ds) (i : Inside n ds) where
+  -- how many of its bytes are left, and which
+  abbrev size : ℕ
+  size = n - length (joined (i .before))
 
-later : (n : ℕ) (d : Description) (ds : List Description) → Valid d → Place (n - length (layout d)) ds → length (layout d) ≤ n → Place n (d ∷ ds)
-unfolding joined totalRows
-later n d ds v p h =
-    let e : n ≡ length (layout d) + (n - length (layout d)) = omega arith in
-    record {
-      before = d ∷ p .before;
-      cut = p .cut;
-      behind = p .behind;
-      left = p .left;
-      right = p .right;
-      runs = ap (λ (t : List Description). d ∷ t) (p .runs);
-      valid-before = (v, p .valid-before);
-      valid-cut = p .valid-cut;
-      bytes = p .bytes;
-      some-left = p .some-left;
-      some-right = p .some-right;
-      kept =
-          ap (λ (k : ℕ). take k (layout d ++ joined ds)) e ∙ take-append-add (layout d) (joined ds) (n - length (layout d))
-          ∙ ap (λ (t : List ℕ). layout d ++ t) (p .kept) ∙ sym (append-assoc (layout d) (joined (p .before)) (p .left));
-      size = omega (arith, p .size, length-append (layout d) (joined (p .before)));
-      rows = omega (arith, p .rows);
-    }
+  abbrev left : List ℕ
+  left = take size (layout (i .cut))
 
-place : (n : ℕ) (ds : List Description) → AllValid ds → EndInside n ds → Place n ds
-unfolding joined totalRows
-place n [] v (h, i) = absurd (omega arith)
-place n (d ∷ ds) v (h, i) = go (decLt n (length (layout d))) (λ j. place (n - length (layout d)) ds (v .1) j)
-  where
-    go : Dec (n < length (layout d)) → (EndInside (n - length (layout d)) ds → Place (n - length (layout d)) ds) → Place n (d ∷ ds)
-    go (yes l) ih =
-        let kept : n ≢ 0 = i 0 in
-        record {
-          before = [];
-          cut = d;
-          behind = ds;
-          left = take n (layout d);
-          right = drop n (layout d);
-          runs = refl;
-          valid-before = tt;
-          valid-cut = v .0;
-          bytes = sym (take-append-drop n (layout d));
-          some-left = nonempty (take n (layout d)) (omega (arith, length-take-le n (layout d) (omega arith)));
-          some-right = nonempty (drop n (layout d)) (omega (arith, length-take-le n (layout d) (omega arith), ap length (take-append-drop n (layout d)), length-append (take n (layout d)) (drop n (layout d))));
-          kept = take-append-le n (layout d) (joined ds) (omega arith);
-          size = omega (arith, length-take-le n (layout d) (omega arith));
-          rows = omega arith;
-        }
-    go (no l) ih =
-        later n d ds (v .0)
-        (ih (omega (arith, length-append (layout d) (joined ds)), λ k e. i (suc k) (omega (arith, l, length-append (layout d) (joined (take k ds))))))
-        (omega arith)
+  left-size : length left ≡ size
+  left-size = length-take-le size (layout (i .cut)) (omega (arith, i .ended))
 
-module _ (n : ℕ) (ds : List Description) (p : Place n ds) where
-  -- why the run that is cut is refused, and what reading the rest of the file gives
-  broken-there : (r : Reason) × T (unfinished r) × Given 0 (p .left) r
-      × ((room : ℕ) → totalRows ds ≤ room → readAll room (take n (joined ds)) ≡ broken (p .before) r (p .left))
+  valid : AllValid (i .before ++ (i .cut ∷ i .later))
+  valid = rw (i .runs) at v
+
+  valid-before : AllValid (i .before)
+  valid-before = valid-front (i .before) (i .cut ∷ i .later) valid
+
+  valid-cut : Valid (i .cut)
+  valid-cut = valid-behind (i .before) (i .cut ∷ i .later) valid .0
+
+  -- what is left of the file: the runs before it, and those bytes
+  kept : take n (joined ds) ≡ joined (i .before) ++ left
+  unfolding joined
+  kept =
+      let e : n ≡ length (joined (i .before)) + size = omega (arith, i .begun) in
+      ap (λ (t : List Description). take n (joined t)) (i .runs) ∙ ap (take n) (joined-append (i .before) (i .cut ∷ i .later))
+      ∙ ap (λ (k : ℕ). take k (joined (i .before) ++ (layout (i .cut) ++ joined (i .later)))) e
+      ∙ take-append-add (joined (i .before)) (layout (i .cut) ++ joined (i .later)) size
+      ∙ ap (λ (t : List ℕ). joined (i .before) ++ t) (take-append-le size (layout (i .cut)) (joined (i .later)) (omega (arith, i .ended)))
+
+  -- ---- why it is refused, if the rows before it have room, and what reading the rest of the file gives
+  broken-there : (r : Reason) × T (unfinished r) × Given 0 left r
+      × ((room : ℕ) → totalRows (i .before) ≤ room → readAll room (take n (joined ds)) ≡ broken (i .before) r left)
   broken-there =
-      let (r, f, c) = cut-number (p .cut) (p .left) (p .right) (p .valid-cut) (p .bytes) (p .some-left) (p .some-right) in
-      let below : AllBelow 256 (p .left) = append-below 256 (p .left) (p .right) (rw (p .bytes) at (layout-below (p .cut) (p .valid-cut))) in (
+      let right : List ℕ = drop size (layout (i .cut)) in
+      let bytes : layout (i .cut) ≡ left ++ right = sym (take-append-drop size (layout (i .cut))) in
+      let all : length (layout (i .cut)) ≡ length left + length right = ap length bytes ∙ length-append left right in
+      let (r, f, c) =
+      cut-number (i .cut) left right valid-cut bytes (nonempty left (omega (arith, i .begun, left-size)))
+      (nonempty right (omega (arith, i .ended, i .begun, left-size))) in
+      let below : AllBelow 256 left = append-below 256 left right (rw bytes at (layout-below (i .cut) valid-cut)) in (
         r,
         c,
-        refusals 0 (p .left) below r .0 (ap (into 0) f ∙ into-refused 0 r),
-        λ room h. ap (readAll room) (p .kept) ∙ stream-broken room (p .before) (p .left) r (p .valid-before) (omega (arith, p .rows)) (ap (into _) f ∙ into-refused _ r),
+        refusals 0 left below r .0 (ap (into 0) f ∙ into-refused 0 r),
+        λ room h. ap (readAll room) kept ∙ stream-broken room (i .before) left r valid-before h (ap (into _) f ∙ into-refused _ r),
       )
 
-  -- and where the run that is cut begins, and the file ends
-  cut-between : (at : ℕ) (r : Reason) → Given 0 (p .left) r → T (unfinished r)
-      → CutBetween (at + length (joined (p .before))) (at + n) (refusal (at + length (joined (p .before))) (length (p .left)) r)
+  -- where it begins, and the file ends
+  cut-between : (at : ℕ) (r : Reason) → Given 0 left r → T (unfinished r)
+      → CutBetween (at + length (joined (i .before))) (at + n) (refusal (at + length (joined (i .before))) (length left) r)
   cut-between at r (by-number {n = k} t) c = rw (eqb→eq k 1 c) in-header
   cut-between at r (by-field {n = k} {field} l) c =
-      rw (field-here 0 (at + length (joined (p .before))) (p .left) k field l)
-      (in-field {byte = at + length (joined (p .before)) + field} (field-pos (p .left) l .1) (omega (arith, field-pos (p .left) l .0)) (omega (arith, p .size, field-le (p .left) l)))
+      rw (field-here 0 (at + length (joined (i .before))) left k field l)
+      (in-field {byte = at + length (joined (i .before)) + field} (field-pos left l .1) (omega (arith, field-pos left l .0))
+      (omega (arith, i .begun, left-size, field-le left l)))
+
+-- ---- the theorem
+
+module _ (input : List ℕ) (at : ℕ) (signed : Bool) (out out′ : List ℤ) (r : Stream) (s : StreamRead input at signed out out′ r)
+    (n : ℕ) (ds : List Description) (v : AllValid ds) (e : drop at input ≡ take n (joined ds)) (i : Inside n ds) where
+  cut-refused : totalRows (i .before) ≤ length out → Refuses i at signed out out′ r
+  cut-refused room =
+      let (k, c, t, stops) = broken-there n ds v i in
+      let f = stops (length out) room in
+      record { refusal = _; where-cut = cut-between n ds v i at k t c; answer = rw (e, f) at (s .answer); places = rw (e, f) at (s .places) }
+
+  room-lacking : length out < totalRows (i .before) → LacksRoom (i .before) at signed out out′ r
+  room-lacking h =
+      let p : Short (length out) (i .before) = first-short (length out) (i .before) h in
+      let f = stops-short (length out) (i .before) (left n ds v i) (valid-before n ds v i) p in
+      let k = kept n ds v i in
+      record {
+        before = p .before;
+        short = p .short;
+        later = p .later;
+        runs = p .runs;
+        room = p .enough;
+        lacks = p .lacks;
+        answer = rw (e, k, f) at (s .answer);
+        places = rw (e, k, f) at (s .places);
+      }
+
+  not-whole : IsWhole r → ⊥
+  not-whole (rows, bytes, last, w) = go (decLt (length out) (totalRows (i .before)))
+    where
+      go : Dec (length out < totalRows (i .before)) → ⊥
+      go (yes l) =
+          let a = room-lacking l .answer in
+          let z : _≡_ {A = ℕ} 0 1 = cc in
+          omega arith
+      go (no l) =
+          let a = cut-refused (omega arith) .answer in
+          let z : _≡_ {A = ℕ} 0 1 = cc in
+          omega arith
 
 pub cut-file : CutFileHolds
-cut-file input h at signed out out′ r s n ds v i e =
-    let p : Place n ds = place n ds v i in
-    let (k, c, t, stops) = broken-there n ds p in
-    record {
-      refuses = λ room.
-          let f : readAll (length out) (take n (joined ds)) ≡ broken (p .before) k (p .left) = stops (length out) room in
-          record {
-            before = p .before;
-            cut = p .cut;
-            behind = p .behind;
-            runs = p .runs;
-            begun = omega (arith, p .size, some (p .left) (p .some-left));
-            ended = omega (arith, p .size, some (p .right) (p .some-right), length-append (p .left) (p .right), ap length (p .bytes));
-            refusal = _;
-            where-cut = cut-between n ds p at k t c;
-            answer = rw (e, f) at (s .answer);
-            places = rw (e, f) at (s .places);
-          };
-      never-whole = λ w.
-          let (es, l, room) = demand3 input h at signed out out′ r s .exactly .0 w in
-          let f : readAll (totalRows ds + totalRows es) (take n (joined ds)) ≡ broken (p .before) k (p .left) = stops _ (omega arith) in
-          let g : readAll (totalRows ds + totalRows es) (take n (joined ds)) ≡ whole es = rw (← e, l .bytes) (stream-whole _ es (l .valid) (omega arith)) in
-          let z : _≡_ {A = ℕ} 0 1 = cc in
-          omega arith;
-    }
+cut-file input at signed out out′ r s n ds v i e = record {
+  inside = inside n ds i;
+  refuses = cut-refused input at signed out out′ r s n ds v e;
+  lacks-room = room-lacking input at signed out out′ r s n ds v e;
+  never-whole = not-whole input at signed out out′ r s n ds v e (inside n ds i);
+}

@@ -1,9 +1,9 @@
--- What two blocks that differ in one byte have in common, and how many rows a byte touches: by the law that field i of a block is bits i·w to i·w+w-1 of
--- its bytes. Assumes nothing.
+-- What two blocks that differ in one byte have in common: by the law that field i of a block is bits i·w to i·w+w-1 of its bytes.
+-- Assumes nothing.
 use mathlib.Core.Path.{_≡_, sym, ap, _∙_}
 use mathlib.Core.Logic.{inl, inr}
-use Prim.Native.Nat.{ℕ, zero, suc, _+_, _-_, _*_, _/_, _^_, _<_, _≤_}
-use native.Mathlib.Nat.{le-div-iff-mul-le, div-lt-iff-lt-mul, div-mul-le-self, lt-div-mul-add, zero-lt-suc}
+use Prim.Native.Nat.{ℕ, suc, _+_, _-_, _*_, _^_, _<_, _≤_}
+use native.Mathlib.Nat.{zero-lt-suc}
 use native.Mathlib.Omega.{arith}
 use mathlib.Core.List.{List, _∷_, _++_, append-assoc}
 use lib.ListN.{length, getD, take, drop, length-append, length-drop}
@@ -15,11 +15,11 @@ use Rattle.format.specs.Runs.{Description, Valid, ValidHead, layout, head₀, h
 use Rattle.format.specs.Parse.{got, parse}
 use Rattle.format.proofs.Digits.{length-digits, number-digits, length-spread, spread-append}
 use Rattle.format.proofs.Posts.{Took}
-use Rattle.format.proofs.Below.{below-getD}
+use Rattle.format.proofs.Below.{below-getD, below-drop}
 use Rattle.format.proofs.FieldBits.{block-field}
 use Rattle.format.proofs.Fields.{length-block}
 use Rattle.format.proofs.Runs.{Outcome, run, outcome}
-use Rattle.promises.specs.FlippedByte.{Outside}
+use Rattle.promises.specs.FlippedByte.{HoldsRun, Outside}
 
 -- ---- the bits of a list of bytes
 
@@ -62,53 +62,40 @@ split-in p q s t x e h =
     let l : length p ≡ length s + suc (length p - suc (length s)) = omega arith in
     sym (take-append-seam p q) ∙ ap (take (length p)) e ∙ ap (λ (n : ℕ). take n (s ++ (x ∷ t))) l ∙ take-append-add s (x ∷ t) (suc (length p - suc (length s)))
 
-pub took : (bs : List ℕ) (d : Description) (rest : List ℕ) → AllBelow 256 bs → parse bs ≡ got d rest → Took bs layout Valid d rest
+took : (bs : List ℕ) (d : Description) (rest : List ℕ) → AllBelow 256 bs → parse bs ≡ got d rest → Took bs layout Valid d rest
 took bs d rest h e = go (rw e at (outcome bs h))
   where
     go : Outcome bs (got d rest) → Took bs layout Valid d rest
     go (run t) = t
 
+-- an accepted run is valid, and its layout stands in front of the bytes
+pub record Laid (front : List ℕ) (x : ℕ) (back follows rest : List ℕ) (d : Description) : Type 0 where
+  pub ok : Valid d
+  pub split : front ++ (x ∷ (back ++ follows)) ≡ layout d ++ rest
+
+pub laid : {input front back : List ℕ} {at x : ℕ} {d : Description} → (h : HoldsRun input at front x back d)
+    → Laid front x back (h .follows) (h .rest) d
+laid {input} {at} {d} h =
+    let t = took (drop at input) d (h .rest) (below-drop 256 at input (h .bytes)) (h .accepted) in
+    record { ok = t .ok; split = sym (h .split) ∙ t .split }
+
 -- a header has one meaning
 pub head-same : (kind code code′ n n′ : ℕ) → ValidHead code n → ValidHead code′ n′ → head₀ kind code n ≡ head₀ kind code′ n′ → head₁ n ≡ head₁ n′ → (code ≡ code′) × (n ≡ n′)
 head-same kind code code′ n n′ v v′ e f = omega arith
 
--- two blocks of one size, whose bytes lie in lists that differ in one place
-pub values-same : (w w′ n n′ : ℕ) (k k′ : Block) → w ≡ w′ → n ≡ n′ → IsBlock w n k → IsBlock w′ n′ k′ → (q q′ s t : List ℕ) (x y : ℕ)
-    → blockBytes w n k ++ q ≡ s ++ (x ∷ t) → blockBytes w′ n′ k′ ++ q′ ≡ s ++ (y ∷ t) → length s < bytesFor (n * w) → 1 ≤ w
+-- two blocks of one size, whose bytes lie in lists that differ in one place as far as the first block goes
+pub values-same : (w w′ n n′ : ℕ) (k k′ : Block) → w ≡ w′ → n ≡ n′ → IsBlock w n k → IsBlock w′ n′ k′ → (q q′ s t r r′ : List ℕ) (x y : ℕ)
+    → blockBytes w n k ++ q ≡ s ++ (x ∷ (t ++ r)) → blockBytes w′ n′ k′ ++ q′ ≡ s ++ (y ∷ (t ++ r′))
+    → length s < bytesFor (n * w) → bytesFor (n * w) ≤ length s + 1 + length t → 1 ≤ w
     → (i : ℕ) → i < n → Outside w i (length s) → getD (k .values) i 0 ≡ getD (k′ .values) i 0
-values-same w w′ n n′ k k′ ew en v v′ q q′ s t x y e e′ l =
-    field-same w n k k′ v (rw (← ew, ← en) at v′) s (take (bytesFor (n * w) - suc (length s)) t) x y
-    (rw (length-block w n k) at (split-in (blockBytes w n k) q s t x e (rw (length-block w n k) l)))
-    (rw (length-block w n k′) at (split-in (blockBytes w n k′) q′ s t y (rw (← ew, ← en) at e′) (rw (length-block w n k′) l)))
+values-same w w′ n n′ k k′ ew en v v′ q q′ s t r r′ x y e e′ l m =
+    field-same w n k k′ v (rw (← ew, ← en) at v′) s (take size t) x y
+    (block-split k q r x e) (block-split k′ q′ r′ y (rw (← ew, ← en) at e′))
+  where
+    size : ℕ
+    size = bytesFor (n * w) - suc (length s)
 
--- ---- how many rows
-
-quotient : (x w m : ℕ) → 1 ≤ w → m * w ≤ x → x < m * w + w → x / w ≡ m
-quotient x w m p l h =
-    omega (arith, le-div-iff-mul-le {k = w} {x = m} {y = x} p .1 l, div-lt-iff-lt-mul {k = w} {x = x} {y = suc m} p .1 (omega arith))
-
-pub at-most : (w j : ℕ) → 1 ≤ w → (8 * j + 7) / w - 8 * j / w ≤ (w + 6) / w
-at-most w j p =
-    let c : ℕ = (w + 6) / w in
-    let q : ℕ = 8 * j / w in
-    let a : 8 * j < q * w + w = lt-div-mul-add p in
-    let b : w + 6 < c * w + w = lt-div-mul-add p in
-    omega (arith, div-lt-iff-lt-mul {k = w} {x = 8 * j + 7} {y = q + c + 1} p .1 (omega arith))
-
-pub in-a-byte : (w q j : ℕ) → 1 ≤ w → 8 ≡ q * w → (8 * j + 7) / w - 8 * j / w + 1 ≡ q
-in-a-byte w zero j p e = absurd (omega arith)
-in-a-byte w (suc r) j p e =
-    let f : 8 * j ≡ suc r * w * j = ap (λ (z : ℕ). z * j) e in
-    omega (
-      arith,
-      quotient (8 * j) w (j * suc r) p (omega arith) (omega arith),
-      quotient (8 * j + 7) w (j * suc r + r) p (omega arith) (omega arith),
-    )
-
-pub whole-bytes : (w q j : ℕ) → 1 ≤ w → w ≡ q * 8 → (8 * j + 7) / w ≡ 8 * j / w
-whole-bytes w q j p e =
-    let m : ℕ = 8 * j / w in
-    let a : m * w ≤ 8 * j = div-mul-le-self (8 * j) w in
-    let b : 8 * j < m * w + w = lt-div-mul-add p in
-    let c : m * w ≡ m * (q * 8) = ap (λ (z : ℕ). m * z) e in
-    quotient (8 * j + 7) w m p (omega arith) (omega arith)
+    block-split : (k : Block) (q r : List ℕ) (x : ℕ) → blockBytes w n k ++ q ≡ s ++ (x ∷ (t ++ r)) → blockBytes w n k ≡ s ++ (x ∷ take size t)
+    block-split k q r x e =
+        rw (length-block w n k) at (split-in (blockBytes w n k) q s (t ++ r) x e (rw (length-block w n k) l))
+        ∙ ap (λ (u : List ℕ). s ++ (x ∷ u)) (take-append-le size t r (omega arith))

@@ -18,8 +18,10 @@ pub mod RoundTrips
 -- the user's four questions
 pub mod EachWidth
 pub mod PatchNames
+pub mod PatchCases
 pub mod PatchLists
 pub mod Sums
+pub mod ShortOfRoom
 pub mod CutFile
 -- what came with the changes behind the base (docs/CHANGES.md)
 pub mod BrokeOff
@@ -33,15 +35,22 @@ pub mod PatchedLeast
 pub mod Patched
 pub mod PatchedTable
 pub mod PatchedExamples
+pub mod LongestByForm
+pub mod LongestWritten
 pub mod Feeding
 pub mod Parts
 pub mod PartsRefused
+pub mod PartsStanding
 pub mod PartsFollow
 pub mod PartsCalls
 pub mod PartsDelivered
 pub mod PartsSample
 -- one flipped byte
 pub mod FlippedFields
+pub mod FlippedTouch
+pub mod FlippedRows
 pub mod FlippedByte
+-- inputs that meet the hypotheses of a cut file and of one flipped byte
+pub mod Instances
 -- any two outcomes are equal
 pub mod Outcomes

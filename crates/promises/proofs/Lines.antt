@@ -15,7 +15,7 @@ use Rattle.format.proofs.Tests.{T-true, is-false}
 use Rattle.promises.specs.Refusals
 use Rattle.promises.specs.Refusals.{Table, refusal-1, refusal-2, refusal-3, refusal-4, refusal-5, refusal-7, refusal-8, CutLine, Given, by-number, by-field}
 use Rattle.promises.specs.Refusals.{TenthAbove, Unended, Headed, PatchedRun, DeltaRun, magnitudeBytes, listFrom, listTo, entries, valueBytes, baseBytes}
-use Rattle.promises.proofs.PatchLists.{too-large, out-of-place}
+use Rattle.promises.proofs.PatchCases.{too-large, out-of-place}
 use Rattle.promises.proofs.Fates.{tenth-above, unended}
 use Rattle.promises.proofs.PatchedFate.{patched-2, patched-base, patched-values, patched-list, patched-all}
 use Rattle.promises.proofs.PlainFates.{short-cut, direct-cut}

@@ -13,7 +13,7 @@ use Rattle.format.specs.Runs.{Description, patched, Valid, patches, tooLarge, o
 use Rattle.format.proofs.Rows.{below-replicate, byteCount, bytes-count, byte-bounds}
 use Rattle.promises.specs.PatchLists.{placeOf, TooLarge, OutOfPlace}
 use Rattle.promises.specs.Longest.{Longest}
-use Rattle.promises.proofs.PatchLists.{too-large, out-of-place}
+use Rattle.promises.proofs.PatchCases.{too-large, out-of-place}
 
 abbrev entry : ℕ
 entry = 2 ^ 56

@@ -7,7 +7,7 @@ use native.Mathlib.Decide.{decLt}
 use Rattle.format.specs.Fields.{width, widths, two64, Narrowest}
 use Rattle.format.specs.Kept.{nextKept}
 use Rattle.format.proofs.Kept.{narrowest-next, narrowest-kept-unique}
-use Rattle.promises.specs.Outcomes.{Determines, RunDetermined, StreamDetermined, BooleansDetermined, ValueDetermined, WriterDetermined, LoaderDetermined, RunToldDetermined, StreamToldDetermined, BooleansToldDetermined, ValueToldDetermined, WriteToldDetermined, VersionDetermined, NarrowestDetermined, PatchedDetermined, PartDetermined, ClosingDetermined}
+use Rattle.promises.specs.Outcomes.{Determines, RunDetermined, StreamDetermined, RunMeasuredDetermined, StreamMeasuredDetermined, BooleansDetermined, ValueDetermined, WriterDetermined, LoaderDetermined, RunToldDetermined, StreamToldDetermined, BooleansToldDetermined, ValueToldDetermined, WriteToldDetermined, VersionDetermined, NarrowestDetermined, PatchedDetermined, EquationDetermined, StartDetermined, PartDetermined, ClosingDetermined}
 
 -- a promise that says what the places and the answer are
 determined : {P A : Type 0} (Allows : P → A → Type 0) (p₀ : P) (r₀ : A) → Allows p₀ r₀ → ((p : P) (r : A) → Allows p r → (p ≡ p₀) × (r ≡ r₀)) → Determines P A Allows
@@ -25,6 +25,12 @@ run-determined input at signed out = determined _ _ _ (record { answer = refl; p
 
 pub stream-determined : StreamDetermined
 stream-determined input at signed out = determined _ _ _ (record { answer = refl; places = refl }) (λ p r a. (a .places, a .answer))
+
+pub run-measured-determined : RunMeasuredDetermined
+run-measured-determined input at = determined _ tt _ refl (λ p r a. (refl, a))
+
+pub stream-measured-determined : StreamMeasuredDetermined
+stream-measured-determined input at = determined _ tt _ refl (λ p r a. (refl, a))
 
 pub booleans-determined : BooleansDetermined
 booleans-determined input at n out = determined _ _ _ (record { answer = refl; places = refl }) (λ p r a. (a .places, a .answer))
@@ -70,8 +76,11 @@ write-told-determined rows flag form width out words =
     determined _ (_, _) _ (record { told = record { number-is = refl; words-are = refl }; places-are = refl })
     (λ p r a. (both (a .places-are) (a .told .words-are), a .told .number-is))
 
+pub equation-determined : EquationDetermined
+equation-determined A a = determined _ tt a refl (λ p r e. (refl, e))
+
 pub version-determined : VersionDetermined
-version-determined = determined _ tt _ refl (λ p r a. (refl, a))
+version-determined = equation-determined _ _
 
 -- no code below c holds x
 abbrev NoneBelow : ℕ → ℕ → Type 0
@@ -110,6 +119,9 @@ narrowest-determined x h =
     let n = narrowest-from x 31 0 h refl (λ d l g. omega arith) in
     let k = narrowest-next x (n .0) (n .1) in
     determined _ tt (nextKept (n .0)) k (λ p r a. (refl, narrowest-kept-unique x r (nextKept (n .0)) a k))
+
+pub start-determined : StartDetermined
+start-determined = equation-determined _ _
 
 pub part-determined : PartDetermined
 part-determined s part buffer signed out = determined _ _ _ (record { step = refl; lent = refl; places = refl }) (λ p r a. (pair (a .lent) (a .places), a .step))

@@ -25,7 +25,7 @@ unfolding after joined
 after-is at [] h = omega arith
 after-is at (d ∷ ds) h = after-is ((at + length (layout d)) % two64) ds (omega arith) ∙ omega (arith, length-append (layout d) (joined ds))
 
-rows-of : (at : ℕ) (ds : List Description) → rowsIn (starting at ds) ≡ totalRows ds
+pub rows-of : (at : ℕ) (ds : List Description) → rowsIn (starting at ds) ≡ totalRows ds
 unfolding rowsIn starting totalRows
 rows-of at [] = refl
 rows-of at (d ∷ ds) = rw (rows-of ((at + length (layout d)) % two64) ds)

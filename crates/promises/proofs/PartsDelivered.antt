@@ -22,9 +22,10 @@ use Rattle.format.proofs.Below.{append-below, below-drop}
 use Rattle.format.proofs.Runs.{run}
 use Rattle.format.proofs.Rows.{i64-count, joined-count}
 use Rattle.promises.specs.Parts.{Fed, goOn, offer, feed, Given, readParts, together, starting, lastAnswer, streamGives, rowsIn}
-use Rattle.promises.specs.PartsCalls.{rowsShown, AsStreamHolds, Shown, shown, Offers, last, gives, Offered, no-part, a-part, Delivers}
+use Rattle.promises.specs.PartsCalls.{rowsShown, AsStreamHolds, StandsHolds, Shown, shown, Offers, last, gives, Offered, no-part, a-part, Delivers}
 use Rattle.promises.proofs.Feeding.{nothing-held}
 use Rattle.promises.proofs.Parts.{same-as-stream}
+use Rattle.promises.proofs.PartsStanding.{before-closing}
 use Rattle.promises.proofs.PartsFollow.{follows}
 use Rattle.promises.proofs.PartsCalls.{Ready, opened, Onward, onward, ready-after, no-run, Gave, gave, taking, closing}
 
@@ -140,3 +141,11 @@ as-stream signed ps buffer b hs t out out′ r below o l c all all′ w s room =
       runs = shows;
       answer = answer ∙ ap (λ (g : Given). answered (g .answer)) given ∙ ap (λ (x : Stream). answered (lastAnswer x)) (sym (s .answer));
     }
+
+pub stands : StandsHolds
+stands signed ps buffer b hs t below o all all′ w s room =
+    let d : Did signed t b hs (feed reader.start ps) = offered-is o below (opened (nothing-held refl)) in
+    let n : rowsIn (feed reader.start ps .runs) ≤ length all =
+    omega (arith, ap (λ (x : List Shown). length (rowsShown x)) (d .runs), counted signed (feed reader.start ps .runs)) in
+    let e : t .standing ≡ feed reader.start ps .state .standing = ap (λ (x : State). x .standing) (d .state) in
+    rw (e, s .answer) (before-closing ps below (length all) n)

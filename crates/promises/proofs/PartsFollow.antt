@@ -1,30 +1,31 @@
--- The code's reader and lent bytes follow the state, call after call. Assumes nothing.
-use mathlib.Core.Path.{_≡_, refl, ap, _∙_}
-use Prim.Native.Nat.{ℕ, _+_, _-_, _<_, _≤_, min}
+-- The code's reader and lent bytes follow the state, call after call; a call that refuses leaves all that is lent. Assumes nothing.
+use mathlib.Core.Path.{_≡_, refl, sym, ap, _∙_}
+use Prim.Native.Nat.{ℕ, _≤_, min}
 use native.Mathlib.Nat.{le-refl}
-use native.Mathlib.Decide.{decLt}
 use native.Mathlib.Omega.{arith}
 use mathlib.Core.Bool.{Bool, true, false}
-use mathlib.Core.List.{List, _++_, append-assoc}
-use lib.ListN.{length, take, drop, length-append, length-take}
-use lib.Seq.{paste, paste-zero, take-paste, take-at, take-length, length-take-le}
-use lib.Dec.{ltb, eqb, eqb→eq, nltb→le}
+use mathlib.Core.List.{List, _++_}
+use lib.ListN.{length, take, length-append, length-take}
+use lib.Seq.{take-paste, take-length}
+use lib.Dec.{ltb, nltb→le}
 use lib.IntN.{ℤ}
 use Rattle.format.specs.Digits.{AllBelow}
 use Rattle.format.specs.Fields.{pick}
 use Rattle.format.specs.Runs.{Description}
-use Rattle.format.specs.Parse.{unfinished, Parsed, end, got, refused, parse}
+use Rattle.format.specs.Parse.{Reason, unfinished, Parsed, end, got, refused, parse}
 use Rattle.format.specs.Answers.{refusing}
 use Rattle.format.proofs.Below.{below-append, below-take}
 use Rattle.format.proofs.Runs.{Outcome, nothing, run, refusal, outcome}
+use Rattle.format.specs.declared.Refusal.{Refusal}
 use Rattle.format.specs.declared.PartReader.{PartReader}
+use Rattle.format.specs.declared.PartAnswer.the-variants as said
 use Rattle.format.specs.declared.PartStep.{PartStep}
 use Rattle.format.specs.declared.Standing.{Standing}
 use Rattle.format.specs.declared.Standing.the-variants.{Opened, Broken, Closed}
 use Rattle.format.specs.Parts as reader
 use Rattle.format.specs.Parts.{Call, onPart, unlessStopped, inPlaces, takePart, close, onClose}
-use Rattle.format.specs.Parts.{stateOf, heldAfter, copied, bufferAfter, room}
-use Rattle.promises.specs.Parts.{Follows, FollowsClosing}
+use Rattle.format.specs.Parts.{State, Reply, answered, stateOf, heldAfter, bufferAfter, placesAfter, room}
+use Rattle.promises.specs.Parts.{Follows, FollowsClosing, RefusedLeaves}
 use Rattle.format.proofs.Length.{unfinished-short}
 use Rattle.format.proofs.Parts.{take-min}
 
@@ -38,43 +39,16 @@ module _ (s : PartReader) (part buffer : List ℕ) where
   front : take (length held) buffer ≡ held
   front = ap (λ (n : ℕ). take n buffer) size ∙ take-min (s .held) buffer
 
-  -- all is held: the part stands behind the bytes held
-  holding : length (held ++ part) ≤ 4356 → 4356 ≤ length buffer → take (length (held ++ part)) (bufferAfter held part buffer (reader.hold (stateOf s buffer) part)) ≡ held ++ part
+  -- all is held: the part stands after the bytes held
+  holding : length (held ++ part) ≤ 4356 → 4356 ≤ length buffer → take (length (held ++ part)) (bufferAfter held part buffer reader.more) ≡ held ++ part
   holding h l =
-      ap (λ (n : ℕ). take n (bufferAfter held part buffer (reader.hold (stateOf s buffer) part))) (length-append held part)
-      ∙ ap (λ (n : ℕ). take (length held + length part) (paste buffer (length held) part n)) (all (eqb (length held) 0) refl)
+      ap (λ (n : ℕ). take n (bufferAfter held part buffer reader.more)) (length-append held part)
       ∙ take-paste buffer (length held) part (length part) (omega (arith, size, length-append held part)) (le-refl (length part))
       ∙ ap (λ (x : List ℕ). x ++ take (length part) part) front ∙ ap (λ (x : List ℕ). held ++ x) (take-length part)
-    where
-      all : (t : Bool) → eqb (length held) 0 ≡ t → pick t (length (held ++ part)) (min (length part) (4356 - length held)) ≡ length part
-      all true e = omega (arith, length-append held part, eqb→eq (length held) 0 (rw e tt))
-      all false e = omega (arith, length-append held part)
-
-  -- nothing is taken: the bytes held stay in front
-  keeping : (n : ℕ) → n ≤ length buffer - length held → take (s .held) (paste buffer (length held) part n) ≡ held
-  keeping n l = go (decLt 0 n)
-    where
-      go : Dec (0 < n) → take (s .held) (paste buffer (length held) part n) ≡ held
-      go (yes h) =
-          let e : s .held ≡ length held = omega (arith, size) in
-          let rest : List ℕ = take n part ++ drop (length held + n) buffer in
-          ap (λ (i : ℕ). take i (paste buffer (length held) part n)) e
-          ∙ ap (take (length held)) (append-assoc (take (length held) buffer) (take n part) (drop (length held + n) buffer))
-          ∙ take-at (take (length held) buffer) rest (length held) (length-take-le (length held) buffer (omega (arith, size))) ∙ front
-      go (no h) =
-          let e : n ≡ 0 = omega arith in
-          rw (e, ← (paste-zero buffer (length held) part))
-
-  few : (c : Call) → 4356 ≤ length buffer → c .state .held ≡ held → copied (length held) part c ≤ length buffer - length held
-  few c l e = go (eqb (length held) 0) refl
-    where
-      go : (t : Bool) → eqb (length held) 0 ≡ t → pick t (length (c .state .held)) (min (length part) (4356 - length held)) ≤ length buffer - length held
-      go true z = omega (arith, ap length e, eqb→eq (length held) 0 (rw z tt))
-      go false z = omega arith
 
   -- an open reader's call
   follows-open : (m : Parsed Description) → Outcome (held ++ part) m → parse (held ++ part) ≡ m → AllBelow 256 (held ++ part) → 4356 ≤ length buffer
-      → take (heldAfter (s .held) (onPart (stateOf s buffer) part m) (onPart (stateOf s buffer) part m .reply)) (bufferAfter held part buffer (onPart (stateOf s buffer) part m))
+      → take (heldAfter (s .held) (onPart (stateOf s buffer) part m) (onPart (stateOf s buffer) part m .reply)) (bufferAfter held part buffer (onPart (stateOf s buffer) part m .reply))
       ≡ onPart (stateOf s buffer) part m .state .held
   unfolding onPart
   follows-open m (nothing z) e b l = holding (omega (arith, ap length z)) l
@@ -83,10 +57,10 @@ module _ (s : PartReader) (part buffer : List ℕ) where
     where
       go : (u : Bool) → unfinished r ≡ u
           → take (heldAfter (s .held) (pick u (reader.hold (stateOf s buffer) part) (reader.refuse (stateOf s buffer) (length (held ++ part)) r)) (pick u (reader.hold (stateOf s buffer) part) (reader.refuse (stateOf s buffer) (length (held ++ part)) r) .reply))
-          (bufferAfter held part buffer (pick u (reader.hold (stateOf s buffer) part) (reader.refuse (stateOf s buffer) (length (held ++ part)) r)))
+          (bufferAfter held part buffer (pick u (reader.hold (stateOf s buffer) part) (reader.refuse (stateOf s buffer) (length (held ++ part)) r) .reply))
           ≡ pick u (reader.hold (stateOf s buffer) part) (reader.refuse (stateOf s buffer) (length (held ++ part)) r) .state .held
       go true u = holding (omega (arith, unfinished-short (held ++ part) r b e (rw u tt))) l
-      go false u = keeping (copied (length held) part (reader.refuse (stateOf s buffer) (length (held ++ part)) r)) (few (reader.refuse (stateOf s buffer) (length (held ++ part)) r) l refl)
+      go false u = refl
 
 long-enough : (buffer : List ℕ) (out : List ℤ) → ltb (room buffer out) 512 ≡ false → 4356 ≤ length buffer
 long-enough buffer out e = go (ltb (length buffer) 4356) refl (nltb→le (room buffer out) 512 (rw e tt))
@@ -110,7 +84,7 @@ follows s part buffer buffer′ signed out out′ r b c t =
     call u x = pick u (reader.idle (stateOf s buffer) (reader.broke (refusing 8 0))) (unlessStopped x (reader.idle (stateOf s buffer)) (onPart (stateOf s buffer) part (parse (here ++ part))))
 
     by : (u : Bool) → ltb (room buffer out) 512 ≡ u → (x : Standing)
-        → take (heldAfter (s .held) (call u x) (call u x .reply)) (pick u buffer (unlessStopped x (λ a. buffer) (bufferAfter here part buffer (call u x)))) ≡ call u x .state .held
+        → take (heldAfter (s .held) (call u x) (call u x .reply)) (bufferAfter here part buffer (call u x .reply)) ≡ call u x .state .held
     by true e x = refl
     by false e Opened =
         let below : AllBelow 256 (here ++ part) = below-append 256 here part (below-take 256 (s .held) buffer b) c in
@@ -138,3 +112,54 @@ follows-closing s buffer signed out out′ r t =
     by false Opened = by-parse (parse (take (s .held) buffer))
     by false (Broken f) = refl
     by false Closed = refl
+
+-- ---- a call that refuses
+
+module _ (f : Refusal) where
+  none-taken : (places : ℕ) (s : State) (part : List ℕ) → answered (takePart places s part .reply) ≡ said.Refused f → takePart places s part .taken ≡ 0
+  unfolding takePart inPlaces unlessStopped onPart
+  none-taken places s part = by (ltb places 512) (s .standing) (parse (s .held ++ part))
+    where
+      call : Bool → Standing → Parsed Description → Call
+      call u x m = pick u (reader.idle s (reader.broke (refusing 8 0))) (unlessStopped x (reader.idle s) (onPart s part m))
+
+      on-refusal : (r : Reason) (u : Bool) → answered (pick u (reader.hold s part) (reader.refuse s (length (s .held ++ part)) r) .reply) ≡ said.Refused f
+          → pick u (reader.hold s part) (reader.refuse s (length (s .held ++ part)) r) .taken ≡ 0
+      on-refusal r true e =
+          let z : _≡_ {A = ℕ} 0 1 = cc in
+          absurd (omega arith)
+      on-refusal r false e = refl
+
+      by : (u : Bool) (x : Standing) (m : Parsed Description) → answered (call u x m .reply) ≡ said.Refused f → call u x m .taken ≡ 0
+      by true x m e = refl
+      by false (Broken b) m e = refl
+      by false Closed m e = refl
+      by false Opened end e =
+          let z : _≡_ {A = ℕ} 0 1 = cc in
+          absurd (omega arith)
+      by false Opened (got d rest) e =
+          let z : _≡_ {A = ℕ} 0 1 = cc in
+          absurd (omega arith)
+      by false Opened (refused r) e = on-refusal r (unfinished r) e
+
+  as-before : (held part buffer : List ℕ) (signed : Bool) (out : List ℤ) (a : Reply) → answered a ≡ said.Refused f
+      → (bufferAfter held part buffer a ≡ buffer) × (placesAfter signed out a ≡ out)
+  as-before held part buffer signed out (reader.handed h) e =
+      let z : _≡_ {A = ℕ} 0 1 = cc in
+      absurd (omega arith)
+  as-before held part buffer signed out reader.more e =
+      let z : _≡_ {A = ℕ} 0 1 = cc in
+      absurd (omega arith)
+  as-before held part buffer signed out (reader.broke b) e = (refl, refl)
+  as-before held part buffer signed out reader.ended e = (refl, refl)
+
+pub refused-leaves : RefusedLeaves
+refused-leaves s part buffer buffer′ signed out out′ r f t e =
+    let c : Call = takePart (room buffer out) (stateOf s buffer) part in
+    let q : answered (c .reply) ≡ said.Refused f = sym (ap (λ (x : PartStep). x .answer) (t .step)) ∙ e in
+    let (lent, places) = as-before f (take (s .held) buffer) part buffer signed out (c .reply) q in
+    record {
+      taken = ap (λ (x : PartStep). x .taken .bytes) (t .step) ∙ none-taken f (room buffer out) (stateOf s buffer) part q;
+      lent = t .lent ∙ lent;
+      places = t .places ∙ places;
+    }

@@ -16,7 +16,7 @@ use Rattle.format.proofs.Tests.{never-both}
 use Rattle.promises.specs.Refusals
 use Rattle.promises.specs.Refusals.{refusal-2, refusal-3, refusal-7, by-number, by-field}
 use Rattle.promises.specs.Refusals.{PatchedRun, listFrom, listTo, entries}
-use Rattle.promises.proofs.PatchLists.{too-large, out-of-place}
+use Rattle.promises.proofs.PatchCases.{too-large, out-of-place}
 use Rattle.promises.proofs.Fates.{Fate, a-run, by-line}
 
 -- ---- patched

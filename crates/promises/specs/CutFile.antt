@@ -10,8 +10,7 @@ use lib.IntN.{ℤ}
 use Rattle.format.specs.declared.Refusal.{Refusal}
 use Rattle.format.specs.declared.Stream.{Stream}
 use Rattle.format.specs.Answers.{refusing, cutting, brokeAt}
-use Rattle.format.specs.Digits.{AllBelow}
-use Rattle.format.specs.Runs.{Description, AllValid, layout, joined}
+use Rattle.format.specs.Runs.{Description, rowCount, AllValid, layout, joined}
 use Rattle.format.specs.Streams.{totalRows, joinedRows}
 use Rattle.format.specs.Promises.{lastOf, StreamRead}
 use Rattle.promises.specs.Demand3.{IsWhole}
@@ -27,27 +26,49 @@ pub data CutBetween (from to : ℕ) : Refusal → Type 0 where
   in-header : CutBetween from to (refusing 1 from)
   in-field : {n byte : ℕ} → CutNumber n → from < byte → byte ≤ to → CutBetween from to (cutting n from byte)
 
--- the answer: the refusal of the run that was cut, and exactly the rows of the runs before it, and the last of them
-pub record Refuses (n : ℕ) (ds : List Description) (at : ℕ) (signed : Bool) (out out′ : List ℤ) (r : Stream) : Type 0 where
+-- the run that the cut is in: some of its bytes are left, and not all
+pub record Inside (n : ℕ) (ds : List Description) : Type 0 where
   pub before : List Description
   pub cut : Description
-  pub behind : List Description
-  pub runs : ds ≡ before ++ (cut ∷ behind)
+  pub later : List Description
+  pub runs : ds ≡ before ++ (cut ∷ later)
   pub begun : length (joined before) < n
   pub ended : n < length (joined before) + length (layout cut)
+
+-- with room for the rows of the runs before the cut one: its refusal, and exactly the rows of the runs before it, counted, and the last
+-- of them
+pub record Refuses {n : ℕ} {ds : List Description} (i : Inside n ds) (at : ℕ) (signed : Bool) (out out′ : List ℤ) (r : Stream)
+    : Type 0 where
   pub refusal : Refusal
-  pub where-cut : CutBetween (at + length (joined before)) (at + n) refusal
-  pub answer : r ≡ brokeAt refusal (totalRows before) (length (joined before)) (lastOf before)
+  pub where-cut : CutBetween (at + length (joined (i .before))) (at + n) refusal
+  pub answer : r ≡ brokeAt refusal (totalRows (i .before)) (length (joined (i .before))) (lastOf (i .before))
+  pub places : out′ ≡ joinedRows signed (i .before) ++ drop (totalRows (i .before)) out
+
+-- with less room: refusal 8 at the first run that lacks room, and exactly the rows of the runs before that one, counted, and the last
+-- of them
+pub record LacksRoom (ds : List Description) (at : ℕ) (signed : Bool) (out out′ : List ℤ) (r : Stream) : Type 0 where
+  pub before : List Description
+  pub short : Description
+  pub later : List Description
+  pub runs : ds ≡ before ++ (short ∷ later)
+  pub room : totalRows before ≤ length out
+  pub lacks : length out < totalRows before + rowCount short
+  pub answer : r ≡ brokeAt (refusing 8 (at + length (joined before))) (totalRows before) (length (joined before)) (lastOf before)
   pub places : out′ ≡ joinedRows signed before ++ drop (totalRows before) out
 
--- Of every stream of valid runs, of which the first n bytes are left, at any position: ..
-pub record CutFile (input : List ℕ) (at : ℕ) (signed : Bool) (out out′ : List ℤ) (r : Stream) (n : ℕ) (ds : List Description) : Type 0 where
-  -- .. with room for the rows of the stream the cut run is refused ..
-  pub refuses : totalRows ds ≤ length out → Refuses n ds at signed out out′ r
-  -- .. and with any room the answer is not "whole stream read"
+-- Of every stream of valid runs, of which the first n bytes are left, at any position and with any number of places: ..
+pub record CutFile (at : ℕ) (signed : Bool) (out out′ : List ℤ) (r : Stream) (n : ℕ) (ds : List Description) : Type 0 where
+  -- .. the cut is in a run ..
+  pub inside : Inside n ds
+  -- .. which is refused where it begins, if the rows before it have room ..
+  pub refuses : (i : Inside n ds) → totalRows (i .before) ≤ length out → Refuses i at signed out out′ r
+  -- .. else one of the runs before it is refused with 8 ..
+  pub lacks-room : (i : Inside n ds) → length out < totalRows (i .before) → LacksRoom (i .before) at signed out out′ r
+  -- .. and the answer is never "whole stream read"
   pub never-whole : IsWhole r → ⊥
 
 abbrev pub CutFileHolds : Type 0
 CutFileHolds =
-    (input : List ℕ) → AllBelow 256 input → (at : ℕ) (signed : Bool) (out out′ : List ℤ) (r : Stream) → StreamRead input at signed out out′ r
-    → (n : ℕ) (ds : List Description) → AllValid ds → EndInside n ds → drop at input ≡ take n (joined ds) → CutFile input at signed out out′ r n ds
+    (input : List ℕ) (at : ℕ) (signed : Bool) (out out′ : List ℤ) (r : Stream) → StreamRead input at signed out out′ r
+    → (n : ℕ) (ds : List Description) → AllValid ds → EndInside n ds → drop at input ≡ take n (joined ds)
+    → CutFile at signed out out′ r n ds

@@ -17,6 +17,7 @@ pub mod CutFile
 -- what came with the changes behind the base (docs/CHANGES.md)
 pub mod BrokeOff
 pub mod Longest
+pub mod LongestWritten
 pub mod Patched
 pub mod Parts
 pub mod PartsCalls

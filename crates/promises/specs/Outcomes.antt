@@ -9,13 +9,13 @@ use Rattle.format.specs.declared.Answer.{Answer}
 use Rattle.format.specs.declared.Stream.{Stream}
 use Rattle.format.specs.Fields.{two64}
 use Rattle.format.specs.Kept.{NarrowestKept}
-use Rattle.format.specs.Promises.{RunRead, StreamRead}
+use Rattle.format.specs.Promises.{RunRead, RunMeasured, StreamRead, StreamMeasured}
 use Rattle.format.specs.Booleans.{BooleansRead}
 use Rattle.format.specs.ByteValues.{ValueRead, ValueGiven}
 use Rattle.format.specs.Loader.{Loaded, faceVersion, RunTold, StreamTold, BooleansTold, ValueTold, WriteTold}
 use Rattle.format.specs.Writing.{Written}
 use Rattle.format.specs.PatchedWriting.{PatchedWritten}
-use Rattle.format.specs.Parts.{Takes, Closes}
+use Rattle.format.specs.Parts.{fresh, Takes, Closes}
 use Rattle.format.specs.declared.Form.{Form}
 use Rattle.format.specs.declared.PartReader.{PartReader}
 use Rattle.format.specs.declared.PartStep.{PartStep}
@@ -32,6 +32,13 @@ RunDetermined = (input : List ℕ) (at : ℕ) (signed : Bool) (out : List ℤ) �
 
 abbrev pub StreamDetermined : Type 0
 StreamDetermined = (input : List ℕ) (at : ℕ) (signed : Bool) (out : List ℤ) → Determines (List ℤ) Stream (λ p r. StreamRead input at signed out p r)
+
+-- the measures lend no place: for every input and position
+abbrev pub RunMeasuredDetermined : Type 0
+RunMeasuredDetermined = (input : List ℕ) (at : ℕ) → Determines (Unit {0}) Answer (λ p r. RunMeasured input at r)
+
+abbrev pub StreamMeasuredDetermined : Type 0
+StreamMeasuredDetermined = (input : List ℕ) (at : ℕ) → Determines (Unit {0}) Stream (λ p r. StreamMeasured input at r)
 
 -- for every input, position, number of booleans and lent places
 abbrev pub BooleansDetermined : Type 0
@@ -85,6 +92,14 @@ VersionDetermined = Determines (Unit {0}) ℕ (λ p r. r ≡ faceVersion)
 
 abbrev pub NarrowestDetermined : Type 0
 NarrowestDetermined = (x : ℕ) → x < two64 → Determines (Unit {0}) ℕ (λ p r. NarrowestKept x r)
+
+-- a promise that is an equation, `r ≡ ..`, of a call with no lent place: the constructors of the answers, and every other function like them
+abbrev pub EquationDetermined : Type 1
+EquationDetermined = (A : Type 0) (a : A) → Determines (Unit {0}) A (λ p r. r ≡ a)
+
+-- a reader in parts that has taken nothing
+abbrev pub StartDetermined : Type 0
+StartDetermined = Determines (Unit {0}) PartReader (λ p r. r ≡ fresh)
 
 -- the lent bytes and places, and what a call with a part does: for every reader, part, flag and all that is lent; the closing call leaves the lent bytes
 abbrev pub PartDetermined : Type 0

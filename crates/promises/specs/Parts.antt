@@ -3,7 +3,7 @@
 -- Assumes nothing.
 use mathlib.Core.Path.{_≡_}
 use mathlib.Core.Logic.{_↔_}
-use Prim.Native.Nat.{ℕ, zero, suc, _+_, _%_, _<_, _≤_}
+use Prim.Native.Nat.{ℕ, zero, suc, _+_, _*_, _%_, _<_, _≤_}
 use mathlib.Core.Bool.{Bool}
 use mathlib.Core.List.{List, [], _∷_, _++_}
 use lib.ListN.{length, drop}
@@ -12,7 +12,8 @@ use lib.IntN.{ℤ}
 use Rattle.format.specs.declared.CutField.{CutField}
 use Rattle.format.specs.declared.CutField.the-variants as field
 use Rattle.format.specs.declared.Refusal.{Refusal}
-use Rattle.format.specs.declared.Standing.the-variants.{Opened}
+use Rattle.format.specs.declared.Standing.{Standing}
+use Rattle.format.specs.declared.Standing.the-variants.{Opened, Broken}
 use Rattle.format.specs.declared.Stream.{Stream}
 use Rattle.format.specs.declared.Stream.the-variants.{Whole, Refused}
 use Rattle.format.specs.declared.PartReader.{PartReader}
@@ -133,6 +134,21 @@ WhenRefused = (places : ℕ) (s : State) (part : List ℕ) → AllBelow 256 (s .
     → (takePart places s part .reply ≡ broke f)
     ↔ ((r : Reason) × (parse (s .held ++ part) ≡ refused r) × (refusalFrom (s .at) (length (s .held ++ part)) r ≡ f) × (OfUnfinished (f .number) → ⊥))
 
+-- Before the closing call: a reader stands refused exactly if the whole-stream reader, over the bytes so far, gives a refusal other than
+-- these five, and with the same one (place and cut byte counted from the first part modulo 2^64). Else it is open.
+pub record Stands (t : Standing) (w : Stream) : Type 0 where
+  pub refused : (f : Refusal) → (t ≡ Broken f) ↔ ((lastAnswer w ≡ broke f) × (OfUnfinished (f .number) → ⊥))
+  pub still-open : (t ≡ Opened) ↔ ((f : Refusal) → lastAnswer w ≡ broke f → OfUnfinished (f .number))
+
+-- after every list of parts, with room enough for the rows handed out ..
+abbrev pub BeforeClosing : Type 0
+BeforeClosing = (ps : List (List ℕ)) → AllBelow 256 (together ps) → (n : ℕ) → rowsIn (feed start ps .runs) ≤ n
+    → Stands (feed start ps .state .standing) (streamAnswer 0 (readAll n (together ps)))
+
+-- .. which 512 places a byte always are
+abbrev pub EnoughRoom : Type 0
+EnoughRoom = (ps : List (List ℕ)) → AllBelow 256 (together ps) → rowsIn (feed start ps .runs) ≤ 512 * length (together ps)
+
 -- an answer that is no run
 abbrev pub NoRun : PartAnswer → Type 0
 NoRun (said.Run at r) = ⊥
@@ -187,3 +203,13 @@ Follows = (s : PartReader) (part buffer buffer′ : List ℕ) (signed : Bool) (o
 abbrev pub FollowsClosing : Type 0
 FollowsClosing = (s : PartReader) (buffer : List ℕ) (signed : Bool) (out out′ : List ℤ) (r : PartStep)
     → Closes s buffer signed out out′ r → stateOf (r .reader) buffer ≡ close (room buffer out) (stateOf s buffer) .state
+
+-- A call that refuses takes nothing, and leaves every lent byte and every lent place as it was (the closing call leaves the lent bytes, whatever it answers).
+pub record Untouched (buffer buffer′ : List ℕ) (out out′ : List ℤ) (r : PartStep) : Type 0 where
+  pub taken : r .taken .bytes ≡ 0
+  pub lent : buffer′ ≡ buffer
+  pub places : out′ ≡ out
+
+abbrev pub RefusedLeaves : Type 0
+RefusedLeaves = (s : PartReader) (part buffer buffer′ : List ℕ) (signed : Bool) (out out′ : List ℤ) (r : PartStep) (f : Refusal)
+    → Takes s part buffer buffer′ signed out out′ r → r .answer ≡ said.Refused f → Untouched buffer buffer′ out out′ r

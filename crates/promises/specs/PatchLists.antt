@@ -1,5 +1,5 @@
 -- The user's second question: every damaged patch list. Whatever the bytes of the list are, the answer is refusal 3, or refusal 7 in one of its three
--- cases, or rows in which exactly the places that the list names are patched.
+-- cases, or rows in which exactly the places that the list names are patched; and 8 in the place of the rows if they lack room.
 -- Assumes nothing.
 use mathlib.Core.Path.{_≡_}
 use mathlib.Core.Logic.{_⊎_}
@@ -59,6 +59,7 @@ pub record Patched (code : ℕ) (base : List ℕ) (pc : ℕ) (k l : Block) (out�
 pub record RowsPatched (code : ℕ) (base : List ℕ) (pc gw : ℕ) (k l : Block) (out out′ : List ℤ) (r : Answer) : Type 0 where
   pub fitting : TooLarge (width code) (width pc) (l .values) → ⊥
   pub in-place : OutOfPlace (width pc) (length (k .values)) (l .values) → ⊥
+  pub room : length (k .values) ≤ length out
   pub answer : r ≡ ran PatchedBase (width code) (length (k .values)) (length (layout (patched code base pc gw k l)))
   pub rows : (p : ℕ) → p < length (k .values) → Patched code base pc k l out′ p
   pub others : drop (length (k .values)) out′ ≡ drop (length (k .values)) out
@@ -75,13 +76,27 @@ pub record Refused7 (code pc : ℕ) (k l : Block) (at : ℕ) (out out′ : List 
   pub answer : r ≡ refusedAt 7 at
   pub places : out′ ≡ out
 
+-- refusal 8, for a list that nothing else refuses
+pub record Refused8 (code pc : ℕ) (k l : Block) (at : ℕ) (out out′ : List ℤ) (r : Answer) : Type 0 where
+  pub fitting : TooLarge (width code) (width pc) (l .values) → ⊥
+  pub in-place : OutOfPlace (width pc) (length (k .values)) (l .values) → ⊥
+  pub no-room : length out < length (k .values)
+  pub answer : r ≡ refusedAt 8 at
+  pub places : out′ ≡ out
+
+-- the four outcomes: what each says of the list and the room excludes the others
+pub data EitherWay (code : ℕ) (base : List ℕ) (pc gw : ℕ) (k l : Block) (at : ℕ) (out out′ : List ℤ) (r : Answer) : Type 0 where
+  with-3 : Refused3 code pc l at out out′ r → EitherWay code base pc gw k l at out out′ r
+  with-7 : Refused7 code pc k l at out out′ r → EitherWay code base pc gw k l at out out′ r
+  with-8 : Refused8 code pc k l at out out′ r → EitherWay code base pc gw k l at out out′ r
+  with-rows : RowsPatched code base pc gw k l out out′ r → EitherWay code base pc gw k l at out out′ r
+
 pub record PatchLists : Type 0 where
   -- any bytes, as many as n entries take, are the block of some n entries
   pub any-bytes : (w n : ℕ) (bs : List ℕ) → AllBelow 256 bs → length bs ≡ bytesFor (n * w) → (l : Block) × IsBlock w n l × (blockBytes w n l ≡ bs)
-  -- Of every patched run that is good without a list, with any list of up to 31 entries behind it, wherever its bytes stand and whatever follows them:
-  -- refusal 3, refusal 7, or the run with these rows
+  -- Of every patched run that is good without a list, with any list of up to 31 entries after it, wherever its bytes stand, whatever
+  -- follows them and however many places are lent: refusal 3, refusal 7, or the run with these rows, or 8 in its place if it lacks room
   pub either-way : (code : ℕ) (base : List ℕ) (pc gw : ℕ) (k l : Block) → Valid (patched code base pc gw k (record { values = []; pad = 0 }))
       → length (l .values) < 32 → IsBlock (entryWidth pc gw) (length (l .values)) l
       → (input : List ℕ) (at : ℕ) (signed : Bool) (out out′ : List ℤ) (r : Answer) → RunRead input at signed out out′ r
-      → (rest : List ℕ) → drop at input ≡ layout (patched code base pc gw k l) ++ rest → length (k .values) ≤ length out
-      → Refused3 code pc l at out out′ r ⊎ (Refused7 code pc k l at out out′ r ⊎ RowsPatched code base pc gw k l out out′ r)
+      → (rest : List ℕ) → drop at input ≡ layout (patched code base pc gw k l) ++ rest → EitherWay code base pc gw k l at out out′ r

@@ -110,8 +110,7 @@ others =
     ∷ integers 5 4 true (0x00 ∷ 0x01 ∷ 0x46 ∷ 0x02 ∷ []) nothing
     ∷ integers 5 9 true (0x00 ∷ 0x01 ∷ 0x46 ∷ 0x02 ∷ []) nothing
     ∷ [])
-    -- booleans: one more than the runs hold; a run is consumed whole where fewer are asked for; none, at any position
-    ++ bools 33 (0x00 ∷ 0xFF ∷ 0xFF ∷ 0x00 ∷ []) (cut 6 4)
+    -- booleans: a run is consumed whole where fewer are asked for; none, at any position
     ++ bools 3 (0x00 ∷ 0xFF ∷ 0xFF ∷ 0x00 ∷ []) (run Booleans 1 (replicate 3 1) 2)
     ++ (booleans 0 9 0 (0x00 ∷ 0xFF ∷ []) (run Booleans 1 [] 0) ∷ [])
     -- control 128 is 128 literal bytes; a literal run that is cut is refused even if the byte that is needed is there, and a

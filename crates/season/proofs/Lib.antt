@@ -1,4 +1,4 @@
--- The theorems of specs/Laws.antt.
+-- The theorems of specs/Laws.antt and specs/Outcomes.antt.
 pub mod Order
 pub mod Combining
 pub mod Limits
@@ -10,3 +10,4 @@ pub mod Held
 pub mod Taking
 pub mod Lines
 pub mod Examples
+pub mod Outcomes

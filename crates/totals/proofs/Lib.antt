@@ -2,4 +2,5 @@
 pub mod Answers
 pub mod Onward
 pub mod Turns
+pub mod Whole
 pub mod Room

@@ -15,7 +15,7 @@ use Rattle.season.specs.declared.Stop.{Stop}
 use Rattle.season.specs.declared.Stop.the-variants.{None, Refused}
 use Rattle.season.specs.Totals.{Line, totals, rowsIn, tooMany}
 use Rattle.season.specs.Held.{held, together, going, stopped, takeLine, unlessStopped, takeAll}
-use Rattle.totals.specs.Program.{answerTo, answersTo, isStopped, Rest, Stops, in-block}
+use Rattle.totals.specs.Program.{answerTo, answersTo, isStopped, Rest}
 
 -- ---- one after another
 
@@ -55,7 +55,7 @@ module _ (t t′ : Totals) (xs : List Line) where
 
 -- ---- one line: stopped, or going
 
-clash : {X : Type 0} → true ≡ false → X
+pub clash : {X : Type 0} → true ≡ false → X
 clash h = let z : _≡_ {A = ℕ} 0 1 = cc in absurd (omega arith)
 
 pub line-stopped : (t : Totals) (l : Line) (r : Taken) → r ≡ takeLine t l → isStopped (r .stop) ≡ true → takeLine t l ≡ stopped (r .totals)
@@ -119,13 +119,13 @@ module _ (before t : Totals) (input : List ℕ) (from end : ℕ) (o : Onward bef
     }
 
     -- the lines after the one that would pass a limit are not taken
-    pub onward-stop : (held : List ℕ) → isStopped (r .stop) ≡ true → Stops before held input (r .totals)
-    onward-stop held h =
+    pub onward-stop : isStopped (r .stop) ≡ true → takeAll before (answersTo (linesFrom [] input)) ≡ stopped (r .totals)
+    onward-stop h =
         let p = take (end + 1) input in
         let q = drop (end + 1) input in
         let s = all-stopped before (r .totals) (answersTo (linesFrom [] p)) (next-taken ∙ line-stopped t (answerTo line) r e h) (answersTo (linesFrom (begunFrom [] p) q)) in
-        in-block (ap (λ (i : List ℕ). takeAll before (answersTo (linesFrom [] i))) (sym (take-append-drop (end + 1) input))
-        ∙ rw (lines-append [] p q, map-append answerTo (linesFrom [] p) (linesFrom (begunFrom [] p) q)) s)
+        ap (λ (i : List ℕ). takeAll before (answersTo (linesFrom [] i))) (sym (take-append-drop (end + 1) input))
+        ∙ rw (lines-append [] p q, map-append answerTo (linesFrom [] p) (linesFrom (begunFrom [] p) q)) s
 
 -- ---- the last line
 

@@ -1,131 +1,112 @@
--- A turn, and all turns: that what is taken is what the whole input's lines give. Assumes nothing.
+-- From turn to turn: what is left is what the next turn may be given, and what is told is what was taken. Assumes nothing.
 use mathlib.Core.Path.{_≡_, refl, sym, ap, _∙_}
-use Prim.Native.Nat.{ℕ, _+_}
+use Prim.Native.Nat.{ℕ, zero, suc, _<_}
 use native.Mathlib.Omega.{arith}
-use mathlib.Core.Bool.{true, false}
-use mathlib.Core.List.{List, [], _∷_, _++_, map-append, append-nil, append-assoc}
-use lib.ListN.{length, take, drop, take-append-drop}
-use lib.Seq.{length-take-le, take-all}
-use lib.IntN.{ℤ, pos}
-use lib.Signed.{ltZ}
-use Rattle.blocks.specs.Blocks.{linesFrom, begunFrom, lastLine, linesIn, NoNewline, kept, part, came as bytesCame, Came, Carried, blockLines, joinedBlocks}
-use Rattle.blocks.proofs.Lines.{lines-append, lines-open}
-use Rattle.blocks.proofs.Turns.{held-all, front-held, carried, cut-is, left-is}
-use Rattle.blocks.proofs.Joined.{blocks-joined}
+use mathlib.Core.Bool.{Bool, true, false}
+use mathlib.Core.List.{List, [], _∷_, _++_, append-nil, append-assoc}
+use lib.ListN.{length, take}
+use lib.Seq.{length-take-le}
+use lib.IntN.{ℤ, pos, negsuc}
+use Rattle.blocks.specs.Blocks.{linesFrom, begunFrom, lastLine, NoNewline, kept, part, came, notReady}
+use Rattle.blocks.specs.Reading.{noReads, isBroken, ReadOnce, Brought}
+use Rattle.blocks.specs.declared.reading.Reads.{Reads}
+use Rattle.blocks.specs.declared.reading.Read.{Read}
+use Rattle.blocks.proofs.Begun.{no-take}
+use Rattle.blocks.proofs.Turns.{carried, block-long, input-whole, only-held}
+use Rattle.blocks.proofs.Brought.{none-brought, brought-on}
 use Rattle.season.specs.declared.Totals.{Totals}
-use Rattle.season.specs.declared.Taken.{Taken}
-use Rattle.season.specs.Totals.{Line, empty, takeLines}
-use Rattle.season.specs.Held.{held, going, stopped, takeAll, heldOutcome}
-use Rattle.season.proofs.Taking.{code-holds}
-use Rattle.totals.specs.Program.{answerTo, answersTo, takenText, programText, Rest, Stops, in-block, at-end, After, Going, Stopping, with-block, with-last, Turned, Takes, Reached, Final, Ready, Finished}
+use Rattle.season.specs.Totals.{empty}
+use Rattle.season.specs.Held.{held, stopped, takeAll}
+use Rattle.totals.specs.Program.{answersTo, Rest, AfterBlock, AfterEnd, AfterFailure, After, Turned, Going, Reached, over, Final, at-end, in-block, Ready, Over}
 use Rattle.totals.specs.Program.Takes.{ends, stops, turns}
 use Rattle.totals.specs.declared.taking.Next.{Next}
 use Rattle.totals.specs.declared.taking.Next.the-variants.{Begun, Ended, Stopped, Failed}
-use Rattle.totals.proofs.Answers.{long-alike, all-i64}
-use Rattle.totals.proofs.Onward.{all-going, all-stopped}
 
--- ---- what is left of a read
-module _ (before : Totals) (line input : List ℕ) (n stop : ℕ) (got : ℤ) (c : Came line input n stop got) where
-  abbrev came : List ℕ
-  came = take stop input
-
-  front : take n came ≡ kept line
-  front = front-held line input n stop got c
-
-  whole-input : kept line ++ drop n came ≡ came
-  whole-input = ap (λ (l : List ℕ). l ++ drop n came) (sym front) ∙ take-append-drop n came
-
-  rest-going : (t : Totals) (from end : ℕ) → Rest before came t from end → Going before line input t from end
-  rest-going t from end r =
-      let e : end ≡ stop = r .ends ∙ length-take-le stop input (c .within) in
-      record { carried = carried line input n stop got c from end (r .ends) (r .order) (r .whole) (r .begun); taken = rw e (r .taken) }
-
-  stopping : (t : Totals) → Stops before (take n came) came t → Stopping before line t
-  stopping t (in-block e) = with-block (drop n came) (ap (λ (i : List ℕ). takeAll before (answersTo (linesFrom [] i))) whole-input ∙ e)
-  stopping t (at-end e) = with-last (rw front at e)
-
-  pub turned : (t : Totals) (next : Next) → After before (take n came) came t next → Turned before line input t next
-  turned t (Begun from end) a = rest-going t from end a
-  turned t Ended a = rw front at a
-  turned t Stopped a = stopping t a
-  turned t Failed a = tt
-
--- nothing came: there is only what was held
-pub last-held : (before : Totals) (n : ℕ) (input : List ℕ) (t : Totals) (next : Next) → n ≡ length input → After before input input t next → After before (take n input) input t next
-last-held before n input t next h a = rw (take-all n input (omega (arith, h))) a
-
-pub rest-held : (before : Totals) (input : List ℕ) (n : ℕ) (z : ℤ) → length input ≡ n + bytesCame z → ltZ (pos 0) z ≡ false → NoNewline (take n input) → Rest before input before 0 n
+-- nothing came, and the read is tried again: all that is left is what was held
+rest-held : (before : Totals) (input : List ℕ) (n : ℕ) → n ≡ length input → NoNewline input → Rest before input before 0 n
 unfolding linesFrom begunFrom takeAll
-rest-held before input n z l h o =
-    let (e, k) = held-all input n z l h o in
-    record { ends = e; order = omega arith; whole = refl; begun = k; taken = refl }
+rest-held before input n e k = record { ends = e; order = omega arith; whole = refl; begun = k; taken = refl }
 
--- ---- from turn to turn
+-- a read, after which there is one block more
+module _ (t : Totals) (reads : Reads) (line input : List ℕ) (read : Read) (once : ReadOnce reads line input read) (g : Reached reads t line)
+    (few : reads .count < 18446744073709551615) where
+  abbrev all : List ℕ
+  all = take (read .stop) input
 
-reached-ends : (t : Totals) (line : List ℕ) (r : Taken) → Reached t line → takeAll t (answersTo (lastLine (kept line))) ≡ r
-    → (blocks : List (List ℕ)) × Takes [] blocks (held empty) r
-reached-ends t line r (blocks, go) e = (blocks ++ [], go [] r (rw e at (ends {line = line} {t = t})))
+  abbrev block : List ℕ
+  block = part (read .held) (read .stop) input
 
-reached-stops : (t t′ : Totals) (line : List ℕ) → Reached t line → Stopping t line t′ → Final t′ true
-reached-stops t t′ line (blocks, go) (with-block block e) = (blocks ++ (block ∷ []), go (block ∷ []) (stopped t′) (stops e))
-reached-stops t t′ line g (with-last e) = reached-ends t line (stopped t′) g e
+  more : (b : List ℕ) → length b ≡ came (read .got) → Brought (read .reads) (g .blocks ++ (b ∷ []))
+  more b l = brought-on reads (g .blocks) line input read b (g .brought) once (omega (arith, g .brought .each, few)) l
 
-reached-on : (t t′ : Totals) (line input : List ℕ) (from end : ℕ) → Reached t line → Going t line input t′ from end → Reached t′ (part from end input)
-reached-on t t′ line input from end (blocks, go) g =
-    let block = part (length (kept line)) end input in
-    (blocks ++ (block ∷ []), λ later r h. rw (append-assoc blocks (block ∷ []) later) (go (block ∷ later) r (turns g h)))
+  more-block : Brought (read .reads) (g .blocks ++ (block ∷ []))
+  more-block = more block (block-long line input (read .held) (read .stop) (read .got) (once .came))
+
+  -- the beginning of a line is left
+  ready-on : (t′ : Totals) (from end : ℕ) → Rest t all t′ from end → Ready input (Begun from end) (read .reads) t′
+  ready-on t′ from end r =
+      let e : end ≡ read .stop = r .ends ∙ length-take-le (read .stop) input (once .came .within) in
+      let c = carried line input (read .held) (read .stop) (read .got) (once .came) from end (r .ends) (r .order) (r .whole) (r .begun) in
+      let s : Going t line input t′ from end = record { carried = c; taken = rw e (r .taken) } in
+      let b : block ≡ part (length (kept line)) end input = rw (e, ← once .came .count) in (
+        c .begun,
+        record {
+          blocks = g .blocks ++ (block ∷ []);
+          brought = more-block;
+          takes = λ later r h. rw (append-assoc (g .blocks) (block ∷ []) later, b) (g .takes (part (length (kept line)) end input ∷ later) r (turns s h));
+        },
+      )
+
+  ready-block : (t′ : Totals) (next : Next) → AfterBlock t all t′ next → Ready input next (read .reads) t′
+  ready-block t′ (Begun from end) a = ready-on t′ from end a
+  ready-block t′ Ended a = absurd a
+  ready-block t′ Stopped a =
+      let w = input-whole line input (read .held) (read .stop) (read .got) (once .came) in
+      let h : takeAll t (answersTo (linesFrom [] (kept line ++ block))) ≡ stopped t′ = ap (λ (i : List ℕ). takeAll t (answersTo (linesFrom [] i))) w ∙ a in
+      in-block (g .blocks ++ (block ∷ [])) refl more-block
+      (λ later. rw (append-assoc (g .blocks) (block ∷ []) later) (g .takes (block ∷ later) (stopped t′) (stops h)))
+  ready-block t′ Failed a = absurd a
+
+  -- the input has ended
+  final-end : (t′ : Totals) (halted : Bool) → read .got ≡ pos 0 → takeAll t (answersTo (lastLine all)) ≡ over t′ halted → Final (read .reads) t′ halted
+  final-end t′ halted z h =
+      let n : came (read .got) ≡ 0 = rw z refl in
+      let k = rw (← only-held line input (read .held) (read .stop) (read .got) (once .came) n .1) at h in
+      at-end (g .blocks) (record { end = ap (λ (x : Reads). x .got) (once .reads) ∙ z; brought = more [] (sym n) })
+      (rw (append-nil (g .blocks)) at (g .takes [] (over t′ halted) (rw k at (ends {line = line} {t = t}))))
+
+  ready-end : read .got ≡ pos 0 → (t′ : Totals) (next : Next) → AfterEnd t all t′ next → Ready input next (read .reads) t′
+  ready-end z t′ (Begun from end) a = absurd a
+  ready-end z t′ Ended a = final-end t′ false z a
+  ready-end z t′ Stopped a = final-end t′ true z a
+  ready-end z t′ Failed a = absurd a
+
+  -- the read failed
+  ready-failure : NoNewline line → (k : ℕ) → read .got ≡ negsuc k → (again : Bool) → notReady (read .error) ≡ again → (t′ : Totals) (next : Next) → AfterFailure t (read .held) again t′ next
+      → Ready input next (read .reads) t′
+  unfolding isBroken
+  ready-failure o k e true b t′ next a =
+      let z : came (read .got) ≡ 0 = rw e refl in
+      let h = only-held line input (read .held) (read .stop) (read .got) (once .came) z in
+      let n : NoNewline all = rw (h .1) at (no-take 8801 line o) in
+      rw (a .goes-on, a .nothing) (ready-on t 0 (read .held) (rest-held t all (read .held) (h .0) n))
+  ready-failure o k e false b t′ next a = rw (a .goes-on, once .reads, e, b)
+
+  by-answer : NoNewline line → (got : ℤ) → read .got ≡ got → (t′ : Totals) (next : Next) → After t all (read .held) got (read .error) t′ next → Ready input next (read .reads) t′
+  by-answer o (pos zero) e t′ next a = ready-end e t′ next a
+  by-answer o (pos (suc k)) e t′ next a = ready-block t′ next a
+  by-answer o (negsuc k) e t′ next a = ready-failure o k e (notReady (read .error)) refl t′ next a
 
 -- what is left is what a turn may be given, and what is told is what was taken
-pub turned-ready : (t : Totals) (line input : List ℕ) (t′ : Totals) (next : Next) → Reached t line → Turned t line input t′ next → Ready t′ input next
-turned-ready t line input t′ (Begun from end) r g = (g .carried .begun, reached-on t t′ line input from end r g)
-turned-ready t line input t′ Ended r g = reached-ends t line (going t′) r g
-turned-ready t line input t′ Stopped r g = reached-stops t t′ line r g
-turned-ready t line input t′ Failed r g = tt
+pub turned-ready : (t : Totals) (reads : Reads) (line input : List ℕ) (t′ : Totals) (next : Next) (reads′ : Reads) → NoNewline line → Reached reads t line
+    → reads .count < 18446744073709551615 → Turned t reads line input t′ next reads′ → Ready input next reads′ t′
+turned-ready t reads line input t′ next reads′ o g few u = rw (u .is) (by-answer t reads line input (u .read) (u .once) g few o (u .read .got) refl t′ next (u .after))
 
-pub ready-first : (t : Totals) (input : List ℕ) → t ≡ held empty → Ready t input (Begun 0 0)
-ready-first t input e = (tt, ([], λ later r h. rw e at h))
+pub ready-first : (t : Totals) (reads : Reads) (input : List ℕ) → t ≡ held empty → reads ≡ noReads → Ready input (Begun 0 0) reads t
+ready-first t reads input e h = (tt, record { blocks = []; brought = none-brought reads h; takes = λ later r k. rw e at k })
 
-pub ready-finished : (t : Totals) (input : List ℕ) (next : Next) → Ready t input next → Finished t next
-ready-finished t input (Begun from end) h = tt
-ready-finished t input Ended h = h
-ready-finished t input Stopped h = h
-ready-finished t input Failed h = tt
-
--- ---- all turns
-
--- a turn's whole lines are those of what was kept and of its block
-lines-are : (line input : List ℕ) (from end : ℕ) → Carried line input from end
-    → linesFrom [] (kept line ++ part (length (kept line)) end input) ≡ linesFrom [] (take from (take end input))
-lines-are line input from end c =
-    let p = take from (take end input) in
-    let q = part from end input in
-    ap (λ (s : List ℕ). linesFrom [] s) (cut-is line input from end c)
-    ∙ lines-append [] p q ∙ rw (c .whole, lines-open [] q (c .begun)) (append-nil (linesFrom [] p))
-
-takes-lines : (line : List ℕ) (blocks : List (List ℕ)) (t : Totals) (r : Taken) → Takes line blocks t r → r ≡ takeAll t (answersTo (blockLines (kept line) blocks))
-unfolding blockLines
-takes-lines line _ t _ ends = refl
-takes-lines line _ t _ (stops {block = block} {blocks = blocks} {t′ = t′} e) =
-    let ls = linesFrom [] (kept line ++ block) in
-    let more = blockLines (kept (begunFrom [] (kept line ++ block))) blocks in
-    sym (rw (map-append answerTo ls more) (all-stopped t t′ (answersTo ls) e (answersTo more)))
-takes-lines line _ t r (turns {input = input} {from = from} {end = end} {blocks = blocks} {t′ = t′} g h) =
-    let ls = linesFrom [] (take from (take end input)) in
-    let more = blockLines (kept (part from end input)) blocks in
-    rw (lines-are line input from end (g .carried), left-is line input from end (g .carried), map-append answerTo ls more)
-    (takes-lines (part from end input) blocks t′ r h ∙ sym (all-going t t′ (answersTo ls) (g .taken) (answersTo more)))
-
--- the code's totals of all lines of an input are the definition's
-pub lines-taken : (lines : List (List ℕ)) → takeAll (held empty) (answersTo lines) ≡ heldOutcome (takeLines empty (answersTo lines))
-lines-taken lines = code-holds .lines (answersTo lines) (all-i64 lines)
-
--- ALL THAT IS TAKEN, by turns that each meet their contract, is what the program's definition takes of the whole input, and so is the text
-pub turns-take : (blocks : List (List ℕ)) (r : Taken) → Takes [] blocks (held empty) r → r ≡ heldOutcome (takeLines empty (answersTo (linesIn (joinedBlocks blocks))))
-turns-take blocks r h =
-    takes-lines [] blocks (held empty) r h
-    ∙ ap (λ (ls : List Line). takeAll (held empty) ls) (blocks-joined Line answerTo long-alike blocks)
-    ∙ lines-taken (linesIn (joinedBlocks blocks))
-
-pub turns-say : (blocks : List (List ℕ)) (r : Taken) → Takes [] blocks (held empty) r → takenText r ≡ programText (joinedBlocks blocks)
-unfolding programText
-turns-say blocks r h = ap takenText (turns-take blocks r h)
+pub ready-over : (input : List ℕ) (next : Next) (reads : Reads) (t : Totals) → reads .count ≡ 18446744073709551615 → Ready input next reads t → Over next reads t
+ready-over input (Begun from end) reads t e r = e
+ready-over input Ended reads t e r = r
+ready-over input Stopped reads t e r = r
+ready-over input Failed reads t e r = r

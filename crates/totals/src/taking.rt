@@ -9,7 +9,7 @@ ghost use mathlib.Core.Path.{_≡_};
 ghost use lib.ListN.{length};
 ghost use Rattle.season.specs.Held.{takeLine};
 ghost use Rattle.blocks.specs.Blocks.{NoNewline};
-ghost use Rattle.totals.specs.Program.{answerTo, isStopped, After, AfterBlock};
+ghost use Rattle.totals.specs.Program.{answerTo, isStopped, AfterBlock, AfterEnd};
 
 // From where to where in the input a line has begun; that the input has ended; that refusal 20 ended the reading; or that reading failed.
 pub(crate) enum Next {
@@ -86,7 +86,7 @@ pub(crate) fn take_block(before: Totals, input: &[u8], rows: &mut [i64]) -> Turn
 // A last line that no newline ends is taken too.
 pub(crate) fn take_last(before: Totals, line: &[u8], rows: &mut [i64]) -> Turn
     requires { ⌜ NoNewline (now line) × (length (now rows) ≡ 512) ⌝ }
-    ensures { λ r. ⌜ After before (now (line .entry)) (now (line .entry)) (r .totals) (r .next) ⌝ }
+    ensures { λ r. ⌜ AfterEnd before (now (line .entry)) (r .totals) (r .next) ⌝ }
 {
     if line.len() == 0 {
         return Turn {

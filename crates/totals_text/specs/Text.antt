@@ -79,6 +79,10 @@ pub record Shown (t : Totals) (out out′ : List ℕ) (r : ℕ) : Type 0 where
   pub count : r ≡ length (shownIn (length out) t)
   pub places : out′ ≡ shownIn (length out) t ++ drop (length (shownIn (length out) t)) out
 
+-- any two outcomes that it allows are equal
+abbrev pub ShowDetermined : Type 0
+ShowDetermined = (t : Totals) (out out′ out″ : List ℕ) (r r′ : ℕ) → Shown t out out′ r → Shown t out out″ r′ → (r ≡ r′) × (out′ ≡ out″)
+
 -- ---- THE SUM
 
 -- the number that digits write

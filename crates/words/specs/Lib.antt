@@ -1,2 +1,3 @@
--- The reader in parts as words. What an answer's words mean stands in `format` (`Words`).
+-- The reader in parts as words, and that any two outcomes are equal. What an answer's words mean stands in `format` (`Words`).
 pub mod Parts
+pub mod Outcomes

@@ -1,5 +1,5 @@
 -- What the size of a run tells, and the size by the tests. Assumes nothing.
-use mathlib.Core.Path.{_≡_, refl}
+use mathlib.Core.Path.{_≡_, refl, sym, _∙_}
 use Prim.Native.Nat.{ℕ, _≤_}
 use native.Mathlib.Omega.{arith}
 use mathlib.Core.Bool.{Bool, true, false, not, _&&_}
@@ -11,7 +11,7 @@ use Rattle.format.specs.Runs.{Description, layout}
 use Rattle.format.specs.Parse.{Parsed, unless}
 use Rattle.format.specs.Writing.{countAllowed, haveForm, widthAllowed, fitWidth, described, writing}
 use Rattle.format.proofs.Tests.{and-false}
-use Rattle.writer.specs.Sizes.{sizeIn, Sized, unfit, fit}
+use Rattle.writer.specs.Sizes.{sizeIn, Sized, unfit, fit, SizeDetermined}
 
 pub for-form : {signed : Bool} {f g : Form} {w n : ℕ} {rs : List ℕ} → f ≡ g → Sized signed g w rs n → Sized signed f w rs n
 for-form e z = rw e z
@@ -56,3 +56,6 @@ module _ (signed : Bool) (f : Form) (w : ℕ) (rs : List ℕ) where
   unfolding writing
   sized c s (unfit e) = rw (c, s) (refused-both (haveForm f rs) (fitWidth signed f w rs) _ e)
   sized c s (fit h e l a b) = rw (c, s, h, e, le-ltb 4356 (length (layout (described signed f w rs))) (rw l at b)) l
+
+pub size-determined : SizeDetermined
+size-determined rows signed f w r r′ p q = p ∙ sym q

@@ -2,7 +2,7 @@
 use mathlib.Core.Path.{_≡_}
 use Prim.Native.Nat.{ℕ, _≤_}
 use mathlib.Core.Bool.{Bool, true, false, _&&_}
-use mathlib.Core.List.{List}
+use mathlib.Core.List.{List, map}
 use lib.ListN.{length}
 use lib.IntN.{ℤ}
 use Rattle.format.specs.declared.Answer.{Answer}
@@ -11,8 +11,9 @@ use Rattle.format.specs.declared.Kind.{Kind}
 use Rattle.format.specs.Answers.{ran}
 use Rattle.format.specs.Fields.{width}
 use Rattle.format.specs.Runs.{Description, layout}
+use Rattle.format.specs.Rows.{asU64}
 use Rattle.format.specs.Parse.{Parsed, end, got, refused}
-use Rattle.format.specs.Writing.{haveForm, fitWidth, described, Written}
+use Rattle.format.specs.Writing.{haveForm, fitWidth, described, writing, Written}
 
 -- the bytes of the run that is written; 0 where it is refused
 abbrev pub sizeIn : Parsed Description → ℕ
@@ -28,3 +29,9 @@ pub data Sized (signed : Bool) (f : Form) (w : ℕ) (rs : List ℕ) : ℕ → Ty
 -- the run stands in its places: with an answer that tells it, it is written
 abbrev pub Lays : List ℤ → Bool → Form → ℕ → Kind → ℕ → List ℕ → List ℕ → Type 0
 Lays rows signed f w kind bytes out out′ = (r : Answer) → r ≡ ran kind (width w) (length rows) bytes → Written rows signed f w out out′ r
+
+-- any two answers that the promise of `size_of_run` allows are equal: 4,356 places are room for any run
+abbrev pub SizeDetermined : Type 0
+SizeDetermined =
+    (rows : List ℤ) (signed : Bool) (f : Form) (w r r′ : ℕ)
+    → r ≡ sizeIn (writing signed f w (map asU64 rows) 4356) → r′ ≡ sizeIn (writing signed f w (map asU64 rows) 4356) → r ≡ r′

@@ -193,9 +193,11 @@ impl Session {
             held => fenced.is(held),
         });
         let number = match call {
-            // How many segments: no more than are lent, and none of no rows.
+            // How many segments: no more than are lent; of rows one at least, if the direct runs have places.
             Call::Plan { rows, lent, .. } if !rows.is_empty() => {
-                lent.iter().all(|places| returned <= *places as u64)
+                let fit = lent.iter().all(|places| returned <= *places as u64);
+                let none = lent.iter().any(|places| *places < rows.len().div_ceil(512));
+                fit && (none || 0 < returned)
             }
             _ => returned == expected.returned,
         };

@@ -117,11 +117,13 @@ impl Asked {
                 ([case::MORE, 0, 0, 0, 0, 0, 0, 0, 0, 0, part.len() as u64], vec![])
             }
         };
-        // Where none are held, those that are held now; else as many as a run can have behind them.
-        let copied = if held == 0 { state.held } else { part.len().min(MAX_RUN_BYTES.saturating_sub(held)) };
-        if held == 0 && said.0[0] != case::MORE {
-            return said;
-        }
+        // A part that is taken whole stands after the bytes held; of one that ends a run which began before it,
+        // as many bytes as a run can have. No other call changes the lent bytes, one that refuses least of all.
+        let copied = match said.0[0] {
+            case::MORE => part.len(),
+            case::READ if held > 0 => part.len().min(MAX_RUN_BYTES.saturating_sub(held)),
+            _ => 0,
+        };
         bytes[held..][..copied].copy_from_slice(&part[..copied]);
         said
     }

@@ -3,10 +3,6 @@ use crate::answers::Words;
 use crate::exported::{self, case, check_word, column_word, word};
 use crate::{ByteOffset, Refused, RowNumber, Sign, MAX_ROWS};
 
-/// So many rows a run are reckoned with at first, and a few runs more.
-const LIKELY_ROWS: usize = 2;
-const FEW_RUNS: usize = 64;
-
 /// A run that is proposed for some rows of a column.
 #[derive(Debug, Clone, Copy, PartialEq, Eq, Hash, Default)]
 pub struct Segment {
@@ -129,25 +125,22 @@ pub fn plan(rows: &[i64], sign: Sign) -> Proposal {
 
 /// What is made of the planner's segments, in columns that are exactly theirs.
 fn with_plan<T>(rows: &[i64], sign: Sign, make: impl FnOnce([&[u64]; 5]) -> T) -> T {
-    // A run has a row at least. Most have many: so fewer are lent first, and all where they are too few.
-    let most = rows.len();
-    let mut lent = (most / LIKELY_ROWS).saturating_add(FEW_RUNS).min(most);
-    loop {
-        let mut places = vec![0; 5 * lent];
-        let (first, rest) = places.split_at_mut(lent);
-        let (counts, rest) = rest.split_at_mut(lent);
-        let (forms, rest) = rest.split_at_mut(lent);
-        let (widths, bases) = rest.split_at_mut(lent);
-        let segments = plan_into(rows, sign, [first, counts, forms, widths, bases]);
-        if segments > 0 || lent == most {
-            return make([&*first, counts, forms, widths, bases].map(|column| &column[..segments]));
-        }
-        lent = most;
-    }
+    // A segment has one row at least, so this many places hold any proposal: with fewer the planner may fall
+    // back on direct runs. Memory that is zeroed and never written costs a large column nothing.
+    let lent = rows.len();
+    let mut places = vec![0; 5 * lent];
+    let (first, rest) = places.split_at_mut(lent);
+    let (counts, rest) = rest.split_at_mut(lent);
+    let (forms, rest) = rest.split_at_mut(lent);
+    let (widths, bases) = rest.split_at_mut(lent);
+    let segments = plan_into(rows, sign, [first, counts, forms, widths, bases]);
+    make([&*first, counts, forms, widths, bases].map(|column| &column[..segments]))
 }
 
 /// The planner's proposal, in the first places of lent columns: first rows, rows, forms, widths, bases. It
-/// answers how many segments there are; 0 where the shortest has too few places. The places behind them
+/// answers how many segments there are. As many places as rows are always enough for the planner's best. With
+/// fewer it proposes direct runs of 64 bits if its best lacks places, and 0 segments if the shortest column
+/// has fewer places than there are direct runs (one for every 512 rows begun). The places after the segments
 /// may have changed.
 pub fn plan_into(rows: &[i64], sign: Sign, columns: [&mut [u64]; 5]) -> usize {
     let lent = columns.iter().map(|column| column.len()).min().unwrap_or(0);

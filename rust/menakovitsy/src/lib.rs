@@ -119,7 +119,8 @@ pub enum Form {
     Direct,
     /// 1 to 512 rows with one step.
     FixedDelta,
-    /// 2 to 512 rows that all rise, or all fall, by steps that are packed.
+    /// 2 to 512 rows, whatever they are, by steps that are packed. A step against the direction of the first
+    /// counts modulo 2^64, so that it needs 64 bits.
     PackedDelta,
 }
 

@@ -159,19 +159,40 @@ fn the_segments_that_are_lent() {
         let proposal = plan(&rows, Sign::Signed);
         let whole = proposal.columns();
         let most = whole[0].len();
-        for lent in [0, 1, most - 1, most, most + 1, most + 99] {
+        // With too few places for the planner's best, direct runs of 64 bits; none if these lack places too.
+        let direct = rows.len().div_ceil(512);
+        let with = |lent: usize| {
+            if lent >= most {
+                most
+            } else if lent >= direct {
+                direct
+            } else {
+                0
+            }
+        };
+        for lent in [0, 1, direct - 1, direct, most - 1, most, most + 1, most + 99, rows.len()] {
             let mut columns = [(); 5].map(|()| vec![7777; lent]);
             let segments = plan_into(&rows, Sign::Signed, columns.each_mut().map(Vec::as_mut_slice));
-            assert_eq!(segments, if lent < most { 0 } else { most });
-            if segments > 0 {
-                assert_eq!(columns.each_ref().map(|column| &column[..most]), whole);
+            assert_eq!(segments, with(lent));
+            let [first, counts, forms, widths, bases] = columns.each_ref().map(|column| &column[..segments]);
+            if lent >= most {
+                assert_eq!([first, counts, forms, widths, bases], whole);
+                continue;
+            }
+            for run in 0..segments {
+                let row = 512 * run;
+                assert_eq!([first[run], counts[run]], [row, (rows.len() - row).min(512)].map(|n| n as u64));
+                assert_eq!([forms[run], widths[run], bases[run]], [1, 31, 0]);
             }
         }
         // The shortest of the five counts.
         for which in 0..5 {
-            let mut columns = [(); 5].map(|()| vec![7777; most + 3]);
-            columns[which].truncate(most - 1);
-            assert_eq!(plan_into(&rows, Sign::Signed, columns.each_mut().map(Vec::as_mut_slice)), 0);
+            for places in [most - 1, direct - 1] {
+                let mut columns = [(); 5].map(|()| vec![7777; most + 3]);
+                columns[which].truncate(places);
+                let segments = plan_into(&rows, Sign::Signed, columns.each_mut().map(Vec::as_mut_slice));
+                assert_eq!(segments, with(places.min(most + 3)));
+            }
         }
     }
 }

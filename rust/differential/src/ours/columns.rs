@@ -3,7 +3,7 @@ use menakovitsy::{check_column, plan_into, write_column, write_proposed, Proposa
 use model::{Column, Segment};
 
 use super::{sign, Ours, BEFORE};
-use crate::stages::columns::{direct_bytes, Asked};
+use crate::stages::columns::{direct_bytes, planned_in, Asked};
 
 /// What a place of a lent column holds before a call.
 const PLACE_BEFORE: u64 = 7777;
@@ -52,7 +52,8 @@ impl Ours {
     }
 
     /// Holds the planner to the segments that it is lent: just enough, one too few in one column or in
-    /// all, and more. How many answers were right, and what it proposes.
+    /// all, just enough for the direct runs and one too few for these, and more. How many answers were right,
+    /// and what it proposes.
     pub fn check_plan(rows: &[i64], signed: bool) -> Result<(u64, Vec<Segment>), String> {
         // A run has a row at least: so many are enough.
         let whole = Self::plan(rows, signed, [rows.len(); 5])?;
@@ -62,13 +63,15 @@ impl Ours {
         }
         let mut lent = vec![[most; 5], [most + MORE; 5]];
         if let Some(fewer) = most.checked_sub(1) {
-            lent.extend([[fewer; 5], [0; 5]]);
+            let direct = rows.len().div_ceil(512);
+            lent.extend([[fewer; 5], [direct; 5], [direct - 1; 5], [0; 5]]);
             let mut shorter = [most + MORE; 5];
             shorter[rows.len() % 5] = fewer;
             lent.push(shorter);
         }
         for lent in &lent {
-            let expected = if lent.iter().any(|places| *places < most) { &[][..] } else { &whole };
+            let shortest = lent.iter().min().copied().unwrap_or(0);
+            let expected = planned_in(shortest, rows.len(), &whole);
             let given = Self::plan(rows, signed, *lent)?;
             if given != expected {
                 return Err(format!("lent {lent:?}: {given:?}, and lent enough {whole:?}"));

@@ -60,6 +60,30 @@ pub fn direct_bytes(rows: usize) -> usize {
     8 * rows + 2 * rows.div_ceil(512)
 }
 
+/// Direct runs of 64 bits as a proposal: what the planner falls back on.
+pub fn direct_segments(rows: usize) -> Vec<Segment> {
+    let run = |first: usize| Segment {
+        first: first as u64,
+        rows: (rows - first).min(512) as u64,
+        form: 1,
+        width: 31,
+        base: 0,
+    };
+    (0..rows).step_by(512).map(run).collect()
+}
+
+/// What the planner proposes with so many places in the shortest column, if `best` is what it proposes with
+/// enough: that, or the direct runs, or nothing.
+pub fn planned_in(places: usize, rows: usize, best: &[Segment]) -> Vec<Segment> {
+    if places >= best.len() {
+        best.to_vec()
+    } else if places >= rows.div_ceil(512) {
+        direct_segments(rows)
+    } else {
+        Vec::new()
+    }
+}
+
 /// Rows in a few runs, each with a form and a width that it was made for.
 fn made_for(random: &mut Random) -> (Vec<i64>, Vec<Segment>) {
     let (mut rows, mut proposal) = (Vec::new(), Vec::new());

@@ -4,7 +4,7 @@ use model::Segment;
 use planning::columns::{other_columns, stretches, Dice, Named};
 use planning::planner::proposed;
 
-use super::columns::direct_bytes;
+use super::columns::{direct_bytes, planned_in};
 use super::Session;
 use crate::probe::{with_numbers, Requests};
 use crate::random::Random;
@@ -105,13 +105,14 @@ pub fn probe_line(requests: &mut Requests, random: &mut Random) {
     let (rows, signed) = any(600, random);
     let segments = proposed(&rows, signed);
     let most = segments.len();
-    let lent = random.pick(&[most, most, most + 1, rows.len(), most.saturating_sub(1), 0]).min(LENT);
+    let few = rows.len().div_ceil(512);
+    let lent = random.pick(&[most, most, most + 1, rows.len(), most.saturating_sub(1), few, 0]).min(LENT);
     if !AS_THE_PROTOTYPE || lent == 0 {
         return requests.plan_none(&rows, signed.into(), 0);
     }
-    let segments = if lent < most { &[][..] } else { &segments };
+    let segments = planned_in(lent, rows.len(), &segments);
     let mut expected = format!("plan {}", segments.len());
-    for Segment { first, rows, form, width, base } in segments {
+    for Segment { first, rows, form, width, base } in &segments {
         expected += &format!(" {first}/{rows}/{form}/{width}/{base}");
     }
     requests.ask(with_numbers(format!("0d{:02x}{lent:04x}", u8::from(signed)), &rows), expected);

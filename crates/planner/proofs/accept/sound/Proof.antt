@@ -4,7 +4,7 @@ use lib.Seq.{length-take-le}
 use borrow.Author.Needs.{needs}
 use denote.Ref.{now}
 use Rattle.planner.specs.Check.{proposal}
-use Rattle.planner.specs.Plan.{none}
+use Rattle.planner.specs.Plan.{dropped, kept}
 use Rattle.planner.proofs.Proposing.{first-equal, proposes}
 use Rattle.planner.proofs.accept.sound.Statement.{statement}
 use Rattle.planner.proofs.accept.sound.Tie as tie
@@ -55,10 +55,10 @@ returns-2 c =
     let s = back-12 .before .before .before .before in
     let a = s .args in
     let given = told .c .given in
-    proposes (a .signed) (now (a .rows)) (proposal (now (a .first)) (now (a .counts)) (now (a .forms)) (now (a .widths)) (now (a .bases))) (a .k) (s .pre)
-    (given .0 .0) 18446744073709551615 (sym (given .1) ∙ w .walk .ensures) (sym (long .is-longer .ensures) ∙ c .if1 .left)
+    kept (proposes (a .signed) (now (a .rows)) (proposal (now (a .first)) (now (a .counts)) (now (a .forms)) (now (a .widths)) (now (a .bases))) (a .k) (s .pre)
+    (given .0 .0) 18446744073709551615 (sym (given .1) ∙ w .walk .ensures) (sym (long .is-longer .ensures) ∙ c .if1 .left))
 
 pub sound-spec : {M : Type 1} → statement M
 sound-spec =
     tie.close (tie.spec slice-aggregate-walk slice-aggregate-walk-2 slice-aggregate-walk-3 slice-aggregate-walk-4 slice-aggregate-walk-5 walk-requires (λ c. search needs)
-    (λ c κs. search needs) (λ c. none) (λ c. search needs) returns-2 (λ c. none))
+    (λ c κs. search needs) (λ c. dropped) (λ c. search needs) returns-2 (λ c. dropped))

@@ -15,7 +15,7 @@ abbrev μ-loop : tie.MeasureT-loop
 μ-loop input rows₀ totals₀ from₀ rows totals from = length input - from
 
 returns : tie.Need-returns Inv-loop μ-loop
-returns c = λ held. onward-open _ _ _ _ _ (c .before .before .loop .inv .1) (c .before .line-end .ensures) (c .if1 .taken)
+returns c = onward-open _ _ _ _ _ (c .before .before .loop .inv .1) (c .before .line-end .ensures) (c .if1 .taken)
 
 sub-take-line : tie.Need-sub-take-line Inv-loop μ-loop
 sub-take-line c = omega (arith, c .before .line-end .ensures)
@@ -41,7 +41,7 @@ returns-2 c =
     let k = c .before .before .before .before in
     let i = k .before .before .before in
     let e = i .before in
-    λ held. onward-stop _ _ _ _ _ (e .before .loop .inv .1) (e .line-end .ensures) (i .if1 .left) (k .take-line .result) (k .take-line .ensures) held (sym (c .before .is-stopped .ensures) ∙ c .if2 .taken)
+    onward-stop _ _ _ _ _ (e .before .loop .inv .1) (e .line-end .ensures) (i .if1 .left) (k .take-line .result) (k .take-line .ensures) (sym (c .before .is-stopped .ensures) ∙ c .if2 .taken)
 
 add-from : tie.Need-add-from Inv-loop μ-loop
 add-from c =
