@@ -1,7 +1,7 @@
 // Where a column is cut, and each run's form, width and base (FORMAT.md, "Planner"): the planner's heuristic. It is proved safe and ending and no more,
 // since whoever takes a proposal up has it checked, and has the direct runs of 64 bits where it is not accepted.
 //
-// Windows of at most a run's rows, the cheapest way through each, and for each run of it the exact width and base. For a window: `menu` counts
+// Windows of at most 512 rows, the cheapest way through each, and for each run of it the exact width and base. For a window: `menu` counts
 // which widths its rows and steps have; `walk` goes over the rows once with an open run for each of these widths and each form, `frames`
 // being those of patched runs; the `way` is turned round, and its runs are proposed, all of them or all but the last.
 ghost use Prim.Native.Nat.{_≤_, _<_};

@@ -23,7 +23,7 @@ fn entry(gap: usize, patch: u64, pw: usize) -> u64
     ((gap as u64) << pw) + patch
 }
 
-// The list of the values of so many rows, whose patches stand above so many bits: how many entries it has, and one more than there are places
+// The list of so many rows' values, whose patches stand above so many bits: how many entries it has, and one more than there are places
 // where these do not hold it. Gaps count from `from`, the place that the entries so far lead to.
 pub(crate) fn fill(vals: &[u64], rows: RowNumber, bits: usize, pw: usize, list: &mut [u64]) -> usize
     requires { ⌜ (rows .rows ≤ length (now vals)) × (rows .rows ≤ 512) × (bits ≤ 64) × (pw ≤ 56) × (length (now list) ≤ 31) ⌝ }
