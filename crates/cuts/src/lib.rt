@@ -1,7 +1,7 @@
 // Where a column is cut, and each run's form, width and base (FORMAT.md, "Planner"): the planner's heuristic. It is proved safe and ending and no more,
 // since whoever takes a proposal up has it checked, and has the direct runs of 64 bits where it is not accepted.
 //
-// Windows of at most 512 rows, the cheapest way through each, and for each run of it the exact width and base. For a window: `menu` counts
+// Windows of at most a run's rows, the cheapest way through each, and for each run of it the exact width and base. For a window: `menu` counts
 // which widths its rows and steps have; `walk` goes over the rows once with an open run for each of these widths and each form, `frames`
 // being those of patched runs; the `way` is turned round, and its runs are proposed, all of them or all but the last.
 ghost use Prim.Native.Nat.{_≤_, _<_};
@@ -21,11 +21,12 @@ mod walk;
 mod way;
 
 use runs::Run;
+use way::PLACES;
 use way::WINDOW;
 
 // A window's last run is left to the next window where it begins this late: a run is then not cut where the window ends, and a row is
 // walked over at most 4/3 times.
-const LATE: u64 = 384;
+const LATE: u64 = WINDOW / 4 * 3;
 
 // The runs laid so far: where the next begins, how many, and their bytes. Those that the columns have no place for are counted and lost.
 struct Laid {
@@ -112,7 +113,7 @@ fn lay_runs(
     signed: bool,
     end: usize,
     stop: usize,
-    way: &[u64; 513],
+    way: &[u64; PLACES],
     laid: Laid,
     first: &mut [u64],
     counts: &mut [u64],
@@ -154,7 +155,7 @@ fn lay_runs(
 fn lay_window(
     rows: &[i64],
     signed: bool,
-    way: &mut [u64; 513],
+    way: &mut [u64; PLACES],
     laid: Laid,
     first: &mut [u64],
     counts: &mut [u64],
@@ -217,7 +218,7 @@ fn lay_widest(
 
 // The bytes of the direct runs of 64 bits.
 fn widest_bytes(rows: u64) -> u64 {
-    pattern::add(rows << 3, pattern::add(rows, 511) >> 9 << 1)
+    pattern::add(rows << 3, pattern::add(rows, WINDOW - 1) / WINDOW << 1)
 }
 
 // The runs of all windows.
