@@ -234,7 +234,7 @@ pub(crate) fn read(input: &[u8], at: usize, signed: bool, out: &mut [i64]) -> An
         return refusal::answer(f.number, at, f.field);
     }
     if out.len() < f.rows {
-        return Answer::refused(8, at);
+        return Answer::refused(8, ByteOffset { bytes: at });
     }
     lay(input, f, signed, out);
     Answer::run(

@@ -18,7 +18,7 @@ pub(crate) fn measure(input: &[u8], at: usize) -> Answer
     ensures { λ r. ⌜ r ≡ answerOf at (length (now (input .entry)) - at) (directRun (getD (now (input .entry)) at 0) (drop (at + 1) (now (input .entry)))) ⌝ }
 {
     if input.len() - at < 2 {
-        return Answer::refused(1, at);
+        return Answer::refused(1, ByteOffset { bytes: at });
     }
     let h = header::two_bytes(input[at], input[at + 1]);
     let count = h.rows;
@@ -26,7 +26,7 @@ pub(crate) fn measure(input: &[u8], at: usize) -> Answer
     let body = at + 2;
     let size = packed::block_size(bits, count);
     if input.len() - body < size {
-        return Answer::cut(13, at, body);
+        return Answer::cut(13, ByteOffset { bytes: at }, ByteOffset { bytes: body });
     }
     Answer::run(
         Kind::Direct,
@@ -45,7 +45,7 @@ pub(crate) fn read(input: &[u8], at: usize, signed: bool, out: &mut [i64]) -> An
         Answer::Run(r) => {
             let count = r.rows;
             if out.len() < count.rows {
-                return Answer::refused(8, at);
+                return Answer::refused(8, ByteOffset { bytes: at });
             }
             packed::unpack(&input[at + 2..], r.width, count.rows, out);
             rows::decode(signed, count.rows, out);

@@ -134,7 +134,7 @@ fn in_places(measured: Answer, at: usize, places: usize) -> Answer
         Answer::Run(r) => {
             let count = r.rows;
             if places < count.rows {
-                return Answer::refused(8, at);
+                return Answer::refused(8, ByteOffset { bytes: at });
             }
             Answer::Run(r)
         }

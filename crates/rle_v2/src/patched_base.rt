@@ -114,12 +114,12 @@ fn broke_off(len: usize, at: usize, q: Parts) -> Refusal
     ensures { λ r. ⌜ r ≡ cutBody len at (q .values) (q .list) ⌝ }
 {
     if len < q.values {
-        return Refusal::cut(6, at, at + 4);
+        return Refusal::cut(6, ByteOffset { bytes: at }, ByteOffset { bytes: at + 4 });
     }
     if len < q.list {
-        return Refusal::cut(13, at, q.values);
+        return Refusal::cut(13, ByteOffset { bytes: at }, ByteOffset { bytes: q.values });
     }
-    Refusal::cut(14, at, q.list)
+    Refusal::cut(14, ByteOffset { bytes: at }, ByteOffset { bytes: q.list })
 }
 
 // The body: that it is there.
@@ -154,7 +154,7 @@ fn by_widths(input: &[u8], at: usize, h: Header) -> Found
     let bits = width::bits_of(h.code);
     let patch = width::bits_of(h.patch);
     if 64 < patch + h.gap {
-        return gone(Refusal::new(2, at));
+        return gone(Refusal::new(2, ByteOffset { bytes: at }));
     }
     let entry = width::entry_width(patch + h.gap);
     body(input, at, h, Widths { bits, patch, entry })
@@ -165,7 +165,7 @@ fn headed(input: &[u8], at: usize) -> Found
     ensures { λ r. ⌜ IsFound (now (input .entry)) at (patchedRun (getD (now (input .entry)) at 0) (drop (at + 1) (now (input .entry)))) r ⌝ }
 {
     if input.len() - at < 4 {
-        return gone(Refusal::new(1, at));
+        return gone(Refusal::new(1, ByteOffset { bytes: at }));
     }
     let h = header::two_bytes(input[at], input[at + 1]);
     let third = input[at + 2];
@@ -199,7 +199,7 @@ pub(crate) fn measure(input: &[u8], at: usize) -> Answer
         f.rows,
     );
     if number != 0 {
-        return Answer::refused(number, at);
+        return Answer::refused(number, ByteOffset { bytes: at });
     }
     Answer::run(
         Kind::PatchedBase,
@@ -258,10 +258,10 @@ pub(crate) fn read(input: &[u8], at: usize, signed: bool, out: &mut [i64]) -> An
         f.rows,
     );
     if refusal != 0 {
-        return Answer::refused(refusal, at);
+        return Answer::refused(refusal, ByteOffset { bytes: at });
     }
     if out.len() < f.rows {
-        return Answer::refused(8, at);
+        return Answer::refused(8, ByteOffset { bytes: at });
     }
     put(input, at, f, out);
     Answer::run(

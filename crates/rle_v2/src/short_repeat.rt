@@ -21,7 +21,7 @@ pub(crate) fn measure(input: &[u8], at: usize) -> Answer
     let count = header % 8 + Kind::MIN_REPEAT;
     let body = at + 1;
     if input.len() - body < size {
-        return Answer::cut(6, at, body);
+        return Answer::cut(6, ByteOffset { bytes: at }, ByteOffset { bytes: body });
     }
     Answer::run(
         Kind::ShortRepeat,
@@ -40,7 +40,7 @@ pub(crate) fn read(input: &[u8], at: usize, signed: bool, out: &mut [i64]) -> An
         Answer::Run(r) => {
             let count = r.rows;
             if out.len() < count.rows {
-                return Answer::refused(8, at);
+                return Answer::refused(8, ByteOffset { bytes: at });
             }
             let value = pattern::row(signed, big_endian::read(input, at + 1, r.width / 8));
             rows::repeat(value, count.rows, out);

@@ -24,13 +24,13 @@ add-t7 c =
     let back-6 = c .before .before .before .before .before .before in
     omega (arith, c .shared-slice-known5 .given (back-6 .before .args .at + 2))
 
-cast-t18 : tie.Need-cast-t18
-cast-t18 c =
+cast-t19 : tie.Need-cast-t19
+cast-t19 c =
     let back-6 = c .before .before .before .before .before .before in
     omega (arith, c .shared-slice-known5 .given (back-6 .before .args .at + 3))
 
-add-t19 : tie.Need-add-t19
-add-t19 c =
+add-t20 : tie.Need-add-t20
+add-t20 c =
     let back-6 = c .before .before .before .before .before .before in
     omega (arith, c .shared-slice-known5 .given (back-6 .before .args .at + 3))
 
@@ -63,5 +63,5 @@ returns-2 c =
 pub headed-spec : {M : Type 1} → statement M
 headed-spec =
     tie.close (tie.spec (λ c. search needs) (λ c κs. search needs) (λ c κs. search needs) returns (λ c. search needs) (λ c. search needs) (λ c. search needs)
-    (λ c κs. search needs) (λ c. search needs) (λ c. search needs) (λ c. search needs) (λ c. search needs) cast-t8 add-t7 cast-t18 add-t19 (λ c. search needs)
+    (λ c κs. search needs) (λ c. search needs) (λ c. search needs) (λ c. search needs) (λ c. search needs) cast-t8 add-t7 cast-t19 add-t20 (λ c. search needs)
     by-widths-requires returns-2)
