@@ -5,3 +5,4 @@ pub mod Moves
 pub mod Turns
 pub mod Joined
 pub mod Outcomes
+pub mod Brought

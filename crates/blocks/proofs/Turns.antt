@@ -2,12 +2,14 @@
 use mathlib.Core.Path.{_≡_, refl, sym, ap, _∙_}
 use Prim.Native.Nat.{ℕ, zero, suc, _+_, _-_, _≤_}
 use native.Mathlib.Omega.{arith}
-use mathlib.Core.Bool.{false}
+use mathlib.Core.Bool.{Bool, true, false, not}
 use mathlib.Core.List.{List, [], _++_}
 use lib.ListN.{length, take, drop, take-append-drop, length-take, length-drop}
 use lib.Seq.{take-all, take-take, length-take-le}
 use lib.IntN.{ℤ, pos, negsuc}
 use lib.Signed.{ltZ}
+use mir.Syntax.{w64}
+use mir.Val.{ofZ, SFits}
 use borrow.Author.Tests.{lt-ltb}
 use borrow.Rule.Slice.PartMut.{putMid, same-len-mid, take-put}
 use Rattle.util.proofs.Grow.{rest-is}
@@ -23,6 +25,34 @@ pub none-came : (z : ℤ) → ltZ (pos 0) z ≡ false → came z ≡ 0
 none-came (pos zero) h = refl
 none-came (pos (suc k)) h = let z : _≡_ {A = ℕ} 0 1 = cc (sym (lt-ltb 0 (suc k) (omega arith)) ∙ h) in absurd (omega arith)
 none-came (negsuc k) h = refl
+
+-- something came, the input has ended, or the read failed: as the programs test it
+clash : {X : Type 0} → true ≡ false → X
+clash h = let z : _≡_ {A = ℕ} 0 1 = cc in absurd (omega arith)
+
+pub some-came : (z : ℤ) → ltZ (pos 0) z ≡ true → (k : ℕ) × (z ≡ pos (suc k))
+some-came (pos zero) h = clash (sym h)
+some-came (pos (suc k)) h = (k, refl)
+some-came (negsuc k) h = clash (sym h)
+
+pub at-end : (z : ℤ) → SFits w64 z → ofZ w64 z ≡ 0 → z ≡ pos 0
+at-end (pos zero) f h = refl
+at-end (pos (suc k)) f h = absurd (omega (arith, h))
+at-end (negsuc k) f h = absurd (omega (arith, f .sfits, h))
+
+pub read-failed : (z : ℤ) → ltZ (pos 0) z ≡ false → (ofZ w64 z ≡ 0 → ⊥) → (k : ℕ) × (z ≡ negsuc k)
+read-failed (pos zero) h n = absurd (n refl)
+read-failed (pos (suc k)) h n = clash (sym (lt-ltb 0 (suc k) (omega arith)) ∙ h)
+read-failed (negsuc k) h n = (k, refl)
+
+-- a test of what is not so
+pub is-not : (b : Bool) → not b ≡ true → b ≡ false
+is-not true h = sym h
+is-not false h = refl
+
+pub is-so : (b : Bool) → not b ≡ false → b ≡ true
+is-so true h = refl
+is-so false h = sym h
 
 -- then there is only what was held
 pub held-all : (s : List ℕ) (n : ℕ) (z : ℤ) → length s ≡ n + came z → ltZ (pos 0) z ≡ false → NoNewline (take n s) → (n ≡ length s) × NoNewline s
@@ -70,6 +100,19 @@ module _ (line input : List ℕ) (held stop : ℕ) (got : ℤ) (c : Came line in
 
   pub held-open : NoNewline line → NoNewline (take held (take stop input))
   held-open o = rw front-held (no-take 8801 line o)
+
+  -- what was kept, and the block that came behind it
+  pub block-long : length (part held stop input) ≡ came got
+  block-long = rw length-drop (omega (arith, stop-long))
+
+  pub input-whole : kept line ++ part held stop input ≡ take stop input
+  input-whole = ap (λ (l : List ℕ). l ++ part held stop input) (sym front-held) ∙ take-append-drop held (take stop input)
+
+  -- nothing came: there is only what was held
+  pub only-held : came got ≡ 0 → (held ≡ length (take stop input)) × (kept line ≡ take stop input)
+  only-held z =
+      let e : held ≡ length (take stop input) = omega (arith, stop-long, z) in
+      (e, sym front-held ∙ take-all held (take stop input) (omega (arith, e)))
 
   pub carried : (from end : ℕ) → end ≡ length (take stop input) → from ≤ end → begunFrom [] (take from (take stop input)) ≡ [] → NoNewline (drop from (take stop input))
       → Carried line input from end

@@ -1,5 +1,7 @@
 // Standard input in blocks, cut into lines: what the programs share. What was read and is not taken yet is the beginning of one line, so that a
 // line of any length takes no more room.
+pub mod reading;
+
 ghost use mathlib.Core.Path.{_≡_};
 ghost use Prim.Native.Nat.{_+_, _≤_};
 ghost use lib.ListN.{length, drop, replicate};
@@ -14,7 +16,7 @@ pub const MAX_HELD: usize = 8801;
 const BLOCK: usize = 65536;
 
 // What stands in the input after a read: the beginning of a line that was kept, what came behind it, and what the system answered.
-pub struct Block {
+pub(crate) struct Block {
     pub held: usize,
     pub stop: usize,
     pub got: isize,
@@ -58,7 +60,7 @@ fn keep(input: &mut [u8], from: usize, end: usize) -> usize
 
 // One read: what is left of the block before is moved to the front, and what is read stands behind it. Places behind the input have nothing left in
 // them. What the system answers goes on as it is: no contract can name it before.
-pub fn read_on(input: &mut [u8], from: usize, end: usize) -> Block
+pub(crate) fn read_on(input: &mut [u8], from: usize, end: usize) -> Block
     ensures { λ r. ⌜ Came (part from end (now (input .entry))) (now (input .exit)) (r .held) (r .stop) (r .got) ⌝ }
 {
     let last = number::least(end, input.len());

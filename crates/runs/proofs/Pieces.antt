@@ -5,7 +5,7 @@ use Prim.Native.Nat.{ℕ, _+_, _≤_}
 use mathlib.Core.List.{List, [], _++_, append-nil}
 use lib.ListN.{length, take, drop}
 use lib.Seq.{take-add, take-at}
-use borrow.Author.Tests.{ne-eqb, le-ltb}
+use borrow.Author.Tests.{eq-eqb, ne-eqb, le-ltb}
 use Rattle.lines.specs.Line.{answerLine, answerRoom, Answered}
 use Rattle.blocks.specs.Blocks.{linesFrom, begunFrom, lastLine, linesIn, NoNewline}
 use Rattle.runs.specs.Program.{answered, answersTo, answersFrom, lastAnswer, programText}
@@ -32,6 +32,10 @@ pieces-join n m s h k =
 pub open-text : (line : List ℕ) → NoNewline line → programText line ≡ lastAnswer line
 unfolding programText linesIn
 open-text line h = rw (lines-open [] line h, begun-open [] line h)
+
+pub no-answer : (line : List ℕ) → length line ≡ 0 → lastAnswer line ≡ []
+unfolding lastLine answersTo
+no-answer line h = rw (eq-eqb (length line) 0 h)
 
 module _ (line out out′ : List ℕ) (r : ℕ) (a : Answered line out out′ r) (room : answerRoom ≤ length out) where
   answer-is : answerLine (length out) line ≡ answered line

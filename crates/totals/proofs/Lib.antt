@@ -1,7 +1,6 @@
 -- The laws that the proofs cite.
 pub mod Answers
 pub mod Onward
-pub mod Answering
 pub mod Turns
 pub mod Whole
 pub mod Room

@@ -4,11 +4,12 @@ use Prim.Native.Nat.{ℕ, zero, suc, _+_}
 use native.Mathlib.Omega.{arith}
 use mathlib.Core.Bool.{Bool, true, false}
 use mathlib.Core.List.{List, [], _∷_, _++_, map-append, append-nil}
-use lib.ListN.{length, take}
+use lib.ListN.{length, take, length-append}
 use Rattle.blocks.specs.Blocks.{linesFrom, begunFrom, lastLine, linesIn, kept, part, Carried, blockLines, joinedBlocks}
 use Rattle.blocks.proofs.Lines.{lines-append, lines-open}
 use Rattle.blocks.proofs.Turns.{cut-is, left-is}
 use Rattle.blocks.proofs.Joined.{blocks-joined}
+use Rattle.blocks.proofs.Brought.{unread-only}
 use Rattle.season.specs.declared.Totals.{Totals}
 use Rattle.season.specs.declared.Taken.{Taken}
 use Rattle.season.specs.Totals.{Line, empty, takeLines}
@@ -63,8 +64,8 @@ over-text t true = refl
 over-text t false = refl
 
 pub final-says : FinalSays
-final-says reads t halted (at-end blocks z n h) = of-input blocks z n (sym (over-text t halted) ∙ turns-say blocks (over t halted) h)
-final-says reads t halted (in-block blocks e n h) = whatever-comes blocks n (λ later. rw e (turns-say (blocks ++ later) (stopped t) (h later)))
+final-says reads t halted (at-end blocks b h) = of-input blocks b (sym (over-text t halted) ∙ turns-say blocks (over t halted) h)
+final-says reads t halted (in-block blocks e b h) = whatever-comes blocks b (λ later. rw e (turns-say (blocks ++ later) (stopped t) (h later)))
 
 -- no totals are stopped where there is no line
 none-stopped : (t : Totals) → Takes [] [] (held empty) (stopped t) → ⊥
@@ -72,6 +73,5 @@ unfolding blockLines lastLine takeAll
 none-stopped t h = clash (ap (λ (r : Taken). isStopped (r .stop)) (takes-lines [] [] (held empty) (stopped t) h))
 
 pub none-unread : NoneUnread
-none-unread t halted (at-end blocks z n h) = absurd (omega (arith, n))
-none-unread t halted (in-block [] e n h) = none-stopped t (h [])
-none-unread t halted (in-block (b ∷ bs) e n h) = absurd (omega (arith, n))
+none-unread t halted (at-end blocks b h) = absurd (omega (arith, b .brought .each, length-append blocks ([] ∷ [])))
+none-unread t halted (in-block blocks e b h) = none-stopped t (rw (unread-only blocks b) at (h []))

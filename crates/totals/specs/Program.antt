@@ -9,7 +9,10 @@ use lib.IntN.{ℤ, pos, negsuc}
 use Rattle.format.specs.Fields.{pick}
 use Rattle.text.specs.Ascii.{ascii}
 use Rattle.lines.specs.Line.{frameOf}
-use Rattle.blocks.specs.Blocks.{linesFrom, begunFrom, lastLine, linesIn, NoNewline, kept, part, notReady, Came, Carried, joinedBlocks}
+use Rattle.blocks.specs.Blocks.{linesFrom, begunFrom, lastLine, linesIn, NoNewline, kept, part, notReady, Carried, joinedBlocks}
+use Rattle.blocks.specs.Reading.{noReads, isBroken, ReadOnce, Brought, BroughtAll}
+use Rattle.blocks.specs.declared.reading.Reads.{Reads}
+use Rattle.blocks.specs.declared.reading.Read.{Read}
 use Rattle.season.specs.Totals.{Line, answered, empty, takeLines}
 use Rattle.season.specs.Held.{held, going, stopped, takeAll, heldOutcome}
 use Rattle.season.specs.declared.Totals.{Totals}
@@ -17,8 +20,6 @@ use Rattle.season.specs.declared.Taken.{Taken}
 use Rattle.season.specs.declared.Stop.{Stop}
 use Rattle.season.specs.declared.Stop.the-variants as stop
 use Rattle.totals_text.specs.Text.{totalsText}
-use Rattle.totals.specs.declared.reading.Reads.{Reads}
-use Rattle.totals.specs.declared.reading.Read.{Read}
 use Rattle.totals.specs.declared.taking.Next.{Next}
 use Rattle.totals.specs.declared.taking.Next.the-variants.{Begun, Ended, Stopped, Failed}
 
@@ -37,11 +38,6 @@ isStopped (stop.Refused f) = true
 unfoldable pub writtenFor : Totals → Bool → List ℕ
 writtenFor t false = totalsText t
 writtenFor t true = totalsText t ++ ascii "refused 20\n"
-
--- in two pieces
-pub data Piece (t : Totals) (stopped : Bool) (text : List ℕ) : Type 0 where
-  of-totals : text ≡ totalsText t → Piece t stopped text
-  of-refusal : stopped ≡ true → text ≡ ascii "refused 20\n" → Piece t stopped text
 
 abbrev pub takenText : Taken → List ℕ
 takenText r = writtenFor (r .totals) (isStopped (r .stop))
@@ -85,25 +81,14 @@ After before input held (pos zero) error t next = AfterEnd before input t next
 After before input held (pos (suc k)) error t next = AfterBlock before input t next
 After before input held (negsuc k) error t next = AfterFailure before held (notReady error) t next
 
--- ---- reads, counted
-
-abbrev pub noReads : Reads
-noReads = record { count = 0; got = pos 0; error = pos 0 }
-
--- ONE READ MORE, that a line's beginning was left for
-pub record ReadOnce (before : Reads) (line input : List ℕ) (r : Read) : Type 0 where
-  pub came : Came line input (r .held) (r .stop) (r .got)
-  pub reads : r .reads ≡ record { count = before .count + 1; got = r .got; error = r .error }
-
 -- AFTER A TURN that a line's beginning was left for: there is one read more, and what came of it is by what the system answered
 pub record Turned (before : Totals) (reads : Reads) (line input : List ℕ) (t : Totals) (next : Next) (reads′ : Reads) : Type 0 where
-  pub count : reads′ .count ≡ reads .count + 1
-  pub held : ℕ
-  pub stop : ℕ
-  pub came : Came line input held stop (reads′ .got)
-  pub after : After before (take stop input) held (reads′ .got) (reads′ .error) t next
+  pub read : Read
+  pub once : ReadOnce reads line input read
+  pub is : reads′ ≡ read .reads
+  pub after : After before (take (read .stop) input) (read .held) (read .got) (read .error) t next
 
--- ---- an input that comes in blocks, one a read; of a failed read the block is empty
+-- ---- an input that comes in blocks
 
 -- a turn after which the beginning of a line is left
 pub record Going (before : Totals) (line input : List ℕ) (t : Totals) (from end : ℕ) : Type 0 where
@@ -120,43 +105,46 @@ pub data Takes : List ℕ → List (List ℕ) → Totals → Taken → Type 0 wh
       → Takes (part from end input) blocks t′ r
       → Takes line (part (length (kept line)) end input ∷ blocks) t r
 
--- WHERE A TURN STANDS, after so many reads: a block came by each of them, and whatever is taken from its line on is what is taken of them and of what comes
-pub record Reached (count : ℕ) (t : Totals) (line : List ℕ) : Type 0 where
+-- WHERE A TURN STANDS, after some reads: whatever is taken from its line on is what is taken of the blocks that they brought and of what comes
+pub record Reached (reads : Reads) (t : Totals) (line : List ℕ) : Type 0 where
   pub blocks : List (List ℕ)
-  pub all : count ≡ length blocks
+  pub brought : Brought reads blocks
   pub takes : (later : List (List ℕ)) (r : Taken) → Takes line later t r → Takes [] (blocks ++ later) (held empty) r
 
 abbrev pub over : Totals → Bool → Taken
 over t false = going t
 over t true = stopped t
 
--- THE TOTALS THAT ARE TOLD are those of the blocks of all reads: the last read found the end of the input; or a line of the last block would pass a limit,
--- whatever comes after it
+-- THE TOTALS THAT ARE TOLD are those of the blocks that all reads brought: the last read found the end of the input; or a line of the last block
+-- would pass a limit, whatever comes after it
 pub data Final (reads : Reads) (t : Totals) (halted : Bool) : Type 0 where
-  at-end : (blocks : List (List ℕ)) → reads .got ≡ pos 0 → reads .count ≡ length blocks + 1 → Takes [] blocks (held empty) (over t halted) → Final reads t halted
-  in-block : (blocks : List (List ℕ)) → halted ≡ true → reads .count ≡ length blocks
+  at-end : (blocks : List (List ℕ)) → BroughtAll reads blocks → Takes [] blocks (held empty) (over t halted) → Final reads t halted
+  in-block : (blocks : List (List ℕ)) → halted ≡ true → Brought reads blocks
       → ((later : List (List ℕ)) → Takes [] (blocks ++ later) (held empty) (stopped t)) → Final reads t halted
 
--- what a turn may be given, and what is left where there is none more
-abbrev pub Ready : Reads → Totals → List ℕ → Next → Type 0
-Ready reads t input (Begun from end) = NoNewline (part from end input) × Reached (reads .count) t (part from end input)
-Ready reads t input Ended = Final reads t false
-Ready reads t input Stopped = Final reads t true
-Ready reads t input Failed = Unit {0}
+-- what a turn may be given, and what holds where there is none more
+abbrev pub Ready : List ℕ → Next → Reads → Totals → Type 0
+Ready input (Begun from end) reads t = NoNewline (part from end input) × Reached reads t (part from end input)
+Ready input Ended reads t = Final reads t false
+Ready input Stopped reads t = Final reads t true
+Ready input Failed reads t = isBroken (reads .got) (reads .error) ≡ true
 
--- what is to be told where nothing more is to be read
-abbrev pub Finished : Reads → Totals → Next → Type 0
-Finished reads t (Begun from end) = Unit {0}
-Finished reads t Ended = Final reads t false
-Finished reads t Stopped = Final reads t true
-Finished reads t Failed = Unit {0}
+-- WHERE READING ENDS: at the end of the input; at a line that would pass a limit; after a read that failed; or after 2^64 - 1 reads, which no
+-- input takes
+abbrev pub Over : Next → Reads → Totals → Type 0
+Over (Begun from end) reads t = reads .count ≡ 18446744073709551615
+Over Ended reads t = Final reads t false
+Over Stopped reads t = Final reads t true
+Over Failed reads t = isBroken (reads .got) (reads .error) ≡ true
 
 -- ---- what follows
 
--- so all that is told is the program's text for what came by all reads: the whole input; or as much of it that nothing that comes after it changes the text
+-- so all that is told is the program's text for what came by all reads: the whole input; or as much of it that nothing that comes after it
+-- changes the text
 pub data Told (reads : Reads) (text : List ℕ) : Type 0 where
-  of-input : (blocks : List (List ℕ)) → reads .got ≡ pos 0 → reads .count ≡ length blocks + 1 → text ≡ programText (joinedBlocks blocks) → Told reads text
-  whatever-comes : (blocks : List (List ℕ)) → reads .count ≡ length blocks → ((later : List (List ℕ)) → text ≡ programText (joinedBlocks (blocks ++ later))) → Told reads text
+  of-input : (blocks : List (List ℕ)) → BroughtAll reads blocks → text ≡ programText (joinedBlocks blocks) → Told reads text
+  whatever-comes : (blocks : List (List ℕ)) → Brought reads blocks
+      → ((later : List (List ℕ)) → text ≡ programText (joinedBlocks (blocks ++ later))) → Told reads text
 
 abbrev pub FinalSays : Type 0
 FinalSays = (reads : Reads) (t : Totals) (halted : Bool) → Final reads t halted → Told reads (writtenFor t halted)

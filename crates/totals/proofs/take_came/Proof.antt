@@ -1,9 +1,9 @@
 -- `take_came` meets its contract: what it does is by what the system answered. Assumes nothing.
+use mathlib.Core.Path.{refl, sym, _∙_}
 use borrow.Author.Needs.{needs}
 use denote.Ref.{now}
 use mir.Facts.{toZ-ofZ}
-use Rattle.blocks.proofs.Turns.{held-all}
-use Rattle.totals.proofs.Answering.{after-block, after-end, after-failure, failed, tried-again}
+use Rattle.blocks.proofs.Turns.{held-all, some-came, at-end, read-failed, is-not, is-so}
 use Rattle.totals.proofs.take_came.Statement.{statement}
 use Rattle.totals.proofs.take_came.Tie as tie
 
@@ -12,7 +12,8 @@ returns c =
     let q = c .before in
     let e = q .before .before in
     let s = e .before .before in
-    after-block _ _ _ _ _ _ (s .args .got) (rw (toZ-ofZ (s .fits .got)) at (e .if1 .taken)) (q .take-block .ensures)
+    let (k, h) = some-came (s .args .got) (rw (toZ-ofZ (s .fits .got)) at (e .if1 .taken)) in
+    rw h (q .take-block .ensures)
 
 take-last-requires : tie.Need-take-last-requires
 take-last-requires c κs =
@@ -25,7 +26,7 @@ returns-2 c =
     let q = c .before in
     let is = q .before .before in
     let s = is .before .before .before in
-    after-end _ _ _ _ _ _ (s .args .got) (s .fits .got) (is .if2 .taken) (q .take-last .ensures)
+    rw (at-end (s .args .got) (s .fits .got) (is .if2 .taken)) (q .take-last .ensures)
 
 returns-3 : tie.Need-returns-3
 returns-3 c =
@@ -34,8 +35,9 @@ returns-3 c =
     let z = n .before in
     let e = z .before in
     let s = e .before .before in
-    after-failure _ _ _ _ _ _ (s .args .got) (rw (toZ-ofZ (s .fits .got)) at (e .if1 .left)) (z .if2 .left)
-    (failed _ _ _ _ (rw (toZ-ofZ (s .fits .error)) at (n .is-not-ready .ensures)) (t .if3 .taken))
+    let (k, h) = read-failed (s .args .got) (rw (toZ-ofZ (s .fits .got)) at (e .if1 .left)) (z .if2 .left) in
+    let r = sym (rw (toZ-ofZ (s .fits .error)) at (n .is-not-ready .ensures)) ∙ is-not _ (t .if3 .taken) in
+    rw h (record { nothing = refl; goes-on = rw r })
 
 returns-4 : tie.Need-returns-4
 returns-4 c =
@@ -44,8 +46,9 @@ returns-4 c =
     let z = n .before in
     let e = z .before in
     let s = e .before .before in
-    after-failure _ _ _ _ _ _ (s .args .got) (rw (toZ-ofZ (s .fits .got)) at (e .if1 .left)) (z .if2 .left)
-    (tried-again _ _ _ _ (rw (toZ-ofZ (s .fits .error)) at (n .is-not-ready .ensures)) (t .if3 .left))
+    let (k, h) = read-failed (s .args .got) (rw (toZ-ofZ (s .fits .got)) at (e .if1 .left)) (z .if2 .left) in
+    let r = sym (rw (toZ-ofZ (s .fits .error)) at (n .is-not-ready .ensures)) ∙ is-so _ (t .if3 .left) in
+    rw h (record { nothing = refl; goes-on = rw r })
 
 returns-5 : tie.Need-returns-5
 returns-5 c =
@@ -54,8 +57,9 @@ returns-5 c =
     let z = n .before in
     let e = z .before in
     let s = e .before .before in
-    after-failure _ _ _ _ _ _ (s .args .got) (rw (toZ-ofZ (s .fits .got)) at (e .if1 .left)) (z .if2 .left)
-    (tried-again _ _ _ _ (rw (toZ-ofZ (s .fits .error)) at (n .is-not-ready .ensures)) (t .if3 .left))
+    let (k, h) = read-failed (s .args .got) (rw (toZ-ofZ (s .fits .got)) at (e .if1 .left)) (z .if2 .left) in
+    let r = sym (rw (toZ-ofZ (s .fits .error)) at (n .is-not-ready .ensures)) ∙ is-so _ (t .if3 .left) in
+    rw h (record { nothing = refl; goes-on = rw r })
 
 pub take-came-spec : {M : Type 1} → statement M
 take-came-spec =
