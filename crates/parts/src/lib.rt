@@ -227,21 +227,23 @@ fn is_refused(step: PartStep) -> bool
 fn join(
     reader: PartReader,
     part: &[u8],
-    h: usize,
-    k: usize,
+    held: ByteOffset,
+    more: ByteOffset,
     signed: bool,
     buffer: &mut [u8],
     out: &mut [i64],
 ) -> PartStep
     requires { ⌜ 512 ≤ length (now out) ⌝ }
-    requires { ⌜ Begun reader (now part) (now buffer) h k ⌝ }
-    ensures { λ r. ⌜ Joins reader (now (part .entry)) (now (buffer .entry)) (now (buffer .exit)) h k signed (now (out .entry)) (now (out .exit)) r (goes reader (now (part .entry)) (now (buffer .entry))) ⌝ }
+    requires { ⌜ Begun reader (now part) (now buffer) (held .bytes) (more .bytes) ⌝ }
+    ensures { λ r. ⌜ Joins reader (now (part .entry)) (now (buffer .entry)) (now (buffer .exit)) (held .bytes) (more .bytes) signed (now (out .entry)) (now (out .exit)) r (goes reader (now (part .entry)) (now (buffer .entry))) ⌝ }
 {
+    let h = held.bytes;
+    let k = more.bytes;
     bytes::copy(part, k, buffer, h);
     let a = rle_v2::read_run(&buffer[..h + k], ByteOffset { bytes: 0 }, signed, out);
     on_part(
         reader,
-        ByteOffset { bytes: h },
+        held,
         ByteOffset { bytes: h + k },
         ByteOffset { bytes: part.len() },
         a,
@@ -252,20 +254,22 @@ fn join(
 fn join_or_restore(
     reader: PartReader,
     part: &[u8],
-    h: usize,
-    k: usize,
+    held: ByteOffset,
+    more: ByteOffset,
     signed: bool,
     buffer: &mut [u8],
     saved: &mut [u8],
     out: &mut [i64],
 ) -> PartStep
     requires { ⌜ 512 ≤ length (now out) ⌝ }
-    requires { ⌜ k ≤ length (now saved) ⌝ }
-    requires { ⌜ Begun reader (now part) (now buffer) h k ⌝ }
+    requires { ⌜ more .bytes ≤ length (now saved) ⌝ }
+    requires { ⌜ Begun reader (now part) (now buffer) (held .bytes) (more .bytes) ⌝ }
     ensures { λ r. ⌜ Goes reader (now (part .entry)) (now (buffer .entry)) (now (buffer .exit)) signed (now (out .entry)) (now (out .exit)) r (goes reader (now (part .entry)) (now (buffer .entry))) ⌝ }
 {
+    let h = held.bytes;
+    let k = more.bytes;
     bytes::copy(&buffer[h..], k, saved, 0);
-    let step = join(reader, part, h, k, signed, buffer, out);
+    let step = join(reader, part, held, more, signed, buffer, out);
     if is_refused(step) {
         bytes::copy(saved, k, buffer, h);
     }
@@ -288,22 +292,23 @@ fn most() -> [u8; Kind::MAX_BYTES]
 fn restoring(
     reader: PartReader,
     part: &[u8],
-    h: usize,
-    k: usize,
+    held: ByteOffset,
+    more: ByteOffset,
     signed: bool,
     buffer: &mut [u8],
     out: &mut [i64],
 ) -> PartStep
     requires { ⌜ 512 ≤ length (now out) ⌝ }
-    requires { ⌜ Begun reader (now part) (now buffer) h k ⌝ }
+    requires { ⌜ Begun reader (now part) (now buffer) (held .bytes) (more .bytes) ⌝ }
     ensures { λ r. ⌜ Goes reader (now (part .entry)) (now (buffer .entry)) (now (buffer .exit)) signed (now (out .entry)) (now (out .exit)) r (goes reader (now (part .entry)) (now (buffer .entry))) ⌝ }
 {
+    let k = more.bytes;
     if k <= 128 {
         let mut saved = few();
-        return join_or_restore(reader, part, h, k, signed, buffer, &mut saved, out);
+        return join_or_restore(reader, part, held, more, signed, buffer, &mut saved, out);
     }
     let mut saved = most();
-    join_or_restore(reader, part, h, k, signed, buffer, &mut saved, out)
+    join_or_restore(reader, part, held, more, signed, buffer, &mut saved, out)
 }
 
 // A patched or delta run that began before the part. If its front is held, that and the length tell whether it stays unfinished: then what stands
@@ -311,16 +316,18 @@ fn restoring(
 fn begun(
     reader: PartReader,
     part: &[u8],
-    h: usize,
-    k: usize,
+    held: ByteOffset,
+    more: ByteOffset,
     signed: bool,
     buffer: &mut [u8],
     out: &mut [i64],
 ) -> PartStep
     requires { ⌜ 512 ≤ length (now out) ⌝ }
-    requires { ⌜ Begun reader (now part) (now buffer) h k ⌝ }
+    requires { ⌜ Begun reader (now part) (now buffer) (held .bytes) (more .bytes) ⌝ }
     ensures { λ r. ⌜ Goes reader (now (part .entry)) (now (buffer .entry)) (now (buffer .exit)) signed (now (out .entry)) (now (out .exit)) r (goes reader (now (part .entry)) (now (buffer .entry))) ⌝ }
 {
+    let h = held.bytes;
+    let k = more.bytes;
     if Kind::MAX_FRONT <= h {
         let a = rle_v2::measure(&buffer[..h + k], ByteOffset { bytes: 0 });
         if is_cut(a) {
@@ -331,12 +338,12 @@ fn begun(
         if is_whole(a) {
             if 3 <= buffer[0] / 64 {
                 // a delta run's front tells that it is not refused
-                return join(reader, part, h, k, signed, buffer, out);
+                return join(reader, part, held, more, signed, buffer, out);
             }
         }
-        return restoring(reader, part, h, k, signed, buffer, out);
+        return restoring(reader, part, held, more, signed, buffer, out);
     }
-    restoring(reader, part, h, k, signed, buffer, out)
+    restoring(reader, part, held, more, signed, buffer, out)
 }
 
 // A call with a part of an open reader, with room enough.
@@ -362,22 +369,22 @@ fn opened(
         bytes::copy(part, kept.held, buffer, 0);
         return step;
     }
-    let room = beyond(
-        ByteOffset {
-            bytes: Kind::MAX_BYTES,
-        },
-        ByteOffset { bytes: h },
-    );
+    let held = ByteOffset { bytes: h };
+    let most = ByteOffset {
+        bytes: Kind::MAX_BYTES,
+    };
+    let room = beyond(most, held);
     let k = number::least(n, room.bytes);
     if 2 <= buffer[0] / 64 {
-        return begun(reader, part, h, k, signed, buffer, out);
+        let more = ByteOffset { bytes: k };
+        return begun(reader, part, held, more, signed, buffer, out);
     }
     // a short repeat or a direct run is never refused, only unfinished
     bytes::copy(part, k, buffer, h);
     let a = rle_v2::read_gathered(&buffer[..h + k], signed, out);
     on_part(
         reader,
-        ByteOffset { bytes: h },
+        held,
         ByteOffset { bytes: h + k },
         ByteOffset { bytes: n },
         a,
