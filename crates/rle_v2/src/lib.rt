@@ -30,7 +30,7 @@ pub fn measure(input: &[u8], at: ByteOffset) -> Answer
     // the top two bits are the kind
     let kind = input[p] / 64;
     if kind == 0 {
-        return short_repeat::measure(input, p);
+        return short_repeat::measure(input, at);
     }
     if kind == 1 {
         return direct::measure(input, p);
@@ -53,7 +53,7 @@ pub fn read_run(input: &[u8], at: ByteOffset, signed: bool, out: &mut [i64]) -> 
     // the top two bits are the kind
     let kind = input[p] / 64;
     if kind == 0 {
-        return short_repeat::read(input, p, signed, out);
+        return short_repeat::read(input, at, signed, out);
     }
     if kind == 1 {
         return direct::read(input, p, signed, out);
@@ -71,7 +71,7 @@ pub fn read_first(input: &[u8], signed: bool, out: &mut [i64]) -> Answer
 {
     if 0 < input.len() {
         if input[0] / 64 == 0 {
-            return short_repeat::read(input, 0, signed, out);
+            return short_repeat::read(input, ByteOffset { bytes: 0 }, signed, out);
         }
     }
     read_run(input, ByteOffset { bytes: 0 }, signed, out)
