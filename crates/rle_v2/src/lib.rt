@@ -33,7 +33,7 @@ pub fn measure(input: &[u8], at: ByteOffset) -> Answer
         return short_repeat::measure(input, at);
     }
     if kind == 1 {
-        return direct::measure(input, p);
+        return direct::measure(input, at);
     }
     if kind == 2 {
         return patched_base::measure(input, p);
@@ -56,7 +56,7 @@ pub fn read_run(input: &[u8], at: ByteOffset, signed: bool, out: &mut [i64]) -> 
         return short_repeat::read(input, at, signed, out);
     }
     if kind == 1 {
-        return direct::read(input, p, signed, out);
+        return direct::read(input, at, signed, out);
     }
     if kind == 2 {
         return patched_base::read(input, p, signed, out);
@@ -83,7 +83,7 @@ pub fn read_gathered(input: &[u8], signed: bool, out: &mut [i64]) -> Answer
 {
     if 0 < input.len() {
         if input[0] / 64 == 1 {
-            if let Answer::Refused(f) = direct::measure(input, 0) {
+            if let Answer::Refused(f) = direct::measure(input, ByteOffset { bytes: 0 }) {
                 return Answer::Refused(f);
             }
         }
