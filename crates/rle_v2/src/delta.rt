@@ -85,11 +85,12 @@ fn varint_at(input: &[u8], at: usize) -> Varint
 }
 
 // The two varints of a run of so many rows, as though nothing stood behind them: a fixed delta.
-fn starts_at(input: &[u8], at: usize, rows: usize) -> Found
-    requires { ⌜ at + 2 ≤ length (now input) ⌝ }
-    ensures { λ r. ⌜ StartsAt (now (input .entry)) at rows r ⌝ }
+fn starts_at(input: &[u8], at: ByteOffset, rows: usize) -> Found
+    requires { ⌜ at .bytes + 2 ≤ length (now input) ⌝ }
+    ensures { λ r. ⌜ StartsAt (now (input .entry)) (at .bytes) rows r ⌝ }
 {
-    let body = at + 2;
+    let p = at.bytes;
+    let body = p + 2;
     match varint_at(input, body) {
         Varint::Cut => gone(12, body),
         Varint::TooLong => gone(5, 0),
@@ -114,9 +115,9 @@ fn starts_at(input: &[u8], at: usize, rows: usize) -> Found
 }
 
 // Packed magnitudes behind the varints: one for each row but two.
-fn packed_rows(input: &[u8], at: usize, code: u8, f: Found) -> Found
-    requires { ⌜ Started (now input) at f × (code < 32) × (2 ≤ f .rows) × (f .rows ≤ 512) ⌝ }
-    ensures { λ r. ⌜ IsMeasured (now (input .entry)) at (deltaBody code (f .rows - 2) (drop (at + 2) (now (input .entry)))) r ⌝ }
+fn packed_rows(input: &[u8], at: ByteOffset, code: u8, f: Found) -> Found
+    requires { ⌜ Started (now input) (at .bytes) f × (code < 32) × (2 ≤ f .rows) × (f .rows ≤ 512) ⌝ }
+    ensures { λ r. ⌜ IsMeasured (now (input .entry)) (at .bytes) (deltaBody code (f .rows - 2) (drop (at .bytes + 2) (now (input .entry)))) r ⌝ }
 {
     let bits = width::bits_of(code);
     let block = packed::block_size(bits, f.rows - 2);
@@ -147,14 +148,15 @@ fn too_few(code: u8, rows: usize) -> bool
 }
 
 // The varints are read at one place, whatever stands behind them: half the code.
-fn measured(input: &[u8], at: usize) -> Found
-    requires { ⌜ at < length (now input) ⌝ }
-    ensures { λ r. ⌜ IsMeasured (now (input .entry)) at (deltaRun (getD (now (input .entry)) at 0) (drop (at + 1) (now (input .entry)))) r ⌝ }
+fn measured(input: &[u8], at: ByteOffset) -> Found
+    requires { ⌜ at .bytes < length (now input) ⌝ }
+    ensures { λ r. ⌜ IsMeasured (now (input .entry)) (at .bytes) (deltaRun (getD (now (input .entry)) (at .bytes) 0) (drop (at .bytes + 1) (now (input .entry)))) r ⌝ }
 {
-    if input.len() - at < 2 {
+    let p = at.bytes;
+    if input.len() - p < 2 {
         return gone(1, 0);
     }
-    let h = header::two_bytes(input[at], input[at + 1]);
+    let h = header::two_bytes(input[p], input[p + 1]);
     let code = h.code;
     let rows = h.rows;
     if too_few(code, rows) {
@@ -171,19 +173,21 @@ fn measured(input: &[u8], at: usize) -> Found
     packed_rows(input, at, code, f)
 }
 
-pub(crate) fn measure(input: &[u8], at: usize) -> Answer
-    requires { ⌜ at < length (now input) ⌝ }
-    ensures { λ r. ⌜ r ≡ answerOf at (length (now (input .entry)) - at) (deltaRun (getD (now (input .entry)) at 0) (drop (at + 1) (now (input .entry)))) ⌝ }
+pub(crate) fn measure(input: &[u8], at: ByteOffset) -> Answer
+    requires { ⌜ at .bytes < length (now input) ⌝ }
+    ensures { λ r. ⌜ r ≡ answerOf (at .bytes) (length (now (input .entry)) - at .bytes) (deltaRun (getD (now (input .entry)) (at .bytes) 0) (drop (at .bytes + 1) (now (input .entry)))) ⌝ }
 {
+    let p = at.bytes;
     let f = measured(input, at);
     if f.number != 0 {
-        return refusal::answer(f.number, at, f.field);
+        return refusal::answer(f.number, at, ByteOffset { bytes: f.field });
     }
+    let consumed = f.end - p;
     Answer::run(
         Kind::Delta,
         f.bits,
         RowNumber { rows: f.rows },
-        ByteOffset { bytes: f.end - at },
+        ByteOffset { bytes: consumed },
     )
 }
 
@@ -225,22 +229,24 @@ fn lay(input: &[u8], f: Found, signed: bool, out: &mut [i64])
     }
 }
 
-pub(crate) fn read(input: &[u8], at: usize, signed: bool, out: &mut [i64]) -> Answer
-    requires { ⌜ at < length (now input) ⌝ }
-    ensures { λ r. ⌜ Gives at (length (now (input .entry)) - at) signed (deltaRun (getD (now (input .entry)) at 0) (drop (at + 1) (now (input .entry)))) (now (out .entry)) (now (out .exit)) r ⌝ }
+pub(crate) fn read(input: &[u8], at: ByteOffset, signed: bool, out: &mut [i64]) -> Answer
+    requires { ⌜ at .bytes < length (now input) ⌝ }
+    ensures { λ r. ⌜ Gives (at .bytes) (length (now (input .entry)) - at .bytes) signed (deltaRun (getD (now (input .entry)) (at .bytes) 0) (drop (at .bytes + 1) (now (input .entry)))) (now (out .entry)) (now (out .exit)) r ⌝ }
 {
+    let p = at.bytes;
     let f = measured(input, at);
     if f.number != 0 {
-        return refusal::answer(f.number, at, f.field);
+        return refusal::answer(f.number, at, ByteOffset { bytes: f.field });
     }
     if out.len() < f.rows {
-        return Answer::refused(8, ByteOffset { bytes: at });
+        return Answer::refused(8, at);
     }
     lay(input, f, signed, out);
+    let consumed = f.end - p;
     Answer::run(
         Kind::Delta,
         f.bits,
         RowNumber { rows: f.rows },
-        ByteOffset { bytes: f.end - at },
+        ByteOffset { bytes: consumed },
     )
 }

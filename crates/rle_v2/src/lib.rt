@@ -36,9 +36,9 @@ pub fn measure(input: &[u8], at: ByteOffset) -> Answer
         return direct::measure(input, at);
     }
     if kind == 2 {
-        return patched_base::measure(input, p);
+        return patched_base::measure(input, at);
     }
-    delta::measure(input, p)
+    delta::measure(input, at)
 }
 
 // One run of any kind, from a position of the input on: its rows go into the first places. A refused call consumes nothing and leaves
@@ -59,9 +59,9 @@ pub fn read_run(input: &[u8], at: ByteOffset, signed: bool, out: &mut [i64]) -> 
         return direct::read(input, at, signed, out);
     }
     if kind == 2 {
-        return patched_base::read(input, p, signed, out);
+        return patched_base::read(input, at, signed, out);
     }
-    delta::read(input, p, signed, out)
+    delta::read(input, at, signed, out)
 }
 
 // The run that the input begins with, as `read_run` reads it, for a caller that reads one run a call: a short repeat is read here, since its

@@ -98,34 +98,36 @@ fn gone(f: Refusal) -> Found
 }
 
 // Where the body's parts begin, and where it ends.
-fn parts_of(at: usize, h: Header, w: Widths) -> Parts
-    requires { ⌜ (at < 2 ^ 63) × InRange h × IsWidths h w ⌝ }
-    ensures { λ r. ⌜ IsParts at h r ⌝ }
+fn parts_of(at: ByteOffset, h: Header, w: Widths) -> Parts
+    requires { ⌜ (at .bytes < 2 ^ 63) × InRange h × IsWidths h w ⌝ }
+    ensures { λ r. ⌜ IsParts (at .bytes) h r ⌝ }
 {
-    let values = at + 4 + h.base;
+    let p = at.bytes;
+    let values = p + 4 + h.base;
     let list = values + packed::block_size(w.bits, h.rows);
     let end = list + packed::block_size(w.entry, h.entries);
     Parts { values, list, end }
 }
 
 // The input ends in the body: in the base, in the values or in the list.
-fn broke_off(len: usize, at: usize, q: Parts) -> Refusal
-    requires { ⌜ at + 4 ≤ len ⌝ }
-    ensures { λ r. ⌜ r ≡ cutBody len at (q .values) (q .list) ⌝ }
+fn broke_off(len: usize, at: ByteOffset, q: Parts) -> Refusal
+    requires { ⌜ at .bytes + 4 ≤ len ⌝ }
+    ensures { λ r. ⌜ r ≡ cutBody len (at .bytes) (q .values) (q .list) ⌝ }
 {
+    let p = at.bytes;
     if len < q.values {
-        return Refusal::cut(6, ByteOffset { bytes: at }, ByteOffset { bytes: at + 4 });
+        return Refusal::cut(6, at, ByteOffset { bytes: p + 4 });
     }
     if len < q.list {
-        return Refusal::cut(13, ByteOffset { bytes: at }, ByteOffset { bytes: q.values });
+        return Refusal::cut(13, at, ByteOffset { bytes: q.values });
     }
-    Refusal::cut(14, ByteOffset { bytes: at }, ByteOffset { bytes: q.list })
+    Refusal::cut(14, at, ByteOffset { bytes: q.list })
 }
 
 // The body: that it is there.
-fn body(input: &[u8], at: usize, h: Header, w: Widths) -> Found
-    requires { ⌜ (at + 4 ≤ length (now input)) × InRange h × IsWidths h w × (w .patch + h .gap ≤ 64) ⌝ }
-    ensures { λ r. ⌜ IsFound (now (input .entry)) at (patchedBody (h .code) (h .rows) (h .base) (h .patch) (h .gap) (h .entries) (drop (at + 4) (now (input .entry)))) r ⌝ }
+fn body(input: &[u8], at: ByteOffset, h: Header, w: Widths) -> Found
+    requires { ⌜ (at .bytes + 4 ≤ length (now input)) × InRange h × IsWidths h w × (w .patch + h .gap ≤ 64) ⌝ }
+    ensures { λ r. ⌜ IsFound (now (input .entry)) (at .bytes) (patchedBody (h .code) (h .rows) (h .base) (h .patch) (h .gap) (h .entries) (drop (at .bytes + 4) (now (input .entry)))) r ⌝ }
 {
     let q = parts_of(at, h, w);
     if input.len() < q.end {
@@ -147,47 +149,51 @@ fn body(input: &[u8], at: usize, h: Header, w: Widths) -> Found
 }
 
 // What the header's widths refuse, before the body is read.
-fn by_widths(input: &[u8], at: usize, h: Header) -> Found
-    requires { ⌜ (at + 4 ≤ length (now input)) × InRange h ⌝ }
-    ensures { λ r. ⌜ IsFound (now (input .entry)) at (patchedBody (h .code) (h .rows) (h .base) (h .patch) (h .gap) (h .entries) (drop (at + 4) (now (input .entry)))) r ⌝ }
+fn by_widths(input: &[u8], at: ByteOffset, h: Header) -> Found
+    requires { ⌜ (at .bytes + 4 ≤ length (now input)) × InRange h ⌝ }
+    ensures { λ r. ⌜ IsFound (now (input .entry)) (at .bytes) (patchedBody (h .code) (h .rows) (h .base) (h .patch) (h .gap) (h .entries) (drop (at .bytes + 4) (now (input .entry)))) r ⌝ }
 {
     let bits = width::bits_of(h.code);
     let patch = width::bits_of(h.patch);
     if 64 < patch + h.gap {
-        return gone(Refusal::new(2, ByteOffset { bytes: at }));
+        return gone(Refusal::new(2, at));
     }
     let entry = width::entry_width(patch + h.gap);
     body(input, at, h, Widths { bits, patch, entry })
 }
 
-fn headed(input: &[u8], at: usize) -> Found
-    requires { ⌜ at < length (now input) ⌝ }
-    ensures { λ r. ⌜ IsFound (now (input .entry)) at (patchedRun (getD (now (input .entry)) at 0) (drop (at + 1) (now (input .entry)))) r ⌝ }
+fn headed(input: &[u8], at: ByteOffset) -> Found
+    requires { ⌜ at .bytes < length (now input) ⌝ }
+    ensures { λ r. ⌜ IsFound (now (input .entry)) (at .bytes) (patchedRun (getD (now (input .entry)) (at .bytes) 0) (drop (at .bytes + 1) (now (input .entry)))) r ⌝ }
 {
-    if input.len() - at < 4 {
-        return gone(Refusal::new(1, ByteOffset { bytes: at }));
+    let p = at.bytes;
+    if input.len() - p < 4 {
+        return gone(Refusal::new(1, at));
     }
-    let h = header::two_bytes(input[at], input[at + 1]);
-    let third = input[at + 2];
-    let fourth = input[at + 3];
+    let h = header::two_bytes(input[p], input[p + 1]);
+    let third = input[p + 2];
+    let fourth = input[p + 3];
+    let base = (third / 32) as usize + 1;
+    let gap = (fourth / 32) as usize + 1;
     let four = Header {
         code: h.code,
         rows: h.rows,
-        base: (third / 32) as usize + 1,
+        base,
         patch: third % 32,
-        gap: (fourth / 32) as usize + 1,
+        gap,
         entries: (fourth % 32) as usize,
     };
     by_widths(input, at, four)
 }
 
-pub(crate) fn measure(input: &[u8], at: usize) -> Answer
-    requires { ⌜ at < length (now input) ⌝ }
-    ensures { λ r. ⌜ r ≡ answerOf at (length (now (input .entry)) - at) (patchedRun (getD (now (input .entry)) at 0) (drop (at + 1) (now (input .entry)))) ⌝ }
+pub(crate) fn measure(input: &[u8], at: ByteOffset) -> Answer
+    requires { ⌜ at .bytes < length (now input) ⌝ }
+    ensures { λ r. ⌜ r ≡ answerOf (at .bytes) (length (now (input .entry)) - at .bytes) (patchedRun (getD (now (input .entry)) (at .bytes) 0) (drop (at .bytes + 1) (now (input .entry)))) ⌝ }
 {
+    let p = at.bytes;
     let f = headed(input, at);
     if f.number != 0 {
-        return refusal::answer(f.number, at, f.field);
+        return refusal::answer(f.number, at, ByteOffset { bytes: f.field });
     }
     let list = f.list;
     let number = patch_list::refused_with(
@@ -199,13 +205,14 @@ pub(crate) fn measure(input: &[u8], at: usize) -> Answer
         f.rows,
     );
     if number != 0 {
-        return Answer::refused(number, ByteOffset { bytes: at });
+        return Answer::refused(number, at);
     }
+    let consumed = f.end - p;
     Answer::run(
         Kind::PatchedBase,
         f.bits,
         RowNumber { rows: f.rows },
-        ByteOffset { bytes: f.end - at },
+        ByteOffset { bytes: consumed },
     )
 }
 
@@ -220,13 +227,14 @@ fn lay(block: &[u8], bits: usize, n: usize, base: u64, out: &mut [i64])
 }
 
 // The rows of a run that passed its tests.
-fn put(input: &[u8], at: usize, f: Found, out: &mut [i64])
-    requires { ⌜ Ready (now input) at f × (f .rows ≤ length (now out)) ⌝ }
-    ensures { λ _. ⌜ now (out .exit) ≡ patchAll (f .bits) (f .patch) 0 (based (baseValue (take (f .base) (drop (at + 4) (now (input .entry))))) (map asI64 (fields (f .bits) (f .rows) (drop (f .values) (now (input .entry))))) ++ drop (f .rows) (now (out .entry))) (fields (f .entry) (f .entries) (drop (f .list) (now (input .entry)))) ⌝ }
+fn put(input: &[u8], at: ByteOffset, f: Found, out: &mut [i64])
+    requires { ⌜ Ready (now input) (at .bytes) f × (f .rows ≤ length (now out)) ⌝ }
+    ensures { λ _. ⌜ now (out .exit) ≡ patchAll (f .bits) (f .patch) 0 (based (baseValue (take (f .base) (drop (at .bytes + 4) (now (input .entry))))) (map asI64 (fields (f .bits) (f .rows) (drop (f .values) (now (input .entry))))) ++ drop (f .rows) (now (out .entry))) (fields (f .entry) (f .entries) (drop (f .list) (now (input .entry)))) ⌝ }
 {
+    let p = at.bytes;
     let values = f.values;
     let list = f.list;
-    let base = big_endian::base_value(input, at + 4, f.base);
+    let base = big_endian::base_value(input, p + 4, f.base);
     lay(&input[values..], f.bits, f.rows, base, out);
     patch_list::put(
         &input[list..],
@@ -240,13 +248,14 @@ fn put(input: &[u8], at: usize, f: Found, out: &mut [i64])
 }
 
 // Patched rows are never zigzag decoded, whatever the flag.
-pub(crate) fn read(input: &[u8], at: usize, signed: bool, out: &mut [i64]) -> Answer
-    requires { ⌜ at < length (now input) ⌝ }
-    ensures { λ r. ⌜ Gives at (length (now (input .entry)) - at) signed (patchedRun (getD (now (input .entry)) at 0) (drop (at + 1) (now (input .entry)))) (now (out .entry)) (now (out .exit)) r ⌝ }
+pub(crate) fn read(input: &[u8], at: ByteOffset, signed: bool, out: &mut [i64]) -> Answer
+    requires { ⌜ at .bytes < length (now input) ⌝ }
+    ensures { λ r. ⌜ Gives (at .bytes) (length (now (input .entry)) - at .bytes) signed (patchedRun (getD (now (input .entry)) (at .bytes) 0) (drop (at .bytes + 1) (now (input .entry)))) (now (out .entry)) (now (out .exit)) r ⌝ }
 {
+    let p = at.bytes;
     let f = headed(input, at);
     if f.number != 0 {
-        return refusal::answer(f.number, at, f.field);
+        return refusal::answer(f.number, at, ByteOffset { bytes: f.field });
     }
     let list = f.list;
     let refusal = patch_list::refused_with(
@@ -258,16 +267,17 @@ pub(crate) fn read(input: &[u8], at: usize, signed: bool, out: &mut [i64]) -> An
         f.rows,
     );
     if refusal != 0 {
-        return Answer::refused(refusal, ByteOffset { bytes: at });
+        return Answer::refused(refusal, at);
     }
     if out.len() < f.rows {
-        return Answer::refused(8, ByteOffset { bytes: at });
+        return Answer::refused(8, at);
     }
     put(input, at, f, out);
+    let consumed = f.end - p;
     Answer::run(
         Kind::PatchedBase,
         f.bits,
         RowNumber { rows: f.rows },
-        ByteOffset { bytes: f.end - at },
+        ByteOffset { bytes: consumed },
     )
 }

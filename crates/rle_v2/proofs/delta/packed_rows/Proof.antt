@@ -18,14 +18,14 @@ returns c =
     let z = c .before .before in
     let a = entry z .args in
     rw (c .gone .ensures)
-    (packed-cut (now (a .input)) (a .at) (a .code) (a .f) (entry z .pre .0) _ _ (z .before .before .bits-of .ensures) (z .block-size .ensures) (c .before .if1 .taken))
+    (packed-cut (now (a .input)) (a .at .bytes) (a .code) (a .f) (entry z .pre .0) _ _ (z .before .before .bits-of .ensures) (z .block-size .ensures) (c .before .if1 .taken))
 
 returns-2 : tie.Need-returns-2
 returns-2 c =
     let z = c .before in
     let s = entry z in
     let a = s .args in
-    packed-passed (now (a .input)) (a .at) (a .code) (a .f) (s .pre .0) _ _ (z .before .before .bits-of .ensures) (z .block-size .ensures) (s .pre .2) (s .pre .3) (c .if1 .left)
+    packed-passed (now (a .input)) (a .at .bytes) (a .code) (a .f) (s .pre .0) _ _ (z .before .before .bits-of .ensures) (z .block-size .ensures) (s .pre .2) (s .pre .3) (c .if1 .left)
 
 pub packed-rows-spec : {M : Type 1} → statement M
 packed-rows-spec =

@@ -21,9 +21,9 @@ returns c =
     let a = s .args in
     let q = x .parts-of .ensures in
     rw (c .gone .ensures, c .before .broke-off .ensures)
-    (gone-body (now (a .input)) (a .at) _ (x .parts-of .result .values) (x .parts-of .result .list) (λ z. omega (arith, q .values-is)) (λ z. omega (arith, q .list-is))
+    (gone-body (now (a .input)) (a .at .bytes) _ (x .parts-of .result .values) (x .parts-of .result .list) (λ z. omega (arith, q .values-is)) (λ z. omega (arith, q .list-is))
     (rw (q .values-is, q .list-is)
-    (broken-off (now (a .input)) (a .at) (a .h .code) (a .h .rows) (a .h .base) (a .h .patch) (a .h .gap) (a .h .entries) (not-2 s) (s .pre .0) (rw (q .end-is) at (c .before .before .if1 .taken)))))
+    (broken-off (now (a .input)) (a .at .bytes) (a .h .code) (a .h .rows) (a .h .base) (a .h .patch) (a .h .gap) (a .h .entries) (not-2 s) (s .pre .0) (rw (q .end-is) at (c .before .before .if1 .taken)))))
 
 returns-2 : tie.Need-returns-2
 returns-2 c =

@@ -15,13 +15,13 @@ use Rattle.rle_v2.proofs.patched_base.measure.Statement.{statement}
 use Rattle.rle_v2.proofs.patched_base.measure.Tie as tie
 
 -- what was found
-heads : (e : tie.Else1) → let a = e .before .before .before .before .args in Heads (now (a .input)) (a .at) (run (now (a .input)) (a .at)) (e .before .before .headed .result)
+heads : (e : tie.Else1) → let a = e .before .before .before .before .args in Heads (now (a .input)) (a .at .bytes) (run (now (a .input)) (a .at .bytes)) (e .before .before .headed .result)
 heads e = e .before .before .headed .ensures .heads (e .if1 .left)
 
 list-in : (e : tie.Else1) → e .before .before .headed .result .list ≤ length (now (e .before .before .before .before .args .input))
 list-in e =
     let a = e .before .before .before .before .args in
-    omega (arith, found-in (now (a .input)) (a .at) _ _ (heads e), heads e .headed .parts .list-is)
+    omega (arith, found-in (now (a .input)) (a .at .bytes) _ _ (heads e), heads e .headed .parts .list-is)
 
 -- what the walk over its list found
 number-is : (l : tie.After-refused-with) → let e = l .before .before in
@@ -36,7 +36,7 @@ refused-with-requires c κs =
     let e = c .before in
     let a = e .before .before .before .before .args in
     let h = heads e in (
-      rw (rest-is (now (a .input)) (e .before .before .headed .result .list)) (found-list (now (a .input)) (a .at) _ _ h),
+      rw (rest-is (now (a .input)) (e .before .before .headed .result .list)) (found-list (now (a .input)) (a .at .bytes) _ _ h),
       (rw (h .headed .widths .bits-is) (width-pos _), rw (h .headed .widths .bits-is) (width-le _), h .headed .fields-fit .rows),
     )
 
@@ -45,10 +45,10 @@ returns-2 c =
     let l = c .before .before in
     let e = l .before .before in
     let a = e .before .before .before .before .args in
-    rw (c .refused .ensures, number-is l) (found-3-7 (now (a .input)) (a .at) _ _ (heads e) (λ z. c .before .if2 .taken (number-is l ∙ z)))
+    rw (c .refused .ensures, number-is l) (found-3-7 (now (a .input)) (a .at .bytes) _ _ (heads e) (λ z. c .before .if2 .taken (number-is l ∙ z)))
 
-sub-t8 : tie.Need-sub-t8
-sub-t8 c = omega (arith, heads (c .before .before .before .before) .headed .parts .end-is)
+sub-consumed : tie.Need-sub-consumed
+sub-consumed c = omega (arith, heads (c .before .before .before .before) .headed .parts .end-is)
 
 returns-3 : tie.Need-returns-3
 returns-3 c =
@@ -56,9 +56,9 @@ returns-3 c =
     let l = t .before in
     let e = l .before .before in
     let a = e .before .before .before .before .args in
-    c .run .ensures ∙ passed-answer (now (a .input)) (a .at) _ _ _ _ (passes (now (a .input)) (a .at) _ _ (heads e) (sym (number-is l) ∙ t .if2 .left))
+    c .run .ensures ∙ passed-answer (now (a .input)) (a .at .bytes) _ _ _ _ (passes (now (a .input)) (a .at .bytes) _ _ (heads e) (sym (number-is l) ∙ t .if2 .left))
 
 pub measure-spec : {M : Type 1} → statement M
 measure-spec =
     tie.close (tie.spec (λ c κs. search needs) (λ c κs. search needs) returns (λ c. omega (arith, list-in c)) (λ c. omega (arith, list-in c)) (λ c. search needs)
-    refused-with-requires (λ c κs. search needs) returns-2 sub-t8 (λ c κs. search needs) returns-3)
+    refused-with-requires (λ c κs. search needs) returns-2 sub-consumed (λ c κs. search needs) returns-3)
