@@ -127,14 +127,15 @@ pub fn read_stream(input: &[u8], at: ByteOffset, signed: bool, out: &mut [i64]) 
 }
 
 // What a measured run comes to in so many places: refusal 8 if it has more rows.
-fn in_places(measured: Answer, at: usize, places: usize) -> Answer
-    ensures { λ r. ⌜ ((total : ℕ) (m : Parsed Description) → measured ≡ answerOf at total m → r ≡ answerOf at total (into places m)) ⌝ }
+fn in_places(measured: Answer, at: ByteOffset, places: RowNumber) -> Answer
+    ensures { λ r. ⌜ ((total : ℕ) (m : Parsed Description) → measured ≡ answerOf (at .bytes) total m → r ≡ answerOf (at .bytes) total (into (places .rows) m)) ⌝ }
 {
+    let room = places.rows;
     match measured {
         Answer::Run(r) => {
             let count = r.rows;
-            if places < count.rows {
-                return Answer::refused(8, ByteOffset { bytes: at });
+            if room < count.rows {
+                return Answer::refused(8, at);
             }
             Answer::Run(r)
         }
@@ -152,8 +153,10 @@ pub fn measure_stream(input: &[u8], at: ByteOffset) -> Stream
     let mut count: usize = 0;
     let mut last = LastRun::None;
     while place < input.len() {
-        let m = measure(input, ByteOffset { bytes: place });
-        let a = in_places(m, place, usize::MAX - count);
+        let here = ByteOffset { bytes: place };
+        let m = measure(input, here);
+        let left = usize::MAX - count;
+        let a = in_places(m, here, RowNumber { rows: left });
         match a {
             Answer::Run(run) => {
                 let rows = run.rows;
@@ -163,31 +166,20 @@ pub fn measure_stream(input: &[u8], at: ByteOffset) -> Stream
                 last = LastRun::Run(run);
             }
             Answer::Refused(f) => {
+                let taken = place - from;
                 return Stream::refused(
                     f,
                     RowNumber { rows: count },
-                    ByteOffset {
-                        bytes: place - from,
-                    },
+                    ByteOffset { bytes: taken },
                     last,
                 );
             }
             Answer::End => {
-                return Stream::whole(
-                    RowNumber { rows: count },
-                    ByteOffset {
-                        bytes: place - from,
-                    },
-                    last,
-                );
+                let taken = place - from;
+                return Stream::whole(RowNumber { rows: count }, ByteOffset { bytes: taken }, last);
             }
         }
     }
-    Stream::whole(
-        RowNumber { rows: count },
-        ByteOffset {
-            bytes: place - from,
-        },
-        last,
-    )
+    let taken = place - from;
+    Stream::whole(RowNumber { rows: count }, ByteOffset { bytes: taken }, last)
 }
