@@ -198,7 +198,7 @@ fn magnitudes(block: &[u8], bits: usize, n: usize, falling: bool, second: u64, o
     ensures { λ _. ⌜ now (out .exit) ≡ summed falling second (map asI64 (fields bits n (now (block .entry)))) ++ drop n (now (out .entry)) ⌝ }
 {
     packed::unpack(block, bits, n, out);
-    rows::sum(falling, second, n, out);
+    rows::sum(falling, second, RowNumber { rows: n }, out);
 }
 
 // All rows of a run with n magnitudes: the first, the second, which is first + base delta, and those after it, which rise or fall as
@@ -208,7 +208,7 @@ fn lay_packed(block: &[u8], bits: usize, n: usize, first: u64, step: u64, out: &
     requires { ⌜ (n ≤ 512) × (n + 2 ≤ length (now out)) × (bytesFor (n * bits) ≤ length (now block)) ⌝ }
     ensures { λ _. ⌜ now (out .exit) ≡ laid first step (map asI64 (fields bits n (now (block .entry)))) ++ drop (n + 2) (now (out .entry)) ⌝ }
 {
-    rows::steps(first, step, 2, out);
+    rows::steps(first, step, RowNumber { rows: 2 }, out);
     let second = pattern::add(first, step);
     let falling = TOP_BIT <= step;
     magnitudes(block, bits, n, falling, second, &mut out[2..]);
@@ -222,7 +222,7 @@ fn lay(input: &[u8], f: Found, signed: bool, out: &mut [i64])
     let first = pattern::row(signed, f.first);
     let step = pattern::unzigzag(f.base);
     if f.bits == 0 {
-        rows::steps(first, step, f.rows, out);
+        rows::steps(first, step, RowNumber { rows: f.rows }, out);
     } else {
         let next = f.next;
         lay_packed(&input[next..], f.bits, f.rows - 2, first, step, out);

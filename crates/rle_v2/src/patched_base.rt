@@ -223,7 +223,7 @@ fn lay(block: &[u8], bits: usize, n: usize, base: u64, out: &mut [i64])
     ensures { λ _. ⌜ now (out .exit) ≡ based base (map asI64 (fields bits n (now (block .entry)))) ++ drop n (now (out .entry)) ⌝ }
 {
     packed::unpack(block, bits, n, out);
-    rows::add_base(base, n, out);
+    rows::add_base(base, RowNumber { rows: n }, out);
 }
 
 // The rows of a run that passed its tests.
