@@ -9,7 +9,6 @@ use crate::rows;
 use format::Answer;
 use format::ByteOffset;
 use format::Kind;
-use format::RowNumber;
 use util::packed;
 use util::width;
 
@@ -25,16 +24,11 @@ pub(crate) fn measure(input: &[u8], at: ByteOffset) -> Answer
     let count = h.rows;
     let bits = width::bits_of(h.code);
     let body = p + 2;
-    let size = packed::block_size(bits, count);
+    let size = packed::block_size(bits, count.rows);
     if input.len() - body < size {
         return Answer::cut(13, at, ByteOffset { bytes: body });
     }
-    Answer::run(
-        Kind::Direct,
-        bits,
-        RowNumber { rows: count },
-        ByteOffset { bytes: 2 + size },
-    )
+    Answer::run(Kind::Direct, bits, count, ByteOffset { bytes: 2 + size })
 }
 
 pub(crate) fn read(input: &[u8], at: ByteOffset, signed: bool, out: &mut [i64]) -> Answer

@@ -19,7 +19,7 @@ entry b = there b .before .before
 
 -- the header passed its tests, before the varints were read
 abbrev header : tie.After-starts-at → tie.After-two-bytes
-header m = m .before .before .before
+header m = m .before .before .before .before
 
 returns : tie.Need-returns
 returns c = let s = c .before .before .before in rw (c .gone .ensures) (no-header (now (s .args .input)) (s .args .at .bytes) (s .pre) (c .before .if1 .taken))
@@ -27,7 +27,7 @@ returns c = let s = c .before .before .before in rw (c .gone .ensures) (no-heade
 returns-2 : tie.Need-returns-2
 returns-2 c =
     let f = c .before .before in
-    let b = f .before in
+    let b = f .before .before in
     let h = b .two-bytes .ensures in
     let a = entry b .args in
     let few = f .too-few .ensures .0 (c .before .if2 .taken) in
@@ -68,7 +68,7 @@ packed-rows-requires c κs =
     let h = header m .two-bytes .ensures in
     let none = c .before .if3 .left in
     let rows = m .starts-at .ensures .rows-is none in
-    let two : header m .two-bytes .result .rows ≡ 1 → ⊥ = λ q. c .if4 .left (e .before .too-few .ensures .1 (e .if2 .left) q) in
+    let two : header m .two-bytes .result .rows .rows ≡ 1 → ⊥ = λ q. c .if4 .left (e .before .too-few .ensures .1 (e .if2 .left) q) in
     (m .starts-at .ensures .started none, search needs, omega (arith, rows, h .1, two), omega (arith, rows, h .2))
 
 returns-5 : tie.Need-returns-5
@@ -79,7 +79,7 @@ returns-5 c =
     let h = b .two-bytes .ensures in
     let a = entry b .args in
     let rows = m .starts-at .ensures .rows-is (c .before .before .if3 .left) in
-    let n : m .starts-at .result .rows - 2 ≡ rowsLess (getD (now (a .input)) (a .at .bytes) 0) (getD (now (a .input)) (a .at .bytes + 1) 0) - 1 = omega (arith, h .1, rows) in
+    let n : m .starts-at .result .rows .rows - 2 ≡ rowsLess (getD (now (a .input)) (a .at .bytes) 0) (getD (now (a .input)) (a .at .bytes + 1) 0) - 1 = omega (arith, h .1, rows) in
     rw (is-packed (now (a .input)) (a .at .bytes) (there b .if1 .left) (λ q. c .before .if4 .left (h .0 ∙ q)) (λ q. c .before .if4 .left (e .before .too-few .ensures .1 (e .if2 .left) (omega (arith, h .1, q)))))
     (rw (h .0, n) at (c .packed-rows .ensures))
 

@@ -20,27 +20,27 @@ abbrev entry : tie.Else1 → tie.Start
 entry e = e .before .before
 
 -- what the code found in the header
-size-is : (z : tie.After-block-size) → let a = z .before .before .before .before .before .before .before .args in
+size-is : (z : tie.After-block-size) → let a = z .before .before .before .before .before .before .before .before .args in
     z .block-size .result ≡ bytesFor ((rowsLess (getD (now (a .input)) (a .at .bytes) 0) (getD (now (a .input)) (a .at .bytes + 1) 0) + 1) * width (codeOf (getD (now (a .input)) (a .at .bytes) 0)))
-size-is z = z .block-size .ensures ∙ rw (z .before .bits-of .ensures, z .before .before .two-bytes .ensures .0, z .before .before .two-bytes .ensures .1)
+size-is z = let h = z .before .before .before .two-bytes .ensures in z .block-size .ensures ∙ rw (z .before .bits-of .ensures, h .0, h .1)
 
 returns : tie.Need-returns
 returns c = let s = c .before .before .before in c .refused .ensures ∙ no-header (now (s .args .input)) (s .args .at .bytes) (s .pre) (c .before .if1 .taken)
 
 block-size-requires : tie.Need-block-size-requires
-block-size-requires c κs = (rw (c .bits-of .ensures) (width-le _), omega (arith, c .before .two-bytes .ensures .2))
+block-size-requires c κs = (rw (c .bits-of .ensures) (width-le _), omega (arith, c .before .before .two-bytes .ensures .2))
 
 returns-2 : tie.Need-returns-2
 returns-2 c =
     let z = c .before .before in
-    let e = there (z .before .before) in
+    let e = there (z .before .before .before) in
     let a = entry e .args in
     c .cut .ensures ∙ no-body (now (a .input)) (a .at .bytes) (e .if1 .left) (rw (size-is z) at (c .before .if2 .taken))
 
 returns-3 : tie.Need-returns-3
 returns-3 c =
     let z = c .before .before in
-    let b = z .before .before in
+    let b = z .before .before .before in
     let e = there b in
     let a = entry e .args in
     let h = b .two-bytes .ensures in

@@ -22,22 +22,23 @@ returns c =
     (gone-plain (now (s .args .input)) (s .args .at .bytes) _ 1 (λ z. omega arith) (no-header (now (s .args .input)) (s .args .at .bytes) (s .pre) (c .before .before .if1 .taken)))
 
 cast-base : tie.Need-cast-base
-cast-base c = omega (arith, c .shared-slice-known5 .given (entry (there c) .args .at .bytes + 2))
+cast-base c = let k = c .before in omega (arith, k .shared-slice-known5 .given (entry (there k) .args .at .bytes + 2))
 
 add-base : tie.Need-add-base
-add-base c = omega (arith, c .shared-slice-known5 .given (entry (there c) .args .at .bytes + 2))
+add-base c = let k = c .before in omega (arith, k .shared-slice-known5 .given (entry (there k) .args .at .bytes + 2))
 
 cast-gap : tie.Need-cast-gap
-cast-gap c = omega (arith, c .shared-slice-known5 .given (entry (there c) .args .at .bytes + 3))
+cast-gap c = let k = c .before in omega (arith, k .shared-slice-known5 .given (entry (there k) .args .at .bytes + 3))
 
 add-gap : tie.Need-add-gap
-add-gap c = omega (arith, c .shared-slice-known5 .given (entry (there c) .args .at .bytes + 3))
+add-gap c = let k = c .before in omega (arith, k .shared-slice-known5 .given (entry (there k) .args .at .bytes + 3))
 
 by-widths-requires : tie.Need-by-widths-requires
 by-widths-requires c κs =
-    let h = c .before .before .two-bytes .ensures in
-    let a = entry (there c) .args in
-    let g = c .shared-slice-known5 .given in (
+    let k = c .before in
+    let h = k .before .before .two-bytes .ensures in
+    let a = entry (there k) .args in
+    let g = k .shared-slice-known5 .given in (
       omega arith,
       record {
         code = omega (arith, h .0);
@@ -53,7 +54,7 @@ by-widths-requires c κs =
 
 returns-2 : tie.Need-returns-2
 returns-2 c =
-    let k = c .before in
+    let k = c .before .before in
     let h = k .before .before .two-bytes .ensures in
     let e = there k in
     let a = entry e .args in
