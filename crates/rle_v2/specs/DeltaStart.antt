@@ -9,7 +9,7 @@ use lib.Dec.{eqb}
 use Rattle.format.specs.Fields.{pick, zigzag, row, bytesFor, varintValue}
 use Rattle.format.specs.Runs.{Description}
 use Rattle.format.specs.Rows.{steps, asI64, i64Rows}
-use Rattle.format.specs.Parse.{Reason, Parsed, got, refused, cutIn, then, varint}
+use Rattle.format.specs.Parse.{Reason, Parsed, got, refused, cutIn, then, varint, deltaBody}
 use Rattle.format.specs.Answers.{refusal, running}
 use Rattle.format.specs.Promises.{runOf, answerOf}
 use Rattle.format.specs.declared.Kind.the-variants.{Delta}
@@ -44,7 +44,8 @@ pub record Started (s : List ℕ) (at : ℕ) (f : Found) : Type 0 where
   pub base-is : f .base ≡ varintValue base-bytes
   pub next-is : f .next .bytes ≡ at + 2 + (length first-bytes + length base-bytes)
   pub within : f .next .bytes ≤ length s
-  pub parsed : (body : List ℕ → List ℕ → List ℕ → Parsed Description) → both body (drop (at + 2) s) ≡ body first-bytes base-bytes (drop (f .next .bytes) s)
+  pub parsed : (body : List ℕ → List ℕ → List ℕ → Parsed Description)
+      → both body (drop (at + 2) s) ≡ body first-bytes base-bytes (drop (f .next .bytes) s)
   pub bits-is : f .bits ≡ 0
   pub end-is : f .end .bytes ≡ f .next .bytes
 
@@ -62,7 +63,11 @@ pub record StartsAt (s : List ℕ) (at rows : ℕ) (f : Found) : Type 0 where
 
 -- ---- a run that passed its tests
 
--- a magnitude for each row but two stands behind the varints
+-- the run's body at `at` with packed magnitudes, for each row but two
+abbrev pub packedAt : ℕ → Found → List ℕ → ℕ → Parsed Description
+packedAt code f s at = deltaBody code (f .rows .rows - 2) (drop (at + 2) s)
+
+-- these stand behind the varints
 pub record Behind (s : List ℕ) (f : Found) : Type 0 where
   pub wide : Width (f .bits)
   pub two : 2 ≤ f .rows .rows

@@ -52,6 +52,10 @@ pub record IsParts (at : ℕ) (h : Header) (q : Parts) : Type 0 where
   pub list-is : q .list .bytes ≡ at + 4 + h .base + valueBytes h
   pub end-is : q .end .bytes ≡ at + 4 + h .base + valueBytes h + listBytes h
 
+-- what stands behind the header's four bytes
+abbrev pub bodyAt : Header → List ℕ → ℕ → Parsed Description
+bodyAt h s at = patchedBody (h .code) (h .rows .rows) (h .base) (h .patch) (h .gap) (h .entries) (drop (at + 4) s)
+
 -- of `len` bytes, the last stand in the base; or in the values, which begin at a byte; or in the list, which begins at another
 unfoldable pub cutBody : ℕ → ℕ → ℕ → ℕ → Refusal
 cutBody len at values list = pick (ltb len values) (cutting 6 at (at + 4)) (pick (ltb len list) (cutting 13 at values) (cutting 14 at list))
@@ -94,7 +98,7 @@ pub record Headed (s : List ℕ) (at : ℕ) (m : Parsed Description) (h : Header
   pub not-2 : w .patch + h .gap ≤ 64
   pub parts : IsParts at h q
   pub there : q .end .bytes ≤ length s
-  pub body : m ≡ patchedBody (h .code) (h .rows .rows) (h .base) (h .patch) (h .gap) (h .entries) (drop (at + 4) s)
+  pub body : m ≡ bodyAt h s at
 
 abbrev pub numberOf : List ℕ → Found → ℕ
 numberOf s f = listNumber (f .bits) (f .patch) (f .rows .rows) (fields (f .entry) (f .entries) (drop (f .list .bytes) s))
@@ -133,5 +137,6 @@ pub record Ready (s : List ℕ) (at : ℕ) (f : Found) : Type 0 where
 abbrev pub patchedPlaces : List ℕ → ℕ → Found → List ℤ → List ℤ
 patchedPlaces s at f out =
     patchAll (f .bits) (f .patch) 0
-    (based (baseValue (take (f .base) (drop (at + 4) s))) (map asI64 (fields (f .bits) (f .rows .rows) (drop (f .values .bytes) s))) ++ drop (f .rows .rows) out)
+    (based (baseValue (take (f .base) (drop (at + 4) s))) (map asI64 (fields (f .bits) (f .rows .rows) (drop (f .values .bytes) s)))
+    ++ drop (f .rows .rows) out)
     (fields (f .entry) (f .entries) (drop (f .list .bytes) s))

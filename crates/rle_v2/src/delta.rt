@@ -2,16 +2,16 @@
 ghost use mathlib.Core.Path.{_≡_};
 ghost use mathlib.Core.Bool.{true, false};
 ghost use mathlib.Core.List.{_++_, map};
-ghost use Prim.Native.Nat.{_+_, _-_, _*_, _≤_, _<_};
-ghost use lib.ListN.{length, getD, drop};
+ghost use Prim.Native.Nat.{_+_, _*_, _≤_, _<_};
+ghost use lib.ListN.{length, drop};
 ghost use Rattle.format.specs.Fields.{bytesFor};
 ghost use Rattle.format.specs.Rows.{asI64};
-ghost use Rattle.format.specs.Parse.{deltaBody, deltaRun};
-ghost use Rattle.format.specs.Promises.{answerOf, Gives};
+ghost use Rattle.format.specs.Parse.{deltaRun};
 ghost use Rattle.util.specs.Packed.{fields, Width};
 ghost use Rattle.util.specs.Varint.{varintAt};
 ghost use Rattle.rle_v2.specs.Pass.{summed, laid};
-ghost use Rattle.rle_v2.specs.DeltaStart.{goneBy, Started, StartsAt, IsMeasured, Ready, deltaRows};
+ghost use Rattle.rle_v2.specs.DeltaStart.{goneBy, Started, StartsAt, packedAt, IsMeasured, Ready, deltaRows};
+ghost use Rattle.rle_v2.specs.RunAt.{runAt, MeasuredAs, ReadAs};
 use crate::header;
 use crate::refusal;
 use crate::rows;
@@ -117,7 +117,7 @@ fn starts_at(input: &[u8], at: ByteOffset, rows: RowNumber) -> Found
 // Packed magnitudes behind the varints: one for each row but two.
 fn packed_rows(input: &[u8], at: ByteOffset, code: u8, f: Found) -> Found
     requires { ⌜ Started (now input) (at .bytes) f × (code < 32) × (2 ≤ f .rows .rows) × (f .rows .rows ≤ 512) ⌝ }
-    ensures { λ r. ⌜ IsMeasured (now (input .entry)) (at .bytes) (deltaBody code (f .rows .rows - 2) (drop (at .bytes + 2) (now (input .entry)))) r ⌝ }
+    ensures { λ r. ⌜ IsMeasured (now (input .entry)) (at .bytes) (packedAt code f (now (input .entry)) (at .bytes)) r ⌝ }
 {
     let bits = width::bits_of(code);
     let rows = f.rows;
@@ -152,7 +152,7 @@ fn too_few(code: u8, rows: RowNumber) -> bool
 // The varints are read at one place, whatever stands behind them: half the code.
 fn measured(input: &[u8], at: ByteOffset) -> Found
     requires { ⌜ at .bytes < length (now input) ⌝ }
-    ensures { λ r. ⌜ IsMeasured (now (input .entry)) (at .bytes) (deltaRun (getD (now (input .entry)) (at .bytes) 0) (drop (at .bytes + 1) (now (input .entry)))) r ⌝ }
+    ensures { λ r. ⌜ IsMeasured (now (input .entry)) (at .bytes) (runAt deltaRun (now (input .entry)) (at .bytes)) r ⌝ }
 {
     let p = at.bytes;
     if input.len() - p < 2 {
@@ -177,7 +177,7 @@ fn measured(input: &[u8], at: ByteOffset) -> Found
 
 pub(crate) fn measure(input: &[u8], at: ByteOffset) -> Answer
     requires { ⌜ at .bytes < length (now input) ⌝ }
-    ensures { λ r. ⌜ r ≡ answerOf (at .bytes) (length (now (input .entry)) - at .bytes) (deltaRun (getD (now (input .entry)) (at .bytes) 0) (drop (at .bytes + 1) (now (input .entry)))) ⌝ }
+    ensures { λ r. ⌜ MeasuredAs deltaRun (now (input .entry)) (at .bytes) r ⌝ }
 {
     let p = at.bytes;
     let f = measured(input, at);
@@ -195,7 +195,8 @@ pub(crate) fn measure(input: &[u8], at: ByteOffset) -> Answer
 fn magnitudes(block: &[u8], bits: usize, n: RowNumber, falling: bool, second: u64, out: &mut [i64])
     requires { ⌜ Width bits ⌝ }
     requires { ⌜ (n .rows ≤ 65536) × (n .rows ≤ length (now out)) × (bytesFor (n .rows * bits) ≤ length (now block)) ⌝ }
-    ensures { λ _. ⌜ now (out .exit) ≡ summed falling second (map asI64 (fields bits (n .rows) (now (block .entry)))) ++ drop (n .rows) (now (out .entry)) ⌝ }
+    ensures { λ _. ⌜ now (out .exit)
+        ≡ summed falling second (map asI64 (fields bits (n .rows) (now (block .entry)))) ++ drop (n .rows) (now (out .entry)) ⌝ }
 {
     packed::unpack(block, bits, n.rows, out);
     rows::sum(falling, second, n, out);
@@ -206,7 +207,8 @@ fn magnitudes(block: &[u8], bits: usize, n: RowNumber, falling: bool, second: u6
 fn lay_packed(block: &[u8], bits: usize, n: RowNumber, first: u64, step: u64, out: &mut [i64])
     requires { ⌜ Width bits ⌝ }
     requires { ⌜ (n .rows ≤ 512) × (n .rows + 2 ≤ length (now out)) × (bytesFor (n .rows * bits) ≤ length (now block)) ⌝ }
-    ensures { λ _. ⌜ now (out .exit) ≡ laid first step (map asI64 (fields bits (n .rows) (now (block .entry)))) ++ drop (n .rows + 2) (now (out .entry)) ⌝ }
+    ensures { λ _. ⌜ now (out .exit)
+        ≡ laid first step (map asI64 (fields bits (n .rows) (now (block .entry)))) ++ drop (n .rows + 2) (now (out .entry)) ⌝ }
 {
     rows::steps(first, step, RowNumber { rows: 2 }, out);
     let second = pattern::add(first, step);
@@ -234,7 +236,7 @@ fn lay(input: &[u8], f: Found, signed: bool, out: &mut [i64])
 
 pub(crate) fn read(input: &[u8], at: ByteOffset, signed: bool, out: &mut [i64]) -> Answer
     requires { ⌜ at .bytes < length (now input) ⌝ }
-    ensures { λ r. ⌜ Gives (at .bytes) (length (now (input .entry)) - at .bytes) signed (deltaRun (getD (now (input .entry)) (at .bytes) 0) (drop (at .bytes + 1) (now (input .entry)))) (now (out .entry)) (now (out .exit)) r ⌝ }
+    ensures { λ r. ⌜ ReadAs deltaRun (now (input .entry)) (at .bytes) signed (now (out .entry)) (now (out .exit)) r ⌝ }
 {
     let p = at.bytes;
     let f = measured(input, at);

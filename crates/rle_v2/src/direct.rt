@@ -1,9 +1,8 @@
 // Direct: the two-byte header, then the rows packed at the header's width.
-ghost use mathlib.Core.Path.{_≡_};
-ghost use Prim.Native.Nat.{_+_, _-_, _<_};
-ghost use lib.ListN.{length, getD, drop};
+ghost use Prim.Native.Nat.{_<_};
+ghost use lib.ListN.{length};
 ghost use Rattle.format.specs.Parse.{directRun};
-ghost use Rattle.format.specs.Promises.{answerOf, Gives};
+ghost use Rattle.rle_v2.specs.RunAt.{MeasuredAs, ReadAs};
 use crate::header;
 use crate::rows;
 use format::Answer;
@@ -14,7 +13,7 @@ use util::width;
 
 pub(crate) fn measure(input: &[u8], at: ByteOffset) -> Answer
     requires { ⌜ at .bytes < length (now input) ⌝ }
-    ensures { λ r. ⌜ r ≡ answerOf (at .bytes) (length (now (input .entry)) - at .bytes) (directRun (getD (now (input .entry)) (at .bytes) 0) (drop (at .bytes + 1) (now (input .entry)))) ⌝ }
+    ensures { λ r. ⌜ MeasuredAs directRun (now (input .entry)) (at .bytes) r ⌝ }
 {
     let p = at.bytes;
     if input.len() - p < 2 {
@@ -33,7 +32,7 @@ pub(crate) fn measure(input: &[u8], at: ByteOffset) -> Answer
 
 pub(crate) fn read(input: &[u8], at: ByteOffset, signed: bool, out: &mut [i64]) -> Answer
     requires { ⌜ at .bytes < length (now input) ⌝ }
-    ensures { λ r. ⌜ Gives (at .bytes) (length (now (input .entry)) - at .bytes) signed (directRun (getD (now (input .entry)) (at .bytes) 0) (drop (at .bytes + 1) (now (input .entry)))) (now (out .entry)) (now (out .exit)) r ⌝ }
+    ensures { λ r. ⌜ ReadAs directRun (now (input .entry)) (at .bytes) signed (now (out .entry)) (now (out .exit)) r ⌝ }
 {
     let measured = measure(input, at);
     match measured {

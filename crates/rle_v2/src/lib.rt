@@ -128,7 +128,8 @@ pub fn read_stream(input: &[u8], at: ByteOffset, signed: bool, out: &mut [i64]) 
 
 // What a measured run comes to in so many places: refusal 8 if it has more rows.
 fn in_places(measured: Answer, at: ByteOffset, places: RowNumber) -> Answer
-    ensures { λ r. ⌜ ((total : ℕ) (m : Parsed Description) → measured ≡ answerOf (at .bytes) total m → r ≡ answerOf (at .bytes) total (into (places .rows) m)) ⌝ }
+    ensures { λ r. ⌜ ((total : ℕ) (m : Parsed Description)
+        → measured ≡ answerOf (at .bytes) total m → r ≡ answerOf (at .bytes) total (into (places .rows) m)) ⌝ }
 {
     let room = places.rows;
     match measured {

@@ -114,7 +114,8 @@ pub(crate) fn put(
     out: &mut [i64],
 )
     requires { ⌜ Listed bits pw n (now list) ⌝ }
-    requires { ⌜ (width ≤ 64) × (count .rows ≤ 512) × (count .rows ≤ length (now out)) × (outOfPlace pw (count .rows) (fields bits n (now list)) ≡ false) ⌝ }
+    requires { ⌜ (width ≤ 64) × (count .rows ≤ 512) × (count .rows ≤ length (now out))
+        × (outOfPlace pw (count .rows) (fields bits n (now list)) ≡ false) ⌝ }
     ensures { λ _. ⌜ now (out .exit) ≡ patchAll width pw 0 (now (out .entry)) (fields bits n (now (list .entry))) ⌝ }
 {
     // no place reaches it: the list passed its test

@@ -1,15 +1,16 @@
 // Patched base: four header bytes, the base, packed values, and a list of patches for the values that need more bits.
 ghost use mathlib.Core.Path.{_≡_};
 ghost use mathlib.Core.List.{_++_, map};
-ghost use Prim.Native.Nat.{_+_, _-_, _*_, _^_, _≤_, _<_};
-ghost use lib.ListN.{length, getD, drop};
+ghost use Prim.Native.Nat.{_+_, _*_, _^_, _≤_, _<_};
+ghost use lib.ListN.{length, drop};
 ghost use Rattle.format.specs.Fields.{bytesFor};
 ghost use Rattle.format.specs.Rows.{asI64};
-ghost use Rattle.format.specs.Parse.{patchedBody, patchedRun};
-ghost use Rattle.format.specs.Promises.{answerOf, Gives};
+ghost use Rattle.format.specs.Parse.{patchedRun};
 ghost use Rattle.util.specs.Packed.{fields, Width};
 ghost use Rattle.rle_v2.specs.Pass.{based};
-ghost use Rattle.rle_v2.specs.PatchedHead.{InRange, IsWidths, IsParts, cutBody, fieldOf, goneBy, IsFound, Ready, patchedPlaces};
+ghost use Rattle.rle_v2.specs.PatchedHead.{InRange, IsWidths, IsParts, bodyAt, cutBody, fieldOf, goneBy, IsFound};
+ghost use Rattle.rle_v2.specs.PatchedHead.{Ready, patchedPlaces};
+ghost use Rattle.rle_v2.specs.RunAt.{runAt, MeasuredAs, ReadAs};
 use crate::header;
 use crate::patch_list;
 use crate::refusal;
@@ -134,7 +135,7 @@ fn broke_off(len: ByteOffset, at: ByteOffset, q: Parts) -> Refusal
 // The body: that it is there.
 fn body(input: &[u8], at: ByteOffset, h: Header, w: Widths) -> Found
     requires { ⌜ (at .bytes + 4 ≤ length (now input)) × InRange h × IsWidths h w × (w .patch + h .gap ≤ 64) ⌝ }
-    ensures { λ r. ⌜ IsFound (now (input .entry)) (at .bytes) (patchedBody (h .code) (h .rows .rows) (h .base) (h .patch) (h .gap) (h .entries) (drop (at .bytes + 4) (now (input .entry)))) r ⌝ }
+    ensures { λ r. ⌜ IsFound (now (input .entry)) (at .bytes) (bodyAt h (now (input .entry)) (at .bytes)) r ⌝ }
 {
     let q = parts_of(at, h, w);
     let end = q.end;
@@ -163,7 +164,7 @@ fn body(input: &[u8], at: ByteOffset, h: Header, w: Widths) -> Found
 // What the header's widths refuse, before the body is read.
 fn by_widths(input: &[u8], at: ByteOffset, h: Header) -> Found
     requires { ⌜ (at .bytes + 4 ≤ length (now input)) × InRange h ⌝ }
-    ensures { λ r. ⌜ IsFound (now (input .entry)) (at .bytes) (patchedBody (h .code) (h .rows .rows) (h .base) (h .patch) (h .gap) (h .entries) (drop (at .bytes + 4) (now (input .entry)))) r ⌝ }
+    ensures { λ r. ⌜ IsFound (now (input .entry)) (at .bytes) (bodyAt h (now (input .entry)) (at .bytes)) r ⌝ }
 {
     let bits = width::bits_of(h.code);
     let patch = width::bits_of(h.patch);
@@ -176,7 +177,7 @@ fn by_widths(input: &[u8], at: ByteOffset, h: Header) -> Found
 
 fn headed(input: &[u8], at: ByteOffset) -> Found
     requires { ⌜ at .bytes < length (now input) ⌝ }
-    ensures { λ r. ⌜ IsFound (now (input .entry)) (at .bytes) (patchedRun (getD (now (input .entry)) (at .bytes) 0) (drop (at .bytes + 1) (now (input .entry)))) r ⌝ }
+    ensures { λ r. ⌜ IsFound (now (input .entry)) (at .bytes) (runAt patchedRun (now (input .entry)) (at .bytes)) r ⌝ }
 {
     let p = at.bytes;
     if input.len() - p < 4 {
@@ -201,7 +202,7 @@ fn headed(input: &[u8], at: ByteOffset) -> Found
 
 pub(crate) fn measure(input: &[u8], at: ByteOffset) -> Answer
     requires { ⌜ at .bytes < length (now input) ⌝ }
-    ensures { λ r. ⌜ r ≡ answerOf (at .bytes) (length (now (input .entry)) - at .bytes) (patchedRun (getD (now (input .entry)) (at .bytes) 0) (drop (at .bytes + 1) (now (input .entry)))) ⌝ }
+    ensures { λ r. ⌜ MeasuredAs patchedRun (now (input .entry)) (at .bytes) r ⌝ }
 {
     let p = at.bytes;
     let f = headed(input, at);
@@ -237,7 +238,8 @@ pub(crate) fn measure(input: &[u8], at: ByteOffset) -> Answer
 fn lay(block: &[u8], bits: usize, n: RowNumber, base: u64, out: &mut [i64])
     requires { ⌜ Width bits ⌝ }
     requires { ⌜ (n .rows ≤ 65536) × (n .rows ≤ length (now out)) × (bytesFor (n .rows * bits) ≤ length (now block)) ⌝ }
-    ensures { λ _. ⌜ now (out .exit) ≡ based base (map asI64 (fields bits (n .rows) (now (block .entry)))) ++ drop (n .rows) (now (out .entry)) ⌝ }
+    ensures { λ _. ⌜ now (out .exit)
+        ≡ based base (map asI64 (fields bits (n .rows) (now (block .entry)))) ++ drop (n .rows) (now (out .entry)) ⌝ }
 {
     packed::unpack(block, bits, n.rows, out);
     rows::add_base(base, n, out);
@@ -270,7 +272,7 @@ fn put(input: &[u8], at: ByteOffset, f: Found, out: &mut [i64])
 // Patched rows are never zigzag decoded, whatever the flag.
 pub(crate) fn read(input: &[u8], at: ByteOffset, signed: bool, out: &mut [i64]) -> Answer
     requires { ⌜ at .bytes < length (now input) ⌝ }
-    ensures { λ r. ⌜ Gives (at .bytes) (length (now (input .entry)) - at .bytes) signed (patchedRun (getD (now (input .entry)) (at .bytes) 0) (drop (at .bytes + 1) (now (input .entry)))) (now (out .entry)) (now (out .exit)) r ⌝ }
+    ensures { λ r. ⌜ ReadAs patchedRun (now (input .entry)) (at .bytes) signed (now (out .entry)) (now (out .exit)) r ⌝ }
 {
     let p = at.bytes;
     let f = headed(input, at);

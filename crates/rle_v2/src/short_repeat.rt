@@ -1,9 +1,8 @@
 // Short repeat: 2 bits kind, 3 bits size-1, 3 bits count-3; then the value's bytes.
-ghost use mathlib.Core.Path.{_≡_};
-ghost use Prim.Native.Nat.{_+_, _-_, _<_};
-ghost use lib.ListN.{length, getD, drop};
+ghost use Prim.Native.Nat.{_<_};
+ghost use lib.ListN.{length, getD};
 ghost use Rattle.format.specs.Parse.{shortRun};
-ghost use Rattle.format.specs.Promises.{answerOf, Gives};
+ghost use Rattle.rle_v2.specs.RunAt.{MeasuredAs, ReadAs};
 use crate::rows;
 use format::Answer;
 use format::ByteOffset;
@@ -14,7 +13,7 @@ use util::pattern;
 
 pub(crate) fn measure(input: &[u8], at: ByteOffset) -> Answer
     requires { ⌜ (at .bytes < length (now input)) × (getD (now input) (at .bytes) 0 < 64) ⌝ }
-    ensures { λ r. ⌜ r ≡ answerOf (at .bytes) (length (now (input .entry)) - at .bytes) (shortRun (getD (now (input .entry)) (at .bytes) 0) (drop (at .bytes + 1) (now (input .entry)))) ⌝ }
+    ensures { λ r. ⌜ MeasuredAs shortRun (now (input .entry)) (at .bytes) r ⌝ }
 {
     let p = at.bytes;
     let header = input[p] as usize;
@@ -34,7 +33,7 @@ pub(crate) fn measure(input: &[u8], at: ByteOffset) -> Answer
 
 pub(crate) fn read(input: &[u8], at: ByteOffset, signed: bool, out: &mut [i64]) -> Answer
     requires { ⌜ (at .bytes < length (now input)) × (getD (now input) (at .bytes) 0 < 64) ⌝ }
-    ensures { λ r. ⌜ Gives (at .bytes) (length (now (input .entry)) - at .bytes) signed (shortRun (getD (now (input .entry)) (at .bytes) 0) (drop (at .bytes + 1) (now (input .entry)))) (now (out .entry)) (now (out .exit)) r ⌝ }
+    ensures { λ r. ⌜ ReadAs shortRun (now (input .entry)) (at .bytes) signed (now (out .entry)) (now (out .exit)) r ⌝ }
 {
     let measured = measure(input, at);
     match measured {
