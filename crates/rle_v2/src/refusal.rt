@@ -5,15 +5,12 @@ use format::Answer;
 use format::ByteOffset;
 
 // The answer to the run at a place that is refused. No field begins at byte 0, where the first header does: 0 stands for none.
-pub(crate) fn answer(number: u8, at: usize, field: usize) -> Answer
-    ensures { λ r. ⌜ r ≡ refusedBy at number field ⌝ }
+pub(crate) fn answer(number: u8, at: ByteOffset, field: ByteOffset) -> Answer
+    ensures { λ r. ⌜ r ≡ refusedBy (at .bytes) number (field .bytes) ⌝ }
 {
-    if field == 0 {
-        return Answer::refused(number, ByteOffset { bytes: at });
+    let first = field.bytes;
+    if first == 0 {
+        return Answer::refused(number, at);
     }
-    Answer::cut(
-        number,
-        ByteOffset { bytes: at },
-        ByteOffset { bytes: field },
-    )
+    Answer::cut(number, at, field)
 }
