@@ -57,14 +57,15 @@ fn gone(number: u8, field: ByteOffset) -> Found
 }
 
 // The varint at a place, as `varint::read` has it. Most have one byte or two: these need no loop, and no call.
-fn varint_at(input: &[u8], at: usize) -> Varint
-    ensures { λ r. ⌜ r ≡ varintAt (now (input .entry)) at ⌝ }
+fn varint_at(input: &[u8], at: ByteOffset) -> Varint
+    ensures { λ r. ⌜ r ≡ varintAt (now (input .entry)) (at .bytes) ⌝ }
 {
-    if input.len() <= at {
+    let p = at.bytes;
+    if input.len() <= p {
         return Varint::Cut;
     }
-    let low = input[at];
-    let after = at + 1;
+    let low = input[p];
+    let after = p + 1;
     if low < 128 {
         return Varint::Value {
             bits: low as u64,
@@ -72,16 +73,14 @@ fn varint_at(input: &[u8], at: usize) -> Varint
         };
     }
     if input.len() <= after {
-        return varint::read(input, at);
+        return varint::read(input, p);
     }
     let high = input[after];
     if high < 128 {
-        return Varint::Value {
-            bits: (low as u64) % 128 + 128 * (high as u64),
-            next: at + 2,
-        };
+        let bits = (low as u64) % 128 + 128 * (high as u64);
+        return Varint::Value { bits, next: p + 2 };
     }
-    varint::read(input, at)
+    varint::read(input, p)
 }
 
 // The two varints of a run of so many rows, as though nothing stood behind them: a fixed delta.
@@ -91,10 +90,10 @@ fn starts_at(input: &[u8], at: ByteOffset, rows: RowNumber) -> Found
 {
     let p = at.bytes;
     let body = p + 2;
-    match varint_at(input, body) {
+    match varint_at(input, ByteOffset { bytes: body }) {
         Varint::Cut => gone(12, ByteOffset { bytes: body }),
         Varint::TooLong => gone(5, ByteOffset { bytes: 0 }),
-        Varint::Value { bits: first, next } => match varint_at(input, next) {
+        Varint::Value { bits: first, next } => match varint_at(input, ByteOffset { bytes: next }) {
             Varint::Cut => gone(12, ByteOffset { bytes: next }),
             Varint::TooLong => gone(5, ByteOffset { bytes: 0 }),
             Varint::Value {
