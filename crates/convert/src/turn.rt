@@ -60,7 +60,8 @@ fn form_of(first: u8) -> Form
 // The first rows, so many, at the next kept width after that of the run that begins with this byte.
 fn rewrite(first: u8, rows: &[i64], count: RowNumber, signed: bool, out: &mut [u8]) -> Answer
     requires { ⌜ count .rows ≤ length (now rows) ⌝ }
-    ensures { λ r. ⌜ Written (take (count .rows) (now (rows .entry))) signed (formFirst first) (nextKept (first / 2 % 32)) (now (out .entry)) (now (out .exit)) r ⌝ }
+    ensures { λ r. ⌜ Written (take (count .rows) (now (rows .entry))) signed (formFirst first) (nextKept (first / 2 % 32))
+        (now (out .entry)) (now (out .exit)) r ⌝ }
 {
     let n = count.rows;
     writer::write_run(

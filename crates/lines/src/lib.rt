@@ -42,7 +42,8 @@ pub enum Reading {
 // A run's rows, its bytes consumed, and then the rows.
 fn put_run(rows: RowNumber, consumed: ByteOffset, values: &[i64], out: &mut [u8]) -> ByteOffset
     requires { ⌜ (rows .rows ≤ 512) × (rows .rows ≤ length (now values)) × (answerRoom ≤ length (now out)) ⌝ }
-    ensures { λ r. ⌜ TextWritten (runWords (rows .rows) (consumed .bytes) (take (rows .rows) (now (values .entry)))) (now (out .entry)) 0 (now (out .exit)) (r .bytes) ⌝ }
+    ensures { λ r. ⌜ TextWritten (runWords (rows .rows) (consumed .bytes) (take (rows .rows) (now (values .entry))))
+        (now (out .entry)) 0 (now (out .exit)) (r .bytes) ⌝ }
 {
     let mut at = put_word(&RUN, out, 0);
     at = put_decimal(rows.rows as u64, out, at);
@@ -55,7 +56,8 @@ fn put_run(rows: RowNumber, consumed: ByteOffset, values: &[i64], out: &mut [u8]
 // What the run reader answered, in words.
 fn put_answer(answer: Answer, values: &[i64], out: &mut [u8]) -> ByteOffset
     requires { ⌜ (answerRows answer ≤ 512) × (answerRows answer ≤ length (now values)) × (answerRoom ≤ length (now out)) ⌝ }
-    ensures { λ r. ⌜ TextWritten (answerWords answer (take (answerRows answer) (now (values .entry)))) (now (out .entry)) 0 (now (out .exit)) (r .bytes) ⌝ }
+    ensures { λ r. ⌜ TextWritten (answerWords answer (take (answerRows answer) (now (values .entry))))
+        (now (out .entry)) 0 (now (out .exit)) (r .bytes) ⌝ }
 {
     match answer {
         Answer::End => {

@@ -18,7 +18,8 @@ use util::pattern;
 // The eight bytes of x at a place, lowest first: the eight stores become one.
 fn put_row(x: u64, out: &mut [u8], at: ByteOffset)
     requires { ⌜ at .bytes + 8 ≤ length (now out) ⌝ }
-    ensures { λ _. ⌜ now (out .exit) ≡ (take (at .bytes) (now (out .entry)) ++ lowestFirst 8 x) ++ drop (at .bytes + 8) (now (out .entry)) ⌝ }
+    ensures { λ _. ⌜ now (out .exit)
+        ≡ (take (at .bytes) (now (out .entry)) ++ lowestFirst 8 x) ++ drop (at .bytes + 8) (now (out .entry)) ⌝ }
 {
     let p = at.bytes;
     let mut left = x;

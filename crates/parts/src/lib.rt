@@ -235,7 +235,8 @@ fn join(
 ) -> PartStep
     requires { ⌜ 512 ≤ length (now out) ⌝ }
     requires { ⌜ Begun reader (now part) (now buffer) (held .bytes) (more .bytes) ⌝ }
-    ensures { λ r. ⌜ Joins reader (now (part .entry)) (now (buffer .entry)) (now (buffer .exit)) (held .bytes) (more .bytes) signed (now (out .entry)) (now (out .exit)) r (goes reader (now (part .entry)) (now (buffer .entry))) ⌝ }
+    ensures { λ r. ⌜ Joins reader (now (part .entry)) (now (buffer .entry)) (now (buffer .exit)) (held .bytes) (more .bytes) signed
+        (now (out .entry)) (now (out .exit)) r (goes reader (now (part .entry)) (now (buffer .entry))) ⌝ }
 {
     let h = held.bytes;
     let k = more.bytes;

@@ -93,7 +93,8 @@ pub(crate) fn put_group(
     at: ByteOffset,
 ) -> ByteOffset
     requires { ⌜ at .bytes + length (made keep (now bytes) first (rows .rows)) ≤ length (now out) ⌝ }
-    ensures { λ r. ⌜ TextWritten (made keep (now (bytes .entry)) first (rows .rows)) (now (out .entry)) (at .bytes) (now (out .exit)) (r .bytes) ⌝ }
+    ensures { λ r. ⌜ TextWritten (made keep (now (bytes .entry)) first (rows .rows))
+        (now (out .entry)) (at .bytes) (now (out .exit)) (r .bytes) ⌝ }
 {
     if keep {
         let end = put_word(bytes, out, at.bytes);
