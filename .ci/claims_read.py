@@ -185,12 +185,15 @@ def public():
 
 
 def is_equation(f):
-    """Whether the contract says what the answer is, and nothing is lent to be changed; or, with no answer, what the one lent slice is."""
+    """Whether the contract says what the answer is (of a unit, what its one field is), and nothing is lent to be changed; or, with no answer, what
+    the one lent slice is."""
     match = re.fullmatch(r"λ (\w+)\. ⌜ (.+?) ≡ (.+) ⌝", f.ensures, re.S)
     if not match or ".exit" in match[3] or match[1] in names_in(match[3]):
         return False
     if "->" in f.head:
-        return match[2] == match[1] and not re.search(r"&\s*('\w+ )?mut\b", f.head)
+        unit = re.search(r"-> (ByteOffset|RowNumber)\b", f.head)
+        field = {None: "", "ByteOffset": " .bytes", "RowNumber": " .rows"}[unit and unit[1]]
+        return match[2] in (match[1], match[1] + field) and not re.search(r"&\s*('\w+ )?mut\b", f.head)
     return [match[2]] == [f"now ({lent} .exit)" for lent in re.findall(r"(\w+): &(?:'\w+ )?mut ", f.head)]
 
 

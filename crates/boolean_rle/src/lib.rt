@@ -207,17 +207,13 @@ pub fn read_booleans(input: &[u8], at: ByteOffset, n: RowNumber, out: &mut [u8])
     let consumed = match span_from(input, position, rows) {
         Span::Whole(consumed) => consumed,
         Span::Cut(number, field) => {
-            return Answer::cut(number, position, later(position, field));
+            let cut = later(position, field);
+            return Answer::cut(number, at, ByteOffset { bytes: cut });
         }
     };
     if out.len() < rows {
-        return Answer::refused(8, position);
+        return Answer::refused(8, at);
     }
     put_booleans(input, position, rows, out);
-    Answer::run(
-        Kind::Booleans,
-        1,
-        RowNumber { rows },
-        ByteOffset { bytes: consumed },
-    )
+    Answer::run(Kind::Booleans, 1, n, ByteOffset { bytes: consumed })
 }

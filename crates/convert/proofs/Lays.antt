@@ -17,7 +17,7 @@ module _ (run : List ℕ) (n : ℕ) (at : Laid) (room : ℕ) (out : List ℕ) (s
   longer : (l : List ℕ) → length (l ++ take n run) ≡ length l + n
   longer l = length-append l (take n run) ∙ ap (λ (k : ℕ). length l + k) (length-take-le n run some)
 
-  over : (l out₀ : List ℕ) → at .end ≤ room → room < length l + n → Filled (l ++ take n run) room out₀ out full
+  over : (l out₀ : List ℕ) → at .end .bytes ≤ room → room < length l + n → Filled (l ++ take n run) room out₀ out full
   over l out₀ e h = record {
     full-is = sym (rw (longer l) (lt-ltb room (length l + n) h));
     end-is = λ t. let z : _≡_ {A = ℕ} 0 1 = cc in absurd (omega arith);
@@ -32,12 +32,12 @@ module _ (run : List ℕ) (n : ℕ) (at : Laid) (room : ℕ) (out : List ℕ) (s
     more = λ l out₀ f. over l out₀ (f .end-in) (omega (arith, ltb-true room (length l) (sym (f .full-is) ∙ t)));
   }
 
-  pub lays-over : at .full ≡ false → room - at .end < n → Lays run n at room out out full
+  pub lays-over : at .full ≡ false → room - at .end .bytes < n → Lays run n at room out out full
   lays-over t h = record { long = refl; more = λ l out₀ f. over l out₀ (f .end-in) (omega (arith, f .end-is t, f .end-in)) }
 
   -- room for them
-  module _ (t : at .full ≡ false) (h : n ≤ room - at .end) (i : at .end ≤ room) (out′ : List ℕ) (p : Put run n (at .end) out out′) where
-    behind : (l out₀ : List ℕ) → at .end ≡ length l → length l ≤ length out₀ → length l + n ≤ length out₀ → out ≡ l ++ drop (length l) out₀
+  module _ (t : at .full ≡ false) (h : n ≤ room - at .end .bytes) (i : at .end .bytes ≤ room) (out′ : List ℕ) (p : Put run n (at .end .bytes) out out′) where
+    behind : (l out₀ : List ℕ) → at .end .bytes ≡ length l → length l ≤ length out₀ → length l + n ≤ length out₀ → out ≡ l ++ drop (length l) out₀
         → out′ ≡ (l ++ take n run) ++ drop (length l + n) out₀
     behind l out₀ e a b o =
         let m : length out ≡ length out₀ = ap (λ (x : List ℕ). length x) o ∙ length-append l (drop (length l) out₀) ∙ omega (arith, length-drop (length l) out₀) in
@@ -47,11 +47,11 @@ module _ (run : List ℕ) (n : ℕ) (at : Laid) (room : ℕ) (out : List ℕ) (s
         let w : drop (length l + n) out ≡ drop (length l + n) out₀ = sym (drop-drop n (length l) out) ∙ ap (λ (z : List ℕ). drop n z) y ∙ drop-drop n (length l) out₀ in
         q ∙ rw (x, w)
 
-    pub lays-more : length out′ ≡ length out → Lays run n at room out out′ (record { end = at .end + n; full = false })
+    pub lays-more : length out′ ≡ length out → Lays run n at room out out′ (record { end = record { bytes = at .end .bytes + n }; full = false })
     lays-more long = record {
       long = long;
       more = λ l out₀ f.
-          let e : at .end ≡ length l = f .end-is t in
+          let e : at .end .bytes ≡ length l = f .end-is t in
           record {
             full-is = sym (rw (longer l) (le-ltb room (length l + n) (omega (arith, e, h, i))));
             end-is = λ z. rw (longer l) (omega (arith, e));

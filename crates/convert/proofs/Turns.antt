@@ -10,6 +10,7 @@ use lib.Seq.{drop-drop, drop-at, take-at, getD-drop, paste}
 use borrow.Author.Tests.{lt-ltb, le-ltb}
 use Rattle.format.specs.declared.Answer.{Answer}
 use Rattle.format.specs.declared.Answer.the-variants as answer
+use Rattle.format.specs.declared.ByteOffset.{ByteOffset}
 use Rattle.format.specs.declared.Run.{Run}
 use Rattle.format.specs.Digits.{AllBelow}
 use Rattle.format.specs.Kept.{keptCodes, among, isKept, nextKept}
@@ -124,10 +125,10 @@ module _ (signed : Bool) (s : List ℕ) (p : ℕ) where
     is-odd : oddFirst (getD s p 0) ≡ isOdd (o .which)
     is-odd = rw first-is (odd-first (o .which) (drop (p + n) s) (o .valid))
 
-    pub turned-odd : (run run′ : List ℕ) (a : Answer) → length run ≡ 4356 → oddFirst (getD s p 0) ≡ true
+    pub turned-odd : (run run′ : List ℕ) (a : Answer) (given : ByteOffset) → given .bytes ≡ answerBytes a → length run ≡ 4356 → oddFirst (getD s p 0) ≡ true
         → Written (take (r .rows .rows) rows) signed (formFirst (getD s p 0)) (nextKept (getD s p 0 / 2 % 32)) run run′ a
-        → Turned signed s p run′ (record { taken = n; given = answerBytes a; odd = true })
-    turned-odd run run′ a l t w =
+        → Turned signed s p run′ (record { taken = r .consumed; given = given; odd = true })
+    turned-odd run run′ a given g l t w =
         let d = o .which in
         let c : Description = converted signed d in
         let e : writing signed (formFirst (getD s p 0)) (nextKept (getD s p 0 / 2 % 32)) (map asU64 (take (r .rows .rows) rows)) (length run) ≡ got c [] =
@@ -141,13 +142,13 @@ module _ (signed : Bool) (s : List ℕ) (p : ℕ) where
           within = o .within;
           taken-is = o .bytes-are;
           odd-is = sym t ∙ is-odd;
-          given-is = rw q;
-          small = rw q (byte-bounds c (runs-hold signed d (o .valid) .valid));
-          bytes = rw (q, b) (take-at (layout c) (drop (length (layout c)) run) (length (layout c)) refl);
+          given-is = rw (g, q);
+          small = rw (g, q) (byte-bounds c (runs-hold signed d (o .valid) .valid));
+          bytes = rw (g, q, b) (take-at (layout c) (drop (length (layout c)) run) (length (layout c)) refl);
         }
 
     pub turned-even : (run run′ : List ℕ) → oddFirst (getD s p 0) ≡ false → run′ ≡ paste run 0 (drop p s) n
-        → Turned signed s p run′ (record { taken = n; given = n; odd = false })
+        → Turned signed s p run′ (record { taken = r .consumed; given = r .consumed; odd = false })
     turned-even run run′ t b =
         let d = o .which in
         let c : converted signed d ≡ d = runs-hold signed d (o .valid) .copied (sym is-odd ∙ t) in

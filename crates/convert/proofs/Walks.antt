@@ -59,7 +59,7 @@ module _ (signed : Bool) (bs : List ℕ) (limit : ℕ) (out₀ : List ℕ) where
     pub long : length out ≡ length out₀
     pub fill : Filled (joined (convertedAll signed ds)) limit out₀ out at
 
-  pub along-first : Along out₀ 0 0 (record { end = 0; full = false })
+  pub along-first : Along out₀ 0 0 (record { end = record { bytes = 0 }; full = false })
   unfolding joined oddRuns
   along-first = record {
     ds = [];
@@ -73,8 +73,8 @@ module _ (signed : Bool) (bs : List ℕ) (limit : ℕ) (out₀ : List ℕ) where
   }
 
   module _ (out : List ℕ) (p altered : ℕ) (at : Laid) (w : Along out p altered at) where
-    pub along-next : (made out′ : List ℕ) (t : Turn) (at′ : Laid) → Turned signed bs p made t → Lays made (t .given) at limit out out′ at′
-        → Along out′ (p + t .taken) (altered + counted (t .odd)) at′
+    pub along-next : (made out′ : List ℕ) (t : Turn) (at′ : Laid) → Turned signed bs p made t → Lays made (t .given .bytes) at limit out out′ at′
+        → Along out′ (p + t .taken .bytes) (altered + counted (t .odd)) at′
     along-next made out′ t at′ u l =
         let d = u .which in
         let j : joined (convertedAll signed (w .ds ++ (d ∷ []))) ≡ joined (convertedAll signed (w .ds)) ++ layout (converted signed d) =
@@ -82,7 +82,7 @@ module _ (signed : Bool) (bs : List ℕ) (limit : ℕ) (out₀ : List ℕ) where
         record {
           ds = w .ds ++ (d ∷ []);
           valid = all-snoc (w .ds) d (w .valid) (u .valid);
-          split = w .split ∙ ap (λ (x : List ℕ). joined (w .ds) ++ x) (u .split) ∙ sym (append-assoc (joined (w .ds)) (layout d) _) ∙ ap (λ (x : List ℕ). x ++ drop (p + t .taken) bs) (sym (joined-snoc (w .ds) d));
+          split = w .split ∙ ap (λ (x : List ℕ). joined (w .ds) ++ x) (u .split) ∙ sym (append-assoc (joined (w .ds)) (layout d) _) ∙ ap (λ (x : List ℕ). x ++ drop (p + t .taken .bytes) bs) (sym (joined-snoc (w .ds) d));
           place = rw (joined-snoc (w .ds) d, length-append (joined (w .ds)) (layout d)) (omega (arith, w .place, u .taken-is));
           count = rw (odd-snoc (w .ds) d, ← (u .odd-is)) (omega (arith, w .count));
           few = omega (arith, w .few, counted-le (t .odd), u .taken-is, layout-pos d);

@@ -30,13 +30,13 @@ module _ (signed : Bool) (s : List ℕ) (p : ℕ) where
   pub record Turned (run : List ℕ) (t : Turn) : Type 0 where
     pub which : Description
     pub valid : Valid which
-    pub split : drop p s ≡ layout which ++ drop (p + t .taken) s
-    pub within : p + t .taken ≤ length s
-    pub taken-is : t .taken ≡ length (layout which)
+    pub split : drop p s ≡ layout which ++ drop (p + t .taken .bytes) s
+    pub within : p + t .taken .bytes ≤ length s
+    pub taken-is : t .taken .bytes ≡ length (layout which)
     pub odd-is : t .odd ≡ isOdd which
-    pub given-is : t .given ≡ length (layout (converted signed which))
-    pub small : t .given ≤ 4356
-    pub bytes : take (t .given) run ≡ layout (converted signed which)
+    pub given-is : t .given .bytes ≡ length (layout (converted signed which))
+    pub small : t .given .bytes ≤ 4356
+    pub bytes : take (t .given .bytes) run ≡ layout (converted signed which)
 
   -- what stands there is refused, with room for any run
   pub record NoRun (f : Refusal) : Type 0 where

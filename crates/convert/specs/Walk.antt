@@ -17,7 +17,7 @@ abbrev pub counted : Bool → ℕ
 counted odd = pick odd 1 0
 
 abbrev pub finished : ℕ → Laid → Converted
-finished altered at = pick (at .full) (Refused (refusing 8 0)) (done altered (at .end))
+finished altered at = pick (at .full) (Refused (refusing 8 0)) (done altered (at .end .bytes))
 
 -- a run's bytes at a place that has room for them
 abbrev pub Put : List ℕ → ℕ → ℕ → List ℕ → List ℕ → Type 0
@@ -26,8 +26,8 @@ Put run n at out out′ = at + n ≤ length out → out′ ≡ paste out at run 
 -- the bytes l, in so much room: they have it, and then an output of that length holds them in its first places; or they have not
 pub record Filled (l : List ℕ) (room : ℕ) (out₀ out : List ℕ) (at : Laid) : Type 0 where
   pub full-is : at .full ≡ ltb room (length l)
-  pub end-is : at .full ≡ false → at .end ≡ length l
-  pub end-in : at .end ≤ room
+  pub end-is : at .full ≡ false → at .end .bytes ≡ length l
+  pub end-in : at .end .bytes ≤ room
   pub laid : length out₀ ≡ room → at .full ≡ false → out ≡ l ++ drop (length l) out₀
 
 -- n bytes more, behind whatever was laid

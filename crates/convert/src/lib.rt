@@ -27,18 +27,15 @@ pub enum Converted {
 
 // How far the output is filled, and whether the runs have no room.
 struct Laid {
-    end: usize,
+    end: ByteOffset,
     full: bool,
 }
 
 impl Converted {
-    pub fn done(altered: usize, bytes: usize) -> Self
-        ensures { λ r. ⌜ r ≡ done altered bytes ⌝ }
+    pub fn done(altered: usize, bytes: ByteOffset) -> Self
+        ensures { λ r. ⌜ r ≡ done altered (bytes .bytes) ⌝ }
     {
-        Converted::Done(Conversion {
-            altered,
-            bytes: ByteOffset { bytes },
-        })
+        Converted::Done(Conversion { altered, bytes })
     }
 }
 
@@ -49,39 +46,42 @@ fn count(odd: bool) -> usize
 }
 
 // The first n bytes of a run at a place of the output, where it has room: the first walk has none.
-fn put(run: &[u8], n: usize, out: &mut [u8], at: usize)
-    requires { ⌜ n ≤ length (now run) ⌝ }
-    ensures { λ _. ⌜ Put (now (run .entry)) n at (now (out .entry)) (now (out .exit)) ⌝ }
+fn put(run: &[u8], n: ByteOffset, out: &mut [u8], at: ByteOffset)
+    requires { ⌜ n .bytes ≤ length (now run) ⌝ }
+    ensures { λ _. ⌜ Put (now (run .entry)) (n .bytes) (at .bytes) (now (out .entry)) (now (out .exit)) ⌝ }
 {
-    if out.len() < at {
+    let size = n.bytes;
+    let place = at.bytes;
+    if out.len() < place {
         return;
     }
-    if out.len() - at < n {
+    if out.len() - place < size {
         return;
     }
-    bytes::copy(run, n, out, at);
+    bytes::copy(run, size, out, place);
 }
 
 // The first n bytes of a run behind those that are laid, in so much room.
-fn lay(run: &[u8], n: usize, at: Laid, room: usize, out: &mut [u8]) -> Laid
-    requires { ⌜ (n ≤ length (now run)) × (at .end ≤ room) ⌝ }
-    ensures { λ r. ⌜ Lays (now (run .entry)) n at room (now (out .entry)) (now (out .exit)) r ⌝ }
+fn lay(run: &[u8], n: ByteOffset, at: Laid, room: ByteOffset, out: &mut [u8]) -> Laid
+    requires { ⌜ (n .bytes ≤ length (now run)) × (at .end .bytes ≤ room .bytes) ⌝ }
+    ensures { λ r. ⌜ Lays (now (run .entry)) (n .bytes) at (room .bytes) (now (out .entry)) (now (out .exit)) r ⌝ }
 {
+    let end = at.end;
+    let filled = end.bytes;
+    let size = n.bytes;
+    let all = room.bytes;
     if at.full {
-        return Laid {
-            end: at.end,
-            full: true,
-        };
+        return Laid { end, full: true };
     }
-    if room - at.end < n {
-        return Laid {
-            end: at.end,
-            full: true,
-        };
+    if all - filled < size {
+        return Laid { end, full: true };
     }
-    put(run, n, out, at.end);
+    put(run, n, out, end);
+    let next = ByteOffset {
+        bytes: filled + size,
+    };
     Laid {
-        end: at.end + n,
+        end: next,
         full: false,
     }
 }
@@ -90,29 +90,30 @@ fn finish(altered: usize, at: Laid) -> Converted
     ensures { λ r. ⌜ r ≡ finished altered at ⌝ }
 {
     if at.full {
-        return Converted::Refused(Refusal::new(8, 0));
+        return Converted::Refused(Refusal::new(8, ByteOffset { bytes: 0 }));
     }
     Converted::done(altered, at.end)
 }
 
 // Every run of the stream, converted, one behind the other in so much room. Where the output is not that long, only the answer counts.
-fn walk(input: &[u8], signed: bool, room: usize, out: &mut [u8]) -> Converted
-    ensures { λ r. ⌜ Walked signed (now (input .entry)) room (now (out .entry)) (now (out .exit)) r ⌝ }
+fn walk(input: &[u8], signed: bool, room: ByteOffset, out: &mut [u8]) -> Converted
+    ensures { λ r. ⌜ Walked signed (now (input .entry)) (room .bytes) (now (out .entry)) (now (out .exit)) r ⌝ }
 {
     let mut p: usize = 0;
     let mut altered: usize = 0;
+    let none = ByteOffset { bytes: 0 };
     let mut at = Laid {
-        end: 0,
+        end: none,
         full: false,
     };
     while p < input.len() {
         let mut run = turn::bytes_room();
-        let step = turn::convert_run(input, p, signed, &mut run);
+        let step = turn::convert_run(input, ByteOffset { bytes: p }, signed, &mut run);
         match step {
             Step::Run(t) => {
                 at = lay(&run, t.given, at, room, out);
                 altered += count(t.odd);
-                p += t.taken;
+                p += t.taken.bytes;
             }
             Step::Refused(f) => {
                 return Converted::Refused(f);
@@ -130,8 +131,9 @@ fn walk(input: &[u8], signed: bool, room: usize, out: &mut [u8]) -> Converted
 pub fn convert(input: &[u8], signed: bool, out: &mut [u8]) -> Converted
     ensures { λ r. ⌜ Converts signed (now (input .entry)) (now (out .entry)) (now (out .exit)) r ⌝ }
 {
-    let room = out.len();
-    let first = walk(input, signed, room, &mut out[room..]);
+    let n = out.len();
+    let room = ByteOffset { bytes: n };
+    let first = walk(input, signed, room, &mut out[n..]);
     match first {
         Converted::Done(_) => walk(input, signed, room, out),
         Converted::Refused(f) => Converted::Refused(f),

@@ -10,16 +10,14 @@ use format::ByteOffset;
 use format::Form;
 use format::Kind;
 use format::Refusal;
+use format::RowNumber;
 use util::bytes;
 use util::width;
 
-// The most bytes of a run.
-pub const MAX_BYTES: usize = 4356;
-
 // A run: the bytes that it takes up, those of the run that it is converted to, and whether its width is odd.
 pub(crate) struct Turn {
-    pub taken: usize,
-    pub given: usize,
+    pub taken: ByteOffset,
+    pub given: ByteOffset,
     pub odd: bool,
 }
 
@@ -35,8 +33,8 @@ fn rows_room() -> [i64; Kind::MAX_ROWS] {
     [0i64; Kind::MAX_ROWS]
 }
 
-pub(crate) fn bytes_room() -> [u8; MAX_BYTES] {
-    [0u8; MAX_BYTES]
+pub(crate) fn bytes_room() -> [u8; Kind::MAX_BYTES] {
+    [0u8; Kind::MAX_BYTES]
 }
 
 // By a run's first byte: 2 bits kind, 5 bits width code. Kinds 1 and 3 are direct and delta; the code 0 of a fixed delta is kept.
@@ -59,11 +57,13 @@ fn form_of(first: u8) -> Form
     }
 }
 
-// The first n rows, at the next kept width after that of the run that begins with this byte.
-fn rewrite(first: u8, rows: &[i64], n: usize, signed: bool, out: &mut [u8]) -> Answer
-    requires { ⌜ n ≤ length (now rows) ⌝ }
-    ensures { λ r. ⌜ Written (take n (now (rows .entry))) signed (formFirst first) (nextKept (first / 2 % 32)) (now (out .entry)) (now (out .exit)) r ⌝ }
+// The first rows, so many, at the next kept width after that of the run that begins with this byte.
+fn rewrite(first: u8, rows: &[i64], count: RowNumber, signed: bool, out: &mut [u8]) -> Answer
+    requires { ⌜ count .rows ≤ length (now rows) ⌝ }
+    ensures { λ r. ⌜ Written (take (count .rows) (now (rows .entry))) signed (formFirst first) (nextKept (first / 2 % 32))
+        (now (out .entry)) (now (out .exit)) r ⌝ }
 {
+    let n = count.rows;
     writer::write_run(
         &rows[..n],
         signed,
@@ -74,29 +74,31 @@ fn rewrite(first: u8, rows: &[i64], n: usize, signed: bool, out: &mut [u8]) -> A
 }
 
 // The run at a place, converted, in the first bytes of `run`.
-pub(crate) fn convert_run(input: &[u8], p: usize, signed: bool, run: &mut [u8]) -> Step
+pub(crate) fn convert_run(input: &[u8], at: ByteOffset, signed: bool, run: &mut [u8]) -> Step
     requires { ⌜ length (now run) ≡ 4356 ⌝ }
-    ensures { λ r. ⌜ StepIs signed (now (input .entry)) p (now (run .exit)) r ⌝ }
+    ensures { λ r. ⌜ StepIs signed (now (input .entry)) (at .bytes) (now (run .exit)) r ⌝ }
 {
+    let p = at.bytes;
     let mut rows = rows_room();
-    let a = rle_v2::read_run(input, ByteOffset { bytes: p }, signed, &mut rows);
+    let a = rle_v2::read_run(input, at, signed, &mut rows);
     match a {
         Answer::Run(r) => {
             let count = r.rows;
             let taken = r.consumed;
             let first = input[p];
             if is_odd(first) {
-                let w = rewrite(first, &rows, count.rows, signed, run);
+                let w = rewrite(first, &rows, count, signed, run);
+                let given = w.consumed();
                 return Step::Run(Turn {
-                    taken: taken.bytes,
-                    given: w.consumed(),
+                    taken,
+                    given,
                     odd: true,
                 });
             }
             bytes::copy(&input[p..], taken.bytes, run, 0);
             Step::Run(Turn {
-                taken: taken.bytes,
-                given: taken.bytes,
+                taken,
+                given: taken,
                 odd: false,
             })
         }

@@ -3,6 +3,7 @@
 use crate::bits;
 use crate::cells;
 use crate::patched;
+use crate::patched::MAX_ENTRIES;
 use crate::states::FAR;
 use util::pattern;
 
@@ -154,7 +155,7 @@ impl Frame {
         self.high = row;
         if self.entries == 0 {
             // a list must not be empty: the greatest rows are patched, over a base 2^W below them
-            self.list = if 31 < self.highs {
+            self.list = if MAX_ENTRIES < self.highs {
                 FAR
             } else {
                 bits::whole_bytes(bits::times(9, self.highs))
@@ -178,7 +179,7 @@ impl Frame {
             bits::most(self.reach, pattern::add(width, 1)),
             width,
         ));
-        self.list = if self.entries <= 31 && patched::is_read_everywhere(patch) {
+        self.list = if self.entries <= MAX_ENTRIES && patched::is_read_everywhere(patch) {
             bits::whole_bytes(bits::times(self.entries, patched::entry(patch, self.gap)))
         } else {
             FAR

@@ -21,11 +21,12 @@ mod walk;
 mod way;
 
 use runs::Run;
+use way::PLACES;
 use way::WINDOW;
 
 // A window's last run is left to the next window where it begins this late: a run is then not cut where the window ends, and a row is
 // walked over at most 4/3 times.
-const LATE: u64 = 384;
+const LATE: u64 = WINDOW / 4 * 3;
 
 // The runs laid so far: where the next begins, how many, and their bytes. Those that the columns have no place for are counted and lost.
 struct Laid {
@@ -112,7 +113,7 @@ fn lay_runs(
     signed: bool,
     end: usize,
     stop: usize,
-    way: &[u64; 513],
+    way: &[u64; PLACES],
     laid: Laid,
     first: &mut [u64],
     counts: &mut [u64],
@@ -154,7 +155,7 @@ fn lay_runs(
 fn lay_window(
     rows: &[i64],
     signed: bool,
-    way: &mut [u64; 513],
+    way: &mut [u64; PLACES],
     laid: Laid,
     first: &mut [u64],
     counts: &mut [u64],
@@ -217,7 +218,7 @@ fn lay_widest(
 
 // The bytes of the direct runs of 64 bits.
 fn widest_bytes(rows: u64) -> u64 {
-    pattern::add(rows << 3, pattern::add(rows, 511) >> 9 << 1)
+    pattern::add(rows << 3, pattern::add(rows, WINDOW - 1) / WINDOW << 1)
 }
 
 // The runs of all windows.

@@ -1,10 +1,14 @@
 // What the patched writer makes of rows, a base and a width, without writing it.
 use crate::bits;
 use crate::cells;
+use format::Kind;
 use util::pattern;
 
 // More bytes than any run has: the writer does not accept the run, or some readers do not read it.
 pub(crate) const NONE: u64 = u64::MAX;
+
+// The most entries of a list.
+pub(crate) const MAX_ENTRIES: u64 = Kind::MAX_PATCHES as u64;
 
 // What is patched so far: entries of the list, skips among them, the row of the last, the largest gap and the patches' bits.
 struct List {
@@ -85,7 +89,11 @@ fn list_over(rows: &[i64], base: u64, width: u64) -> List {
 pub(crate) fn bytes(rows: &[i64], base: u64, width: u64) -> u64 {
     let l = list_over(rows, base, width);
     let patch = table(bits::needs(l.patches));
-    if l.entries == 0 || 31 < l.entries || 8 < base_bytes(base) || !is_read_everywhere(patch) {
+    if l.entries == 0
+        || MAX_ENTRIES < l.entries
+        || 8 < base_bytes(base)
+        || !is_read_everywhere(patch)
+    {
         return NONE;
     }
     let values = bits::whole_bytes(bits::times(rows.len() as u64, width));

@@ -15,7 +15,14 @@ use crate::states::PACKED;
 use crate::states::PATCHED;
 use crate::states::SHORT;
 use crate::way;
+use crate::way::PLACES;
+use format::Kind;
 use util::pattern;
+
+// Steps of 0 in the shortest and in the longest short repeat.
+const MIN_EQUAL: u64 = Kind::MIN_REPEAT as u64 - 1;
+
+const MAX_EQUAL: u64 = Kind::MAX_REPEAT as u64 - 1;
 
 // The step before, whether the packed deltas that are open fall (1 or 0), whether this step turned them, the fixed delta, and how many
 // steps of 0 came last.
@@ -130,12 +137,12 @@ fn go_packed(runs: &mut [u64; 16], widths: &[u64; 16], count: u64, first: u64, f
     best
 }
 
-// Three to ten equal rows.
-fn go_short(way: &[u64; 513], at: u64, equal: u64, bits: u64) -> u64 {
-    if equal < 2 {
+// A short repeat of the last rows, which are equal: as many as it takes.
+fn go_short(way: &[u64; PLACES], at: u64, equal: u64, bits: u64) -> u64 {
+    if equal < MIN_EQUAL {
         return CLOSED;
     }
-    let from = pattern::sub(at, bits::least(equal, 9));
+    let from = pattern::sub(at, bits::least(equal, MAX_EQUAL));
     let run = pattern::add(8, bits::whole_bytes(bits));
     states::state(pattern::add(way::bits_to(way, from), run), from, SHORT)
 }
@@ -186,7 +193,7 @@ fn go_steps(
     menu: Menu,
     packed: &mut [u64; 16],
     widths: &[u64; 16],
-    way: &[u64; 513],
+    way: &[u64; PLACES],
 ) -> Stepped {
     if i == 0 {
         return Stepped {
@@ -229,7 +236,7 @@ fn go(
     two: &mut [u64; 16],
     direct_widths: &[u64; 16],
     packed_widths: &[u64; 16],
-    way: &mut [u64; 513],
+    way: &mut [u64; PLACES],
 ) -> Steps {
     let at = i as u64;
     let row = cells::row(rows, i);
@@ -253,7 +260,7 @@ fn along(
     menu: Menu,
     direct_widths: &[u64; 16],
     packed_widths: &[u64; 16],
-    way: &mut [u64; 513],
+    way: &mut [u64; PLACES],
 ) {
     let mut direct = cells::all(CLOSED);
     let mut packed = cells::all(CLOSED);
@@ -280,8 +287,8 @@ fn along(
     }
 }
 
-// Walks over at most 512 rows.
-pub(crate) fn walk(rows: &[i64], signed: bool, way: &mut [u64; 513]) {
+// Walks over the rows of a window.
+pub(crate) fn walk(rows: &[i64], signed: bool, way: &mut [u64; PLACES]) {
     let mut direct_widths = cells::all(0);
     let mut packed_widths = cells::all(0);
     let menu = menu::of(rows, signed, &mut direct_widths, &mut packed_widths);

@@ -2,18 +2,21 @@
 ghost use Prim.Native.Nat.{_<_};
 use crate::bits;
 use crate::states;
+use format::Kind;
 use util::pattern;
 
 // Rows of a window: the most that a run has.
-pub(crate) const WINDOW: u64 = 512;
+pub(crate) const WINDOW: u64 = Kind::MAX_ROWS as u64;
 
 // A place for each row of a window, and one behind the last.
-pub(crate) fn start() -> [u64; 513] {
-    [0u64; 513]
+pub(crate) const PLACES: usize = Kind::MAX_ROWS + 1;
+
+pub(crate) fn start() -> [u64; PLACES] {
+    [0u64; PLACES]
 }
 
-pub(crate) fn at(way: &[u64; 513], row: u64) -> u64 {
-    if row < 513 {
+pub(crate) fn at(way: &[u64; PLACES], row: u64) -> u64 {
+    if row <= WINDOW {
         let i = row as usize;
         way[i]
     } else {
@@ -21,20 +24,20 @@ pub(crate) fn at(way: &[u64; 513], row: u64) -> u64 {
     }
 }
 
-pub(crate) fn put(way: &mut [u64; 513], row: u64, x: u64) {
-    if row < 513 {
+pub(crate) fn put(way: &mut [u64; PLACES], row: u64, x: u64) {
+    if row <= WINDOW {
         let i = row as usize;
         way[i] = x;
     }
 }
 
 // The bits of the way up to a row.
-pub(crate) fn bits_to(way: &[u64; 513], row: u64) -> u64 {
+pub(crate) fn bits_to(way: &[u64; PLACES], row: u64) -> u64 {
     states::bits(at(way, row))
 }
 
 // The way up to a row ends with this run, whose bytes are whole.
-pub(crate) fn end(way: &mut [u64; 513], row: u64, run: u64) {
+pub(crate) fn end(way: &mut [u64; PLACES], row: u64, run: u64) {
     put(
         way,
         row,
@@ -52,7 +55,7 @@ fn begin(state: u64, end: u64) -> u64
 }
 
 // Turns the way round: from now on each run stands where it begins, its end for the beginning. Answers where the last begins.
-pub(crate) fn turn(way: &mut [u64; 513], rows: u64) -> u64 {
+pub(crate) fn turn(way: &mut [u64; PLACES], rows: u64) -> u64 {
     let mut end = rows;
     let mut run = at(way, rows);
     while 0 < end {

@@ -74,6 +74,11 @@ place-at-rows : told false (0x86 ∷ 0x03 ∷ 0x03 ∷ 0x41 ∷ 0x64 ∷ 0x12 �
 unfolding told
 place-at-rows = refl
 
+-- two patches at place 2
+place-taken : told false (0x86 ∷ 0x03 ∷ 0x03 ∷ 0x22 ∷ 0x64 ∷ 0x12 ∷ 0x34 ∷ 0x94 ∷ 0x10 ∷ []) ≡ refusal 7
+unfolding told
+place-taken = refl
+
 -- 30-bit values with a 40-bit patch field: the largest patch that fits, and the next; and that beats a place out of the rows
 patch-fits : told false (0xB4 ∷ 0x00 ∷ 0x1C ∷ 0x01 ∷ 0x00 ∷ 0x00 ∷ 0x00 ∷ 0x00 ∷ 0x04 ∷ 0x00 ∷ 0x03 ∷ 0xFF ∷ 0xFF ∷ 0xFF ∷ 0xFF ∷ []) ≡ run PatchedBase 30 (negsuc 1073741822 ∷ []) 15
 unfolding told

@@ -176,24 +176,24 @@ impl Run {
 }
 
 impl Refusal {
-    pub fn new(number: u8, place: usize) -> Self
-        ensures { λ r. ⌜ r ≡ refusing number place ⌝ }
+    pub fn new(number: u8, place: ByteOffset) -> Self
+        ensures { λ r. ⌜ r ≡ refusing number (place .bytes) ⌝ }
     {
         Refusal {
             number,
-            place: ByteOffset { bytes: place },
+            place,
             cut: CutField::None,
         }
     }
 
     // The input ends in the field that begins at this byte.
-    pub fn cut(number: u8, place: usize, field: usize) -> Self
-        ensures { λ r. ⌜ r ≡ cutting number place field ⌝ }
+    pub fn cut(number: u8, place: ByteOffset, field: ByteOffset) -> Self
+        ensures { λ r. ⌜ r ≡ cutting number (place .bytes) (field .bytes) ⌝ }
     {
         Refusal {
             number,
-            place: ByteOffset { bytes: place },
-            cut: CutField::At(ByteOffset { bytes: field }),
+            place,
+            cut: CutField::At(field),
         }
     }
 }
@@ -211,14 +211,14 @@ impl Answer {
         Answer::Run(Run::new(kind, width, rows, consumed))
     }
 
-    pub fn refused(number: u8, place: usize) -> Self
-        ensures { λ r. ⌜ r ≡ refusedAt number place ⌝ }
+    pub fn refused(number: u8, place: ByteOffset) -> Self
+        ensures { λ r. ⌜ r ≡ refusedAt number (place .bytes) ⌝ }
     {
         Answer::Refused(Refusal::new(number, place))
     }
 
-    pub fn cut(number: u8, place: usize, field: usize) -> Self
-        ensures { λ r. ⌜ r ≡ cutAt number place field ⌝ }
+    pub fn cut(number: u8, place: ByteOffset, field: ByteOffset) -> Self
+        ensures { λ r. ⌜ r ≡ cutAt number (place .bytes) (field .bytes) ⌝ }
     {
         Answer::Refused(Refusal::cut(number, place, field))
     }
@@ -235,13 +235,13 @@ impl Answer {
     }
 
     // The byte where the refused run begins: 0 where nothing is refused.
-    pub fn place(self) -> usize
-        ensures { λ r. ⌜ r ≡ answerPlace self ⌝ }
+    pub fn place(self) -> ByteOffset
+        ensures { λ r. ⌜ r .bytes ≡ answerPlace self ⌝ }
     {
         match self {
-            Answer::Refused(f) => f.place.bytes,
-            Answer::Run(_) => 0,
-            Answer::End => 0,
+            Answer::Refused(f) => f.place,
+            Answer::Run(_) => ByteOffset { bytes: 0 },
+            Answer::End => ByteOffset { bytes: 0 },
         }
     }
 
@@ -268,24 +268,24 @@ impl Answer {
     }
 
     // How many rows the answer yields.
-    pub fn rows(self) -> usize
-        ensures { λ r. ⌜ r ≡ answerRows self ⌝ }
+    pub fn rows(self) -> RowNumber
+        ensures { λ r. ⌜ r .rows ≡ answerRows self ⌝ }
     {
         match self {
-            Answer::Run(r) => r.rows.rows,
-            Answer::Refused(_) => 0,
-            Answer::End => 0,
+            Answer::Run(r) => r.rows,
+            Answer::Refused(_) => RowNumber { rows: 0 },
+            Answer::End => RowNumber { rows: 0 },
         }
     }
 
     // How many bytes it consumes, or of the writer, writes.
-    pub fn consumed(self) -> usize
-        ensures { λ r. ⌜ r ≡ answerBytes self ⌝ }
+    pub fn consumed(self) -> ByteOffset
+        ensures { λ r. ⌜ r .bytes ≡ answerBytes self ⌝ }
     {
         match self {
-            Answer::Run(r) => r.consumed.bytes,
-            Answer::Refused(_) => 0,
-            Answer::End => 0,
+            Answer::Run(r) => r.consumed,
+            Answer::Refused(_) => ByteOffset { bytes: 0 },
+            Answer::End => ByteOffset { bytes: 0 },
         }
     }
 

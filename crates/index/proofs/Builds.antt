@@ -110,7 +110,7 @@ module _ (bs f o n : List ℕ) where
       pub few-so : length f < k → BuiltIn bs f o n f o n (notBuilt 8)
       few-so h = refused-so (plain 8) 0 (eight (rw (lt-ltb (length f) (length (w .runs)) (omega (arith, w .count)))))
 
-      module _ (rows : ℕ) (e : t ≡ total.Rows rows) (l : k ≤ length f) where
+      module _ (rows : ℕ) (e : t ≡ total.Rows (record { rows = rows })) (l : k ≤ length f) where
         small : (rows ≡ totalRows (w .runs)) × (totalRows (w .runs) < two64)
         small = Totals.rows-are (totalRows (w .runs)) rows (sym e ∙ w .total-is)
 

@@ -82,5 +82,5 @@ module _ (first rows row places : ℕ) where
   pub too-many : places < first + rows - row → TooMany ≡ leftOf first rows row places
   too-many h = rw (lt-ltb places (first + rows - row) h)
 
-  pub so-many : (n : ℕ) → n ≡ first + rows - row → n ≤ places → Rows n ≡ leftOf first rows row places
+  pub so-many : (n : ℕ) → n ≡ first + rows - row → n ≤ places → Rows (record { rows = n }) ≡ leftOf first rows row places
   so-many n e h = rw (← e, le-ltb places n h)

@@ -14,6 +14,7 @@ use Rattle.format.specs.Fields.{pick}
 use Rattle.format.specs.Runs.{Description, rowCount, joined}
 use Rattle.format.specs.Parse.{plain}
 use Rattle.format.specs.Streams.{totalRows, joinedRows}
+use Rattle.format.specs.declared.RowNumber.{RowNumber}
 use Rattle.format.proofs.Rows.{joined-count}
 use Rattle.format.proofs.Joined.{total-append, joined-append, rows-append, valid-behind}
 use Rattle.index.specs.Entries.{gives, refuses, placesOf}
@@ -45,16 +46,19 @@ last-sum f (d ∷ e ∷ ds) (suc k) h = omega (arith, last-sum (f + rowCount d) 
 pub left-many : (x y r p : ℕ) → left.TooMany ≡ leftOf x y r p → p < x + y - r
 left-many x y r p e = go (ltb p (x + y - r)) refl e
   where
-    go : (t : Bool) → ltb p (x + y - r) ≡ t → left.TooMany ≡ pick t left.TooMany (left.Rows (x + y - r)) → p < x + y - r
+    go : (t : Bool) → ltb p (x + y - r) ≡ t → left.TooMany ≡ pick t left.TooMany (left.Rows (record { rows = x + y - r })) → p < x + y - r
     go true q e = ltb-true p (x + y - r) q
     go false q e = let z : _≡_ {A = ℕ} 0 1 = cc in absurd (omega arith)
 
-pub left-rows : (x y r p k : ℕ) → left.Rows k ≡ leftOf x y r p → (k ≡ x + y - r) × (k ≤ p)
+pub left-rows : (x y r p k : ℕ) → left.Rows (record { rows = k }) ≡ leftOf x y r p → (k ≡ x + y - r) × (k ≤ p)
 left-rows x y r p k e = go (ltb p (x + y - r)) refl e
   where
-    go : (t : Bool) → ltb p (x + y - r) ≡ t → left.Rows k ≡ pick t left.TooMany (left.Rows (x + y - r)) → (k ≡ x + y - r) × (k ≤ p)
+    go : (t : Bool) → ltb p (x + y - r) ≡ t → left.Rows (record { rows = k }) ≡ pick t left.TooMany (left.Rows (record { rows = x + y - r })) → (k ≡ x + y - r) × (k ≤ p)
     go true q e = let z : _≡_ {A = ℕ} 0 1 = cc in absurd (omega arith)
-    go false q e = let w : k ≡ x + y - r = cc in (w, omega (arith, ltb-false p (x + y - r) q))
+    go false q e =
+        let u : _≡_ {A = RowNumber} (record { rows = k }) (record { rows = x + y - r }) = cc in
+        let w : k ≡ x + y - r = ap (λ (n : RowNumber). n .rows) u in
+        (w, omega (arith, ltb-false p (x + y - r) q))
 
 module _ (bs f o n : List ℕ) (r : ℕ) where
   abbrev c : Columns

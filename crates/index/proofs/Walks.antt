@@ -25,7 +25,7 @@ use Rattle.index.proofs.Columns.{regrouped}
 use Rattle.index.proofs.Turns.{stream-none, OneRun, NoRun}
 use Rattle.format.proofs.Tests.{and-false}
 
-none-yet : total.Rows 0 ≡ totalOf 0
+none-yet : total.Rows (record { rows = 0 }) ≡ totalOf 0
 unfolding totalOf
 none-yet = refl
 
@@ -72,7 +72,7 @@ module _ (s : List ℕ) where
     pub few : k ≤ p
     pub so-far : surveyFrom k rows p (stream (drop p s)) ≡ surveyFrom 0 0 0 (stream s)
 
-  pub surveyed-first : Surveyed 0 0 (total.Rows 0)
+  pub surveyed-first : Surveyed 0 0 (total.Rows (record { rows = 0 }))
   surveyed-first = record { rows = 0; total-is = none-yet; within = omega arith; few = omega arith; so-far = refl }
 
   module _ (p k : ℕ) (t : Total) (w : Surveyed p k t) where
@@ -103,7 +103,7 @@ module _ (s : List ℕ) where
       pub few : i ≤ length fs
       pub so-far : rightFrom rows p (drop i fs) (drop i os) (drop i ns) (stream (drop p s)) ≡ rightFrom 0 0 fs os ns (stream s)
 
-    pub matched-first : Matched 0 0 (total.Rows 0)
+    pub matched-first : Matched 0 0 (total.Rows (record { rows = 0 }))
     matched-first = record { rows = 0; total-is = none-yet; within = omega arith; few = omega arith; so-far = refl }
 
     module _ (p i : ℕ) (t : Total) (w : Matched p i t) where

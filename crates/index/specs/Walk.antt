@@ -21,7 +21,7 @@ use Rattle.index.specs.declared.Left.the-variants as left
 
 -- a count of rows, while it is at most 2^64 - 1
 unfoldable pub totalOf : ℕ → Total
-totalOf n = pick (leb two64 n) total.Past (total.Rows n)
+totalOf n = pick (leb two64 n) total.Past (total.Rows (record { rows = n }))
 
 -- what a walk finds that has passed k runs, so many rows and p bytes, by the reading of what is left
 abbrev pub surveyFrom : ℕ → ℕ → ℕ → Reading → Survey
@@ -60,7 +60,11 @@ pub record Filled (input first at counts first′ at′ counts′ : List ℕ) : 
 
 -- the rows from r on, where the last entry is known: more than the places, or so many
 abbrev pub leftOf : ℕ → ℕ → ℕ → ℕ → Left
-leftOf first rows r places = pick (ltb places (first + rows - r)) left.TooMany (left.Rows (first + rows - r))
+leftOf first rows r places = pick (ltb places (first + rows - r)) left.TooMany (left.Rows (record { rows = first + rows - r }))
+
+-- a run has no more rows
+abbrev pub mostRows : ℕ
+mostRows = 512
 
 -- a run at a place and the runs behind it, to the end; it has more rows than are left out, and there is room for the others ..
 pub record Ready (input : List ℕ) (at skip places : ℕ) : Type 0 where

@@ -7,10 +7,11 @@ ghost use Rattle.index.specs.Walk.{totalOf, surveyFrom, rightFrom, sameT
 use format::Answer;
 use format::ByteOffset;
 use format::Refusal;
+use format::RowNumber;
 
 // A count of rows, while it is at most 2^64 - 1.
 pub(crate) enum Total {
-    Rows(usize),
+    Rows(RowNumber),
     Past,
 }
 
@@ -20,15 +21,17 @@ pub(crate) enum Survey {
     Refused(Refusal),
 }
 
-fn more(total: Total, n: usize) -> Total
-    ensures { λ r. ⌜ ((m : ℕ) → total ≡ totalOf m → r ≡ totalOf (m + n)) ⌝ }
+fn more(total: Total, n: RowNumber) -> Total
+    ensures { λ r. ⌜ ((m : ℕ) → total ≡ totalOf m → r ≡ totalOf (m + n .rows)) ⌝ }
 {
     match total {
         Total::Rows(m) => {
-            if usize::MAX - m < n {
+            if usize::MAX - m.rows < n.rows {
                 return Total::Past;
             }
-            Total::Rows(m + n)
+            Total::Rows(RowNumber {
+                rows: m.rows + n.rows,
+            })
         }
         Total::Past => Total::Past,
     }
@@ -39,14 +42,14 @@ pub(crate) fn whole_of(input: &[u8]) -> Survey
 {
     let mut place: usize = 0;
     let mut runs: usize = 0;
-    let mut total = Total::Rows(0);
+    let mut total = Total::Rows(RowNumber { rows: 0 });
     while place < input.len() {
         let a = rle_v2::measure(input, ByteOffset { bytes: place });
         match a {
             Answer::Run(run) => {
                 let rows = run.rows;
                 let consumed = run.consumed;
-                total = more(total, rows.rows);
+                total = more(total, rows);
                 place += consumed.bytes;
                 runs += 1;
             }
@@ -62,18 +65,25 @@ pub(crate) fn whole_of(input: &[u8]) -> Survey
 }
 
 // Whether three numbers of the columns are a run's, before which there are so many rows and bytes.
-fn is_entry(first: u64, at: u64, count: u64, total: Total, place: usize, rows: usize) -> bool
-    ensures { λ r. ⌜ ((m : ℕ) → total ≡ totalOf m → r ≡ sameThree first at count m place rows) ⌝ }
+fn is_entry(
+    first: u64,
+    at: u64,
+    count: u64,
+    total: Total,
+    place: ByteOffset,
+    rows: RowNumber,
+) -> bool
+    ensures { λ r. ⌜ ((m : ℕ) → total ≡ totalOf m → r ≡ sameThree first at count m (place .bytes) (rows .rows)) ⌝ }
 {
     match total {
         Total::Rows(m) => {
-            if first as usize != m {
+            if first as usize != m.rows {
                 return false;
             }
-            if at as usize != place {
+            if at as usize != place.bytes {
                 return false;
             }
-            count as usize == rows
+            count as usize == rows.rows
         }
         Total::Past => false,
     }
@@ -86,7 +96,7 @@ pub(crate) fn right(input: &[u8], first: &[u64], at: &[u64], counts: &[u64]) -> 
 {
     let mut place: usize = 0;
     let mut i: usize = 0;
-    let mut total = Total::Rows(0);
+    let mut total = Total::Rows(RowNumber { rows: 0 });
     while place < input.len() {
         let a = rle_v2::measure(input, ByteOffset { bytes: place });
         match a {
@@ -96,10 +106,11 @@ pub(crate) fn right(input: &[u8], first: &[u64], at: &[u64], counts: &[u64]) -> 
                 if first.len() <= i {
                     return false;
                 }
-                if !is_entry(first[i], at[i], counts[i], total, place, rows.rows) {
+                let from = ByteOffset { bytes: place };
+                if !is_entry(first[i], at[i], counts[i], total, from, rows) {
                     return false;
                 }
-                total = more(total, rows.rows);
+                total = more(total, rows);
                 place += consumed.bytes;
                 i += 1;
             }
@@ -117,7 +128,8 @@ pub(crate) fn right(input: &[u8], first: &[u64], at: &[u64], counts: &[u64]) -> 
 // A whole stream's columns, into their first places.
 pub(crate) fn fill(input: &[u8], first: &mut [u64], at: &mut [u64], counts: &mut [u64])
     requires { ⌜ Roomy (now input) (length (now first)) (length (now at)) (length (now counts)) ⌝ }
-    ensures { λ _. ⌜ Filled (now (input .entry)) (now (first .entry)) (now (at .entry)) (now (counts .entry)) (now (first .exit)) (now (at .exit)) (now (counts .exit)) ⌝ }
+    ensures { λ _. ⌜ Filled (now (input .entry)) (now (first .entry)) (now (at .entry)) (now (counts .entry))
+        (now (first .exit)) (now (at .exit)) (now (counts .exit)) ⌝ }
 {
     let mut place: usize = 0;
     let mut row: usize = 0;

@@ -32,25 +32,22 @@ enum Whole {
 }
 
 impl Label {
-    pub fn name(start: usize, size: usize) -> Self
-        ensures { λ r. ⌜ r ≡ nameAt start size ⌝ }
+    pub fn name(start: ByteOffset, size: ByteOffset) -> Self
+        ensures { λ r. ⌜ r ≡ nameAt (start .bytes) (size .bytes) ⌝ }
     {
-        Label::Name(Name {
-            start: ByteOffset { bytes: start },
-            size: ByteOffset { bytes: size },
-        })
+        Label::Name(Name { start, size })
     }
 
-    pub fn fallback(size: usize) -> Self
-        ensures { λ r. ⌜ r ≡ fallbackOf size ⌝ }
+    pub fn fallback(size: ByteOffset) -> Self
+        ensures { λ r. ⌜ r ≡ fallbackOf (size .bytes) ⌝ }
     {
-        Label::Fallback(ByteOffset { bytes: size })
+        Label::Fallback(size)
     }
 
     pub fn refused(number: u8) -> Self
         ensures { λ r. ⌜ r ≡ refusedWith number ⌝ }
     {
-        Label::Refused(Refusal::new(number, 0))
+        Label::Refused(Refusal::new(number, ByteOffset { bytes: 0 }))
     }
 }
 
@@ -90,30 +87,31 @@ fn add_up(lengths: &[i64], block: &[u8]) -> bool
 }
 
 // Where name k begins: the sum of the lengths before it.
-fn start_of(lengths: &[i64], block: &[u8], k: usize) -> usize
+fn start_of(lengths: &[i64], block: &[u8], k: usize) -> ByteOffset
     requires { ⌜ (addUp (now lengths) (now block) ≡ true) × (k ≤ length (now lengths)) ⌝ }
-    ensures { λ r. ⌜ r ≡ startOf (now (lengths .entry)) k ⌝ }
+    ensures { λ r. ⌜ r .bytes ≡ startOf (now (lengths .entry)) k ⌝ }
 {
     let mut sum: usize = 0;
     let mut i: usize = 0;
     while i < k {
         let Whole::Number(size) = entry(lengths, i) else {
-            return sum;
+            return ByteOffset { bytes: sum };
         };
         sum += size;
         i += 1;
     }
-    sum
+    ByteOffset { bytes: sum }
 }
 
 // Which entry of the numbers is the row's: as many as the rows before it have names.
-fn entry_of(flags: &[u8], row: usize) -> usize
-    requires { ⌜ row ≤ length (now flags) ⌝ }
-    ensures { λ r. ⌜ r ≡ entryOf (now (flags .entry)) row ⌝ }
+fn entry_of(flags: &[u8], row: RowNumber) -> usize
+    requires { ⌜ row .rows ≤ length (now flags) ⌝ }
+    ensures { λ r. ⌜ r ≡ entryOf (now (flags .entry)) (row .rows) ⌝ }
 {
+    let before = row.rows;
     let mut names: usize = 0;
     let mut i: usize = 0;
-    while i < row {
+    while i < before {
         if flags[i] != 0 {
             names += 1;
         }
@@ -140,7 +138,7 @@ fn named(lengths: &[i64], numbers: &[i64], block: &[u8], at: usize) -> Label
     let Whole::Number(size) = entry(lengths, k) else {
         return Label::refused(18);
     };
-    Label::name(start_of(lengths, block, k), size)
+    Label::name(start_of(lengths, block, k), ByteOffset { bytes: size })
 }
 
 // What the row is called. Refusals: 16 no such row, 18 lengths below 0 or not adding up to the block, 19 a number outside the dictionary or
@@ -163,9 +161,11 @@ pub fn label_of(
         return Label::refused(18);
     }
     if flags[i] == 0 {
-        return Label::fallback(fallback.len());
+        return Label::fallback(ByteOffset {
+            bytes: fallback.len(),
+        });
     }
-    named(lengths, numbers, block, entry_of(flags, i))
+    named(lengths, numbers, block, entry_of(flags, row))
 }
 
 // The name itself, a part of the block, or the fallback, lent and not copied: empty if `label_of` refuses.

@@ -10,6 +10,7 @@ ghost use Rattle.text.specs.Written.{TextWritten};
 use format::Answer;
 use format::ByteOffset;
 use format::Kind;
+use format::RowNumber;
 use text::put;
 use text::put_decimal;
 use text::put_rows;
@@ -29,8 +30,8 @@ pub const MAX_LINE: usize = 8800;
 
 const MAX_FRAME: usize = MAX_LINE / 2;
 
-// Room for any answer line: `run `, two numbers of at most 20 digits, 512 rows of at most 21 characters, the spaces and the newline.
-pub const ANSWER_ROOM: usize = 11310;
+// Room for any answer line: `run `, two numbers of at most 20 digits, rows of at most 21 characters, a space before each, and the newline.
+pub const ANSWER_ROOM: usize = 46 + 22 * Kind::MAX_ROWS;
 
 // What is read of a line: that it is bad, or what the run reader answers to its bytes.
 pub enum Reading {
@@ -39,28 +40,35 @@ pub enum Reading {
 }
 
 // A run's rows, its bytes consumed, and then the rows.
-fn put_run(rows: usize, consumed: usize, values: &[i64], out: &mut [u8]) -> usize
-    requires { ⌜ (rows ≤ 512) × (rows ≤ length (now values)) × (answerRoom ≤ length (now out)) ⌝ }
-    ensures { λ r. ⌜ TextWritten (runWords rows consumed (take rows (now (values .entry)))) (now (out .entry)) 0 (now (out .exit)) r ⌝ }
+fn put_run(rows: RowNumber, consumed: ByteOffset, values: &[i64], out: &mut [u8]) -> ByteOffset
+    requires { ⌜ (rows .rows ≤ 512) × (rows .rows ≤ length (now values)) × (answerRoom ≤ length (now out)) ⌝ }
+    ensures { λ r. ⌜ TextWritten (runWords (rows .rows) (consumed .bytes) (take (rows .rows) (now (values .entry))))
+        (now (out .entry)) 0 (now (out .exit)) (r .bytes) ⌝ }
 {
     let mut at = put_word(&RUN, out, 0);
-    at = put_decimal(rows as u64, out, at);
+    at = put_decimal(rows.rows as u64, out, at);
     at = put(b' ', out, at);
-    at = put_decimal(consumed as u64, out, at);
-    put_rows(values, rows, out, at)
+    at = put_decimal(consumed.bytes as u64, out, at);
+    at = put_rows(values, rows.rows, out, at);
+    ByteOffset { bytes: at }
 }
 
 // What the run reader answered, in words.
-fn put_answer(answer: Answer, values: &[i64], out: &mut [u8]) -> usize
+fn put_answer(answer: Answer, values: &[i64], out: &mut [u8]) -> ByteOffset
     requires { ⌜ (answerRows answer ≤ 512) × (answerRows answer ≤ length (now values)) × (answerRoom ≤ length (now out)) ⌝ }
-    ensures { λ r. ⌜ TextWritten (answerWords answer (take (answerRows answer) (now (values .entry)))) (now (out .entry)) 0 (now (out .exit)) r ⌝ }
+    ensures { λ r. ⌜ TextWritten (answerWords answer (take (answerRows answer) (now (values .entry))))
+        (now (out .entry)) 0 (now (out .exit)) (r .bytes) ⌝ }
 {
     match answer {
-        Answer::End => put_word(&END, out, 0),
-        Answer::Run(run) => put_run(run.rows.rows, run.consumed.bytes, values, out),
+        Answer::End => {
+            let end = put_word(&END, out, 0);
+            ByteOffset { bytes: end }
+        }
+        Answer::Run(run) => put_run(run.rows, run.consumed, values, out),
         Answer::Refused(refusal) => {
             let at = put_word(&REFUSED, out, 0);
-            put_decimal(refusal.number as u64, out, at)
+            let end = put_decimal(refusal.number as u64, out, at);
+            ByteOffset { bytes: end }
         }
     }
 }
@@ -79,27 +87,28 @@ fn row_places() -> [i64; Kind::MAX_ROWS]
 }
 
 // How many bytes the line writes, put into the first places of the frame: 0 where the line is bad.
-fn frame_of(line: &[u8], frame: &mut [u8]) -> usize
+fn frame_of(line: &[u8], frame: &mut [u8]) -> ByteOffset
     requires { ⌜ 4400 ≤ length (now frame) ⌝ }
-    ensures { λ r. ⌜ Framed (now (line .entry)) (now (frame .exit)) r ⌝ }
+    ensures { λ r. ⌜ Framed (now (line .entry)) (now (frame .exit)) (r .bytes) ⌝ }
 {
+    let none = ByteOffset { bytes: 0 };
     let len = line.len();
     if len == 0 {
-        return 0;
+        return none;
     }
     if len % 2 == 1 {
-        return 0;
+        return none;
     }
     if MAX_LINE < len {
-        return 0;
+        return none;
     }
     if !text::hexadecimal::bytes(line, frame) {
-        return 0;
+        return none;
     }
     if 1 < frame[0] {
-        return 0;
+        return none;
     }
-    len / 2
+    ByteOffset { bytes: len / 2 }
 }
 
 // What the run reader answers to a frame that has a flag.
@@ -112,14 +121,15 @@ fn read_frame(frame: &[u8], rows: &mut [i64]) -> Answer
 }
 
 // The answer line to a frame that has a flag.
-fn put_frame(frame: &[u8], out: &mut [u8]) -> usize
+fn put_frame(frame: &[u8], out: &mut [u8]) -> ByteOffset
     requires { ⌜ (0 < length (now frame)) × (answerRoom ≤ length (now out)) ⌝ }
-    ensures { λ r. ⌜ TextWritten (ended (frameText (now (frame .entry)))) (now (out .entry)) 0 (now (out .exit)) r ⌝ }
+    ensures { λ r. ⌜ TextWritten (ended (frameText (now (frame .entry)))) (now (out .entry)) 0 (now (out .exit)) (r .bytes) ⌝ }
 {
     let mut rows = row_places();
     let answer = read_frame(frame, &mut rows);
     let at = put_answer(answer, &rows, out);
-    put(b'\n', out, at)
+    let end = put(b'\n', out, at.bytes);
+    ByteOffset { bytes: end }
 }
 
 // The answer line to a line (its bytes without the newline), in the first bytes of `out`: how many they are. Nothing is written where `out` has
@@ -131,11 +141,13 @@ pub fn answer_line(line: &[u8], out: &mut [u8]) -> usize
         return 0;
     }
     let mut frame = frame_places();
-    let n = frame_of(line, &mut frame);
+    let size = frame_of(line, &mut frame);
+    let n = size.bytes;
     if n == 0 {
         return put_word(&BAD_LINE, out, 0);
     }
-    put_frame(&frame[..n], out)
+    let written = put_frame(&frame[..n], out);
+    written.bytes
 }
 
 // What is read of a line (its bytes without the newline); the rows of a run go into the first places.
@@ -143,7 +155,8 @@ pub fn read_line(line: &[u8], rows: &mut [i64]) -> Reading
     ensures { λ r. ⌜ LineRead (now (line .entry)) (now (rows .entry)) (now (rows .exit)) r ⌝ }
 {
     let mut frame = frame_places();
-    let n = frame_of(line, &mut frame);
+    let size = frame_of(line, &mut frame);
+    let n = size.bytes;
     if n == 0 {
         return Reading::Bad;
     }

@@ -10,45 +10,50 @@ ghost use Rattle.format.specs.Loader.{lowestFirst, rowBytes, LoadedAs};
 use format::Answer;
 use format::ByteOffset;
 use format::Kind;
+use format::RowNumber;
 use util::big_endian;
 use util::number;
 use util::pattern;
 
 // The eight bytes of x at a place, lowest first: the eight stores become one.
-fn put_row(x: u64, out: &mut [u8], at: usize)
-    requires { ⌜ at + 8 ≤ length (now out) ⌝ }
-    ensures { λ _. ⌜ now (out .exit) ≡ (take at (now (out .entry)) ++ lowestFirst 8 x) ++ drop (at + 8) (now (out .entry)) ⌝ }
+fn put_row(x: u64, out: &mut [u8], at: ByteOffset)
+    requires { ⌜ at .bytes + 8 ≤ length (now out) ⌝ }
+    ensures { λ _. ⌜ now (out .exit)
+        ≡ (take (at .bytes) (now (out .entry)) ++ lowestFirst 8 x) ++ drop (at .bytes + 8) (now (out .entry)) ⌝ }
 {
+    let p = at.bytes;
     let mut left = x;
     let mut j = 0;
     while j < 8 {
-        out[at + j] = (left % 256) as u8;
+        out[p + j] = (left % 256) as u8;
         left = left / 256;
         j += 1;
     }
 }
 
-// The first n rows, eight bytes each.
-fn put_rows(rows: &[i64], n: usize, out: &mut [u8])
-    requires { ⌜ (n ≤ length (now rows)) × (8 * n ≤ length (now out)) ⌝ }
-    ensures { λ _. ⌜ now (out .exit) ≡ rowBytes (take n (now (rows .entry))) ++ drop (8 * n) (now (out .entry)) ⌝ }
+// The first rows, so many, eight bytes each.
+fn put_rows(rows: &[i64], count: RowNumber, out: &mut [u8])
+    requires { ⌜ (count .rows ≤ length (now rows)) × (8 * count .rows ≤ length (now out)) ⌝ }
+    ensures { λ _. ⌜ now (out .exit) ≡ rowBytes (take (count .rows) (now (rows .entry))) ++ drop (8 * count .rows) (now (out .entry)) ⌝ }
 {
+    let n = count.rows;
     let mut i = 0;
     while i < n {
         let row = rows[i];
-        put_row(pattern::to_u64(row), out, 8 * i);
+        put_row(pattern::to_u64(row), out, ByteOffset { bytes: 8 * i });
         i += 1;
     }
 }
 
-// n equal rows, eight bytes each.
-fn put_repeat(x: u64, n: usize, out: &mut [u8])
-    requires { ⌜ 8 * n ≤ length (now out) ⌝ }
-    ensures { λ _. ⌜ now (out .exit) ≡ rowBytes (map asI64 (replicate n x)) ++ drop (8 * n) (now (out .entry)) ⌝ }
+// So many equal rows, eight bytes each.
+fn put_repeat(x: u64, count: RowNumber, out: &mut [u8])
+    requires { ⌜ 8 * count .rows ≤ length (now out) ⌝ }
+    ensures { λ _. ⌜ now (out .exit) ≡ rowBytes (map asI64 (replicate (count .rows) x)) ++ drop (8 * count .rows) (now (out .entry)) ⌝ }
 {
+    let n = count.rows;
     let mut i = 0;
     while i < n {
-        put_row(x, out, 8 * i);
+        put_row(x, out, ByteOffset { bytes: 8 * i });
         i += 1;
     }
 }
@@ -66,7 +71,7 @@ pub(crate) fn read_repeat(input: &[u8], signed: bool, out: &mut [u8]) -> u64
                 return 8;
             }
             let x = pattern::row(signed, big_endian::read(input, 1, r.width / 8));
-            put_repeat(x, count.rows, out);
+            put_repeat(x, count, out);
             measured.packed()
         }
         Answer::Refused(_) => measured.packed(),
@@ -101,5 +106,5 @@ pub(crate) fn is_short(input: &[u8]) -> bool
     if input.len() < 2 {
         return false;
     }
-    input[0] % 2 == 0 && input[1] < 10
+    input[0] % 2 == 0 && input[1] < Kind::MAX_REPEAT as u8
 }

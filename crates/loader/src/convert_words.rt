@@ -23,7 +23,7 @@ pub(crate) fn of(converted: Converted) -> [u64; COUNT]
                 0,
                 0,
                 cut_case(cut),
-                cut_byte(cut) as u64,
+                cut_byte(cut).bytes as u64,
             ]
         }
     }

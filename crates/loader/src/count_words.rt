@@ -21,7 +21,7 @@ pub(crate) fn of(count: Count) -> [u64; COUNT]
                 f.place.bytes as u64,
                 0,
                 cut_case(cut),
-                cut_byte(cut) as u64,
+                cut_byte(cut).bytes as u64,
             ]
         }
     }

@@ -4,6 +4,7 @@ ghost use Prim.Native.Nat.{min};
 ghost use Rattle.format.specs.Loader.{formOf, WrittenBy};
 ghost use Rattle.format.specs.PatchedWriting.{PatchedWritten};
 use format::Answer;
+use format::ByteOffset;
 use format::Form;
 
 fn form_of(form: u64) -> Form
@@ -29,7 +30,7 @@ pub(crate) fn write(rows: &[i64], signed: bool, form: u64, width: u64, out: &mut
     ensures { λ r. ⌜ WrittenBy (now (rows .entry)) signed form width (now (out .entry)) (now (out .exit)) r ⌝ }
 {
     if 3 < form {
-        return Answer::refused(10, 0);
+        return Answer::refused(10, ByteOffset { bytes: 0 });
     }
     writer::write_run(rows, signed, form_of(form), byte_width(width), out)
 }

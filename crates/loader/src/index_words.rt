@@ -40,7 +40,7 @@ pub(crate) fn of_built(built: Built) -> [u64; BUILT_COUNT]
                 0,
                 0,
                 cut_case(cut),
-                cut_byte(cut) as u64,
+                cut_byte(cut).bytes as u64,
             ]
         }
     }

@@ -124,7 +124,11 @@ pub extern "C" fn orc_byte_value(input: &[u8], at: u64, n: u64, words: &mut [u64
     if words.len() < words::COUNT {
         return words::TOO_FEW;
     }
-    let answer = variable_length::read_value(input, ByteOffset { bytes: at as usize }, n as usize);
+    let answer = variable_length::read_value(
+        input,
+        ByteOffset { bytes: at as usize },
+        ByteOffset { bytes: n as usize },
+    );
     words::put_answer(answer, words)
 }
 
@@ -218,7 +222,9 @@ pub extern "C" fn orc_check_column(
         forms,
         widths,
         bases,
-        room as usize,
+        ByteOffset {
+            bytes: room as usize,
+        },
     );
     let said = column_words::of_checked(checked);
     words::lay(&said, words);
@@ -360,7 +366,7 @@ pub extern "C" fn orc_count_true(packed: &[u8], n: u64, words: &mut [u64]) -> u6
     if words.len() < count_words::COUNT {
         return words::TOO_FEW;
     }
-    let count = season::count_true(packed, n as usize);
+    let count = season::count_true(packed, RowNumber { rows: n as usize });
     let said = count_words::of(count);
     words::lay(&said, words);
     said[1]

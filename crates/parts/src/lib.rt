@@ -46,19 +46,20 @@ fn idle(reader: PartReader, answer: PartAnswer) -> PartStep
 fn too_few(reader: PartReader) -> PartStep
     ensures { λ r. ⌜ r ≡ tooFew reader ⌝ }
 {
-    idle(reader, PartAnswer::Refused(Refusal::new(8, 0)))
+    let none = ByteOffset { bytes: 0 };
+    idle(reader, PartAnswer::Refused(Refusal::new(8, none)))
 }
 
 // All of the part is taken, and the bytes seen are held.
-fn hold(reader: PartReader, seen: usize, part: usize) -> PartStep
-    ensures { λ r. ⌜ r ≡ holds reader seen part ⌝ }
+fn hold(reader: PartReader, seen: ByteOffset, part: ByteOffset) -> PartStep
+    ensures { λ r. ⌜ r ≡ holds reader (seen .bytes) (part .bytes) ⌝ }
 {
     let at = reader.at;
     PartStep {
         answer: PartAnswer::More,
-        taken: ByteOffset { bytes: part },
+        taken: part,
         reader: PartReader {
-            held: seen,
+            held: seen.bytes,
             at,
             standing: Standing::Opened,
         },
@@ -66,8 +67,8 @@ fn hold(reader: PartReader, seen: usize, part: usize) -> PartStep
 }
 
 // The run is handed out: the next one starts behind it.
-fn hand(reader: PartReader, taken: usize, run: Run) -> PartStep
-    ensures { λ r. ⌜ r ≡ hands reader taken run ⌝ }
+fn hand(reader: PartReader, taken: ByteOffset, run: Run) -> PartStep
+    ensures { λ r. ⌜ r ≡ hands reader (taken .bytes) run ⌝ }
 {
     let at = reader.at;
     let consumed = run.consumed;
@@ -85,7 +86,7 @@ fn hand(reader: PartReader, taken: usize, run: Run) -> PartStep
     };
     PartStep {
         answer: PartAnswer::Run(at, handed),
-        taken: ByteOffset { bytes: taken },
+        taken,
         reader: PartReader {
             held: 0,
             at: ByteOffset { bytes: next },
@@ -127,10 +128,10 @@ fn from_first(at: ByteOffset, f: Refusal) -> Refusal
     let number = f.number;
     let cut = f.cut;
     match cut {
-        CutField::None => Refusal::new(number, at.bytes),
+        CutField::None => Refusal::new(number, at),
         CutField::At(field) => {
             let byte = std::num::wrapping_add_usize(at.bytes, field.bytes);
-            Refusal::cut(number, at.bytes, byte)
+            Refusal::cut(number, at, ByteOffset { bytes: byte })
         }
     }
 }
@@ -148,21 +149,32 @@ fn cut_short(f: Refusal) -> bool
 }
 
 // What is above a number: 0 where nothing is.
-fn beyond(n: usize, most: usize) -> usize
-    ensures { λ r. ⌜ r ≡ n - most ⌝ }
+fn beyond(n: ByteOffset, most: ByteOffset) -> ByteOffset
+    ensures { λ r. ⌜ r .bytes ≡ n .bytes - most .bytes ⌝ }
 {
-    if n < most { 0 } else { n - most }
+    let all = n.bytes;
+    let least = most.bytes;
+    if all < least {
+        return ByteOffset { bytes: 0 };
+    }
+    ByteOffset { bytes: all - least }
 }
 
 // A call with a part, by what reading gave of the bytes looked at: those held, and as many of the part's behind them as a run can have.
-fn on_part(reader: PartReader, held: usize, seen: usize, part: usize, a: Answer) -> PartStep
-    ensures { λ r. ⌜ r ≡ byAnswer reader held seen part a ⌝ }
+fn on_part(
+    reader: PartReader,
+    held: ByteOffset,
+    seen: ByteOffset,
+    part: ByteOffset,
+    a: Answer,
+) -> PartStep
+    ensures { λ r. ⌜ r ≡ byAnswer reader (held .bytes) (seen .bytes) (part .bytes) a ⌝ }
 {
     let at = reader.at;
     match a {
         Answer::Run(r) => {
             let consumed = r.consumed;
-            let taken = beyond(consumed.bytes, held);
+            let taken = beyond(consumed, held);
             hand(reader, taken, r)
         }
         Answer::Refused(f) => {
@@ -215,39 +227,50 @@ fn is_refused(step: PartStep) -> bool
 fn join(
     reader: PartReader,
     part: &[u8],
-    h: usize,
-    k: usize,
+    held: ByteOffset,
+    more: ByteOffset,
     signed: bool,
     buffer: &mut [u8],
     out: &mut [i64],
 ) -> PartStep
     requires { ⌜ 512 ≤ length (now out) ⌝ }
-    requires { ⌜ Begun reader (now part) (now buffer) h k ⌝ }
-    ensures { λ r. ⌜ Joins reader (now (part .entry)) (now (buffer .entry)) (now (buffer .exit)) h k signed (now (out .entry)) (now (out .exit)) r (goes reader (now (part .entry)) (now (buffer .entry))) ⌝ }
+    requires { ⌜ Begun reader (now part) (now buffer) (held .bytes) (more .bytes) ⌝ }
+    ensures { λ r. ⌜ Joins reader (now (part .entry)) (now (buffer .entry)) (now (buffer .exit)) (held .bytes) (more .bytes) signed
+        (now (out .entry)) (now (out .exit)) r (goes reader (now (part .entry)) (now (buffer .entry))) ⌝ }
 {
+    let h = held.bytes;
+    let k = more.bytes;
     bytes::copy(part, k, buffer, h);
     let a = rle_v2::read_run(&buffer[..h + k], ByteOffset { bytes: 0 }, signed, out);
-    on_part(reader, h, h + k, part.len(), a)
+    on_part(
+        reader,
+        held,
+        ByteOffset { bytes: h + k },
+        ByteOffset { bytes: part.len() },
+        a,
+    )
 }
 
 // The same, but a call that refuses puts back what stood after the bytes held.
 fn join_or_restore(
     reader: PartReader,
     part: &[u8],
-    h: usize,
-    k: usize,
+    held: ByteOffset,
+    more: ByteOffset,
     signed: bool,
     buffer: &mut [u8],
     saved: &mut [u8],
     out: &mut [i64],
 ) -> PartStep
     requires { ⌜ 512 ≤ length (now out) ⌝ }
-    requires { ⌜ k ≤ length (now saved) ⌝ }
-    requires { ⌜ Begun reader (now part) (now buffer) h k ⌝ }
+    requires { ⌜ more .bytes ≤ length (now saved) ⌝ }
+    requires { ⌜ Begun reader (now part) (now buffer) (held .bytes) (more .bytes) ⌝ }
     ensures { λ r. ⌜ Goes reader (now (part .entry)) (now (buffer .entry)) (now (buffer .exit)) signed (now (out .entry)) (now (out .exit)) r (goes reader (now (part .entry)) (now (buffer .entry))) ⌝ }
 {
+    let h = held.bytes;
+    let k = more.bytes;
     bytes::copy(&buffer[h..], k, saved, 0);
-    let step = join(reader, part, h, k, signed, buffer, out);
+    let step = join(reader, part, held, more, signed, buffer, out);
     if is_refused(step) {
         bytes::copy(saved, k, buffer, h);
     }
@@ -270,22 +293,23 @@ fn most() -> [u8; Kind::MAX_BYTES]
 fn restoring(
     reader: PartReader,
     part: &[u8],
-    h: usize,
-    k: usize,
+    held: ByteOffset,
+    more: ByteOffset,
     signed: bool,
     buffer: &mut [u8],
     out: &mut [i64],
 ) -> PartStep
     requires { ⌜ 512 ≤ length (now out) ⌝ }
-    requires { ⌜ Begun reader (now part) (now buffer) h k ⌝ }
+    requires { ⌜ Begun reader (now part) (now buffer) (held .bytes) (more .bytes) ⌝ }
     ensures { λ r. ⌜ Goes reader (now (part .entry)) (now (buffer .entry)) (now (buffer .exit)) signed (now (out .entry)) (now (out .exit)) r (goes reader (now (part .entry)) (now (buffer .entry))) ⌝ }
 {
+    let k = more.bytes;
     if k <= 128 {
         let mut saved = few();
-        return join_or_restore(reader, part, h, k, signed, buffer, &mut saved, out);
+        return join_or_restore(reader, part, held, more, signed, buffer, &mut saved, out);
     }
     let mut saved = most();
-    join_or_restore(reader, part, h, k, signed, buffer, &mut saved, out)
+    join_or_restore(reader, part, held, more, signed, buffer, &mut saved, out)
 }
 
 // A patched or delta run that began before the part. If its front is held, that and the length tell whether it stays unfinished: then what stands
@@ -293,31 +317,34 @@ fn restoring(
 fn begun(
     reader: PartReader,
     part: &[u8],
-    h: usize,
-    k: usize,
+    held: ByteOffset,
+    more: ByteOffset,
     signed: bool,
     buffer: &mut [u8],
     out: &mut [i64],
 ) -> PartStep
     requires { ⌜ 512 ≤ length (now out) ⌝ }
-    requires { ⌜ Begun reader (now part) (now buffer) h k ⌝ }
+    requires { ⌜ Begun reader (now part) (now buffer) (held .bytes) (more .bytes) ⌝ }
     ensures { λ r. ⌜ Goes reader (now (part .entry)) (now (buffer .entry)) (now (buffer .exit)) signed (now (out .entry)) (now (out .exit)) r (goes reader (now (part .entry)) (now (buffer .entry))) ⌝ }
 {
+    let h = held.bytes;
+    let k = more.bytes;
     if Kind::MAX_FRONT <= h {
         let a = rle_v2::measure(&buffer[..h + k], ByteOffset { bytes: 0 });
         if is_cut(a) {
             bytes::copy(part, k, buffer, h);
-            return hold(reader, h + k, part.len());
+            let seen = ByteOffset { bytes: h + k };
+            return hold(reader, seen, ByteOffset { bytes: part.len() });
         }
         if is_whole(a) {
             if 3 <= buffer[0] / 64 {
                 // a delta run's front tells that it is not refused
-                return join(reader, part, h, k, signed, buffer, out);
+                return join(reader, part, held, more, signed, buffer, out);
             }
         }
-        return restoring(reader, part, h, k, signed, buffer, out);
+        return restoring(reader, part, held, more, signed, buffer, out);
     }
-    restoring(reader, part, h, k, signed, buffer, out)
+    restoring(reader, part, held, more, signed, buffer, out)
 }
 
 // A call with a part of an open reader, with room enough.
@@ -337,19 +364,32 @@ fn opened(
     if h == 0 {
         // a run that lies whole in its part is read from there
         let a = rle_v2::read_first(part, signed, out);
-        let step = on_part(reader, 0, n, n, a);
+        let all = ByteOffset { bytes: n };
+        let step = on_part(reader, ByteOffset { bytes: 0 }, all, all, a);
         let kept = step.reader;
         bytes::copy(part, kept.held, buffer, 0);
         return step;
     }
-    let k = number::least(n, beyond(Kind::MAX_BYTES, h));
+    let held = ByteOffset { bytes: h };
+    let most = ByteOffset {
+        bytes: Kind::MAX_BYTES,
+    };
+    let room = beyond(most, held);
+    let k = number::least(n, room.bytes);
     if 2 <= buffer[0] / 64 {
-        return begun(reader, part, h, k, signed, buffer, out);
+        let more = ByteOffset { bytes: k };
+        return begun(reader, part, held, more, signed, buffer, out);
     }
     // a short repeat or a direct run is never refused, only unfinished
     bytes::copy(part, k, buffer, h);
     let a = rle_v2::read_gathered(&buffer[..h + k], signed, out);
-    on_part(reader, h, h + k, n, a)
+    on_part(
+        reader,
+        held,
+        ByteOffset { bytes: h + k },
+        ByteOffset { bytes: n },
+        a,
+    )
 }
 
 // One call with a part: it is taken up to the end of a run, which is handed out, or all of it; a call that refuses takes nothing. For fewer
@@ -383,7 +423,7 @@ fn on_close(reader: PartReader, a: Answer) -> PartStep
 {
     let at = reader.at;
     match a {
-        Answer::Run(r) => hand(reader, 0, r),
+        Answer::Run(r) => hand(reader, ByteOffset { bytes: 0 }, r),
         Answer::Refused(f) => refuse(reader, from_first(at, f)),
         Answer::End => stop(reader, Standing::Closed, PartAnswer::End),
     }

@@ -43,22 +43,24 @@ pub(crate) fn walk(
     forms: &[u64],
     widths: &[u64],
     bases: &[u64],
-    room: usize,
+    room: ByteOffset,
 ) -> Checked
     requires { ⌜ equalLengths (proposal (now first) (now counts) (now forms) (now widths) (now bases)) ≡ true ⌝ }
-    ensures { λ r. ⌜ r ≡ checkedAs signed (now (rows .entry)) (proposal (now (first .entry)) (now (counts .entry)) (now (forms .entry)) (now (widths .entry)) (now (bases .entry))) room ⌝ }
+    ensures { λ r. ⌜ r ≡ checkedAs signed (now (rows .entry)) (proposal (now (first .entry)) (now (counts .entry)) (now (forms .entry)) (now (widths .entry)) (now (bases .entry))) (room .bytes) ⌝ }
 {
+    let limit = room.bytes;
     let mut run = bytes_room();
     let mut k: usize = 0;
     let mut row: usize = 0;
     let mut bytes: usize = 0;
     while k < first.len() {
         let s = segment::at(first, counts, forms, widths, bases, k);
-        let n = segment::step_size(rows, signed, row, s, &mut run);
+        let at = RowNumber { rows: row };
+        let n = segment::step_size(rows, signed, at, s, &mut run).bytes;
         if n == 0 {
             return Checked::Rejected;
         }
-        if room - bytes < n {
+        if limit - bytes < n {
             return Checked::Rejected;
         }
         k += 1;
@@ -89,6 +91,7 @@ pub(crate) fn sound(
     requires { ⌜ Proposed (now first) (now counts) (now forms) (now widths) (now bases) k ⌝ }
     ensures { λ r. ⌜ Kept signed (now (rows .entry)) (proposal (now (first .entry)) (now (counts .entry)) (now (forms .entry)) (now (widths .entry)) (now (bases .entry))) r ⌝ }
 {
+    let any = ByteOffset { bytes: usize::MAX };
     let c = walk(
         rows,
         signed,
@@ -97,11 +100,11 @@ pub(crate) fn sound(
         &forms[..k],
         &widths[..k],
         &bases[..k],
-        usize::MAX,
+        any,
     );
     match c {
         Checked::Accepted(t) => {
-            if write::is_longer(t.bytes.bytes, rows.len()) {
+            if write::is_longer(t.bytes, RowNumber { rows: rows.len() }) {
                 return 0;
             }
             k

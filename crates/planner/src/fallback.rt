@@ -8,13 +8,15 @@ ghost use Rattle.planner.specs.Check.{proposal};
 ghost use Rattle.planner.specs.Plan.{directRuns, DirectLaid, FallsBack};
 use crate::write;
 use format::Kind;
+use format::RowNumber;
 
 // How many direct runs so many rows have.
-fn runs_of(rows: usize) -> usize
-    ensures { λ r. ⌜ r ≡ directRuns rows ⌝ }
+fn runs_of(rows: RowNumber) -> usize
+    ensures { λ r. ⌜ r ≡ directRuns (rows .rows) ⌝ }
 {
-    let whole = rows / Kind::MAX_ROWS;
-    if rows % Kind::MAX_ROWS == 0 {
+    let n = rows.rows;
+    let whole = n / Kind::MAX_ROWS;
+    if n % Kind::MAX_ROWS == 0 {
         return whole;
     }
     whole + 1
@@ -48,7 +50,7 @@ fn have_places(
 
 // The segments of the direct runs, in the first places of the columns: 512 rows each, and the rest last.
 fn lay(
-    rows: usize,
+    rows: RowNumber,
     runs: usize,
     first: &mut [u64],
     counts: &mut [u64],
@@ -56,17 +58,19 @@ fn lay(
     widths: &mut [u64],
     bases: &mut [u64],
 )
-    requires { ⌜ (runs ≡ directRuns rows) × Proposed (now first) (now counts) (now forms) (now widths) (now bases) runs ⌝ }
-    ensures { λ _. ⌜ DirectLaid rows (proposal (now (first .exit)) (now (counts .exit)) (now (forms .exit)) (now (widths .exit)) (now (bases .exit))) runs ⌝ }
+    requires { ⌜ (runs ≡ directRuns (rows .rows)) × Proposed (now first) (now counts) (now forms) (now widths) (now bases) runs ⌝ }
+    ensures { λ _. ⌜ DirectLaid (rows .rows) (proposal (now (first .exit)) (now (counts .exit)) (now (forms .exit)) (now (widths .exit)) (now (bases .exit))) runs ⌝ }
 {
+    let n = rows.rows;
     let mut k: usize = 0;
     while k < runs {
         let row = Kind::MAX_ROWS * k;
-        let count = write::part_rows(rows - row);
+        let left = n - row;
+        let count = write::part_rows(RowNumber { rows: left }).rows;
         first[k] = row as u64;
         counts[k] = count as u64;
         forms[k] = 1;
-        widths[k] = 31;
+        widths[k] = write::WIDEST as u64;
         bases[k] = 0;
         k += 1;
     }
@@ -84,7 +88,8 @@ pub(crate) fn propose(
     ensures { λ r. ⌜ FallsBack (now (rows .entry)) (proposal (now (first .exit)) (now (counts .exit)) (now (forms .exit)) (now (widths .exit)) (now (bases .exit))) r ⌝ }
 {
     write::know(rows);
-    let runs = runs_of(rows.len());
+    let n = RowNumber { rows: rows.len() };
+    let runs = runs_of(n);
     if !have_places(
         runs,
         first.len(),
@@ -95,6 +100,6 @@ pub(crate) fn propose(
     ) {
         return 0;
     }
-    lay(rows.len(), runs, first, counts, forms, widths, bases);
+    lay(n, runs, first, counts, forms, widths, bases);
     runs
 }

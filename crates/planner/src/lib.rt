@@ -42,9 +42,9 @@ pub fn check(
     forms: &[u64],
     widths: &[u64],
     bases: &[u64],
-    room: usize,
+    room: ByteOffset,
 ) -> Checked
-    ensures { λ r. ⌜ r ≡ checkedAs signed (now (rows .entry)) (proposal (now (first .entry)) (now (counts .entry)) (now (forms .entry)) (now (widths .entry)) (now (bases .entry))) room ⌝ }
+    ensures { λ r. ⌜ r ≡ checkedAs signed (now (rows .entry)) (proposal (now (first .entry)) (now (counts .entry)) (now (forms .entry)) (now (widths .entry)) (now (bases .entry))) (room .bytes) ⌝ }
 {
     let n = first.len();
     if !accept::are_equal(n, counts.len(), forms.len(), widths.len(), bases.len()) {
@@ -66,15 +66,16 @@ pub fn write_column(
 ) -> ColumnAnswer
     ensures { λ r. ⌜ Wrote signed (now (rows .entry)) (proposal (now (first .entry)) (now (counts .entry)) (now (forms .entry)) (now (widths .entry)) (now (bases .entry))) (now (out .entry)) (now (out .exit)) r ⌝ }
 {
-    let c = check(rows, signed, first, counts, forms, widths, bases, out.len());
+    let room = ByteOffset { bytes: out.len() };
+    let c = check(rows, signed, first, counts, forms, widths, bases, room);
     match c {
         Checked::Accepted(t) => {
             write::planned(rows, signed, first, counts, forms, widths, bases, out);
             ColumnAnswer::Planned(t)
         }
         Checked::Rejected => {
-            if !write::wide_fits(rows.len(), out.len()) {
-                return ColumnAnswer::Refused(Refusal::new(8, 0));
+            if !write::wide_fits(RowNumber { rows: rows.len() }, room) {
+                return ColumnAnswer::Refused(Refusal::new(8, ByteOffset { bytes: 0 }));
             }
             ColumnAnswer::Direct(write::wide(rows, signed, out))
         }

@@ -5,7 +5,9 @@ ghost use lib.ListN.{length};
 ghost use Rattle.writer.specs.Sizes.{sizeIn};
 ghost use Rattle.planner.specs.Check.{proposal, anyRun, writeIn};
 ghost use Rattle.planner.specs.Walk.{formOf, segmentAt, inPlace, stepIn, Ran};
+use format::ByteOffset;
 use format::Form;
+use format::RowNumber;
 use util::pattern;
 
 // As it is proposed: any five numbers.
@@ -55,14 +57,14 @@ fn form_of(form: u64) -> Form
 }
 
 // Some rows as the segment's run: its bytes, or 0 where the writer does not accept them. No form has a width above 255.
-fn write(part: &[i64], signed: bool, s: Segment, out: &mut [u8]) -> usize
-    ensures { λ r. ⌜ Ran (writeIn signed (s .form) (s .width) (s .base) (now (part .entry)) (length (now (out .entry)))) (now (out .entry)) (now (out .exit)) r ⌝ }
+fn write(part: &[i64], signed: bool, s: Segment, out: &mut [u8]) -> ByteOffset
+    ensures { λ r. ⌜ Ran (writeIn signed (s .form) (s .width) (s .base) (now (part .entry)) (length (now (out .entry)))) (now (out .entry)) (now (out .exit)) (r .bytes) ⌝ }
 {
     if 255 < s.width {
-        return 0;
+        return ByteOffset { bytes: 0 };
     }
     if 4 < s.form {
-        return 0;
+        return ByteOffset { bytes: 0 };
     }
     let width = s.width as u8;
     if s.form == 4 {
@@ -75,9 +77,9 @@ fn write(part: &[i64], signed: bool, s: Segment, out: &mut [u8]) -> usize
 }
 
 // The bytes of that run, where there is room for any: nothing is written, but for a patched run, into the place that is lent for it.
-fn size(part: &[i64], signed: bool, s: Segment, run: &mut [u8]) -> usize
+fn size(part: &[i64], signed: bool, s: Segment, run: &mut [u8]) -> ByteOffset
     requires { ⌜ length (now run) ≡ anyRun ⌝ }
-    ensures { λ r. ⌜ r ≡ sizeIn (writeIn signed (s .form) (s .width) (s .base) (now (part .entry)) anyRun) ⌝ }
+    ensures { λ r. ⌜ r .bytes ≡ sizeIn (writeIn signed (s .form) (s .width) (s .base) (now (part .entry)) anyRun) ⌝ }
 {
     if 3 < s.form {
         return write(part, signed, s, run);
@@ -85,38 +87,56 @@ fn size(part: &[i64], signed: bool, s: Segment, run: &mut [u8]) -> usize
     if s.width < 256 {
         return writer::size_of_run(part, signed, form_of(s.form), s.width as u8);
     }
-    0
+    ByteOffset { bytes: 0 }
 }
 
 // Whether it begins at this row, and ends within the column.
-fn is_in_place(rows: usize, at: usize, s: Segment) -> bool
-    requires { ⌜ at ≤ rows ⌝ }
-    ensures { λ r. ⌜ r ≡ inPlace rows at s ⌝ }
+fn is_in_place(rows: RowNumber, at: RowNumber, s: Segment) -> bool
+    requires { ⌜ at .rows ≤ rows .rows ⌝ }
+    ensures { λ r. ⌜ r ≡ inPlace (rows .rows) (at .rows) s ⌝ }
 {
-    if s.start != at as u64 {
+    let end = rows.rows;
+    let row = at.rows;
+    if s.start != row as u64 {
         return false;
     }
-    s.count <= (rows - at) as u64
+    s.count <= (end - row) as u64
 }
 
 // A segment of the rows, where it begins at this row and ends within the column: its bytes, or 0 where it is not accepted.
-pub(crate) fn step(rows: &[i64], signed: bool, at: usize, s: Segment, out: &mut [u8]) -> usize
-    requires { ⌜ at ≤ length (now rows) ⌝ }
-    ensures { λ r. ⌜ Ran (stepIn signed (now (rows .entry)) at s (length (now (out .entry)))) (now (out .entry)) (now (out .exit)) r ⌝ }
+pub(crate) fn step(
+    rows: &[i64],
+    signed: bool,
+    at: RowNumber,
+    s: Segment,
+    out: &mut [u8],
+) -> ByteOffset
+    requires { ⌜ at .rows ≤ length (now rows) ⌝ }
+    ensures { λ r. ⌜ Ran (stepIn signed (now (rows .entry)) (at .rows) s (length (now (out .entry)))) (now (out .entry)) (now (out .exit)) (r .bytes) ⌝ }
 {
-    if !is_in_place(rows.len(), at, s) {
-        return 0;
+    let row = at.rows;
+    let end = RowNumber { rows: rows.len() };
+    if !is_in_place(end, at, s) {
+        return ByteOffset { bytes: 0 };
     }
-    write(&rows[at..at + s.count as usize], signed, s, out)
+    write(&rows[row..row + s.count as usize], signed, s, out)
 }
 
 // The same bytes, where there is room for any run.
-pub(crate) fn step_size(rows: &[i64], signed: bool, at: usize, s: Segment, run: &mut [u8]) -> usize
-    requires { ⌜ (at ≤ length (now rows)) × (length (now run) ≡ anyRun) ⌝ }
-    ensures { λ r. ⌜ r ≡ sizeIn (stepIn signed (now (rows .entry)) at s anyRun) ⌝ }
+pub(crate) fn step_size(
+    rows: &[i64],
+    signed: bool,
+    at: RowNumber,
+    s: Segment,
+    run: &mut [u8],
+) -> ByteOffset
+    requires { ⌜ (at .rows ≤ length (now rows)) × (length (now run) ≡ anyRun) ⌝ }
+    ensures { λ r. ⌜ r .bytes ≡ sizeIn (stepIn signed (now (rows .entry)) (at .rows) s anyRun) ⌝ }
 {
-    if !is_in_place(rows.len(), at, s) {
-        return 0;
+    let row = at.rows;
+    let end = RowNumber { rows: rows.len() };
+    if !is_in_place(end, at, s) {
+        return ByteOffset { bytes: 0 };
     }
-    size(&rows[at..at + s.count as usize], signed, s, run)
+    size(&rows[row..row + s.count as usize], signed, s, run)
 }

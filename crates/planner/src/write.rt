@@ -18,6 +18,9 @@ use format::Form;
 use format::Kind;
 use format::RowNumber;
 
+// The width code of 64 bits.
+pub(crate) const WIDEST: u8 = 31;
+
 // The runs of a proposal, one behind the other.
 pub(crate) fn planned(
     rows: &[i64],
@@ -37,7 +40,8 @@ pub(crate) fn planned(
     let mut bytes: usize = 0;
     while k < first.len() {
         let s = segment::at(first, counts, forms, widths, bases, k);
-        let n = segment::step(rows, signed, row, s, &mut out[bytes..]);
+        let at = RowNumber { rows: row };
+        let n = segment::step(rows, signed, at, s, &mut out[bytes..]).bytes;
         k += 1;
         row += s.count as usize;
         bytes += n;
@@ -45,24 +49,27 @@ pub(crate) fn planned(
 }
 
 // Whether the direct runs of so many rows have room: two bytes a run and eight a row.
-pub(crate) fn wide_fits(rows: usize, room: usize) -> bool
-    ensures { λ r. ⌜ r ≡ leb (2 * ((rows + 511) / 512) + 8 * rows) room ⌝ }
+pub(crate) fn wide_fits(rows: RowNumber, room: ByteOffset) -> bool
+    ensures { λ r. ⌜ r ≡ leb (2 * ((rows .rows + 511) / 512) + 8 * rows .rows) (room .bytes) ⌝ }
 {
-    if room / 8 < rows {
+    let n = rows.rows;
+    let limit = room.bytes;
+    if limit / 8 < n {
         return false;
     }
-    let runs = (rows + 511) / Kind::MAX_ROWS;
-    2 * runs <= room - 8 * rows
+    let runs = (n + (Kind::MAX_ROWS - 1)) / Kind::MAX_ROWS;
+    2 * runs <= limit - 8 * n
 }
 
 // Whether so many bytes are more than those of the direct runs.
-pub(crate) fn is_longer(bytes: usize, rows: usize) -> bool
-    ensures { λ r. ⌜ r ≡ ltb (2 * ((rows + 511) / 512) + 8 * rows) bytes ⌝ }
+pub(crate) fn is_longer(bytes: ByteOffset, rows: RowNumber) -> bool
+    ensures { λ r. ⌜ r ≡ ltb (2 * ((rows .rows + 511) / 512) + 8 * rows .rows) (bytes .bytes) ⌝ }
 {
-    if bytes == 0 {
+    let size = bytes.bytes;
+    if size == 0 {
         return false;
     }
-    wide_fits(rows, bytes - 1)
+    wide_fits(rows, ByteOffset { bytes: size - 1 })
 }
 
 // Every row is an i64: what is read of the slice is known to be one. Nothing else comes of the loop, and the compiler drops it.
@@ -77,22 +84,27 @@ pub(crate) fn know(rows: &[i64])
 }
 
 // The rows of the next direct run, of so many that are left.
-pub(crate) fn part_rows(left: usize) -> usize
-    ensures { λ r. ⌜ r ≡ min 512 left ⌝ }
+pub(crate) fn part_rows(left: RowNumber) -> RowNumber
+    ensures { λ r. ⌜ r .rows ≡ min 512 (left .rows) ⌝ }
 {
-    if Kind::MAX_ROWS < left {
-        Kind::MAX_ROWS
+    let n = left.rows;
+    if Kind::MAX_ROWS < n {
+        RowNumber {
+            rows: Kind::MAX_ROWS,
+        }
     } else {
         left
     }
 }
 
 // Some rows as a direct run of 64 bits: its bytes.
-fn wide_run(rows: &[i64], signed: bool, at: usize, n: usize, out: &mut [u8]) -> usize
-    requires { ⌜ at + n ≤ length (now rows) ⌝ }
-    ensures { λ r. ⌜ Ran (writing signed Form.Direct 31 (map asU64 (take n (drop at (now (rows .entry))))) (length (now (out .entry)))) (now (out .entry)) (now (out .exit)) r ⌝ }
+fn wide_run(rows: &[i64], signed: bool, at: RowNumber, n: RowNumber, out: &mut [u8]) -> ByteOffset
+    requires { ⌜ at .rows + n .rows ≤ length (now rows) ⌝ }
+    ensures { λ r. ⌜ Ran (writing signed Form.Direct 31 (map asU64 (take (n .rows) (drop (at .rows) (now (rows .entry))))) (length (now (out .entry)))) (now (out .entry)) (now (out .exit)) (r .bytes) ⌝ }
 {
-    let a = writer::write_run(&rows[at..at + n], signed, Form::Direct, 31, out);
+    let row = at.rows;
+    let count = n.rows;
+    let a = writer::write_run(&rows[row..row + count], signed, Form::Direct, WIDEST, out);
     a.consumed()
 }
 
@@ -106,10 +118,13 @@ pub(crate) fn wide(rows: &[i64], signed: bool, out: &mut [u8]) -> Columned
     let mut row: usize = 0;
     let mut bytes: usize = 0;
     while row < rows.len() {
-        let n = part_rows(rows.len() - row);
-        let size = wide_run(rows, signed, row, n, &mut out[bytes..]);
+        let left = rows.len() - row;
+        let n = part_rows(RowNumber { rows: left });
+        let count = n.rows;
+        let at = RowNumber { rows: row };
+        let size = wide_run(rows, signed, at, n, &mut out[bytes..]).bytes;
         runs += 1;
-        row += n;
+        row += count;
         bytes += size;
     }
     Columned {

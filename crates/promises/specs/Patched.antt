@@ -53,7 +53,7 @@ pub record Chosen (signed : Bool) (base w : ℕ) (rs : List ℕ) (d : Parts) : T
   pub least : (e : Parts) → Describes signed base w rs e → OnlySkips (width (e .pc)) (e .list .values) → NoBetter d e
 
 pub record PatchedMeaning (signed : Bool) (base w : ℕ) (rs : List ℕ) : Type 0 where
-  -- the run that is described is valid exactly where 10 does not apply ..
+  -- the run that is described is valid exactly if a header holds it (10 comes then only from a W that is not kept) ..
   pub exactly-valid : T (headerHolds (parts base w rs)) ↔ Valid (run (parts base w rs))
   -- .. which is exactly where the rows have any description with that base and W and gaps within the gap width ..
   pub exactly-some : T (headerHolds (parts base w rs)) ↔ ((d : Parts) × Describes signed base w rs d)

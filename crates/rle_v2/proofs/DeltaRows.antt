@@ -38,11 +38,11 @@ module _ (s : List ℕ) (signed : Bool) (f : Found) (out out′ : List ℤ) wher
   abbrev step : ℕ
   step = zigzag (f .base)
 
-  pub steps-laid : f .bits ≡ 0 → f .rows ≤ length out → out′ ≡ stepped first step (take (f .rows) out) ++ drop (f .rows) out → out′ ≡ deltaRows s signed f ++ drop (f .rows) out
-  steps-laid z h e = e ∙ rw (eq-eqb (f .bits) 0 z, stepped-is first step (f .rows) out h)
+  pub steps-laid : f .bits ≡ 0 → f .rows .rows ≤ length out → out′ ≡ stepped first step (take (f .rows .rows) out) ++ drop (f .rows .rows) out → out′ ≡ deltaRows s signed f ++ drop (f .rows .rows) out
+  steps-laid z h e = e ∙ rw (eq-eqb (f .bits) 0 z, stepped-is first step (f .rows .rows) out h)
 
-  pub packed-laid : (x y : ℕ) → x ≡ first → y ≡ step → (f .bits ≡ 0 → ⊥) → 2 ≤ f .rows
-      → out′ ≡ laid x y (map asI64 (fields (f .bits) (f .rows - 2) (drop (f .next) s))) ++ drop (f .rows - 2 + 2) out → out′ ≡ deltaRows s signed f ++ drop (f .rows) out
+  pub packed-laid : (x y : ℕ) → x ≡ first → y ≡ step → (f .bits ≡ 0 → ⊥) → 2 ≤ f .rows .rows
+      → out′ ≡ laid x y (map asI64 (fields (f .bits) (f .rows .rows - 2) (drop (f .next .bytes) s))) ++ drop (f .rows .rows - 2 + 2) out → out′ ≡ deltaRows s signed f ++ drop (f .rows .rows) out
   packed-laid x y p q z h e =
-      let k : f .rows - 2 + 2 ≡ f .rows = omega arith in
+      let k : f .rows .rows - 2 + 2 ≡ f .rows .rows = omega arith in
       rw (k, p, q) at e ∙ rw (ne-eqb (f .bits) 0 z)

@@ -53,7 +53,16 @@ module _ (s : List ℕ) (at rows : ℕ) (below : (i : ℕ) → getD s i 0 < 256)
     second-long q′ = long-at (λ body. rw (value-is s (at + 2) below first next q .parsed, long-is s next below q′))
 
     pub both-stood : (base end : ℕ) → varintAt s next ≡ Value base end
-        → StartsAt s at rows (record { number = 0; field = 0; bits = 0; rows = rows; first = first; base = base; next = end; end = end })
+        → StartsAt s at rows (record {
+          number = 0;
+          field = record { bytes = 0 };
+          bits = 0;
+          rows = record { rows = rows };
+          first = first;
+          base = base;
+          next = record { bytes = end };
+          end = record { bytes = end };
+        })
     both-stood base end q′ =
         let x = value-is s (at + 2) below first next q in
         let y = value-is s next below base end q′ in

@@ -71,6 +71,9 @@ module _ (s : List ℕ) (at : ℕ) where
           let q : r ≡ running Direct bits count (2 + bytesFor (count * bits)) = run-inj r _ (e ∙ sym (run-is u t)) in
           record { head = u; there = t; width-is = rw q; rows-are = rw q }
 
+  pub rows-there : (r : Run) → Measured r → bytesFor (r .rows .rows * r .width) ≤ length s - (at + 2)
+  rows-there r m = rw (m .width-is, m .rows-are) (m .there)
+
   module _ (signed : Bool) (out : List ℤ) (r : Run) (e : answer.Run r ≡ answerOf at (length s - at) run) (m : Measured r) where
     pub no-room : length out < r .rows .rows → Gives at (length s - at) signed run out out (refusedAt 8 at)
     no-room h = gives-8 at (length s - at) signed run out _ _ (is-run (m .head) (m .there)) (rw (block-count s (at + 2) bits count) (rw (m .rows-are) at h))

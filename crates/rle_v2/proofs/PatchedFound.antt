@@ -56,8 +56,8 @@ module _ (s : List ℕ) (at : ℕ) (m : Parsed Description) where
 -- ---- a run whose tests have passed
 
 -- the list stands where its walks look for it
-pub listed-is : (s : List ℕ) (at : ℕ) (h : Header) (w : Widths) (q : Parts) → InRange h → IsWidths h w → w .patch + h .gap ≤ 64 → IsParts at h q → q .end ≤ length s
-    → Listed (w .entry) (w .patch) (h .entries) (drop (q .list) s)
+pub listed-is : (s : List ℕ) (at : ℕ) (h : Header) (w : Widths) (q : Parts) → InRange h → IsWidths h w → w .patch + h .gap ≤ 64 → IsParts at h q → q .end .bytes ≤ length s
+    → Listed (w .entry) (w .patch) (h .entries) (drop (q .list .bytes) s)
 listed-is s at h w q i e f a l =
     let n : bytesFor (h .entries * w .entry) ≡ listBytes h = rw (e .entry-is) in
     record {
@@ -72,34 +72,34 @@ module _ (s : List ℕ) (at : ℕ) (m : Parsed Description) (h : Header) (w : Wi
   pub all-in : at + 4 + h .base + valueBytes h + listBytes h ≤ length s
   all-in = rw (p .headed .parts .end-is) at (p .headed .there)
 
-  pub values-there : bytesFor (h .rows * w .bits) ≤ length s - q .values
+  pub values-there : bytesFor (h .rows .rows * w .bits) ≤ length s - q .values .bytes
   values-there = rw (p .headed .widths .bits-is, p .headed .parts .values-is) (omega (arith, all-in))
 
-  pub list-there : Listed (w .entry) (w .patch) (h .entries) (drop (q .list) s)
+  pub list-there : Listed (w .entry) (w .patch) (h .entries) (drop (q .list .bytes) s)
   list-there = listed-is s at h w q (p .headed .fields-fit) (p .headed .widths) (p .headed .not-2) (p .headed .parts) (p .headed .there)
 
   fits : width (h .patch) + h .gap ≤ 64
   fits = rw (p .headed .widths .patch-is) at (p .headed .not-2)
 
-  none : listNumber (width (h .code)) (width (h .patch)) (h .rows) (blockAt s (at + 4 + h .base + valueBytes h) (entryWidth (h .patch) (h .gap)) (h .entries) .values) ≡ 0
+  none : listNumber (width (h .code)) (width (h .patch)) (h .rows .rows) (blockAt s (at + 4 + h .base + valueBytes h) (entryWidth (h .patch) (h .gap)) (h .entries) .values) ≡ 0
   none = rw (p .headed .parts .list-is, p .headed .widths .entry-is, p .headed .widths .patch-is, p .headed .widths .bits-is) at (p .list)
 
-  pub passed-answer : ran PatchedBase (w .bits) (h .rows) (q .end - at) ≡ answerOf at (length s - at) m
+  pub passed-answer : ran PatchedBase (w .bits) (h .rows .rows) (q .end .bytes - at) ≡ answerOf at (length s - at) m
   passed-answer =
       rw (p .headed .body, p .headed .widths .bits-is, p .headed .parts .end-is)
-      (run-is s at (h .code) (h .rows) (h .base) (h .patch) (h .gap) (h .entries) fits all-in none)
+      (run-is s at (h .code) (h .rows .rows) (h .base) (h .patch) (h .gap) (h .entries) fits all-in none)
 
   module _ (signed : Bool) (out : List ℤ) where
-    pub passed-8 : length out < h .rows → Gives at (length s - at) signed m out out (refusedAt 8 at)
-    passed-8 l = rw (p .headed .body) (refused-8 s at (h .code) (h .rows) (h .base) (h .patch) (h .gap) (h .entries) fits all-in none signed out l)
+    pub passed-8 : length out < h .rows .rows → Gives at (length s - at) signed m out out (refusedAt 8 at)
+    passed-8 l = rw (p .headed .body) (refused-8 s at (h .code) (h .rows .rows) (h .base) (h .patch) (h .gap) (h .entries) fits all-in none signed out l)
 
-    pub passed-read : (one out′ : List ℤ) → h .rows ≤ length out
-        → one ≡ based (baseValue (take (h .base) (drop (at + 4) s))) (map asI64 (fields (w .bits) (h .rows) (drop (q .values) s))) ++ drop (h .rows) out
-        → out′ ≡ patchAll (w .bits) (w .patch) 0 one (fields (w .entry) (h .entries) (drop (q .list) s))
-        → Gives at (length s - at) signed m out out′ (ran PatchedBase (w .bits) (h .rows) (q .end - at))
+    pub passed-read : (one out′ : List ℤ) → h .rows .rows ≤ length out
+        → one ≡ based (baseValue (take (h .base) (drop (at + 4) s))) (map asI64 (fields (w .bits) (h .rows .rows) (drop (q .values .bytes) s))) ++ drop (h .rows .rows) out
+        → out′ ≡ patchAll (w .bits) (w .patch) 0 one (fields (w .entry) (h .entries) (drop (q .list .bytes) s))
+        → Gives at (length s - at) signed m out out′ (ran PatchedBase (w .bits) (h .rows .rows) (q .end .bytes - at))
     passed-read one out′ l e f =
         rw (p .headed .body, p .headed .widths .bits-is, p .headed .parts .end-is)
-        (read-is s at (h .code) (h .rows) (h .base) (h .patch) (h .gap) (h .entries) fits all-in none signed out one out′ l
+        (read-is s at (h .code) (h .rows .rows) (h .base) (h .patch) (h .gap) (h .entries) fits all-in none signed out one out′ l
         (rw (p .headed .parts .values-is, p .headed .widths .bits-is) at e)
         (rw (p .headed .parts .list-is, p .headed .widths .entry-is, p .headed .widths .patch-is, p .headed .widths .bits-is) at f))
 
@@ -112,17 +112,17 @@ module _ (s : List ℕ) (at : ℕ) (m : Parsed Description) (f : Found) (e : Hea
   pub found-in : at + 4 + f .base + valueBytes head + listBytes head ≤ length s
   found-in = rw (e .headed .parts .end-is) at (e .headed .there)
 
-  pub found-list : Listed (f .entry) (f .patch) (f .entries) (drop (f .list) s)
+  pub found-list : Listed (f .entry) (f .patch) (f .entries) (drop (f .list .bytes) s)
   found-list = listed-is s at head (widthsOf f) (partsOf f) (e .headed .fields-fit) (e .headed .widths) (e .headed .not-2) (e .headed .parts) (e .headed .there)
 
   pub found-3-7 : (numberOf s f ≡ 0 → ⊥) → refusedAt (numberOf s f) at ≡ answerOf at (length s - at) m
   found-3-7 z =
       let p = e .headed in
       let n : numberOf s f
-      ≡ listNumber (width (e .code)) (width (e .patch)) (f .rows) (blockAt s (at + 4 + f .base + valueBytes head) (entryWidth (e .patch) (e .gap)) (f .entries) .values)
+      ≡ listNumber (width (e .code)) (width (e .patch)) (f .rows .rows) (blockAt s (at + 4 + f .base + valueBytes head) (entryWidth (e .patch) (e .gap)) (f .entries) .values)
       = rw (p .parts .list-is, p .widths .entry-is, p .widths .patch-is, p .widths .bits-is) in
       rw (p .body, n)
-      (refused-list s at (e .code) (f .rows) (f .base) (e .patch) (e .gap) (f .entries) (rw (p .widths .patch-is) at (p .not-2)) found-in (λ y. z (n ∙ y)))
+      (refused-list s at (e .code) (f .rows .rows) (f .base) (e .patch) (e .gap) (f .entries) (rw (p .widths .patch-is) at (p .not-2)) found-in (λ y. z (n ∙ y)))
 
   module _ (z : numberOf s f ≡ 0) where
     pub passes : Passed s at m head (widthsOf f) (partsOf f)

@@ -2,16 +2,16 @@
 ghost use mathlib.Core.Path.{_≡_};
 ghost use mathlib.Core.Bool.{true, false};
 ghost use mathlib.Core.List.{_++_, map};
-ghost use Prim.Native.Nat.{_+_, _-_, _*_, _≤_, _<_};
-ghost use lib.ListN.{length, getD, drop};
+ghost use Prim.Native.Nat.{_+_, _*_, _≤_, _<_};
+ghost use lib.ListN.{length, drop};
 ghost use Rattle.format.specs.Fields.{bytesFor};
 ghost use Rattle.format.specs.Rows.{asI64};
-ghost use Rattle.format.specs.Parse.{deltaBody, deltaRun};
-ghost use Rattle.format.specs.Promises.{answerOf, Gives};
+ghost use Rattle.format.specs.Parse.{deltaRun};
 ghost use Rattle.util.specs.Packed.{fields, Width};
 ghost use Rattle.util.specs.Varint.{varintAt};
 ghost use Rattle.rle_v2.specs.Pass.{summed, laid};
-ghost use Rattle.rle_v2.specs.DeltaStart.{goneBy, Started, StartsAt, IsMeasured, Ready, deltaRows};
+ghost use Rattle.rle_v2.specs.DeltaStart.{goneBy, Started, StartsAt, packedAt, IsMeasured, Ready, deltaRows};
+ghost use Rattle.rle_v2.specs.RunAt.{runAt, MeasuredAs, ReadAs};
 use crate::header;
 use crate::refusal;
 use crate::rows;
@@ -31,40 +31,41 @@ use util::width;
 // begins at a byte, or, where that is 0, in none. It is no enum: one with a struct in it goes through memory.
 struct Found {
     number: u8,
-    field: usize,
+    field: ByteOffset,
     bits: usize,
-    rows: usize,
+    rows: RowNumber,
     first: u64,
     base: u64,
-    next: usize,
-    end: usize,
+    next: ByteOffset,
+    end: ByteOffset,
 }
 
 // A run that is refused.
-fn gone(number: u8, field: usize) -> Found
-    ensures { λ r. ⌜ r ≡ goneBy number field ⌝ }
+fn gone(number: u8, field: ByteOffset) -> Found
+    ensures { λ r. ⌜ r ≡ goneBy number (field .bytes) ⌝ }
 {
     Found {
         number,
         field,
         bits: 0,
-        rows: 0,
+        rows: RowNumber { rows: 0 },
         first: 0,
         base: 0,
-        next: 0,
-        end: 0,
+        next: ByteOffset { bytes: 0 },
+        end: ByteOffset { bytes: 0 },
     }
 }
 
 // The varint at a place, as `varint::read` has it. Most have one byte or two: these need no loop, and no call.
-fn varint_at(input: &[u8], at: usize) -> Varint
-    ensures { λ r. ⌜ r ≡ varintAt (now (input .entry)) at ⌝ }
+fn varint_at(input: &[u8], at: ByteOffset) -> Varint
+    ensures { λ r. ⌜ r ≡ varintAt (now (input .entry)) (at .bytes) ⌝ }
 {
-    if input.len() <= at {
+    let p = at.bytes;
+    if input.len() <= p {
         return Varint::Cut;
     }
-    let low = input[at];
-    let after = at + 1;
+    let low = input[p];
+    let after = p + 1;
     if low < 128 {
         return Varint::Value {
             bits: low as u64,
@@ -72,93 +73,95 @@ fn varint_at(input: &[u8], at: usize) -> Varint
         };
     }
     if input.len() <= after {
-        return varint::read(input, at);
+        return varint::read(input, p);
     }
     let high = input[after];
     if high < 128 {
-        return Varint::Value {
-            bits: (low as u64) % 128 + 128 * (high as u64),
-            next: at + 2,
-        };
+        let bits = (low as u64) % 128 + 128 * (high as u64);
+        return Varint::Value { bits, next: p + 2 };
     }
-    varint::read(input, at)
+    varint::read(input, p)
 }
 
 // The two varints of a run of so many rows, as though nothing stood behind them: a fixed delta.
-fn starts_at(input: &[u8], at: usize, rows: usize) -> Found
-    requires { ⌜ at + 2 ≤ length (now input) ⌝ }
-    ensures { λ r. ⌜ StartsAt (now (input .entry)) at rows r ⌝ }
+fn starts_at(input: &[u8], at: ByteOffset, rows: RowNumber) -> Found
+    requires { ⌜ at .bytes + 2 ≤ length (now input) ⌝ }
+    ensures { λ r. ⌜ StartsAt (now (input .entry)) (at .bytes) (rows .rows) r ⌝ }
 {
-    let body = at + 2;
-    match varint_at(input, body) {
-        Varint::Cut => gone(12, body),
-        Varint::TooLong => gone(5, 0),
-        Varint::Value { bits: first, next } => match varint_at(input, next) {
-            Varint::Cut => gone(12, next),
-            Varint::TooLong => gone(5, 0),
+    let p = at.bytes;
+    let body = p + 2;
+    match varint_at(input, ByteOffset { bytes: body }) {
+        Varint::Cut => gone(12, ByteOffset { bytes: body }),
+        Varint::TooLong => gone(5, ByteOffset { bytes: 0 }),
+        Varint::Value { bits: first, next } => match varint_at(input, ByteOffset { bytes: next }) {
+            Varint::Cut => gone(12, ByteOffset { bytes: next }),
+            Varint::TooLong => gone(5, ByteOffset { bytes: 0 }),
             Varint::Value {
                 bits: base,
                 next: end,
             } => Found {
                 number: 0,
-                field: 0,
+                field: ByteOffset { bytes: 0 },
                 bits: 0, // no magnitudes
                 rows,
                 first,
                 base,
-                next: end,
-                end,
+                next: ByteOffset { bytes: end },
+                end: ByteOffset { bytes: end },
             },
         },
     }
 }
 
 // Packed magnitudes behind the varints: one for each row but two.
-fn packed_rows(input: &[u8], at: usize, code: u8, f: Found) -> Found
-    requires { ⌜ Started (now input) at f × (code < 32) × (2 ≤ f .rows) × (f .rows ≤ 512) ⌝ }
-    ensures { λ r. ⌜ IsMeasured (now (input .entry)) at (deltaBody code (f .rows - 2) (drop (at + 2) (now (input .entry)))) r ⌝ }
+fn packed_rows(input: &[u8], at: ByteOffset, code: u8, f: Found) -> Found
+    requires { ⌜ Started (now input) (at .bytes) f × (code < 32) × (2 ≤ f .rows .rows) × (f .rows .rows ≤ 512) ⌝ }
+    ensures { λ r. ⌜ IsMeasured (now (input .entry)) (at .bytes) (packedAt code f (now (input .entry)) (at .bytes)) r ⌝ }
 {
     let bits = width::bits_of(code);
-    let block = packed::block_size(bits, f.rows - 2);
+    let rows = f.rows;
+    let block = packed::block_size(bits, rows.rows - 2);
     let next = f.next;
-    if input.len() - next < block {
+    let p = next.bytes;
+    if input.len() - p < block {
         return gone(13, next);
     }
     Found {
         number: 0,
-        field: 0,
+        field: ByteOffset { bytes: 0 },
         bits,
-        rows: f.rows,
+        rows,
         first: f.first,
         base: f.base,
         next,
-        end: next + block,
+        end: ByteOffset { bytes: p + block },
     }
 }
 
 // Whether a run of so many rows has no room for magnitudes, which its code says it has: they begin with the third row.
-fn too_few(code: u8, rows: usize) -> bool
-    ensures { λ r. ⌜ (r ≡ true → (code ≡ 0 → ⊥) × (rows ≡ 1)) × (r ≡ false → rows ≡ 1 → code ≡ 0) ⌝ }
+fn too_few(code: u8, rows: RowNumber) -> bool
+    ensures { λ r. ⌜ (r ≡ true → (code ≡ 0 → ⊥) × (rows .rows ≡ 1)) × (r ≡ false → rows .rows ≡ 1 → code ≡ 0) ⌝ }
 {
     if code == 0 {
         return false;
     }
-    rows == 1
+    rows.rows == 1
 }
 
 // The varints are read at one place, whatever stands behind them: half the code.
-fn measured(input: &[u8], at: usize) -> Found
-    requires { ⌜ at < length (now input) ⌝ }
-    ensures { λ r. ⌜ IsMeasured (now (input .entry)) at (deltaRun (getD (now (input .entry)) at 0) (drop (at + 1) (now (input .entry)))) r ⌝ }
+fn measured(input: &[u8], at: ByteOffset) -> Found
+    requires { ⌜ at .bytes < length (now input) ⌝ }
+    ensures { λ r. ⌜ IsMeasured (now (input .entry)) (at .bytes) (runAt deltaRun (now (input .entry)) (at .bytes)) r ⌝ }
 {
-    if input.len() - at < 2 {
-        return gone(1, 0);
+    let p = at.bytes;
+    if input.len() - p < 2 {
+        return gone(1, ByteOffset { bytes: 0 });
     }
-    let h = header::two_bytes(input[at], input[at + 1]);
+    let h = header::two_bytes(input[p], input[p + 1]);
     let code = h.code;
     let rows = h.rows;
     if too_few(code, rows) {
-        return gone(4, 0);
+        return gone(4, ByteOffset { bytes: 0 });
     }
     let f = starts_at(input, at, rows);
     if f.number != 0 {
@@ -171,40 +174,42 @@ fn measured(input: &[u8], at: usize) -> Found
     packed_rows(input, at, code, f)
 }
 
-pub(crate) fn measure(input: &[u8], at: usize) -> Answer
-    requires { ⌜ at < length (now input) ⌝ }
-    ensures { λ r. ⌜ r ≡ answerOf at (length (now (input .entry)) - at) (deltaRun (getD (now (input .entry)) at 0) (drop (at + 1) (now (input .entry)))) ⌝ }
+pub(crate) fn measure(input: &[u8], at: ByteOffset) -> Answer
+    requires { ⌜ at .bytes < length (now input) ⌝ }
+    ensures { λ r. ⌜ MeasuredAs deltaRun (now (input .entry)) (at .bytes) r ⌝ }
 {
+    let p = at.bytes;
     let f = measured(input, at);
     if f.number != 0 {
-        return refusal::answer(f.number, at, f.field);
+        let field = f.field;
+        return refusal::answer(f.number, at, field);
     }
-    Answer::run(
-        Kind::Delta,
-        f.bits,
-        RowNumber { rows: f.rows },
-        ByteOffset { bytes: f.end - at },
-    )
+    let rows = f.rows;
+    let end = f.end;
+    let consumed = end.bytes - p;
+    Answer::run(Kind::Delta, f.bits, rows, ByteOffset { bytes: consumed })
 }
 
 // The rows after the second: n magnitudes unpacked into the places, and summed up from the row before them.
-fn magnitudes(block: &[u8], bits: usize, n: usize, falling: bool, second: u64, out: &mut [i64])
+fn magnitudes(block: &[u8], bits: usize, n: RowNumber, falling: bool, second: u64, out: &mut [i64])
     requires { ⌜ Width bits ⌝ }
-    requires { ⌜ (n ≤ 65536) × (n ≤ length (now out)) × (bytesFor (n * bits) ≤ length (now block)) ⌝ }
-    ensures { λ _. ⌜ now (out .exit) ≡ summed falling second (map asI64 (fields bits n (now (block .entry)))) ++ drop n (now (out .entry)) ⌝ }
+    requires { ⌜ (n .rows ≤ 65536) × (n .rows ≤ length (now out)) × (bytesFor (n .rows * bits) ≤ length (now block)) ⌝ }
+    ensures { λ _. ⌜ now (out .exit)
+        ≡ summed falling second (map asI64 (fields bits (n .rows) (now (block .entry)))) ++ drop (n .rows) (now (out .entry)) ⌝ }
 {
-    packed::unpack(block, bits, n, out);
+    packed::unpack(block, bits, n.rows, out);
     rows::sum(falling, second, n, out);
 }
 
 // All rows of a run with n magnitudes: the first, the second, which is first + base delta, and those after it, which rise or fall as
 // the base delta does.
-fn lay_packed(block: &[u8], bits: usize, n: usize, first: u64, step: u64, out: &mut [i64])
+fn lay_packed(block: &[u8], bits: usize, n: RowNumber, first: u64, step: u64, out: &mut [i64])
     requires { ⌜ Width bits ⌝ }
-    requires { ⌜ (n ≤ 512) × (n + 2 ≤ length (now out)) × (bytesFor (n * bits) ≤ length (now block)) ⌝ }
-    ensures { λ _. ⌜ now (out .exit) ≡ laid first step (map asI64 (fields bits n (now (block .entry)))) ++ drop (n + 2) (now (out .entry)) ⌝ }
+    requires { ⌜ (n .rows ≤ 512) × (n .rows + 2 ≤ length (now out)) × (bytesFor (n .rows * bits) ≤ length (now block)) ⌝ }
+    ensures { λ _. ⌜ now (out .exit)
+        ≡ laid first step (map asI64 (fields bits (n .rows) (now (block .entry)))) ++ drop (n .rows + 2) (now (out .entry)) ⌝ }
 {
-    rows::steps(first, step, 2, out);
+    rows::steps(first, step, RowNumber { rows: 2 }, out);
     let second = pattern::add(first, step);
     let falling = TOP_BIT <= step;
     magnitudes(block, bits, n, falling, second, &mut out[2..]);
@@ -212,35 +217,38 @@ fn lay_packed(block: &[u8], bits: usize, n: usize, first: u64, step: u64, out: &
 
 // The rows of a run that passed its tests. Width 0 is a fixed delta: each next row adds the base delta.
 fn lay(input: &[u8], f: Found, signed: bool, out: &mut [i64])
-    requires { ⌜ Ready (now input) f × (f .rows ≤ length (now out)) ⌝ }
-    ensures { λ _. ⌜ now (out .exit) ≡ deltaRows (now (input .entry)) signed f ++ drop (f .rows) (now (out .entry)) ⌝ }
+    requires { ⌜ Ready (now input) f × (f .rows .rows ≤ length (now out)) ⌝ }
+    ensures { λ _. ⌜ now (out .exit) ≡ deltaRows (now (input .entry)) signed f ++ drop (f .rows .rows) (now (out .entry)) ⌝ }
 {
     let first = pattern::row(signed, f.first);
     let step = pattern::unzigzag(f.base);
+    let rows = f.rows;
     if f.bits == 0 {
-        rows::steps(first, step, f.rows, out);
+        rows::steps(first, step, rows, out);
     } else {
         let next = f.next;
-        lay_packed(&input[next..], f.bits, f.rows - 2, first, step, out);
+        let p = next.bytes;
+        let n = rows.rows - 2;
+        lay_packed(&input[p..], f.bits, RowNumber { rows: n }, first, step, out);
     }
 }
 
-pub(crate) fn read(input: &[u8], at: usize, signed: bool, out: &mut [i64]) -> Answer
-    requires { ⌜ at < length (now input) ⌝ }
-    ensures { λ r. ⌜ Gives at (length (now (input .entry)) - at) signed (deltaRun (getD (now (input .entry)) at 0) (drop (at + 1) (now (input .entry)))) (now (out .entry)) (now (out .exit)) r ⌝ }
+pub(crate) fn read(input: &[u8], at: ByteOffset, signed: bool, out: &mut [i64]) -> Answer
+    requires { ⌜ at .bytes < length (now input) ⌝ }
+    ensures { λ r. ⌜ ReadAs deltaRun (now (input .entry)) (at .bytes) signed (now (out .entry)) (now (out .exit)) r ⌝ }
 {
+    let p = at.bytes;
     let f = measured(input, at);
     if f.number != 0 {
-        return refusal::answer(f.number, at, f.field);
+        let field = f.field;
+        return refusal::answer(f.number, at, field);
     }
-    if out.len() < f.rows {
+    let rows = f.rows;
+    if out.len() < rows.rows {
         return Answer::refused(8, at);
     }
     lay(input, f, signed, out);
-    Answer::run(
-        Kind::Delta,
-        f.bits,
-        RowNumber { rows: f.rows },
-        ByteOffset { bytes: f.end - at },
-    )
+    let end = f.end;
+    let consumed = end.bytes - p;
+    Answer::run(Kind::Delta, f.bits, rows, ByteOffset { bytes: consumed })
 }

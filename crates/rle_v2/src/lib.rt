@@ -30,15 +30,15 @@ pub fn measure(input: &[u8], at: ByteOffset) -> Answer
     // the top two bits are the kind
     let kind = input[p] / 64;
     if kind == 0 {
-        return short_repeat::measure(input, p);
+        return short_repeat::measure(input, at);
     }
     if kind == 1 {
-        return direct::measure(input, p);
+        return direct::measure(input, at);
     }
     if kind == 2 {
-        return patched_base::measure(input, p);
+        return patched_base::measure(input, at);
     }
-    delta::measure(input, p)
+    delta::measure(input, at)
 }
 
 // One run of any kind, from a position of the input on: its rows go into the first places. A refused call consumes nothing and leaves
@@ -53,15 +53,15 @@ pub fn read_run(input: &[u8], at: ByteOffset, signed: bool, out: &mut [i64]) -> 
     // the top two bits are the kind
     let kind = input[p] / 64;
     if kind == 0 {
-        return short_repeat::read(input, p, signed, out);
+        return short_repeat::read(input, at, signed, out);
     }
     if kind == 1 {
-        return direct::read(input, p, signed, out);
+        return direct::read(input, at, signed, out);
     }
     if kind == 2 {
-        return patched_base::read(input, p, signed, out);
+        return patched_base::read(input, at, signed, out);
     }
-    delta::read(input, p, signed, out)
+    delta::read(input, at, signed, out)
 }
 
 // The run that the input begins with, as `read_run` reads it, for a caller that reads one run a call: a short repeat is read here, since its
@@ -71,7 +71,7 @@ pub fn read_first(input: &[u8], signed: bool, out: &mut [i64]) -> Answer
 {
     if 0 < input.len() {
         if input[0] / 64 == 0 {
-            return short_repeat::read(input, 0, signed, out);
+            return short_repeat::read(input, ByteOffset { bytes: 0 }, signed, out);
         }
     }
     read_run(input, ByteOffset { bytes: 0 }, signed, out)
@@ -83,7 +83,7 @@ pub fn read_gathered(input: &[u8], signed: bool, out: &mut [i64]) -> Answer
 {
     if 0 < input.len() {
         if input[0] / 64 == 1 {
-            if let Answer::Refused(f) = direct::measure(input, 0) {
+            if let Answer::Refused(f) = direct::measure(input, ByteOffset { bytes: 0 }) {
                 return Answer::Refused(f);
             }
         }
@@ -127,13 +127,15 @@ pub fn read_stream(input: &[u8], at: ByteOffset, signed: bool, out: &mut [i64]) 
 }
 
 // What a measured run comes to in so many places: refusal 8 if it has more rows.
-fn in_places(measured: Answer, at: usize, places: usize) -> Answer
-    ensures { λ r. ⌜ ((total : ℕ) (m : Parsed Description) → measured ≡ answerOf at total m → r ≡ answerOf at total (into places m)) ⌝ }
+fn in_places(measured: Answer, at: ByteOffset, places: RowNumber) -> Answer
+    ensures { λ r. ⌜ ((total : ℕ) (m : Parsed Description)
+        → measured ≡ answerOf (at .bytes) total m → r ≡ answerOf (at .bytes) total (into (places .rows) m)) ⌝ }
 {
+    let room = places.rows;
     match measured {
         Answer::Run(r) => {
             let count = r.rows;
-            if places < count.rows {
+            if room < count.rows {
                 return Answer::refused(8, at);
             }
             Answer::Run(r)
@@ -152,8 +154,10 @@ pub fn measure_stream(input: &[u8], at: ByteOffset) -> Stream
     let mut count: usize = 0;
     let mut last = LastRun::None;
     while place < input.len() {
-        let m = measure(input, ByteOffset { bytes: place });
-        let a = in_places(m, place, usize::MAX - count);
+        let here = ByteOffset { bytes: place };
+        let m = measure(input, here);
+        let left = usize::MAX - count;
+        let a = in_places(m, here, RowNumber { rows: left });
         match a {
             Answer::Run(run) => {
                 let rows = run.rows;
@@ -163,31 +167,20 @@ pub fn measure_stream(input: &[u8], at: ByteOffset) -> Stream
                 last = LastRun::Run(run);
             }
             Answer::Refused(f) => {
+                let taken = place - from;
                 return Stream::refused(
                     f,
                     RowNumber { rows: count },
-                    ByteOffset {
-                        bytes: place - from,
-                    },
+                    ByteOffset { bytes: taken },
                     last,
                 );
             }
             Answer::End => {
-                return Stream::whole(
-                    RowNumber { rows: count },
-                    ByteOffset {
-                        bytes: place - from,
-                    },
-                    last,
-                );
+                let taken = place - from;
+                return Stream::whole(RowNumber { rows: count }, ByteOffset { bytes: taken }, last);
             }
         }
     }
-    Stream::whole(
-        RowNumber { rows: count },
-        ByteOffset {
-            bytes: place - from,
-        },
-        last,
-    )
+    let taken = place - from;
+    Stream::whole(RowNumber { rows: count }, ByteOffset { bytes: taken }, last)
 }

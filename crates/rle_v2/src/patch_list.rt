@@ -7,6 +7,7 @@ ghost use Rattle.format.specs.Fields.{pick};
 ghost use Rattle.format.specs.Runs.{patchLimit, outOfPlace};
 ghost use Rattle.util.specs.Packed.{fields, fieldAt, Width};
 ghost use Rattle.rle_v2.specs.PatchList.{IsEntry, Listed, large, listNumber, patchAll};
+use format::RowNumber;
 use util::packed;
 use util::pattern;
 
@@ -69,12 +70,13 @@ pub(crate) fn refused_with(
     pw: usize,
     n: usize,
     width: usize,
-    rows: usize,
+    count: RowNumber,
 ) -> u8
     requires { ⌜ Listed bits pw n (now list) ⌝ }
-    requires { ⌜ (0 < width) × (width ≤ 64) × (rows ≤ 512) ⌝ }
-    ensures { λ r. ⌜ r ≡ listNumber width pw rows (fields bits n (now (list .entry))) ⌝ }
+    requires { ⌜ (0 < width) × (width ≤ 64) × (count .rows ≤ 512) ⌝ }
+    ensures { λ r. ⌜ r ≡ listNumber width pw (count .rows) (fields bits n (now (list .entry))) ⌝ }
 {
+    let rows = count.rows;
     let limit = patch_limit(width);
     let mut place: usize = 0;
     let mut free: usize = 0;
@@ -108,13 +110,16 @@ pub(crate) fn put(
     pw: usize,
     n: usize,
     width: usize,
-    rows: usize,
+    count: RowNumber,
     out: &mut [i64],
 )
     requires { ⌜ Listed bits pw n (now list) ⌝ }
-    requires { ⌜ (width ≤ 64) × (rows ≤ 512) × (rows ≤ length (now out)) × (outOfPlace pw rows (fields bits n (now list)) ≡ false) ⌝ }
+    requires { ⌜ (width ≤ 64) × (count .rows ≤ 512) × (count .rows ≤ length (now out))
+        × (outOfPlace pw (count .rows) (fields bits n (now list)) ≡ false) ⌝ }
     ensures { λ _. ⌜ now (out .exit) ≡ patchAll width pw 0 (now (out .entry)) (fields bits n (now (list .entry))) ⌝ }
 {
+    // no place reaches it: the list passed its test
+    let rows = count.rows;
     let mut row: usize = 0;
     let mut k: usize = 0;
     while k < n {

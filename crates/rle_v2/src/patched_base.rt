@@ -1,16 +1,16 @@
 // Patched base: four header bytes, the base, packed values, and a list of patches for the values that need more bits.
 ghost use mathlib.Core.Path.{_≡_};
 ghost use mathlib.Core.List.{_++_, map};
-ghost use Prim.Native.Nat.{_+_, _-_, _*_, _^_, _≤_, _<_};
-ghost use lib.ListN.{length, getD, take, drop};
+ghost use Prim.Native.Nat.{_+_, _*_, _^_, _≤_, _<_};
+ghost use lib.ListN.{length, drop};
 ghost use Rattle.format.specs.Fields.{bytesFor};
-ghost use Rattle.format.specs.Rows.{asI64, baseValue};
-ghost use Rattle.format.specs.Parse.{patchedBody, patchedRun};
-ghost use Rattle.format.specs.Promises.{answerOf, Gives};
+ghost use Rattle.format.specs.Rows.{asI64};
+ghost use Rattle.format.specs.Parse.{patchedRun};
 ghost use Rattle.util.specs.Packed.{fields, Width};
 ghost use Rattle.rle_v2.specs.Pass.{based};
-ghost use Rattle.rle_v2.specs.PatchList.{patchAll};
-ghost use Rattle.rle_v2.specs.PatchedHead.{InRange, IsWidths, IsParts, cutBody, fieldOf, goneBy, IsFound, Ready};
+ghost use Rattle.rle_v2.specs.PatchedHead.{InRange, IsWidths, IsParts, bodyAt, cutBody, fieldOf, goneBy, IsFound};
+ghost use Rattle.rle_v2.specs.PatchedHead.{Ready, patchedPlaces};
+ghost use Rattle.rle_v2.specs.RunAt.{runAt, MeasuredAs, ReadAs};
 use crate::header;
 use crate::patch_list;
 use crate::refusal;
@@ -28,7 +28,7 @@ use util::width;
 // What the four header bytes say: width code, rows, base bytes, patch width code, gap width, list length.
 struct Header {
     code: u8,
-    rows: usize,
+    rows: RowNumber,
     base: usize,
     patch: u8,
     gap: usize,
@@ -44,9 +44,9 @@ struct Widths {
 
 // The first byte of the values and of the list, and the byte after it.
 struct Parts {
-    values: usize,
-    list: usize,
-    end: usize,
+    values: ByteOffset,
+    list: ByteOffset,
+    end: ByteOffset,
 }
 
 // What the header of a patched base run says, and where its body stands: rows, base bytes and list length, the widths in bits, and the parts. Where
@@ -54,25 +54,25 @@ struct Parts {
 // no enum: one that a call gives back goes through memory twice.
 struct Found {
     number: u8,
-    field: usize,
-    rows: usize,
+    field: ByteOffset,
+    rows: RowNumber,
     base: usize,
     entries: usize,
     bits: usize,
     patch: usize,
     entry: usize,
-    values: usize,
-    list: usize,
-    end: usize,
+    values: ByteOffset,
+    list: ByteOffset,
+    end: ByteOffset,
 }
 
 // The byte where the field begins that the input ends in; 0 where it ends in none.
-fn field_of(cut: CutField) -> usize
-    ensures { λ r. ⌜ r ≡ fieldOf cut ⌝ }
+fn field_of(cut: CutField) -> ByteOffset
+    ensures { λ r. ⌜ r .bytes ≡ fieldOf cut ⌝ }
 {
     match cut {
-        CutField::None => 0,
-        CutField::At(byte) => byte.bytes,
+        CutField::None => ByteOffset { bytes: 0 },
+        CutField::At(byte) => byte,
     }
 }
 
@@ -85,71 +85,86 @@ fn gone(f: Refusal) -> Found
     Found {
         number: f.number,
         field,
-        rows: 0,
+        rows: RowNumber { rows: 0 },
         base: 0,
         entries: 0,
         bits: 0,
         patch: 0,
         entry: 0,
-        values: 0,
-        list: 0,
-        end: 0,
+        values: ByteOffset { bytes: 0 },
+        list: ByteOffset { bytes: 0 },
+        end: ByteOffset { bytes: 0 },
     }
 }
 
 // Where the body's parts begin, and where it ends.
-fn parts_of(at: usize, h: Header, w: Widths) -> Parts
-    requires { ⌜ (at < 2 ^ 63) × InRange h × IsWidths h w ⌝ }
-    ensures { λ r. ⌜ IsParts at h r ⌝ }
+fn parts_of(at: ByteOffset, h: Header, w: Widths) -> Parts
+    requires { ⌜ (at .bytes < 2 ^ 63) × InRange h × IsWidths h w ⌝ }
+    ensures { λ r. ⌜ IsParts (at .bytes) h r ⌝ }
 {
-    let values = at + 4 + h.base;
-    let list = values + packed::block_size(w.bits, h.rows);
+    let p = at.bytes;
+    let rows = h.rows;
+    let values = p + 4 + h.base;
+    let list = values + packed::block_size(w.bits, rows.rows);
     let end = list + packed::block_size(w.entry, h.entries);
-    Parts { values, list, end }
+    Parts {
+        values: ByteOffset { bytes: values },
+        list: ByteOffset { bytes: list },
+        end: ByteOffset { bytes: end },
+    }
 }
 
 // The input ends in the body: in the base, in the values or in the list.
-fn broke_off(len: usize, at: usize, q: Parts) -> Refusal
-    requires { ⌜ at + 4 ≤ len ⌝ }
-    ensures { λ r. ⌜ r ≡ cutBody len at (q .values) (q .list) ⌝ }
+fn broke_off(len: ByteOffset, at: ByteOffset, q: Parts) -> Refusal
+    requires { ⌜ at .bytes + 4 ≤ len .bytes ⌝ }
+    ensures { λ r. ⌜ r ≡ cutBody (len .bytes) (at .bytes) (q .values .bytes) (q .list .bytes) ⌝ }
 {
-    if len < q.values {
-        return Refusal::cut(6, at, at + 4);
+    let all = len.bytes;
+    let p = at.bytes;
+    let values = q.values;
+    let list = q.list;
+    if all < values.bytes {
+        return Refusal::cut(6, at, ByteOffset { bytes: p + 4 });
     }
-    if len < q.list {
-        return Refusal::cut(13, at, q.values);
+    if all < list.bytes {
+        return Refusal::cut(13, at, values);
     }
-    Refusal::cut(14, at, q.list)
+    Refusal::cut(14, at, list)
 }
 
 // The body: that it is there.
-fn body(input: &[u8], at: usize, h: Header, w: Widths) -> Found
-    requires { ⌜ (at + 4 ≤ length (now input)) × InRange h × IsWidths h w × (w .patch + h .gap ≤ 64) ⌝ }
-    ensures { λ r. ⌜ IsFound (now (input .entry)) at (patchedBody (h .code) (h .rows) (h .base) (h .patch) (h .gap) (h .entries) (drop (at + 4) (now (input .entry)))) r ⌝ }
+fn body(input: &[u8], at: ByteOffset, h: Header, w: Widths) -> Found
+    requires { ⌜ (at .bytes + 4 ≤ length (now input)) × InRange h × IsWidths h w × (w .patch + h .gap ≤ 64) ⌝ }
+    ensures { λ r. ⌜ IsFound (now (input .entry)) (at .bytes) (bodyAt h (now (input .entry)) (at .bytes)) r ⌝ }
 {
     let q = parts_of(at, h, w);
-    if input.len() < q.end {
-        return gone(broke_off(input.len(), at, q));
+    let end = q.end;
+    if input.len() < end.bytes {
+        let len = ByteOffset { bytes: input.len() };
+        return gone(broke_off(len, at, q));
     }
+    let rows = h.rows;
+    let values = q.values;
+    let list = q.list;
     Found {
         number: 0,
-        field: 0,
-        rows: h.rows,
+        field: ByteOffset { bytes: 0 },
+        rows,
         base: h.base,
         entries: h.entries,
         bits: w.bits,
         patch: w.patch,
         entry: w.entry,
-        values: q.values,
-        list: q.list,
-        end: q.end,
+        values,
+        list,
+        end,
     }
 }
 
 // What the header's widths refuse, before the body is read.
-fn by_widths(input: &[u8], at: usize, h: Header) -> Found
-    requires { ⌜ (at + 4 ≤ length (now input)) × InRange h ⌝ }
-    ensures { λ r. ⌜ IsFound (now (input .entry)) at (patchedBody (h .code) (h .rows) (h .base) (h .patch) (h .gap) (h .entries) (drop (at + 4) (now (input .entry)))) r ⌝ }
+fn by_widths(input: &[u8], at: ByteOffset, h: Header) -> Found
+    requires { ⌜ (at .bytes + 4 ≤ length (now input)) × InRange h ⌝ }
+    ensures { λ r. ⌜ IsFound (now (input .entry)) (at .bytes) (bodyAt h (now (input .entry)) (at .bytes)) r ⌝ }
 {
     let bits = width::bits_of(h.code);
     let patch = width::bits_of(h.patch);
@@ -160,114 +175,135 @@ fn by_widths(input: &[u8], at: usize, h: Header) -> Found
     body(input, at, h, Widths { bits, patch, entry })
 }
 
-fn headed(input: &[u8], at: usize) -> Found
-    requires { ⌜ at < length (now input) ⌝ }
-    ensures { λ r. ⌜ IsFound (now (input .entry)) at (patchedRun (getD (now (input .entry)) at 0) (drop (at + 1) (now (input .entry)))) r ⌝ }
+fn headed(input: &[u8], at: ByteOffset) -> Found
+    requires { ⌜ at .bytes < length (now input) ⌝ }
+    ensures { λ r. ⌜ IsFound (now (input .entry)) (at .bytes) (runAt patchedRun (now (input .entry)) (at .bytes)) r ⌝ }
 {
-    if input.len() - at < 4 {
+    let p = at.bytes;
+    if input.len() - p < 4 {
         return gone(Refusal::new(1, at));
     }
-    let h = header::two_bytes(input[at], input[at + 1]);
-    let third = input[at + 2];
-    let fourth = input[at + 3];
+    let h = header::two_bytes(input[p], input[p + 1]);
+    let third = input[p + 2];
+    let fourth = input[p + 3];
+    let rows = h.rows;
+    let base = (third / 32) as usize + 1;
+    let gap = (fourth / 32) as usize + 1;
     let four = Header {
         code: h.code,
-        rows: h.rows,
-        base: (third / 32) as usize + 1,
+        rows,
+        base,
         patch: third % 32,
-        gap: (fourth / 32) as usize + 1,
+        gap,
         entries: (fourth % 32) as usize,
     };
     by_widths(input, at, four)
 }
 
-pub(crate) fn measure(input: &[u8], at: usize) -> Answer
-    requires { ⌜ at < length (now input) ⌝ }
-    ensures { λ r. ⌜ r ≡ answerOf at (length (now (input .entry)) - at) (patchedRun (getD (now (input .entry)) at 0) (drop (at + 1) (now (input .entry)))) ⌝ }
+pub(crate) fn measure(input: &[u8], at: ByteOffset) -> Answer
+    requires { ⌜ at .bytes < length (now input) ⌝ }
+    ensures { λ r. ⌜ MeasuredAs patchedRun (now (input .entry)) (at .bytes) r ⌝ }
 {
+    let p = at.bytes;
     let f = headed(input, at);
     if f.number != 0 {
-        return refusal::answer(f.number, at, f.field);
+        let field = f.field;
+        return refusal::answer(f.number, at, field);
     }
+    let rows = f.rows;
     let list = f.list;
+    let from = list.bytes;
     let number = patch_list::refused_with(
-        &input[list..],
+        &input[from..],
         f.entry,
         f.patch,
         f.entries,
         f.bits,
-        f.rows,
+        rows,
     );
     if number != 0 {
         return Answer::refused(number, at);
     }
+    let end = f.end;
+    let consumed = end.bytes - p;
     Answer::run(
         Kind::PatchedBase,
         f.bits,
-        RowNumber { rows: f.rows },
-        ByteOffset { bytes: f.end - at },
+        rows,
+        ByteOffset { bytes: consumed },
     )
 }
 
 // The values with the base added, in their places.
-fn lay(block: &[u8], bits: usize, n: usize, base: u64, out: &mut [i64])
+fn lay(block: &[u8], bits: usize, n: RowNumber, base: u64, out: &mut [i64])
     requires { ⌜ Width bits ⌝ }
-    requires { ⌜ (n ≤ 65536) × (n ≤ length (now out)) × (bytesFor (n * bits) ≤ length (now block)) ⌝ }
-    ensures { λ _. ⌜ now (out .exit) ≡ based base (map asI64 (fields bits n (now (block .entry)))) ++ drop n (now (out .entry)) ⌝ }
+    requires { ⌜ (n .rows ≤ 65536) × (n .rows ≤ length (now out)) × (bytesFor (n .rows * bits) ≤ length (now block)) ⌝ }
+    ensures { λ _. ⌜ now (out .exit)
+        ≡ based base (map asI64 (fields bits (n .rows) (now (block .entry)))) ++ drop (n .rows) (now (out .entry)) ⌝ }
 {
-    packed::unpack(block, bits, n, out);
+    packed::unpack(block, bits, n.rows, out);
     rows::add_base(base, n, out);
 }
 
 // The rows of a run that passed its tests.
-fn put(input: &[u8], at: usize, f: Found, out: &mut [i64])
-    requires { ⌜ Ready (now input) at f × (f .rows ≤ length (now out)) ⌝ }
-    ensures { λ _. ⌜ now (out .exit) ≡ patchAll (f .bits) (f .patch) 0 (based (baseValue (take (f .base) (drop (at + 4) (now (input .entry))))) (map asI64 (fields (f .bits) (f .rows) (drop (f .values) (now (input .entry))))) ++ drop (f .rows) (now (out .entry))) (fields (f .entry) (f .entries) (drop (f .list) (now (input .entry)))) ⌝ }
+fn put(input: &[u8], at: ByteOffset, f: Found, out: &mut [i64])
+    requires { ⌜ Ready (now input) (at .bytes) f × (f .rows .rows ≤ length (now out)) ⌝ }
+    ensures { λ _. ⌜ now (out .exit) ≡ patchedPlaces (now (input .entry)) (at .bytes) f (now (out .entry)) ⌝ }
 {
+    let p = at.bytes;
+    let rows = f.rows;
     let values = f.values;
     let list = f.list;
-    let base = big_endian::base_value(input, at + 4, f.base);
-    lay(&input[values..], f.bits, f.rows, base, out);
+    let first = values.bytes;
+    let from = list.bytes;
+    let base = big_endian::base_value(input, p + 4, f.base);
+    lay(&input[first..], f.bits, rows, base, out);
     patch_list::put(
-        &input[list..],
+        &input[from..],
         f.entry,
         f.patch,
         f.entries,
         f.bits,
-        f.rows,
+        rows,
         out,
     );
 }
 
 // Patched rows are never zigzag decoded, whatever the flag.
-pub(crate) fn read(input: &[u8], at: usize, signed: bool, out: &mut [i64]) -> Answer
-    requires { ⌜ at < length (now input) ⌝ }
-    ensures { λ r. ⌜ Gives at (length (now (input .entry)) - at) signed (patchedRun (getD (now (input .entry)) at 0) (drop (at + 1) (now (input .entry)))) (now (out .entry)) (now (out .exit)) r ⌝ }
+pub(crate) fn read(input: &[u8], at: ByteOffset, signed: bool, out: &mut [i64]) -> Answer
+    requires { ⌜ at .bytes < length (now input) ⌝ }
+    ensures { λ r. ⌜ ReadAs patchedRun (now (input .entry)) (at .bytes) signed (now (out .entry)) (now (out .exit)) r ⌝ }
 {
+    let p = at.bytes;
     let f = headed(input, at);
     if f.number != 0 {
-        return refusal::answer(f.number, at, f.field);
+        let field = f.field;
+        return refusal::answer(f.number, at, field);
     }
+    let rows = f.rows;
     let list = f.list;
+    let from = list.bytes;
     let refusal = patch_list::refused_with(
-        &input[list..],
+        &input[from..],
         f.entry,
         f.patch,
         f.entries,
         f.bits,
-        f.rows,
+        rows,
     );
     if refusal != 0 {
         return Answer::refused(refusal, at);
     }
-    if out.len() < f.rows {
+    if out.len() < rows.rows {
         return Answer::refused(8, at);
     }
     put(input, at, f, out);
+    let end = f.end;
+    let consumed = end.bytes - p;
     Answer::run(
         Kind::PatchedBase,
         f.bits,
-        RowNumber { rows: f.rows },
-        ByteOffset { bytes: f.end - at },
+        rows,
+        ByteOffset { bytes: consumed },
     )
 }

@@ -1,9 +1,8 @@
 // Short repeat: 2 bits kind, 3 bits size-1, 3 bits count-3; then the value's bytes.
-ghost use mathlib.Core.Path.{_≡_};
-ghost use Prim.Native.Nat.{_+_, _-_, _<_};
-ghost use lib.ListN.{length, getD, drop};
+ghost use Prim.Native.Nat.{_<_};
+ghost use lib.ListN.{length, getD};
 ghost use Rattle.format.specs.Parse.{shortRun};
-ghost use Rattle.format.specs.Promises.{answerOf, Gives};
+ghost use Rattle.rle_v2.specs.RunAt.{MeasuredAs, ReadAs};
 use crate::rows;
 use format::Answer;
 use format::ByteOffset;
@@ -12,16 +11,17 @@ use format::RowNumber;
 use util::big_endian;
 use util::pattern;
 
-pub(crate) fn measure(input: &[u8], at: usize) -> Answer
-    requires { ⌜ (at < length (now input)) × (getD (now input) at 0 < 64) ⌝ }
-    ensures { λ r. ⌜ r ≡ answerOf at (length (now (input .entry)) - at) (shortRun (getD (now (input .entry)) at 0) (drop (at + 1) (now (input .entry)))) ⌝ }
+pub(crate) fn measure(input: &[u8], at: ByteOffset) -> Answer
+    requires { ⌜ (at .bytes < length (now input)) × (getD (now input) (at .bytes) 0 < 64) ⌝ }
+    ensures { λ r. ⌜ MeasuredAs shortRun (now (input .entry)) (at .bytes) r ⌝ }
 {
-    let header = input[at] as usize;
+    let p = at.bytes;
+    let header = input[p] as usize;
     let size = header / 8 + 1;
     let count = header % 8 + Kind::MIN_REPEAT;
-    let body = at + 1;
+    let body = p + 1;
     if input.len() - body < size {
-        return Answer::cut(6, at, body);
+        return Answer::cut(6, at, ByteOffset { bytes: body });
     }
     Answer::run(
         Kind::ShortRepeat,
@@ -31,9 +31,9 @@ pub(crate) fn measure(input: &[u8], at: usize) -> Answer
     )
 }
 
-pub(crate) fn read(input: &[u8], at: usize, signed: bool, out: &mut [i64]) -> Answer
-    requires { ⌜ (at < length (now input)) × (getD (now input) at 0 < 64) ⌝ }
-    ensures { λ r. ⌜ Gives at (length (now (input .entry)) - at) signed (shortRun (getD (now (input .entry)) at 0) (drop (at + 1) (now (input .entry)))) (now (out .entry)) (now (out .exit)) r ⌝ }
+pub(crate) fn read(input: &[u8], at: ByteOffset, signed: bool, out: &mut [i64]) -> Answer
+    requires { ⌜ (at .bytes < length (now input)) × (getD (now input) (at .bytes) 0 < 64) ⌝ }
+    ensures { λ r. ⌜ ReadAs shortRun (now (input .entry)) (at .bytes) signed (now (out .entry)) (now (out .exit)) r ⌝ }
 {
     let measured = measure(input, at);
     match measured {
@@ -42,8 +42,8 @@ pub(crate) fn read(input: &[u8], at: usize, signed: bool, out: &mut [i64]) -> An
             if out.len() < count.rows {
                 return Answer::refused(8, at);
             }
-            let value = pattern::row(signed, big_endian::read(input, at + 1, r.width / 8));
-            rows::repeat(value, count.rows, out);
+            let value = pattern::row(signed, big_endian::read(input, at.bytes + 1, r.width / 8));
+            rows::repeat(value, count, out);
             // as it is: an answer that is made again goes through memory in pieces
             measured
         }

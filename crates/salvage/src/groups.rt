@@ -6,14 +6,15 @@ ghost use lib.Dec.{T};
 ghost use Rattle.salvage.specs.Salvage.{startsRight, kept};
 ghost use Rattle.salvage.specs.Steps.{stopOf, bytesOf, group};
 use format::ByteOffset;
+use format::RowNumber;
 use format::Stream;
 
 // They begin at 0, rise strictly, and do not pass the end; an empty list only with an empty stream.
-pub(crate) fn starts_right(starts: &[u64], end: usize) -> bool
-    ensures { λ r. ⌜ r ≡ startsRight end (now (starts .entry)) ⌝ }
+pub(crate) fn starts_right(starts: &[u64], end: ByteOffset) -> bool
+    ensures { λ r. ⌜ r ≡ startsRight (end .bytes) (now (starts .entry)) ⌝ }
 {
     if starts.len() == 0 {
-        return end == 0;
+        return end.bytes == 0;
     }
     if starts[0] != 0 {
         return false;
@@ -28,17 +29,19 @@ pub(crate) fn starts_right(starts: &[u64], end: usize) -> bool
         last = next;
         i += 1;
     }
-    last <= end as u64
+    last <= end.bytes as u64
 }
 
 // Where group i ends: at the next start, or at the end.
-fn stop_of(end: usize, starts: &[u64], i: usize) -> usize
+fn stop_of(end: ByteOffset, starts: &[u64], i: usize) -> ByteOffset
     requires { ⌜ i < length (now starts) ⌝ }
-    ensures { λ r. ⌜ r ≡ stopOf end (now (starts .entry)) i ⌝ }
+    ensures { λ r. ⌜ r .bytes ≡ stopOf (end .bytes) (now (starts .entry)) i ⌝ }
 {
     let next = i + 1;
     if next < starts.len() {
-        return starts[next] as usize;
+        return ByteOffset {
+            bytes: starts[next] as usize,
+        };
     }
     end
 }
@@ -49,22 +52,24 @@ pub(crate) fn bytes_of<'a>(input: &'a [u8], starts: &[u64], i: usize) -> &'a [u8
     ensures { λ r. ⌜ now r ≡ bytesOf (now (input .entry)) (now (starts .entry)) i ⌝ }
 {
     let from = starts[i] as usize;
-    let to = stop_of(input.len(), starts, i);
+    let end = ByteOffset { bytes: input.len() };
+    let stop = stop_of(end, starts, i);
+    let to = stop.bytes;
     &input[from..to]
 }
 
 // A group is kept exactly if its bytes read as a whole stream of exactly its rows.
-pub(crate) fn is_kept(bytes: &[u8], rows: u64) -> bool
-    ensures { λ r. ⌜ r ≡ kept (group (now (bytes .entry)) rows) ⌝ }
+pub(crate) fn is_kept(bytes: &[u8], rows: RowNumber) -> bool
+    ensures { λ r. ⌜ r ≡ kept (group (now (bytes .entry)) (rows .rows)) ⌝ }
 {
     if bytes.len() == 0 {
-        return rows == 0;
+        return rows.rows == 0;
     }
     let said = rle_v2::measure_stream(bytes, ByteOffset { bytes: 0 });
     match said {
         Stream::Whole(counts) => {
             let read = counts.rows;
-            read.rows as u64 == rows
+            read.rows == rows.rows
         }
         Stream::Refused(_, _) => false,
     }

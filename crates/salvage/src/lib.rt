@@ -8,6 +8,7 @@ ghost use Rattle.salvage.specs.Laws.{RightStarts};
 ghost use Rattle.salvage.specs.Steps.{roomFor};
 use format::ByteOffset;
 use format::Refusal;
+use format::RowNumber;
 
 mod fill;
 mod groups;
@@ -26,19 +27,16 @@ pub enum Outcome {
 }
 
 impl Outcome {
-    pub fn written(stream: usize, report: usize) -> Self
-        ensures { λ r. ⌜ r ≡ writtenOf stream report ⌝ }
+    pub fn written(stream: ByteOffset, report: ByteOffset) -> Self
+        ensures { λ r. ⌜ r ≡ writtenOf (stream .bytes) (report .bytes) ⌝ }
     {
-        Outcome::Written(Sizes {
-            stream: ByteOffset { bytes: stream },
-            report: ByteOffset { bytes: report },
-        })
+        Outcome::Written(Sizes { stream, report })
     }
 
     pub fn refused(number: u8) -> Self
         ensures { λ r. ⌜ r ≡ refusedWith number ⌝ }
     {
-        Outcome::Refused(Refusal::new(number, 0))
+        Outcome::Refused(Refusal::new(number, ByteOffset { bytes: 0 }))
     }
 }
 
@@ -61,14 +59,19 @@ fn has_room(
     let mut lines: usize = 0;
     let mut i: usize = 0;
     while i < starts.len() {
-        let rows = counts[i];
+        let listed = counts[i];
+        let rows = RowNumber {
+            rows: listed as usize,
+        };
         let bytes = groups::bytes_of(input, starts, i);
         let keep = groups::is_kept(bytes, rows);
-        let more = fill::group_size(bytes, rows, keep, first);
+        let group = fill::group_size(bytes, rows, keep, first);
+        let more = group.bytes;
         if out.len() - stream < more {
             return false;
         }
-        let line = line::size(keep, i as u64, rows);
+        let told = line::size(keep, i as u64, rows);
+        let line = told.bytes;
         if report.len() - lines < line {
             return false;
         }
@@ -93,11 +96,14 @@ fn write_all(
     ensures { λ r. ⌜ Salvaged (now (input .entry)) (now (starts .entry)) (now (counts .entry)) fill signed (now (out .entry)) (now (out .exit)) (now (report .entry)) (now (report .exit)) r ⌝ }
 {
     let first = fill::stored(fill, signed);
-    let mut stream: usize = 0;
-    let mut lines: usize = 0;
+    let mut stream = ByteOffset { bytes: 0 };
+    let mut lines = ByteOffset { bytes: 0 };
     let mut i: usize = 0;
     while i < starts.len() {
-        let rows = counts[i];
+        let listed = counts[i];
+        let rows = RowNumber {
+            rows: listed as usize,
+        };
         let bytes = groups::bytes_of(input, starts, i);
         let keep = groups::is_kept(bytes, rows);
         stream = fill::put_group(bytes, rows, keep, first, out, stream);
@@ -123,7 +129,7 @@ pub fn salvage(
     if starts.len() != counts.len() {
         return Outcome::refused(17);
     }
-    if !groups::starts_right(starts, input.len()) {
+    if !groups::starts_right(starts, ByteOffset { bytes: input.len() }) {
         return Outcome::refused(17);
     }
     if !has_room(input, starts, counts, fill, signed, out, report) {

@@ -5,6 +5,8 @@ ghost use lib.ListN.{length};
 ghost use Rattle.salvage.specs.Salvage as Salvage;
 ghost use Rattle.text.specs.Decimal.{decimal};
 ghost use Rattle.text.specs.Written.{TextWritten};
+use format::ByteOffset;
+use format::RowNumber;
 use text::put;
 use text::put_decimal;
 use text::put_word;
@@ -14,8 +16,8 @@ const KEPT: [u8; 5] = *b"kept ";
 const REPLACED: [u8; 9] = *b"replaced ";
 
 // How many digits a number has.
-fn decimal_size(x: u64) -> usize
-    ensures { λ r. ⌜ r ≡ length (decimal x) ⌝ }
+fn decimal_size(x: u64) -> ByteOffset
+    ensures { λ r. ⌜ r .bytes ≡ length (decimal x) ⌝ }
 {
     let mut rest = x;
     let mut n: usize = 1;
@@ -23,37 +25,48 @@ fn decimal_size(x: u64) -> usize
         rest /= 10;
         n += 1;
     }
-    n
+    ByteOffset { bytes: n }
 }
 
 // How many bytes the line has.
-pub(crate) fn size(keep: bool, number: u64, rows: u64) -> usize
-    ensures { λ r. ⌜ r ≡ length (Salvage.line keep number rows) ⌝ }
+pub(crate) fn size(keep: bool, number: u64, rows: RowNumber) -> ByteOffset
+    ensures { λ r. ⌜ r .bytes ≡ length (Salvage.line keep number (rows .rows)) ⌝ }
 {
-    let digits = decimal_size(number) + decimal_size(rows);
+    let first = decimal_size(number);
+    let second = decimal_size(rows.rows as u64);
+    let digits = first.bytes + second.bytes;
     if keep {
-        return 7 + digits;
+        return ByteOffset { bytes: 7 + digits };
     }
-    11 + digits
+    ByteOffset { bytes: 11 + digits }
 }
 
-fn put_verdict(keep: bool, out: &mut [u8], at: usize) -> usize
-    requires { ⌜ at + length (Salvage.verdict keep) ≤ length (now out) ⌝ }
-    ensures { λ r. ⌜ TextWritten (Salvage.verdict keep) (now (out .entry)) at (now (out .exit)) r ⌝ }
+fn put_verdict(keep: bool, out: &mut [u8], at: ByteOffset) -> ByteOffset
+    requires { ⌜ at .bytes + length (Salvage.verdict keep) ≤ length (now out) ⌝ }
+    ensures { λ r. ⌜ TextWritten (Salvage.verdict keep) (now (out .entry)) (at .bytes) (now (out .exit)) (r .bytes) ⌝ }
 {
     if keep {
-        return put_word(&KEPT, out, at);
+        let end = put_word(&KEPT, out, at.bytes);
+        return ByteOffset { bytes: end };
     }
-    put_word(&REPLACED, out, at)
+    let end = put_word(&REPLACED, out, at.bytes);
+    ByteOffset { bytes: end }
 }
 
-pub(crate) fn put_line(keep: bool, number: u64, rows: u64, out: &mut [u8], at: usize) -> usize
-    requires { ⌜ at + length (Salvage.line keep number rows) ≤ length (now out) ⌝ }
-    ensures { λ r. ⌜ TextWritten (Salvage.line keep number rows) (now (out .entry)) at (now (out .exit)) r ⌝ }
+pub(crate) fn put_line(
+    keep: bool,
+    number: u64,
+    rows: RowNumber,
+    out: &mut [u8],
+    at: ByteOffset,
+) -> ByteOffset
+    requires { ⌜ at .bytes + length (Salvage.line keep number (rows .rows)) ≤ length (now out) ⌝ }
+    ensures { λ r. ⌜ TextWritten (Salvage.line keep number (rows .rows)) (now (out .entry)) (at .bytes) (now (out .exit)) (r .bytes) ⌝ }
 {
-    let mut next = put_verdict(keep, out, at);
-    next = put_decimal(number, out, next);
+    let verdict = put_verdict(keep, out, at);
+    let mut next = put_decimal(number, out, verdict.bytes);
     next = put(b' ', out, next);
-    next = put_decimal(rows, out, next);
-    put(b'\n', out, next)
+    next = put_decimal(rows.rows as u64, out, next);
+    next = put(b'\n', out, next);
+    ByteOffset { bytes: next }
 }

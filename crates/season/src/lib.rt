@@ -13,8 +13,10 @@ ghost use Rattle.season.specs.Held.{slot, lineWith, replyTo, held, count
 ghost use Rattle.season.specs.Ones.{onesIn, countTrue};
 use format::ALL_BITS;
 use format::Answer;
+use format::ByteOffset;
 use format::Kind;
 use format::Refusal;
+use format::RowNumber;
 use format::TOP_BIT;
 
 // At most so many lines, and at most so many rows.
@@ -310,7 +312,7 @@ impl Taken {
     {
         Taken {
             totals,
-            stop: Stop::Refused(Refusal::new(20, 0)),
+            stop: Stop::Refused(Refusal::new(20, ByteOffset { bytes: 0 })),
         }
     }
 }
@@ -447,34 +449,37 @@ fn ones_of(byte: u8, bits: usize) -> usize
 }
 
 // The ones of whole bytes.
-fn ones_in(bytes: &[u8], whole: usize) -> usize
-    requires { ⌜ (whole ≤ length (now bytes)) × (8 * whole < 2 ^ 64) ⌝ }
-    ensures { λ r. ⌜ r ≡ onesIn (8 * whole) (now (bytes .entry)) ⌝ }
+fn ones_in(bytes: &[u8], whole: ByteOffset) -> RowNumber
+    requires { ⌜ (whole .bytes ≤ length (now bytes)) × (8 * whole .bytes < 2 ^ 64) ⌝ }
+    ensures { λ r. ⌜ r .rows ≡ onesIn (8 * whole .bytes) (now (bytes .entry)) ⌝ }
 {
+    let count = whole.bytes;
     let mut ones: usize = 0;
     let mut i: usize = 0;
-    while i < whole {
+    while i < count {
         ones += ones_of(bytes[i], 8);
         i += 1;
     }
-    ones
+    RowNumber { rows: ones }
 }
 
 // How many of the first n booleans are true, highest bit first: a byte at a time, and of the last only the bits that are asked for.
-pub fn count_true(bytes: &[u8], n: usize) -> Count
-    ensures { λ r. ⌜ r ≡ countTrue n (now (bytes .entry)) ⌝ }
+pub fn count_true(bytes: &[u8], n: RowNumber) -> Count
+    ensures { λ r. ⌜ r ≡ countTrue (n .rows) (now (bytes .entry)) ⌝ }
 {
-    let whole = n / 8;
-    let left = n % 8;
+    let rows = n.rows;
+    let whole = rows / 8;
+    let left = rows % 8;
+    let start = ByteOffset { bytes: 0 };
     if bytes.len() < whole {
-        return Count::Refused(Refusal::cut(6, 0, 0));
+        return Count::Refused(Refusal::cut(6, start, start));
     }
-    let ones = ones_in(bytes, whole);
+    let ones = ones_in(bytes, ByteOffset { bytes: whole }).rows;
     if left == 0 {
         return Count::True(ones);
     }
     if bytes.len() == whole {
-        return Count::Refused(Refusal::cut(6, 0, 0));
+        return Count::Refused(Refusal::cut(6, start, start));
     }
     Count::True(ones + ones_of(bytes[whole], left))
 }

@@ -49,7 +49,8 @@ fn take_line(before: Totals, line: &[u8], rows: &mut [i64]) -> Taken
     match lines::read_line(line, rows) {
         Reading::Bad => before.take(Reply::Bad, &rows[..0]),
         Reading::Answered(answer) => {
-            let n = answer.rows();
+            let count = answer.rows();
+            let n = count.rows;
             before.take(Reply::to(answer), &rows[..n])
         }
     }

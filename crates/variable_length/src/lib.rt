@@ -9,38 +9,39 @@ use format::Kind;
 use format::RowNumber;
 
 // Where the rest begins: a position past the end is empty input.
-fn rest(input: &[u8], at: usize) -> usize
-    ensures { λ r. ⌜ (r ≤ length (now (input .entry))) × (drop r (now (input .entry)) ≡ drop at (now (input .entry))) ⌝ }
+fn rest(input: &[u8], at: ByteOffset) -> ByteOffset
+    ensures { λ r. ⌜ (r .bytes ≤ length (now (input .entry))) × (drop (r .bytes) (now (input .entry)) ≡ drop (at .bytes) (now (input .entry))) ⌝ }
 {
-    if at <= input.len() { at } else { input.len() }
+    let position = at.bytes;
+    let start = if position <= input.len() {
+        position
+    } else {
+        input.len()
+    };
+    ByteOffset { bytes: start }
 }
 
 // The value's counts, or refusal 6 where the input ends before the value does: the cut field begins at the call's position.
-pub fn read_value(input: &[u8], at: ByteOffset, n: usize) -> Answer
-    ensures { λ r. ⌜ ValueRead (now (input .entry)) (at .bytes) n r ⌝ }
+pub fn read_value(input: &[u8], at: ByteOffset, n: ByteOffset) -> Answer
+    ensures { λ r. ⌜ ValueRead (now (input .entry)) (at .bytes) (n .bytes) r ⌝ }
 {
-    let position = at.bytes;
-    let start = rest(input, position);
-    if n <= input.len() - start {
-        Answer::run(
-            Kind::ByteValues,
-            8,
-            RowNumber { rows: n },
-            ByteOffset { bytes: n },
-        )
+    let start = rest(input, at).bytes;
+    let size = n.bytes;
+    if size <= input.len() - start {
+        Answer::run(Kind::ByteValues, 8, RowNumber { rows: size }, n)
     } else {
-        Answer::cut(6, position, position)
+        Answer::cut(6, at, at)
     }
 }
 
 // The value itself, a part of the input: empty if `read_value` refuses.
-pub fn value(input: &[u8], at: ByteOffset, n: usize) -> &[u8]
-    ensures { λ r. ⌜ ValueGiven (now (input .entry)) (at .bytes) n (now r) ⌝ }
+pub fn value(input: &[u8], at: ByteOffset, n: ByteOffset) -> &[u8]
+    ensures { λ r. ⌜ ValueGiven (now (input .entry)) (at .bytes) (n .bytes) (now r) ⌝ }
 {
-    let position = at.bytes;
-    let start = rest(input, position);
-    if n <= input.len() - start {
-        return &input[start..start + n];
+    let start = rest(input, at).bytes;
+    let size = n.bytes;
+    if size <= input.len() - start {
+        return &input[start..start + size];
     }
     &input[..0]
 }

@@ -10,8 +10,10 @@ ghost use Rattle.format.specs.Words.{answerCase, answerKind, answerWords, cutCa
 ghost use Rattle.format.specs.Answers.{answerNumber};
 use format::ALL_BITS;
 use format::Answer;
+use format::ByteOffset;
 use format::CutField;
 use format::LastRun;
+use format::RowNumber;
 use format::Stream;
 
 pub mod parts;
@@ -57,12 +59,12 @@ pub fn cut_case(field: CutField) -> u64
     }
 }
 
-pub fn cut_byte(field: CutField) -> usize
-    ensures { λ r. ⌜ r ≡ cutByte field ⌝ }
+pub fn cut_byte(field: CutField) -> ByteOffset
+    ensures { λ r. ⌜ r .bytes ≡ cutByte field ⌝ }
 {
     match field {
-        CutField::None => 0,
-        CutField::At(b) => b.bytes,
+        CutField::None => ByteOffset { bytes: 0 },
+        CutField::At(b) => b,
     }
 }
 
@@ -87,12 +89,12 @@ fn store_answer(answer: Answer, words: &mut [u64]) -> u64
 {
     words[0] = case(answer);
     words[1] = answer.number() as u64;
-    words[2] = answer.place() as u64;
+    words[2] = answer.place().bytes as u64;
     words[3] = kind(answer) as u64;
-    words[4] = answer.rows() as u64;
-    words[5] = answer.consumed() as u64;
+    words[4] = answer.rows().rows as u64;
+    words[5] = answer.consumed().bytes as u64;
     words[6] = cut_case(answer.cut_field());
-    words[7] = cut_byte(answer.cut_field()) as u64;
+    words[7] = cut_byte(answer.cut_field()).bytes as u64;
     words[8] = answer.width() as u64;
     answer.number() as u64
 }
@@ -125,12 +127,12 @@ fn stream_number(stream: Stream) -> u8
     }
 }
 
-fn stream_place(stream: Stream) -> usize
-    ensures { λ r. ⌜ r ≡ streamPlace stream ⌝ }
+fn stream_place(stream: Stream) -> ByteOffset
+    ensures { λ r. ⌜ r .bytes ≡ streamPlace stream ⌝ }
 {
     match stream {
-        Stream::Whole(_) => 0,
-        Stream::Refused(f, _) => f.place.bytes,
+        Stream::Whole(_) => ByteOffset { bytes: 0 },
+        Stream::Refused(f, _) => f.place,
     }
 }
 
@@ -143,21 +145,21 @@ fn stream_cut(stream: Stream) -> CutField
     }
 }
 
-fn stream_rows(stream: Stream) -> usize
-    ensures { λ r. ⌜ r ≡ streamRows stream ⌝ }
+fn stream_rows(stream: Stream) -> RowNumber
+    ensures { λ r. ⌜ r .rows ≡ streamRows stream ⌝ }
 {
     match stream {
-        Stream::Whole(c) => c.rows.rows,
-        Stream::Refused(_, c) => c.rows.rows,
+        Stream::Whole(c) => c.rows,
+        Stream::Refused(_, c) => c.rows,
     }
 }
 
-fn stream_consumed(stream: Stream) -> usize
-    ensures { λ r. ⌜ r ≡ streamBytes stream ⌝ }
+fn stream_consumed(stream: Stream) -> ByteOffset
+    ensures { λ r. ⌜ r .bytes ≡ streamBytes stream ⌝ }
 {
     match stream {
-        Stream::Whole(c) => c.consumed.bytes,
-        Stream::Refused(_, c) => c.consumed.bytes,
+        Stream::Whole(c) => c.consumed,
+        Stream::Refused(_, c) => c.consumed,
     }
 }
 
@@ -187,18 +189,18 @@ fn store_stream(stream: Stream, words: &mut [u64]) -> u64
     let last = last_answer(stream_last(stream));
     words[0] = stream_case(stream);
     words[1] = stream_number(stream) as u64;
-    words[2] = stream_place(stream) as u64;
+    words[2] = stream_place(stream).bytes as u64;
     words[3] = 0;
-    words[4] = stream_rows(stream) as u64;
-    words[5] = stream_consumed(stream) as u64;
+    words[4] = stream_rows(stream).rows as u64;
+    words[5] = stream_consumed(stream).bytes as u64;
     words[6] = cut_case(stream_cut(stream));
-    words[7] = cut_byte(stream_cut(stream)) as u64;
+    words[7] = cut_byte(stream_cut(stream)).bytes as u64;
     words[8] = 0;
     words[9] = case(last);
     words[10] = kind(last) as u64;
     words[11] = last.width() as u64;
-    words[12] = last.rows() as u64;
-    words[13] = last.consumed() as u64;
+    words[12] = last.rows().rows as u64;
+    words[13] = last.consumed().bytes as u64;
     stream_number(stream) as u64
 }
 

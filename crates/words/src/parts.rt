@@ -16,6 +16,7 @@ use format::PartAnswer;
 use format::PartReader;
 use format::PartStep;
 use format::Refusal;
+use format::RowNumber;
 use format::Standing;
 
 // How many words a state has, and a call's answer.
@@ -23,15 +24,13 @@ pub const STATE_COUNT: usize = 7;
 
 pub const COUNT: usize = 11;
 
-fn cut_of(flag: u64, byte: u64) -> CutField
-    ensures { λ r. ⌜ r ≡ cutOf flag byte ⌝ }
+fn cut_of(flag: u64, byte: ByteOffset) -> CutField
+    ensures { λ r. ⌜ r ≡ cutOf flag (byte .bytes) ⌝ }
 {
     if flag == 0 {
         return CutField::None;
     }
-    CutField::At(ByteOffset {
-        bytes: byte as usize,
-    })
+    CutField::At(byte)
 }
 
 // The refusal that the words stand for.
@@ -43,7 +42,10 @@ fn refusal_of(state: &[u64]) -> Refusal
     let place = ByteOffset {
         bytes: state[4] as usize,
     };
-    let cut = cut_of(state[5], state[6]);
+    let field = ByteOffset {
+        bytes: state[6] as usize,
+    };
+    let cut = cut_of(state[5], field);
     Refusal { number, place, cut }
 }
 
@@ -136,9 +138,9 @@ fn store_reader(reader: PartReader, state: &mut [u64]) -> u64
     state[1] = reader.held as u64;
     state[2] = reader.at.bytes as u64;
     state[3] = again.number() as u64;
-    state[4] = again.place() as u64;
+    state[4] = again.place().bytes as u64;
     state[5] = cut_case(again.cut_field());
-    state[6] = cut_byte(again.cut_field()) as u64;
+    state[6] = cut_byte(again.cut_field()).bytes as u64;
     0
 }
 
@@ -180,14 +182,14 @@ fn case(answer: PartAnswer) -> u64
     }
 }
 
-fn start(answer: PartAnswer) -> usize
-    ensures { λ r. ⌜ r ≡ partStart answer ⌝ }
+fn start(answer: PartAnswer) -> ByteOffset
+    ensures { λ r. ⌜ r .bytes ≡ partStart answer ⌝ }
 {
     match answer {
-        PartAnswer::Run(at, _) => at.bytes,
-        PartAnswer::Refused(_) => 0,
-        PartAnswer::More => 0,
-        PartAnswer::End => 0,
+        PartAnswer::Run(at, _) => at,
+        PartAnswer::Refused(_) => ByteOffset { bytes: 0 },
+        PartAnswer::More => ByteOffset { bytes: 0 },
+        PartAnswer::End => ByteOffset { bytes: 0 },
     }
 }
 
@@ -200,14 +202,14 @@ fn store_part(step: PartStep, words: &mut [u64]) -> u64
     let a = plain(said);
     words[0] = case(said);
     words[1] = a.number() as u64;
-    words[2] = a.place() as u64;
+    words[2] = a.place().bytes as u64;
     words[3] = kind(a) as u64;
-    words[4] = a.rows() as u64;
-    words[5] = a.consumed() as u64;
+    words[4] = a.rows().rows as u64;
+    words[5] = a.consumed().bytes as u64;
     words[6] = cut_case(a.cut_field());
-    words[7] = cut_byte(a.cut_field()) as u64;
+    words[7] = cut_byte(a.cut_field()).bytes as u64;
     words[8] = a.width() as u64;
-    words[9] = start(said) as u64;
+    words[9] = start(said).bytes as u64;
     words[10] = step.taken.bytes as u64;
     a.number() as u64
 }
@@ -238,27 +240,27 @@ pub fn put_step(step: PartStep, state: &mut [u64], words: &mut [u64]) -> u64
 fn lay(
     case: u64,
     kind: u64,
-    rows: u64,
-    bytes: u64,
-    width: u64,
-    start: u64,
-    taken: u64,
+    rows: RowNumber,
+    bytes: ByteOffset,
+    width: usize,
+    start: ByteOffset,
+    taken: ByteOffset,
     words: &mut [u64],
 )
     requires { ⌜ partWordCount ≤ length (now words) ⌝ }
-    ensures { λ _. ⌜ now (words .exit) ≡ (case ∷ 0 ∷ 0 ∷ kind ∷ rows ∷ bytes ∷ 0 ∷ 0 ∷ width ∷ start ∷ taken ∷ []) ++ drop partWordCount (now (words .entry)) ⌝ }
+    ensures { λ _. ⌜ now (words .exit) ≡ (case ∷ 0 ∷ 0 ∷ kind ∷ rows .rows ∷ bytes .bytes ∷ 0 ∷ 0 ∷ width ∷ start .bytes ∷ taken .bytes ∷ []) ++ drop partWordCount (now (words .entry)) ⌝ }
 {
     words[0] = case;
     words[1] = 0;
     words[2] = 0;
     words[3] = kind;
-    words[4] = rows;
-    words[5] = bytes;
+    words[4] = rows.rows as u64;
+    words[5] = bytes.bytes as u64;
     words[6] = 0;
     words[7] = 0;
-    words[8] = width;
-    words[9] = start;
-    words[10] = taken;
+    words[8] = width as u64;
+    words[9] = start.bytes as u64;
+    words[10] = taken.bytes as u64;
 }
 
 fn store_taken(step: PartStep, state: &mut [u64], words: &mut [u64]) -> u64
@@ -276,18 +278,28 @@ fn store_taken(step: PartStep, state: &mut [u64], words: &mut [u64]) -> u64
             lay(
                 1,
                 kind.number() as u64,
-                rows.rows as u64,
-                consumed.bytes as u64,
-                r.width as u64,
-                at.bytes as u64,
-                step.taken.bytes as u64,
+                rows,
+                consumed,
+                r.width,
+                at,
+                step.taken,
                 words,
             );
             0
         }
         PartAnswer::More => {
             store_reader(step.reader, state);
-            lay(3, 0, 0, 0, 0, 0, step.taken.bytes as u64, words);
+            let none = ByteOffset { bytes: 0 };
+            lay(
+                3,
+                0,
+                RowNumber { rows: 0 },
+                none,
+                0,
+                none,
+                step.taken,
+                words,
+            );
             0
         }
         PartAnswer::Refused(_) => store_step(step, state, words),

@@ -57,9 +57,9 @@ module _ (base w : ℕ) (rs : List ℕ) where
 
   -- ---- all of them have room: the values and the list stand in the first places
 
-  module _ (h : Header) (vals list : List ℕ) (code : h .code ≡ codeFor w) (rows : h .rows ≡ length rs) (size : h .base ≡ baseSize base)
+  module _ (h : Header) (vals list : List ℕ) (code : h .code ≡ codeFor w) (rows : h .rows .rows ≡ length rs) (size : h .base .bytes ≡ baseSize base)
       (patch : h .patch ≡ patchCode (patchesIn base w rs)) (gap : h .gap ≡ gapWidth (entriesOf base w rs)) (entries : h .entries ≡ length (entriesOf base w rs))
-      (values : take (h .rows) vals ≡ lows w (differences base rs)) (fields : take (h .entries) list ≡ map (field (width (h .patch))) (entriesOf base w rs)) where
+      (values : take (h .rows .rows) vals ≡ lows w (differences base rs)) (fields : take (h .entries) list ≡ map (field (width (h .patch))) (entriesOf base w rs)) where
     same-parts : headed h base vals list ≡ d
     unfolding parts baseBytes
     same-parts =

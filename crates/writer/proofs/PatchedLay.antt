@@ -24,7 +24,7 @@ use Rattle.writer.proofs.Pieces.{behind}
 pub record Sized (h : Header) (bits entry values list : ℕ) : Type 0 where
   pub bits-is : bits ≡ width (h .code)
   pub entry-is : entry ≡ entryWidth (h .patch) (h .gap)
-  pub values-are : values ≡ bytesFor (h .rows * bits)
+  pub values-are : values ≡ bytesFor (h .rows .rows * bits)
   pub list-is : list ≡ bytesFor (h .entries * entry)
 
 module _ {h : Header} {base : ℕ} {vals list : List ℕ} {bits entry v l : ℕ} (k : Ready h base vals list) (s : Sized h bits entry v l) where
@@ -32,10 +32,10 @@ module _ {h : Header} {base : ℕ} {vals list : List ℕ} {bits entry v l : ℕ}
   d = headed h base vals list
 
   abbrev base-is : List ℕ
-  base-is = digits 256 (h .base) (signMagnitude base (h .base))
+  base-is = digits 256 (h .base .bytes) (signMagnitude base (h .base .bytes))
 
   abbrev values-block : List ℕ
-  values-block = blockBytes bits (h .rows) (padded (take (h .rows) vals))
+  values-block = blockBytes bits (h .rows .rows) (padded (take (h .rows .rows) vals))
 
   abbrev list-block : List ℕ
   list-block = blockBytes entry (h .entries) (padded (take (h .entries) list))
@@ -44,9 +44,9 @@ module _ {h : Header} {base : ℕ} {vals list : List ℕ} {bits entry v l : ℕ}
   unfolding layout
   flat =
       rw (
-        length-take-le (h .rows) vals (k .rows-there),
+        length-take-le (h .rows .rows) vals (k .rows-there),
         length-take-le (h .entries) list (k .entries-there),
-        length-digits 256 (h .base) (signMagnitude base (h .base)),
+        length-digits 256 (h .base .bytes) (signMagnitude base (h .base .bytes)),
         s .bits-is,
         s .entry-is,
       )
@@ -54,30 +54,30 @@ module _ {h : Header} {base : ℕ} {vals list : List ℕ} {bits entry v l : ℕ}
   lay-is : layout (run d) ≡ ((headBytes h ++ base-is) ++ values-block) ++ list-block
   lay-is = flat ∙ sym (append-assoc (headBytes h ++ base-is) values-block list-block ∙ append-assoc (headBytes h) base-is (values-block ++ list-block))
 
-  lay-size : length (layout (run d)) ≡ 4 + h .base + v + l
+  lay-size : length (layout (run d)) ≡ 4 + h .base .bytes + v + l
   lay-size =
       ap (λ (t : List ℕ). length t) lay-is
-      ∙ simp (length-append, length-digits 256 (h .base) (signMagnitude base (h .base)), length-block bits (h .rows) (padded (take (h .rows) vals)), length-block entry (h .entries) (padded (take (h .entries) list)))
+      ∙ simp (length-append, length-digits 256 (h .base .bytes) (signMagnitude base (h .base .bytes)), length-block bits (h .rows .rows) (padded (take (h .rows .rows) vals)), length-block entry (h .entries) (padded (take (h .entries) list)))
       (omega (arith, s .values-are, s .list-is))
 
-  pub no-room : (out : List ℕ) (r : Answer) → length out < 4 + h .base + v + l → r ≡ refusedAt 8 0 → Laid d out out r
+  pub no-room : (out : List ℕ) (r : Answer) → length out < 4 + h .base .bytes + v + l → r ≡ refusedAt 8 0 → Laid d out out r
   no-room out r f e =
       let t = lt-ltb (length out) (length (layout (run d))) (rw lay-size f) in
       record { answer = rw t e; places = rw t }
 
-  pub laid : (out o₁ o₂ o₃ o₄ : List ℕ) (r : Answer) → 4 + h .base + v + l ≤ length out → r ≡ ran kind.PatchedBase bits (h .rows) (4 + h .base + v + l)
-      → o₁ ≡ headBytes h ++ drop 4 out → o₂ ≡ take 4 o₁ ++ base-is ++ drop (4 + h .base) o₁
-      → o₃ ≡ take (4 + h .base) o₂ ++ values-block ++ drop (4 + h .base + bytesFor (h .rows * bits)) o₂
-      → o₄ ≡ take (4 + h .base + v) o₃ ++ list-block ++ drop (4 + h .base + v + bytesFor (h .entries * entry)) o₃ → Laid d out o₄ r
+  pub laid : (out o₁ o₂ o₃ o₄ : List ℕ) (r : Answer) → 4 + h .base .bytes + v + l ≤ length out → r ≡ ran kind.PatchedBase bits (h .rows .rows) (4 + h .base .bytes + v + l)
+      → o₁ ≡ headBytes h ++ drop 4 out → o₂ ≡ take 4 o₁ ++ base-is ++ drop (4 + h .base .bytes) o₁
+      → o₃ ≡ take (4 + h .base .bytes) o₂ ++ values-block ++ drop (4 + h .base .bytes + bytesFor (h .rows .rows * bits)) o₂
+      → o₄ ≡ take (4 + h .base .bytes + v) o₃ ++ list-block ++ drop (4 + h .base .bytes + v + bytesFor (h .entries * entry)) o₃ → Laid d out o₄ r
   laid out o₁ o₂ o₃ o₄ r f e e₁ e₂ e₃ e₄ =
       let t = le-ltb (length out) (length (layout (run d))) (rw lay-size f) in
-      let n₁ : 4 + h .base ≡ length (headBytes h ++ base-is) = simp (length-append, length-digits 256 (h .base) (signMagnitude base (h .base))) (omega arith) in
-      let n₂ : 4 + h .base + v ≡ length ((headBytes h ++ base-is) ++ values-block) =
-      simp (length-append, length-digits 256 (h .base) (signMagnitude base (h .base)), length-block bits (h .rows) (padded (take (h .rows) vals))) (omega (arith, s .values-are)) in
-      let p₁ = behind (headBytes h) base-is out o₁ o₂ 4 (h .base) refl (length-digits 256 (h .base) (signMagnitude base (h .base))) e₁ e₂ in
-      let p₂ = behind (headBytes h ++ base-is) values-block out o₂ o₃ (4 + h .base) _ n₁ (length-block bits (h .rows) (padded (take (h .rows) vals))) p₁ e₃ in
-      let p₃ = behind ((headBytes h ++ base-is) ++ values-block) list-block out o₃ o₄ (4 + h .base + v) _ n₂ (length-block entry (h .entries) (padded (take (h .entries) list))) p₂ e₄ in
+      let n₁ : 4 + h .base .bytes ≡ length (headBytes h ++ base-is) = simp (length-append, length-digits 256 (h .base .bytes) (signMagnitude base (h .base .bytes))) (omega arith) in
+      let n₂ : 4 + h .base .bytes + v ≡ length ((headBytes h ++ base-is) ++ values-block) =
+      simp (length-append, length-digits 256 (h .base .bytes) (signMagnitude base (h .base .bytes)), length-block bits (h .rows .rows) (padded (take (h .rows .rows) vals))) (omega (arith, s .values-are)) in
+      let p₁ = behind (headBytes h) base-is out o₁ o₂ 4 (h .base .bytes) refl (length-digits 256 (h .base .bytes) (signMagnitude base (h .base .bytes))) e₁ e₂ in
+      let p₂ = behind (headBytes h ++ base-is) values-block out o₂ o₃ (4 + h .base .bytes) _ n₁ (length-block bits (h .rows .rows) (padded (take (h .rows .rows) vals))) p₁ e₃ in
+      let p₃ = behind ((headBytes h ++ base-is) ++ values-block) list-block out o₃ o₄ (4 + h .base .bytes + v) _ n₂ (length-block entry (h .entries) (padded (take (h .entries) list))) p₂ e₄ in
       record {
-        answer = rw t (rw (length-take-le (h .rows) vals (k .rows-there), lay-size, ← (s .bits-is)) e);
+        answer = rw t (rw (length-take-le (h .rows .rows) vals (k .rows-there), lay-size, ← (s .bits-is)) e);
         places = rw t (rw lay-is p₃);
       }

@@ -42,33 +42,33 @@ signMagnitude base size = pick (falls base) (2 ^ (8 * size - 1)) 0 + magnitude b
 abbrev pub headed : Header → ℕ → List ℕ → List ℕ → Parts
 headed h base vals list = record {
   code = h .code;
-  base = digits 256 (h .base) (signMagnitude base (h .base));
+  base = digits 256 (h .base .bytes) (signMagnitude base (h .base .bytes));
   pc = h .patch;
   gw = h .gap;
-  values = padded (take (h .rows) vals);
+  values = padded (take (h .rows .rows) vals);
   list = padded (take (h .entries) list);
 }
 
 -- its four bytes
 abbrev pub headBytes : Header → List ℕ
-headBytes h = head 2 (h .code) (h .rows) ++ (((h .base - 1) * 32 + h .patch) ∷ ((h .gap - 1) * 32 + h .entries) ∷ [])
+headBytes h = head 2 (h .code) (h .rows .rows) ++ (((h .base .bytes - 1) * 32 + h .patch) ∷ ((h .gap - 1) * 32 + h .entries) ∷ [])
 
 -- the header's fields are in range, and the values and the list fit their widths
 pub record Ready (h : Header) (base : ℕ) (vals list : List ℕ) : Type 0 where
   pub code : h .code < 32
-  pub some-rows : 1 ≤ h .rows
-  pub rows : h .rows ≤ 512
-  pub rows-there : h .rows ≤ length vals
-  pub some-bytes : 1 ≤ h .base
-  pub eight : h .base ≤ 8
-  pub base-fits : magnitude base < 2 ^ (8 * h .base - 1)
+  pub some-rows : 1 ≤ h .rows .rows
+  pub rows : h .rows .rows ≤ 512
+  pub rows-there : h .rows .rows ≤ length vals
+  pub some-bytes : 1 ≤ h .base .bytes
+  pub eight : h .base .bytes ≤ 8
+  pub base-fits : magnitude base < 2 ^ (8 * h .base .bytes - 1)
   pub patch : h .patch < 32
   pub some-gap : 1 ≤ h .gap
   pub gap : h .gap ≤ 8
   pub widths : width (h .patch) + h .gap ≤ 64
   pub entries : h .entries ≤ 31
   pub entries-there : h .entries ≤ length list
-  pub values-fit : AllBelow (2 ^ width (h .code)) (take (h .rows) vals)
+  pub values-fit : AllBelow (2 ^ width (h .code)) (take (h .rows .rows) vals)
   pub list-fits : AllBelow (2 ^ entryWidth (h .patch) (h .gap)) (take (h .entries) list)
 
 -- the header of the run that is written, or none where refusal 10 applies

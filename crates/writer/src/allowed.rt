@@ -3,6 +3,7 @@ ghost use mathlib.Core.Path.{_≡_};
 ghost use Rattle.format.specs.Writing as Writing;
 use format::Form;
 use format::Kind;
+use format::RowNumber;
 
 pub(crate) fn between(low: usize, high: usize, n: usize) -> bool
     ensures { λ r. ⌜ r ≡ Writing.between low high n ⌝ }
@@ -14,9 +15,10 @@ pub(crate) fn between(low: usize, high: usize, n: usize) -> bool
 }
 
 // The row counts of a form.
-pub(crate) fn count(form: Form, n: usize) -> bool
-    ensures { λ r. ⌜ r ≡ Writing.countAllowed form n ⌝ }
+pub(crate) fn count(form: Form, rows: RowNumber) -> bool
+    ensures { λ r. ⌜ r ≡ Writing.countAllowed form (rows .rows) ⌝ }
 {
+    let n = rows.rows;
     match form {
         Form::ShortRepeat => between(Kind::MIN_REPEAT, Kind::MAX_REPEAT, n),
         Form::Direct => between(1, Kind::MAX_ROWS, n),

@@ -48,29 +48,31 @@ fn base_of(rows: &[i64]) -> u64
 }
 
 // The bytes of the header and of both varints.
-fn start_size(rows: &[i64], signed: bool) -> usize
+fn start_size(rows: &[i64], signed: bool) -> ByteOffset
     requires { ⌜ 1 ≤ length (now rows) ⌝ }
-    ensures { λ r. ⌜ StartSize (firstOf signed (map asU64 (now (rows .entry)))) (zigzagged (baseDelta (map asU64 (now (rows .entry))))) r ⌝ }
+    ensures { λ r. ⌜ StartSize (firstOf signed (map asU64 (now (rows .entry)))) (zigzagged (baseDelta (map asU64 (now (rows .entry))))) (r .bytes) ⌝ }
 {
-    2 + varint::size(first_of(rows, signed)) + varint::size(base_of(rows))
+    let bytes = 2 + varint::size(first_of(rows, signed)) + varint::size(base_of(rows));
+    ByteOffset { bytes }
 }
 
-fn write_start(code: u8, rows: usize, first: u64, base: u64, out: &mut [u8]) -> usize
-    requires { ⌜ (code < 32) × (1 ≤ rows) × (rows ≤ 512) × (2 + length (shortest first) + length (shortest base) ≤ length (now out)) ⌝ }
-    ensures { λ r. ⌜ Started (start code rows first base) (now (out .entry)) (now (out .exit)) r ⌝ }
+fn write_start(code: u8, rows: RowNumber, first: u64, base: u64, out: &mut [u8]) -> ByteOffset
+    requires { ⌜ (code < 32) × (1 ≤ rows .rows) × (rows .rows ≤ 512) × (2 + length (shortest first) + length (shortest base) ≤ length (now out)) ⌝ }
+    ensures { λ r. ⌜ Started (start code (rows .rows) first base) (now (out .entry)) (now (out .exit)) (r .bytes) ⌝ }
 {
     head::write(3, code, rows, out);
     let at = varint::write(first, out, 2);
-    varint::write(base, out, at)
+    let bytes = varint::write(base, out, at);
+    ByteOffset { bytes }
 }
 
 // The bytes of a fixed delta: 0 where the steps differ.
-pub(crate) fn size_fixed(rows: &[i64], signed: bool, code: u8) -> usize
+pub(crate) fn size_fixed(rows: &[i64], signed: bool, code: u8) -> ByteOffset
     requires { ⌜ (1 ≤ length (now rows)) × (length (now rows) ≤ 512) × (code ≡ 0) ⌝ }
-    ensures { λ r. ⌜ Sized signed Form.FixedDelta code (map asU64 (now (rows .entry))) r ⌝ }
+    ensures { λ r. ⌜ Sized signed Form.FixedDelta code (map asU64 (now (rows .entry))) (r .bytes) ⌝ }
 {
     if !values::are_steps(rows, base_delta(rows)) {
-        return 0;
+        return ByteOffset { bytes: 0 };
     }
     start_size(rows, signed)
 }
@@ -80,31 +82,34 @@ pub(crate) fn write_fixed(rows: &[i64], signed: bool, code: u8, out: &mut [u8]) 
     ensures { λ r. ⌜ Written (now (rows .entry)) signed Form.FixedDelta code (now (out .entry)) (now (out .exit)) r ⌝ }
 {
     let bytes = size_fixed(rows, signed, code);
-    if bytes == 0 {
-        return Answer::refused(10, 0);
+    let size = bytes.bytes;
+    if size == 0 {
+        return head::refused(10);
     }
-    if out.len() < bytes {
-        return Answer::refused(8, 0);
+    if out.len() < size {
+        return head::refused(8);
     }
-    let n = rows.len();
+    let n = RowNumber { rows: rows.len() };
     let first = first_of(rows, signed);
     let base = base_of(rows);
     write_start(0, n, first, base, out);
-    Answer::run(Kind::Delta, 0, RowNumber { rows: n }, ByteOffset { bytes })
+    Answer::run(Kind::Delta, 0, n, bytes)
 }
 
 // The bytes of a packed delta: 0 where a magnitude does not fit the width.
-pub(crate) fn size_packed(rows: &[i64], signed: bool, code: u8) -> usize
+pub(crate) fn size_packed(rows: &[i64], signed: bool, code: u8) -> ByteOffset
     requires { ⌜ (2 ≤ length (now rows)) × (length (now rows) ≤ 512) × (1 ≤ code) × (code ≤ 31) ⌝ }
     requires { ⌜ isKept code ≡ true ⌝ }
-    ensures { λ r. ⌜ Sized signed Form.PackedDelta code (map asU64 (now (rows .entry))) r ⌝ }
+    ensures { λ r. ⌜ Sized signed Form.PackedDelta code (map asU64 (now (rows .entry))) (r .bytes) ⌝ }
 {
     let bits = width::bits_of(code);
     let falling = TOP_BIT <= base_delta(rows);
     if !values::all_steps_fit(&rows[1..], falling, bits) {
-        return 0;
+        return ByteOffset { bytes: 0 };
     }
-    start_size(rows, signed) + packed::block_size(bits, rows.len() - 2)
+    let start = start_size(rows, signed).bytes;
+    let bytes = start + packed::block_size(bits, rows.len() - 2);
+    ByteOffset { bytes }
 }
 
 // Lays down a packed delta, that has so many bytes; the places hold its magnitudes on the way.
@@ -112,14 +117,14 @@ fn write_packed_over(
     rows: &[i64],
     signed: bool,
     code: u8,
-    bytes: usize,
+    bytes: ByteOffset,
     vals: &mut [u64],
     out: &mut [u8],
 )
-    requires { ⌜ (2 ≤ length (now rows)) × (length (now rows) ≤ 512) × (1 ≤ code) × (code ≤ 31) × (length (now rows) ≤ length (now vals)) × (1 ≤ bytes) × (bytes ≤ length (now out)) ⌝ }
+    requires { ⌜ (2 ≤ length (now rows)) × (length (now rows) ≤ 512) × (1 ≤ code) × (code ≤ 31) × (length (now rows) ≤ length (now vals)) × (1 ≤ bytes .bytes) × (bytes .bytes ≤ length (now out)) ⌝ }
     requires { ⌜ isKept code ≡ true ⌝ }
-    requires { ⌜ Sized signed Form.PackedDelta code (map asU64 (now rows)) bytes ⌝ }
-    ensures { λ _. ⌜ Lays (now (rows .entry)) signed Form.PackedDelta code Kind.Delta bytes (now (out .entry)) (now (out .exit)) ⌝ }
+    requires { ⌜ Sized signed Form.PackedDelta code (map asU64 (now rows)) (bytes .bytes) ⌝ }
+    ensures { λ _. ⌜ Lays (now (rows .entry)) signed Form.PackedDelta code Kind.Delta (bytes .bytes) (now (out .entry)) (now (out .exit)) ⌝ }
 {
     let n = rows.len();
     let bits = width::bits_of(code);
@@ -127,7 +132,7 @@ fn write_packed_over(
     values::steps(&rows[1..], falling, vals);
     let first = first_of(rows, signed);
     let base = base_of(rows);
-    let at = write_start(code, n, first, base, out);
+    let at = write_start(code, RowNumber { rows: n }, first, base, out).bytes;
     packed::pack(vals, n - 2, bits, out, at);
 }
 
@@ -137,19 +142,21 @@ pub(crate) fn write_packed(rows: &[i64], signed: bool, code: u8, out: &mut [u8])
     ensures { λ r. ⌜ Written (now (rows .entry)) signed Form.PackedDelta code (now (out .entry)) (now (out .exit)) r ⌝ }
 {
     let bytes = size_packed(rows, signed, code);
-    if bytes == 0 {
-        return Answer::refused(11, 0);
+    let size = bytes.bytes;
+    if size == 0 {
+        return head::refused(11);
     }
-    if out.len() < bytes {
-        return Answer::refused(8, 0);
+    if out.len() < size {
+        return head::refused(8);
     }
-    // a short run pays for a few places, and not for 512
+    let n = RowNumber { rows: rows.len() };
+    // a short run pays for a few places, and not for those of any run
     if rows.len() <= values::FEW {
         let mut few = values::few();
         write_packed_over(rows, signed, code, bytes, &mut few, out);
-        return head::answer(Kind::Delta, code, rows.len(), bytes);
+        return head::answer(Kind::Delta, code, n, bytes);
     }
     let mut all = values::scratch();
     write_packed_over(rows, signed, code, bytes, &mut all, out);
-    head::answer(Kind::Delta, code, rows.len(), bytes)
+    head::answer(Kind::Delta, code, n, bytes)
 }

@@ -11,36 +11,46 @@ ghost use Rattle.writer.specs.Sizes.{Sized, Lays};
 use crate::head;
 use crate::values;
 use format::Answer;
+use format::ByteOffset;
 use format::Form;
 use format::Kind;
+use format::RowNumber;
 use util::packed;
 use util::width;
 
 // The bytes of the run: 0 where a row does not fit the width.
-pub(crate) fn size(rows: &[i64], signed: bool, code: u8) -> usize
+pub(crate) fn size(rows: &[i64], signed: bool, code: u8) -> ByteOffset
     requires { ⌜ (1 ≤ length (now rows)) × (length (now rows) ≤ 512) × (code ≤ 31) ⌝ }
     requires { ⌜ isKept code ≡ true ⌝ }
-    ensures { λ r. ⌜ Sized signed Form.Direct code (map asU64 (now (rows .entry))) r ⌝ }
+    ensures { λ r. ⌜ Sized signed Form.Direct code (map asU64 (now (rows .entry))) (r .bytes) ⌝ }
 {
     let bits = width::bits_of(code);
     if !values::all_stored_fit(rows, signed, bits) {
-        return 0;
+        return ByteOffset { bytes: 0 };
     }
-    2 + packed::block_size(bits, rows.len())
+    let bytes = 2 + packed::block_size(bits, rows.len());
+    ByteOffset { bytes }
 }
 
 // Lays down the run, that has so many bytes; the places hold its values on the way. It makes no answer: one that comes back from a call goes
 // through memory.
-fn write_over(rows: &[i64], signed: bool, code: u8, bytes: usize, vals: &mut [u64], out: &mut [u8])
-    requires { ⌜ (1 ≤ length (now rows)) × (length (now rows) ≤ 512) × (code ≤ 31) × (length (now rows) ≤ length (now vals)) × (1 ≤ bytes) × (bytes ≤ length (now out)) ⌝ }
+fn write_over(
+    rows: &[i64],
+    signed: bool,
+    code: u8,
+    bytes: ByteOffset,
+    vals: &mut [u64],
+    out: &mut [u8],
+)
+    requires { ⌜ (1 ≤ length (now rows)) × (length (now rows) ≤ 512) × (code ≤ 31) × (length (now rows) ≤ length (now vals)) × (1 ≤ bytes .bytes) × (bytes .bytes ≤ length (now out)) ⌝ }
     requires { ⌜ isKept code ≡ true ⌝ }
-    requires { ⌜ Sized signed Form.Direct code (map asU64 (now rows)) bytes ⌝ }
-    ensures { λ _. ⌜ Lays (now (rows .entry)) signed Form.Direct code Kind.Direct bytes (now (out .entry)) (now (out .exit)) ⌝ }
+    requires { ⌜ Sized signed Form.Direct code (map asU64 (now rows)) (bytes .bytes) ⌝ }
+    ensures { λ _. ⌜ Lays (now (rows .entry)) signed Form.Direct code Kind.Direct (bytes .bytes) (now (out .entry)) (now (out .exit)) ⌝ }
 {
     let n = rows.len();
     let bits = width::bits_of(code);
     values::store(rows, signed, vals);
-    head::write(1, code, n, out);
+    head::write(1, code, RowNumber { rows: n }, out);
     packed::pack(vals, n, bits, out, 2);
 }
 
@@ -50,19 +60,21 @@ pub(crate) fn write(rows: &[i64], signed: bool, code: u8, out: &mut [u8]) -> Ans
     ensures { λ r. ⌜ Written (now (rows .entry)) signed Form.Direct code (now (out .entry)) (now (out .exit)) r ⌝ }
 {
     let bytes = size(rows, signed, code);
-    if bytes == 0 {
-        return Answer::refused(11, 0);
+    let size = bytes.bytes;
+    if size == 0 {
+        return head::refused(11);
     }
-    if out.len() < bytes {
-        return Answer::refused(8, 0);
+    if out.len() < size {
+        return head::refused(8);
     }
-    // a short run pays for a few places, and not for 512
+    let n = RowNumber { rows: rows.len() };
+    // a short run pays for a few places, and not for those of any run
     if rows.len() <= values::FEW {
         let mut few = values::few();
         write_over(rows, signed, code, bytes, &mut few, out);
-        return head::answer(Kind::Direct, code, rows.len(), bytes);
+        return head::answer(Kind::Direct, code, n, bytes);
     }
     let mut all = values::scratch();
     write_over(rows, signed, code, bytes, &mut all, out);
-    head::answer(Kind::Direct, code, rows.len(), bytes)
+    head::answer(Kind::Direct, code, n, bytes)
 }

@@ -7,8 +7,10 @@ ghost use Rattle.format.specs.Writing.{writing, Written};
 ghost use Rattle.format.specs.PatchedWriting.{PatchedWritten};
 ghost use Rattle.writer.specs.Sizes.{sizeIn};
 use format::Answer;
+use format::ByteOffset;
 use format::Form;
 use format::Kind;
+use format::RowNumber;
 
 mod allowed;
 mod delta;
@@ -23,11 +25,12 @@ mod values;
 pub fn write_run(rows: &[i64], signed: bool, form: Form, width: u8, out: &mut [u8]) -> Answer
     ensures { λ r. ⌜ Written (now (rows .entry)) signed form width (now (out .entry)) (now (out .exit)) r ⌝ }
 {
-    if !allowed::count(form, rows.len()) {
-        return Answer::refused(9, 0);
+    let count = RowNumber { rows: rows.len() };
+    if !allowed::count(form, count) {
+        return head::refused(9);
     }
     if !allowed::width(form, width) {
-        return Answer::refused(10, 0);
+        return head::refused(10);
     }
     match form {
         Form::ShortRepeat => short_repeat::write(rows, signed, width, out),
@@ -38,15 +41,15 @@ pub fn write_run(rows: &[i64], signed: bool, form: Form, width: u8, out: &mut [u
 }
 
 // The bytes that `write_run` would write where it has room for any run: 0 where it would refuse. Nothing is written.
-pub fn size_of_run(rows: &[i64], signed: bool, form: Form, width: u8) -> usize
-    ensures { λ r. ⌜ r ≡ sizeIn (writing signed form width (map asU64 (now (rows .entry))) 4356) ⌝ }
+pub fn size_of_run(rows: &[i64], signed: bool, form: Form, width: u8) -> ByteOffset
+    ensures { λ r. ⌜ r .bytes ≡ sizeIn (writing signed form width (map asU64 (now (rows .entry))) 4356) ⌝ }
 {
-    let n = rows.len();
+    let n = RowNumber { rows: rows.len() };
     if !allowed::count(form, n) {
-        return 0;
+        return ByteOffset { bytes: 0 };
     }
     if !allowed::width(form, width) {
-        return 0;
+        return ByteOffset { bytes: 0 };
     }
     match form {
         Form::ShortRepeat => short_repeat::size(rows, signed, width),
@@ -64,7 +67,7 @@ pub fn write_patched(rows: &[i64], base: i64, width: u8, out: &mut [u8]) -> Answ
     if allowed::between(1, Kind::MAX_ROWS, rows.len()) {
         patched_base::write(rows, base, width, out)
     } else {
-        Answer::refused(9, 0)
+        head::refused(9)
     }
 }
 

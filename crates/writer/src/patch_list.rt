@@ -8,6 +8,7 @@ ghost use Rattle.format.specs.PatchedWriting.{patchesAbove, entriesFrom, leastF
 ghost use Rattle.writer.specs.PatchedBase.{Listed};
 use crate::values;
 use format::Kind;
+use format::RowNumber;
 
 // Room for a list.
 pub(crate) fn scratch() -> [u64; Kind::MAX_PATCHES] {
@@ -22,13 +23,14 @@ fn entry(gap: usize, patch: u64, pw: usize) -> u64
     ((gap as u64) << pw) + patch
 }
 
-// The list of the first n values, whose patches stand above so many bits: how many entries it has, and one more than there are places
+// The list of so many rows' values, whose patches stand above so many bits: how many entries it has, and one more than there are places
 // where these do not hold it. Gaps count from `from`, the place that the entries so far lead to.
-pub(crate) fn fill(vals: &[u64], n: usize, bits: usize, pw: usize, list: &mut [u64]) -> usize
-    requires { ⌜ (n ≤ length (now vals)) × (n ≤ 512) × (bits ≤ 64) × (pw ≤ 56) × (length (now list) ≤ 31) ⌝ }
-    requires { ⌜ AllBelow (2 ^ (pw + bits)) (take n (now vals)) ⌝ }
-    ensures { λ r. ⌜ Listed pw (entriesFrom 0 (patchesAbove bits 0 (take n (now (vals .entry))))) (now (list .exit)) r ⌝ }
+pub(crate) fn fill(vals: &[u64], rows: RowNumber, bits: usize, pw: usize, list: &mut [u64]) -> usize
+    requires { ⌜ (rows .rows ≤ length (now vals)) × (rows .rows ≤ 512) × (bits ≤ 64) × (pw ≤ 56) × (length (now list) ≤ 31) ⌝ }
+    requires { ⌜ AllBelow (2 ^ (pw + bits)) (take (rows .rows) (now vals)) ⌝ }
+    ensures { λ r. ⌜ Listed pw (entriesFrom 0 (patchesAbove bits 0 (take (rows .rows) (now (vals .entry))))) (now (list .exit)) r ⌝ }
 {
+    let n = rows.rows;
     let mut i: usize = 0;
     let mut from: usize = 0;
     let mut k: usize = 0;

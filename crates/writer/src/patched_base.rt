@@ -26,8 +26,8 @@ use util::width;
 // What the four header bytes say: width code, rows, base bytes, patch width code, gap width, list length.
 struct Header {
     code: u8,
-    rows: usize,
-    base: usize,
+    rows: RowNumber,
+    base: ByteOffset,
     patch: u8,
     gap: usize,
     entries: usize,
@@ -73,21 +73,23 @@ fn magnitude(base: u64) -> u64
 }
 
 // The bytes that hold the base and its sign bit: 9 where eight do not, for -2^63 alone.
-fn base_size(base: u64) -> usize
-    ensures { λ r. ⌜ r ≡ baseSize base ⌝ }
+fn base_size(base: u64) -> ByteOffset
+    ensures { λ r. ⌜ r .bytes ≡ baseSize base ⌝ }
 {
-    values::bit_length(magnitude(base)) / 8 + 1
+    let bytes = values::bit_length(magnitude(base)) / 8 + 1;
+    ByteOffset { bytes }
 }
 
 // The base as it is stored in so many bytes: the top bit is the sign, and 0 has none.
-fn sign_magnitude(base: u64, size: usize) -> u64
-    requires { ⌜ (1 ≤ size) × (size ≤ 8) × (PatchedWriting.magnitude base < 2 ^ (8 * size - 1)) ⌝ }
-    ensures { λ r. ⌜ r ≡ signMagnitude base size ⌝ }
+fn sign_magnitude(base: u64, size: ByteOffset) -> u64
+    requires { ⌜ (1 ≤ size .bytes) × (size .bytes ≤ 8) × (PatchedWriting.magnitude base < 2 ^ (8 * size .bytes - 1)) ⌝ }
+    ensures { λ r. ⌜ r ≡ signMagnitude base (size .bytes) ⌝ }
 {
+    let bytes = size.bytes;
     if base < TOP_BIT {
         return base;
     }
-    (1 << (8 * size - 1)) + magnitude(base)
+    (1 << (8 * bytes - 1)) + magnitude(base)
 }
 
 // The header for the rows, with the values and the list that it describes. A patch of 64 bits leaves no bit for a gap.
@@ -96,8 +98,9 @@ fn header_of(rows: &[i64], base: u64, bits: usize, vals: &mut [u64], list: &mut 
     ensures { λ r. ⌜ HeaderOf base bits (map asU64 (now (rows .entry))) (now (vals .exit)) (now (list .exit)) r ⌝ }
 {
     let n = rows.len();
+    let count = RowNumber { rows: n };
     let code = table_code(bits);
-    let size = base_size(base);
+    let size = base_size(base).bytes;
     if 31 < code {
         return Found::None;
     }
@@ -110,16 +113,16 @@ fn header_of(rows: &[i64], base: u64, bits: usize, vals: &mut [u64], list: &mut 
     if pw == 64 {
         return Found::None;
     }
-    let entries = patch_list::fill(vals, n, bits, pw, list);
+    let entries = patch_list::fill(vals, count, bits, pw, list);
     if list.len() < entries {
         return Found::None;
     }
     let gap = patch_list::gap_width(values::largest(list, entries) >> pw);
-    values::keep_low(vals, n, bits);
+    values::keep_low(vals, count, bits);
     Found::Header(Header {
         code,
-        rows: n,
-        base: size,
+        rows: count,
+        base: ByteOffset { bytes: size },
         patch,
         gap,
         entries,
@@ -128,11 +131,11 @@ fn header_of(rows: &[i64], base: u64, bits: usize, vals: &mut [u64], list: &mut 
 
 // The four header bytes.
 fn write_head(h: Header, out: &mut [u8])
-    requires { ⌜ (h .code < 32) × (1 ≤ h .rows) × (h .rows ≤ 512) × (1 ≤ h .base) × (h .base ≤ 8) × (h .patch < 32) × (1 ≤ h .gap) × (h .gap ≤ 8) × (h .entries ≤ 31) × (4 ≤ length (now out)) ⌝ }
+    requires { ⌜ (h .code < 32) × (1 ≤ h .rows .rows) × (h .rows .rows ≤ 512) × (1 ≤ h .base .bytes) × (h .base .bytes ≤ 8) × (h .patch < 32) × (1 ≤ h .gap) × (h .gap ≤ 8) × (h .entries ≤ 31) × (4 ≤ length (now out)) ⌝ }
     ensures { λ _. ⌜ now (out .exit) ≡ headBytes h ++ drop 4 (now (out .entry)) ⌝ }
 {
     head::write(2, h.code, h.rows, out);
-    out[2] = ((h.base - 1) * 32) as u8 + h.patch;
+    out[2] = ((h.base.bytes - 1) * 32) as u8 + h.patch;
     out[3] = ((h.gap - 1) * 32 + h.entries) as u8;
 }
 
@@ -143,22 +146,17 @@ fn lay(h: Header, base: u64, vals: &[u64], list: &[u64], out: &mut [u8]) -> Answ
 {
     let bits = width::bits_of(h.code);
     let entry = width::entry_width(width::bits_of(h.patch) + h.gap);
-    let values = 4 + h.base;
-    let patches = values + packed::block_size(bits, h.rows);
+    let values = 4 + h.base.bytes;
+    let patches = values + packed::block_size(bits, h.rows.rows);
     let end = patches + packed::block_size(entry, h.entries);
     if out.len() < end {
-        return Answer::refused(8, 0);
+        return head::refused(8);
     }
     write_head(h, out);
-    big_endian::write(sign_magnitude(base, h.base), h.base, out, 4);
-    packed::pack(vals, h.rows, bits, out, values);
+    big_endian::write(sign_magnitude(base, h.base), h.base.bytes, out, 4);
+    packed::pack(vals, h.rows.rows, bits, out, values);
     packed::pack(list, h.entries, entry, out, patches);
-    Answer::run(
-        Kind::PatchedBase,
-        bits,
-        RowNumber { rows: h.rows },
-        ByteOffset { bytes: end },
-    )
+    Answer::run(Kind::PatchedBase, bits, h.rows, ByteOffset { bytes: end })
 }
 
 // Writes a run of a kept width; the places hold its values on the way.
@@ -170,7 +168,7 @@ fn write_over(rows: &[i64], base: i64, width: u8, vals: &mut [u64], out: &mut [u
     let base_bits = pattern::to_u64(base);
     let mut list = patch_list::scratch();
     match header_of(rows, base_bits, width as usize, vals, &mut list) {
-        Found::None => Answer::refused(10, 0),
+        Found::None => head::refused(10),
         Found::Header(h) => lay(h, base_bits, vals, &list, out),
     }
 }
@@ -181,9 +179,9 @@ pub(crate) fn write(rows: &[i64], base: i64, width: u8, out: &mut [u8]) -> Answe
     ensures { λ r. ⌜ PatchedWritten (now (rows .entry)) base width (now (out .entry)) (now (out .exit)) r ⌝ }
 {
     if !is_kept(width as usize) {
-        return Answer::refused(10, 0);
+        return head::refused(10);
     }
-    // a short run pays for a few places, and not for 512
+    // a short run pays for a few places, and not for those of any run
     if rows.len() <= values::FEW {
         let mut few = values::few();
         return write_over(rows, base, width, &mut few, out);

@@ -6,6 +6,7 @@ ghost use lib.ListN.{length, drop};
 ghost use Rattle.format.specs.Rows.{asU64};
 ghost use Rattle.format.specs.Writing.{haveForm, Written};
 ghost use Rattle.writer.specs.Sizes.{Sized};
+use crate::head;
 use crate::values;
 use format::Answer;
 use format::ByteOffset;
@@ -14,11 +15,13 @@ use format::Kind;
 use format::RowNumber;
 use util::big_endian;
 
-fn write_head(bytes: usize, rows: usize, out: &mut [u8])
-    requires { ⌜ (1 ≤ bytes) × (bytes ≤ 8) × (3 ≤ rows) × (rows ≤ 10) × (1 ≤ length (now out)) ⌝ }
-    ensures { λ _. ⌜ now (out .exit) ≡ ((bytes - 1) * 8 + (rows - 3)) ∷ drop 1 (now (out .entry)) ⌝ }
+fn write_head(bytes: ByteOffset, rows: RowNumber, out: &mut [u8])
+    requires { ⌜ (1 ≤ bytes .bytes) × (bytes .bytes ≤ 8) × (3 ≤ rows .rows) × (rows .rows ≤ 10) × (1 ≤ length (now out)) ⌝ }
+    ensures { λ _. ⌜ now (out .exit) ≡ ((bytes .bytes - 1) * 8 + (rows .rows - 3)) ∷ drop 1 (now (out .entry)) ⌝ }
 {
-    out[0] = ((bytes - 1) * 8 + (rows - Kind::MIN_REPEAT)) as u8;
+    let size = bytes.bytes;
+    let count = rows.rows;
+    out[0] = ((size - 1) * 8 + (count - Kind::MIN_REPEAT)) as u8;
 }
 
 fn are_same(rows: &[i64]) -> bool
@@ -29,19 +32,19 @@ fn are_same(rows: &[i64]) -> bool
 }
 
 // The bytes of the run: 0 where the rows differ or don't fit.
-pub(crate) fn size(rows: &[i64], signed: bool, width: u8) -> usize
+pub(crate) fn size(rows: &[i64], signed: bool, width: u8) -> ByteOffset
     requires { ⌜ (3 ≤ length (now rows)) × (length (now rows) ≤ 10) × (1 ≤ width) × (width ≤ 8) ⌝ }
-    ensures { λ r. ⌜ Sized signed Form.ShortRepeat width (map asU64 (now (rows .entry))) r ⌝ }
+    ensures { λ r. ⌜ Sized signed Form.ShortRepeat width (map asU64 (now (rows .entry))) (r .bytes) ⌝ }
 {
     if !are_same(rows) {
-        return 0;
+        return ByteOffset { bytes: 0 };
     }
     let bytes = width as usize;
     let value = values::stored(signed, values::pattern_of(rows, 0));
     if !values::fits(value, 8 * bytes) {
-        return 0;
+        return ByteOffset { bytes: 0 };
     }
-    1 + bytes
+    ByteOffset { bytes: 1 + bytes }
 }
 
 pub(crate) fn write(rows: &[i64], signed: bool, width: u8, out: &mut [u8]) -> Answer
@@ -49,24 +52,20 @@ pub(crate) fn write(rows: &[i64], signed: bool, width: u8, out: &mut [u8]) -> An
     ensures { λ r. ⌜ Written (now (rows .entry)) signed Form.ShortRepeat width (now (out .entry)) (now (out .exit)) r ⌝ }
 {
     let bytes = size(rows, signed, width);
-    if bytes == 0 {
+    let total = bytes.bytes;
+    if total == 0 {
         if are_same(rows) {
-            return Answer::refused(11, 0);
+            return head::refused(11);
         }
-        return Answer::refused(10, 0);
+        return head::refused(10);
     }
-    if out.len() < bytes {
-        return Answer::refused(8, 0);
+    if out.len() < total {
+        return head::refused(8);
     }
-    let n = rows.len();
+    let n = RowNumber { rows: rows.len() };
     let w = width as usize;
     let value = values::stored(signed, values::pattern_of(rows, 0));
-    write_head(w, n, out);
+    write_head(ByteOffset { bytes: w }, n, out);
     big_endian::write(value, w, out, 1);
-    Answer::run(
-        Kind::ShortRepeat,
-        8 * w,
-        RowNumber { rows: n },
-        ByteOffset { bytes },
-    )
+    Answer::run(Kind::ShortRepeat, 8 * w, n, bytes)
 }

@@ -11,6 +11,7 @@ ghost use Rattle.format.specs.Writing.{stepTo, stepsOf, every};
 ghost use Rattle.format.specs.PatchedWriting as PatchedWriting;
 ghost use Rattle.writer.specs.PatchedBase.{Largest, BitLength};
 use format::Kind;
+use format::RowNumber;
 use util::packed;
 use util::pattern;
 
@@ -100,11 +101,12 @@ pub(crate) fn differences(rows: &[i64], base: u64, vals: &mut [u64])
     }
 }
 
-// The low bits of the first n values, in their places.
-pub(crate) fn keep_low(vals: &mut [u64], n: usize, bits: usize)
-    requires { ⌜ (n ≤ length (now vals)) × (0 < bits) × (bits ≤ 64) ⌝ }
-    ensures { λ _. ⌜ now (vals .exit) ≡ PatchedWriting.lows bits (take n (now (vals .entry))) ++ drop n (now (vals .entry)) ⌝ }
+// The low bits of the values of so many rows, in their places.
+pub(crate) fn keep_low(vals: &mut [u64], rows: RowNumber, bits: usize)
+    requires { ⌜ (rows .rows ≤ length (now vals)) × (0 < bits) × (bits ≤ 64) ⌝ }
+    ensures { λ _. ⌜ now (vals .exit) ≡ PatchedWriting.lows bits (take (rows .rows) (now (vals .entry))) ++ drop (rows .rows) (now (vals .entry)) ⌝ }
 {
+    let n = rows.rows;
     let mut i: usize = 0;
     while i < n {
         vals[i] = packed::cut(vals[i], 0, bits);

@@ -12,7 +12,7 @@ use Rattle.convert.proofs.walk.Statement.{statement}
 use Rattle.convert.proofs.walk.Tie as tie
 
 abbrev Inv-loop : tie.InvT-loop
-Inv-loop input signed room out₀ p₀ altered₀ at₀ out p altered at = Along signed input room out₀ out p altered at
+Inv-loop input signed room out₀ p₀ altered₀ at₀ out p altered at = Along signed input (room .bytes) out₀ out p altered at
 
 abbrev μ-loop : tie.MeasureT-loop
 μ-loop input signed room out₀ p₀ altered₀ at₀ out p altered at = length input - p
@@ -50,7 +50,7 @@ loop-again c =
     let l = back-12 .before .before .before .loop in
     let a = back-12 .before .before .before .before .before .before .args in
     rw (c .before .count .ensures)
-    (along-next (a .signed) (now (a .input)) (a .room) (now (a .out)) (l .out) (l .p) (l .altered) (l .at) (l .inv) _ _ _ _ (turned m) (c .before .before .before .before .lay .ensures))
+    (along-next (a .signed) (now (a .input)) (a .room .bytes) (now (a .out)) (l .out) (l .p) (l .altered) (l .at) (l .inv) _ _ _ _ (turned m) (c .before .before .before .before .lay .ensures))
 
 same-length : tie.Need-same-length Inv-loop μ-loop
 same-length c =
@@ -63,7 +63,7 @@ returns c =
     let x = c .before .before .before .before in
     let l = x .before .before .before .before .loop in
     let a = back-6 .before .before .before .before .before .args in
-    along-refused (a .signed) (now (a .input)) (a .room) (now (a .out)) (l .out) (l .p) (l .altered) (l .at) (l .inv) _
+    along-refused (a .signed) (now (a .input)) (a .room .bytes) (now (a .out)) (l .out) (l .p) (l .altered) (l .at) (l .inv) _
     (below-all 256 (now (a .input)) (λ i. x .before .before .before .before .before .before .shared-slice-known .given i .fits)) (rw (c .before .step2 .given .1) at (x .convert-run .ensures))
 
 same-length-2 : tie.Need-same-length-2 Inv-loop μ-loop
@@ -78,14 +78,14 @@ returns-2 c =
     let l = x .before .before .before .before .loop in
     let a = back-6 .before .before .before .before .before .args in
     rw (c .finish .ensures)
-    (along-end (a .signed) (now (a .input)) (a .room) (now (a .out)) (l .out) (l .p) (l .altered) (l .at) (l .inv) (rw (c .before .enum-told .given .1) at (x .convert-run .ensures)))
+    (along-end (a .signed) (now (a .input)) (a .room .bytes) (now (a .out)) (l .out) (l .p) (l .altered) (l .at) (l .inv) (rw (c .before .enum-told .given .1) at (x .convert-run .ensures)))
 
 returns-3 : tie.Need-returns-3 Inv-loop μ-loop
 returns-3 c =
     let l = c .before .before .loop in
     let a = c .before .before .before .before .before .args in
     rw (c .finish2 .ensures)
-    (along-end (a .signed) (now (a .input)) (a .room) (now (a .out)) (l .out) (l .p) (l .altered) (l .at) (l .inv) (drop-of-length-le (now (a .input)) (c .before .loop-test .left)))
+    (along-end (a .signed) (now (a .input)) (a .room .bytes) (now (a .out)) (l .out) (l .p) (l .altered) (l .at) (l .inv) (drop-of-length-le (now (a .input)) (c .before .loop-test .left)))
 
 pub walk-spec : {M : Type 1} → statement M
 walk-spec =

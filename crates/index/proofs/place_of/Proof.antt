@@ -10,7 +10,7 @@ use Rattle.index.proofs.place_of.Statement.{statement}
 use Rattle.index.proofs.place_of.Tie as tie
 
 abbrev Inv-loop : tie.InvT-loop
-Inv-loop first counts row i₀ i = (i ≤ length first) × (placeOf row first counts ≡ i + placeOf row (drop i first) (drop i counts))
+Inv-loop first counts row i₀ i = (i ≤ length first) × (placeOf (row .rows) first counts ≡ i + placeOf (row .rows) (drop i first) (drop i counts))
 
 abbrev μ-loop : tie.MeasureT-loop
 μ-loop first counts row i₀ i = length first - i
@@ -21,7 +21,7 @@ returns c =
     let l = c .before .before .before .before .before .loop in
     let b = back-6 .before .before in
     let a = b .args in
-    place-here (a .row) (a .first .now) (a .counts .now) (l .i) (l .inv .1) (omega arith) (b .pre) (c .before .holds .result) (c .before .holds .ensures) (c .if1 .taken)
+    place-here (a .row .rows) (a .first .now) (a .counts .now) (l .i) (l .inv .1) (omega arith) (b .pre) (c .before .holds .result) (c .before .holds .ensures) (c .if1 .taken)
 
 loop-again : tie.Need-loop-again Inv-loop μ-loop
 loop-again c =
@@ -30,14 +30,14 @@ loop-again c =
     let b = back-6 .before .before in
     let a = b .args in (
       omega arith,
-      place-next (a .row) (a .first .now) (a .counts .now) (l .i) (l .inv .1) (omega arith) (b .pre) (c .before .holds .result) (c .before .holds .ensures) (c .if1 .left),
+      place-next (a .row .rows) (a .first .now) (a .counts .now) (l .i) (l .inv .1) (omega arith) (b .pre) (c .before .holds .result) (c .before .holds .ensures) (c .if1 .left),
     )
 
 returns-2 : tie.Need-returns-2 Inv-loop μ-loop
 returns-2 c =
     let l = c .before .loop in
     let a = c .before .before .before .before .args in
-    place-none (a .row) (a .first .now) (a .counts .now) (l .i) (l .inv .1) (c .loop-test .left)
+    place-none (a .row .rows) (a .first .now) (a .counts .now) (l .i) (l .inv .1) (c .loop-test .left)
 
 pub place-of-spec : {M : Type 1} → statement M
 place-of-spec =

@@ -27,15 +27,15 @@ sub-last c =
     let a = back-6 .before .before .before .before .args in
     some (a .input .now) (a .first .now) (a .at .now) (a .counts .now) (a .row .rows) (m .e .given .0 .0 .first .rows) (m .e .given .0 .0 .at .bytes) (through m)
 
-shared-slice-read-left-from : tie.Need-shared-slice-read-left-from
-shared-slice-read-left-from c =
+shared-slice-read-t21 : tie.Need-shared-slice-read-t21
+shared-slice-read-t21 c =
     let back-6 = c .before .before .before .before .before .before in
     let m = c .before .before .before .before in
     let a = back-6 .before .before .before .before .before .args in
     omega (arith, some (a .input .now) (a .first .now) (a .at .now) (a .counts .now) (a .row .rows) (m .e .given .0 .0 .first .rows) (m .e .given .0 .0 .at .bytes) (through m))
 
-shared-slice-read-left-from-2 : tie.Need-shared-slice-read-left-from-2
-shared-slice-read-left-from-2 c =
+shared-slice-read-t21-2 : tie.Need-shared-slice-read-t21-2
+shared-slice-read-t21-2 c =
     let back-6 = c .before .before .before .before .before .before in
     let m = c .before .before .before .before .before in
     let a = back-6 .before .before .before .before .before .before .args in
@@ -48,20 +48,20 @@ left-from-requires c κs =
     let a = back-6 .before .before .before .before .before .before .args in
     row-below (a .input .now) (a .first .now) (a .at .now) (a .counts .now) (a .row .rows) (m .e .given .0 .0 .first .rows) (m .e .given .0 .0 .at .bytes) (through m)
 
-sub-lay : tie.Need-sub-lay
-sub-lay c =
+sub-t26 : tie.Need-sub-t26
+sub-t26 c =
     let back-6 = c .before .before .before .before .before .before in
-    through (back-6 .before .before .before .before) .from
+    through (back-6 .before .before .before .before .before) .from
 
 lay-requires : tie.Need-lay-requires
 lay-requires c κs =
     let back-6 = c .before .before .before .before .before .before in
     let back-12 = back-6 .before .before .before .before .before .before in
-    let n = c .before .before .before in
+    let n = c .before .before .before .before in
     let l = n .before .before in
     let m = l .before .before .before .before .before .before in
-    let a = back-12 .before .before .before .before .before .before .args in
-    let (k, q) = left-rows (getD (a .first .now) (length (a .first .now) - 1) 0) (getD (a .counts .now) (length (a .first .now) - 1) 0) (a .row .rows) (length (a .out .now)) (n .n .given .0 .0) (sym (n .n .given .1) ∙ l .left-from .ensures) in
+    let a = back-12 .before .before .before .before .before .before .before .args in
+    let (k, q) = left-rows (getD (a .first .now) (length (a .first .now) - 1) 0) (getD (a .counts .now) (length (a .first .now) - 1) 0) (a .row .rows) (length (a .out .now)) (n .n .given .0 .0 .rows) (sym (n .n .given .1) ∙ l .left-from .ensures) in
     ready (a .input .now) (a .first .now) (a .at .now) (a .counts .now) (a .row .rows) (m .e .given .0 .0 .first .rows) (m .e .given .0 .0 .at .bytes) (through m) _ (omega (arith, k, q, last-is (a .input .now) (a .first .now) (a .at .now) (a .counts .now) (a .row .rows) (m .e .given .0 .0 .first .rows) (m .e .given .0 .0 .at .bytes) (through m)))
 
 returns : tie.Need-returns
@@ -86,16 +86,16 @@ returns-3 c =
     let back-6 = c .before .before .before .before .before .before in
     let back-12 = back-6 .before .before .before .before .before .before in
     let back-18 = back-12 .before .before .before .before .before .before in
-    let n = c .before .before .before .before .before .before in
+    let n = back-6 .before in
     let l = n .before .before in
     let m = l .before .before .before .before .before .before in
-    let a = back-18 .before .before .before .args in
-    let (k, q) = left-rows (getD (a .first .now) (length (a .first .now) - 1) 0) (getD (a .counts .now) (length (a .first .now) - 1) 0) (a .row .rows) (length (a .out .now)) (n .n .given .0 .0) (sym (n .n .given .1) ∙ l .left-from .ensures) in
+    let a = back-18 .before .before .before .before .args in
+    let (k, q) = left-rows (getD (a .first .now) (length (a .first .now) - 1) 0) (getD (a .counts .now) (length (a .first .now) - 1) 0) (a .row .rows) (length (a .out .now)) (n .n .given .0 .0 .rows) (sym (n .n .given .1) ∙ l .left-from .ensures) in
     rw (c .rows .ensures)
     (rows-so (a .input .now) (a .first .now) (a .at .now) (a .counts .now) (a .row .rows) (m .e .given .0 .0 .first .rows) (m .e .given .0 .0 .at .bytes) (through m) (a .signed) (a .out .now) _ (omega (arith, k, last-is (a .input .now) (a .first .now) (a .at .now) (a .counts .now) (a .row .rows) (m .e .given .0 .0 .first .rows) (m .e .given .0 .0 .at .bytes) (through m))) q _ (c .before .before .lay .ensures))
 
 pub read-from-spec : {M : Type 1} → statement M
 read-from-spec =
-    tie.close (tie.spec (λ c κs. search needs) (λ c. search needs) (λ c. search needs) sub-last (λ c. search needs) shared-slice-read-left-from (λ c. search needs)
-    shared-slice-read-left-from-2 left-from-requires (λ c. search needs) (λ c κs. search needs) (λ c. search needs) sub-lay lay-requires (λ c κs. search needs) returns
+    tie.close (tie.spec (λ c κs. search needs) (λ c. search needs) (λ c. search needs) sub-last (λ c. search needs) shared-slice-read-t21 (λ c. search needs)
+    shared-slice-read-t21-2 left-from-requires (λ c. search needs) (λ c κs. search needs) (λ c. search needs) sub-t26 lay-requires (λ c κs. search needs) returns
     returns-2 (λ c. search needs) returns-3)

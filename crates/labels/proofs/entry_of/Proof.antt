@@ -9,10 +9,10 @@ use Rattle.labels.proofs.entry_of.Statement.{statement}
 use Rattle.labels.proofs.entry_of.Tie as tie
 
 abbrev Inv-loop : tie.InvT-loop
-Inv-loop flags row names₀ i₀ names i = (i ≤ row) × (names ≤ i) × (names ≡ entryOf flags i)
+Inv-loop flags before names₀ i₀ names i = (i ≤ before) × (names ≤ i) × (names ≡ entryOf flags i)
 
 abbrev μ-loop : tie.MeasureT-loop
-μ-loop flags row names₀ i₀ names i = row - i
+μ-loop flags before names₀ i₀ names i = before - i
 
 loop-holds : tie.Need-loop-holds Inv-loop μ-loop
 loop-holds c = (omega arith, omega arith, sym (entry-none _))
@@ -26,7 +26,7 @@ loop-again c =
     (c .if1 .came)
 
 returns : tie.Need-returns Inv-loop μ-loop
-returns c = let e : c .before .loop .i ≡ c .before .before .args .row = omega arith in c .before .loop .inv .2 ∙ ap (entryOf _) e
+returns c = let e : c .before .loop .i ≡ c .before .before .args .row .rows = omega arith in c .before .loop .inv .2 ∙ ap (entryOf _) e
 
 pub entry-of-spec : {M : Type 1} → statement M
 entry-of-spec = tie.close (tie.spec Inv-loop μ-loop loop-holds (λ c. omega arith) (λ c. omega arith) (λ c. omega arith) (λ c. omega arith) loop-again returns)

@@ -9,14 +9,14 @@ put-decimal-requires : tie.Need-put-decimal-requires
 put-decimal-requires c κs =
     let w = c .before .before .before in
     let s = w .before .before .before .before in
-    omega (arith, s .pre, w .put-word .ensures .next, w .put-word .kept .1 .0, decimal-length (s .args .rows))
+    omega (arith, s .pre, w .put-word .ensures .next, w .put-word .kept .1 .0, decimal-length (s .args .rows .rows))
 
 put-requires : tie.Need-put-requires
 put-requires c κs =
     let d = c .before .before .before in
     let w = d .before .before .before .before in
     let s = w .before .before .before .before in
-    omega (arith, s .pre, w .put-word .ensures .next, w .put-word .kept .1 .0, decimal-length (s .args .rows), d .put-decimal .ensures .next, d .put-decimal .kept .1 .0)
+    omega (arith, s .pre, w .put-word .ensures .next, w .put-word .kept .1 .0, decimal-length (s .args .rows .rows), d .put-decimal .ensures .next, d .put-decimal .kept .1 .0)
 
 put-decimal-requires-2 : tie.Need-put-decimal-requires-2
 put-decimal-requires-2 c κs =
@@ -29,12 +29,12 @@ put-decimal-requires-2 c κs =
       s .pre,
       w .put-word .ensures .next,
       w .put-word .kept .1 .0,
-      decimal-length (s .args .rows),
+      decimal-length (s .args .rows .rows),
       d .put-decimal .ensures .next,
       d .put-decimal .kept .1 .0,
       p .put .ensures .next,
       p .put .kept .1 .0,
-      decimal-length (s .args .consumed),
+      decimal-length (s .args .consumed .bytes),
     )
 
 put-rows-requires : tie.Need-put-rows-requires
@@ -50,12 +50,12 @@ put-rows-requires c κs =
         s .pre,
         w .put-word .ensures .next,
         w .put-word .kept .1 .0,
-        decimal-length (s .args .rows),
+        decimal-length (s .args .rows .rows),
         d .put-decimal .ensures .next,
         d .put-decimal .kept .1 .0,
         p .put .ensures .next,
         p .put .kept .1 .0,
-        decimal-length (s .args .consumed),
+        decimal-length (s .args .consumed .bytes),
         e .put-decimal2 .ensures .next,
         e .put-decimal2 .kept .1 .0,
       ),
@@ -70,7 +70,7 @@ returns c =
     let w = d .before .before .before .before in
     let s = w .before .before .before .before in
     then-written (omega arith)
-    (then-written (omega arith) (then-written (omega arith) (w .put-word .ensures) (d .put-decimal .ensures)) (then-written (omega (arith, s .pre, w .put-word .ensures .next, w .put-word .kept .1 .0, decimal-length (s .args .rows), d .put-decimal .ensures .next, d .put-decimal .kept .1 .0)) (p .put .ensures) (e .put-decimal2 .ensures)))
+    (then-written (omega arith) (then-written (omega arith) (w .put-word .ensures) (d .put-decimal .ensures)) (then-written (omega (arith, s .pre, w .put-word .ensures .next, w .put-word .kept .1 .0, decimal-length (s .args .rows .rows), d .put-decimal .ensures .next, d .put-decimal .kept .1 .0)) (p .put .ensures) (e .put-decimal2 .ensures)))
     (r .put-rows .ensures)
 
 pub put-run-spec : {M : Type 1} → statement M

@@ -18,7 +18,7 @@ part-bytes c = below-all 256 (now (c .before .args .part)) (λ i. c .shared-slic
 buffer-bytes : (c : tie.After-slice-known) → AllBelow 256 (now (c .before .before .args .buffer))
 buffer-bytes c = below-all 256 (now (c .before .before .args .buffer)) (λ i. c .slice-known .given i .fits)
 
-it-began : (c : tie.Start) → Begun (c .args .reader) (now (c .args .part)) (now (c .args .buffer)) (c .args .h) (c .args .k)
+it-began : (c : tie.Start) → Begun (c .args .reader) (now (c .args .part)) (now (c .args .buffer)) (c .args .held .bytes) (c .args .more .bytes)
 it-began c = search needs
 
 returns : tie.Need-returns
@@ -30,7 +30,7 @@ returns c =
     let known = then .before in
     let a = known .before .before .args in
     rw (c .hold .ensures)
-    (waiting (a .reader) (now (a .part)) (now (a .buffer)) (a .h) (a .k) (it-began (known .before .before)) (buffer-bytes known) (part-bytes (known .before)) (a .signed)
+    (waiting (a .reader) (now (a .part)) (now (a .buffer)) (a .held .bytes) (a .more .bytes) (it-began (known .before .before)) (buffer-bytes known) (part-bytes (known .before)) (a .signed)
     (now (a .out)) _ (omega arith) (measured .measure .ensures) (sym (told .before .is-cut .ensures) ∙ told .if2 .taken) _ (copied .copy .ensures))
 
 returns-2 : tie.Need-returns-2
@@ -43,9 +43,9 @@ returns-2 c =
     let known = then .before in
     let a = known .before .before .args in
     let began = it-began (known .before .before) in
-    stays (a .reader) (now (a .part)) (now (a .buffer)) _ (a .h) (a .k) began (buffer-bytes known) (part-bytes (known .before)) (a .signed) (now (a .out)) _ _
+    stays (a .reader) (now (a .part)) (now (a .buffer)) _ (a .held .bytes) (a .more .bytes) began (buffer-bytes known) (part-bytes (known .before)) (a .signed) (now (a .out)) _ _
     (joined .join .ensures)
-    (not-by-front (a .reader) (now (a .part)) (now (a .buffer)) (a .h) (a .k) began (buffer-bytes known) (part-bytes (known .before)) _ (omega arith) (delta .if4 .taken)
+    (not-by-front (a .reader) (now (a .part)) (now (a .buffer)) (a .held .bytes) (a .more .bytes) began (buffer-bytes known) (part-bytes (known .before)) _ (omega arith) (delta .if4 .taken)
     (measured .measure .ensures) (sym (read .before .is-whole .ensures) ∙ read .if3 .taken))
 
 pub begun-spec : {M : Type 1} → statement M

@@ -16,7 +16,7 @@ part-bytes c = below-all 256 (now (c .before .args .part)) (λ i. c .shared-slic
 buffer-bytes : (c : tie.After-slice-known) → AllBelow 256 (now (c .before .before .args .buffer))
 buffer-bytes c = below-all 256 (now (c .before .before .args .buffer)) (λ i. c .slice-known .given i .fits)
 
-it-began : (c : tie.Start) → Begun (c .args .reader) (now (c .args .part)) (now (c .args .buffer)) (c .args .h) (c .args .k)
+it-began : (c : tie.Start) → Begun (c .args .reader) (now (c .args .part)) (now (c .args .buffer)) (c .args .held .bytes) (c .args .more .bytes)
 it-began c = search needs
 
 returns : tie.Need-returns
@@ -27,7 +27,7 @@ returns c =
     let part-known = known .before in
     let a = part-known .before .args in
     rw (c .on-part .ensures)
-    (crossing (a .reader) (now (a .part)) (now (a .buffer)) (a .h) (a .k) (it-began (part-known .before)) (buffer-bytes known) (part-bytes part-known) (a .signed)
+    (crossing (a .reader) (now (a .part)) (now (a .buffer)) (a .held .bytes) (a .more .bytes) (it-began (part-known .before)) (buffer-bytes known) (part-bytes part-known) (a .signed)
     (now (a .out)) _ _ (omega arith) _ (copied .copy .ensures) (read .read-run .ensures))
 
 pub join-spec : {M : Type 1} → statement M

@@ -16,7 +16,7 @@ part-bytes c = below-all 256 (now (c .before .args .part)) (λ i. c .shared-slic
 buffer-bytes : (c : tie.After-slice-known) → AllBelow 256 (now (c .before .before .args .buffer))
 buffer-bytes c = below-all 256 (now (c .before .before .args .buffer)) (λ i. c .slice-known .given i .fits)
 
-it-began : (c : tie.Start) → Begun (c .args .reader) (now (c .args .part)) (now (c .args .buffer)) (c .args .h) (c .args .k)
+it-began : (c : tie.Start) → Begun (c .args .reader) (now (c .args .part)) (now (c .args .buffer)) (c .args .held .bytes) (c .args .more .bytes)
 it-began c = search needs
 
 copy-requires-2 : tie.Need-copy-requires-2
@@ -26,7 +26,7 @@ copy-requires-2 c κs =
     let known = saving .before .before .before .before .before in
     let a = known .before .before .args in (
       omega arith,
-      joined-long (a .reader) (now (a .part)) (now (a .buffer)) _ (a .h) (a .k) (it-began (known .before .before)) (buffer-bytes known) (part-bytes (known .before)) (a .signed)
+      joined-long (a .reader) (now (a .part)) (now (a .buffer)) _ (a .held .bytes) (a .more .bytes) (it-began (known .before .before)) (buffer-bytes known) (part-bytes (known .before)) (a .signed)
           (now (a .out)) _ _ (joined .join .ensures),
     )
 
@@ -38,7 +38,7 @@ returns c =
     let saving = joined .before .before .before .before .before in
     let known = saving .before .before .before .before .before in
     let a = known .before .before .args in
-    put-back (a .reader) (now (a .part)) (now (a .buffer)) _ (a .h) (a .k) (it-began (known .before .before)) (buffer-bytes known) (part-bytes (known .before)) (a .signed)
+    put-back (a .reader) (now (a .part)) (now (a .buffer)) _ (a .held .bytes) (a .more .bytes) (it-began (known .before .before)) (buffer-bytes known) (part-bytes (known .before)) (a .signed)
     (now (a .out)) _ _ (joined .join .ensures) (now (a .saved)) _ _ (omega arith) (saving .copy .ensures) (back .copy2 .ensures)
     (sym (refuses .before .is-refused .ensures) ∙ refuses .if1 .taken)
 
@@ -48,7 +48,7 @@ returns-2 c =
     let saving = joined .before .before .before .before .before in
     let known = saving .before .before .before .before .before in
     let a = known .before .before .args in
-    stays-unless (a .reader) (now (a .part)) (now (a .buffer)) _ (a .h) (a .k) (it-began (known .before .before)) (buffer-bytes known) (part-bytes (known .before)) (a .signed)
+    stays-unless (a .reader) (now (a .part)) (now (a .buffer)) _ (a .held .bytes) (a .more .bytes) (it-began (known .before .before)) (buffer-bytes known) (part-bytes (known .before)) (a .signed)
     (now (a .out)) _ _ (joined .join .ensures) (sym (c .before .is-refused .ensures) ∙ c .if1 .left)
 
 pub join-or-restore-spec : {M : Type 1} → statement M

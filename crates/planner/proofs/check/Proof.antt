@@ -12,7 +12,7 @@ returns : tie.Need-returns
 returns c =
     let s = c .before .before .before .before in
     let a = s .before .before .before .args in
-    unequal (a .signed) (now (a .rows)) (proposal (now (a .first)) (now (a .counts)) (now (a .forms)) (now (a .widths)) (now (a .bases))) (a .room)
+    unequal (a .signed) (now (a .rows)) (proposal (now (a .first)) (now (a .counts)) (now (a .forms)) (now (a .widths)) (now (a .bases))) (a .room .bytes)
     (sym (c .before .are-equal .ensures) ∙ not-true _ (c .if1 .taken))
 
 walk-requires : tie.Need-walk-requires

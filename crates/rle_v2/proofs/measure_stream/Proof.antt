@@ -57,8 +57,8 @@ loop-again c =
     let a = back-6 .before .before .before .before .before .before .args in
     counted-run (a .input .now) (a .at .bytes) (two64 - 1) (l .place) (l .count) (l .last) (l .inv) _ (back-6 .before .before .before .loop-test .taken) (ran-is (c .before .before .before .before .before))
 
-sub-t17 : tie.Need-sub-t17 Inv-loop μ-loop
-sub-t17 c = omega (arith, c .before .before .before .before .before .before .loop .inv .bytes)
+sub-taken : tie.Need-sub-taken Inv-loop μ-loop
+sub-taken c = omega (arith, c .before .before .before .before .before .before .loop .inv .bytes)
 
 returns : tie.Need-returns Inv-loop μ-loop
 returns c =
@@ -67,8 +67,8 @@ returns c =
     let a = back-6 .before .before .before .args in
     c .refused .ensures ∙ counted-refused (a .input .now) (a .at .bytes) (two64 - 1) (l .place) (l .count) (l .last) (l .inv) _ (refused-is (c .before .before))
 
-sub-t20 : tie.Need-sub-t20 Inv-loop μ-loop
-sub-t20 c = omega (arith, c .before .before .before .before .before .loop .inv .bytes)
+sub-taken-2 : tie.Need-sub-taken-2 Inv-loop μ-loop
+sub-taken-2 c = omega (arith, c .before .before .before .before .before .loop .inv .bytes)
 
 returns-2 : tie.Need-returns-2 Inv-loop μ-loop
 returns-2 c =
@@ -77,8 +77,8 @@ returns-2 c =
     let a = back-6 .before .before .args in
     c .whole .ensures ∙ counted-whole (a .input .now) (a .at .bytes) (two64 - 1) (l .place) (l .count) (l .last) (l .inv) (ended-is (c .before))
 
-sub-t23 : tie.Need-sub-t23 Inv-loop μ-loop
-sub-t23 c = omega (arith, c .before .loop .inv .bytes)
+sub-taken-3 : tie.Need-sub-taken-3 Inv-loop μ-loop
+sub-taken-3 c = omega (arith, c .before .loop .inv .bytes)
 
 returns-3 : tie.Need-returns-3 Inv-loop μ-loop
 returns-3 c =
@@ -89,5 +89,5 @@ returns-3 c =
 pub measure-stream-spec : {M : Type 1} → statement M
 measure-stream-spec =
     tie.close (tie.spec Inv-loop μ-loop (λ c. counted-first _ _ _) (λ c κs. search needs) (λ c. c .before .before .loop .inv .fits) (λ c κs. search needs)
-    (λ c. search needs) add-count add-place loop-less loop-again (λ c. search needs) sub-t17 (λ c κs. search needs) returns (λ c. search needs) sub-t20
-    (λ c κs. search needs) returns-2 sub-t23 (λ c κs. search needs) returns-3)
+    (λ c. search needs) add-count add-place loop-less loop-again (λ c. search needs) sub-taken (λ c κs. search needs) returns (λ c. search needs) sub-taken-2
+    (λ c κs. search needs) returns-2 sub-taken-3 (λ c κs. search needs) returns-3)

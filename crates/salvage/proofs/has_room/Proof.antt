@@ -30,8 +30,8 @@ turn-of k =
 loop-holds : tie.Need-loop-holds Inv-loop μ-loop
 loop-holds c = let a = c .before .before .before .before .before .before .args in measured-none (a .signed) (toZ w64 (ofZ w64 (a .fill))) (a .input .now) (a .starts .now) (a .counts .now) (length (a .out .now)) (length (a .report .now))
 
-shared-slice-read-rows : tie.Need-shared-slice-read-rows Inv-loop μ-loop
-shared-slice-read-rows c =
+shared-slice-read-listed : tie.Need-shared-slice-read-listed Inv-loop μ-loop
+shared-slice-read-listed c =
     let back-6 = c .before .before .before .before .before .before in
     let s = back-6 .before .before .before in omega (arith, s .pre .lengths)
 
@@ -75,7 +75,8 @@ add-stream c =
 add-lines : tie.Need-add-lines Inv-loop μ-loop
 add-lines c =
     let back-6 = c .before .before .before .before .before .before in
-    omega (arith, back-6 .before .before .loop .inv .lines-fit, c .if2 .left)
+    let back-12 = back-6 .before .before .before .before .before .before in
+    omega (arith, back-6 .before .before .loop .inv .lines-fit, c .if2 .left, back-12 .before .before .before .good)
 
 loop-again : tie.Need-loop-again Inv-loop μ-loop
 loop-again c =
@@ -85,7 +86,7 @@ loop-again c =
     let z = y .before .before in
     let k = z .before in
     let a = back-12 .before .before .before .args in
-    measured-next (a .signed) (toZ w64 (ofZ w64 (a .fill))) (a .input .now) (a .starts .now) (a .counts .now) (k .before .before .before .before .loop .inv) (turn-of k) (omega arith) (z .group-size .result) (y .size .result) (z .group-size .ensures) (y .size .ensures)
+    measured-next (a .signed) (toZ w64 (ofZ w64 (a .fill))) (a .input .now) (a .starts .now) (a .counts .now) (k .before .before .before .before .loop .inv) (turn-of k) (omega arith) (z .group-size .result .bytes) (y .size .result .bytes) (z .group-size .ensures) (y .size .ensures)
     (y .before .if1 .left) (c .if2 .left)
 
 returns-3 : tie.Need-returns-3 Inv-loop μ-loop
@@ -95,5 +96,5 @@ returns-3 c =
 
 pub has-room-spec : {M : Type 1} → statement M
 has-room-spec =
-    tie.close (tie.spec Inv-loop μ-loop (λ c κs. search needs) loop-holds (λ c. omega arith) shared-slice-read-rows bytes-of-requires (λ c κs. search needs)
+    tie.close (tie.spec Inv-loop μ-loop (λ c κs. search needs) loop-holds (λ c. omega arith) shared-slice-read-listed bytes-of-requires (λ c κs. search needs)
     (λ c κs. search needs) sub-if1 returns (λ c κs. search needs) sub-if2 returns-2 add-stream add-lines (λ c. omega arith) (λ c. omega arith) loop-again returns-3)

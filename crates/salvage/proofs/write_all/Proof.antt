@@ -13,7 +13,7 @@ use Rattle.salvage.proofs.write_all.Tie as tie
 
 abbrev Inv-loop : tie.InvT-loop
 Inv-loop input starts counts fill signed out₀ report₀ first stream₀ lines₀ i₀ out report stream lines i =
-    Laid signed (toZ w64 fill) input starts counts out₀ report₀ out report stream lines i
+    Laid signed (toZ w64 fill) input starts counts out₀ report₀ out report (stream .bytes) (lines .bytes) i
 
 abbrev μ-loop : tie.MeasureT-loop
 μ-loop input starts counts fill signed out₀ report₀ first stream₀ lines₀ i₀ out report stream lines i = length starts - i
@@ -31,8 +31,8 @@ turn-of k =
 loop-holds : tie.Need-loop-holds Inv-loop μ-loop
 loop-holds c = let s = c .before .before .before .before .before .before in let a = s .args in laid-none (a .signed) (toZ w64 (ofZ w64 (a .fill))) (a .input .now) (a .starts .now) (a .counts .now) (a .out .now) (a .report .now) (rw (toZ-ofZ (s .fits .fill)) (s .pre .1))
 
-shared-slice-read-rows : tie.Need-shared-slice-read-rows Inv-loop μ-loop
-shared-slice-read-rows c =
+shared-slice-read-listed : tie.Need-shared-slice-read-listed Inv-loop μ-loop
+shared-slice-read-listed c =
     let back-6 = c .before .before .before .before .before .before in
     let s = back-6 .before .before .before in omega (arith, s .pre .0 .lengths)
 
@@ -75,6 +75,6 @@ returns c =
 
 pub write-all-spec : {M : Type 1} → statement M
 write-all-spec =
-    tie.close (tie.spec Inv-loop μ-loop (λ c κs. search needs) loop-holds (λ c. omega arith) shared-slice-read-rows bytes-of-requires (λ c κs. search needs)
+    tie.close (tie.spec Inv-loop μ-loop (λ c κs. search needs) loop-holds (λ c. omega arith) shared-slice-read-listed bytes-of-requires (λ c κs. search needs)
     put-group-requires put-line-requires (λ c. omega arith) (λ c. omega arith) loop-again (λ c κs. search needs) (λ c. c .before .before .loop .inv .same-out)
     (λ c. c .before .before .loop .inv .same-lines) returns)

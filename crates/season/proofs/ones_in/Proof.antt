@@ -11,10 +11,10 @@ use Rattle.season.proofs.ones_in.Statement.{statement}
 use Rattle.season.proofs.ones_in.Tie as tie
 
 abbrev Inv-loop : tie.InvT-loop
-Inv-loop bytes whole ones₀ i₀ ones i = (i ≤ whole) × (ones ≤ 8 * i) × (ones ≡ onesIn (8 * i) bytes)
+Inv-loop bytes count ones₀ i₀ ones i = (i ≤ count) × (ones ≤ 8 * i) × (ones ≡ onesIn (8 * i) bytes)
 
 abbrev μ-loop : tie.MeasureT-loop
-μ-loop bytes whole ones₀ i₀ ones i = whole - i
+μ-loop bytes count ones₀ i₀ ones i = count - i
 
 -- the ones with those of the byte that was read
 more : (c : tie.After-ones-of Inv-loop μ-loop) → (c .ones-of .result ≤ 8)
@@ -46,7 +46,7 @@ loop-again c =
 returns : tie.Need-returns Inv-loop μ-loop
 returns c =
     let l = c .before .loop in
-    let e : l .i ≡ c .before .before .before .args .whole = omega arith in
+    let e : l .i ≡ c .before .before .before .args .whole .bytes = omega arith in
     l .inv .2 ∙ ap (λ (n : ℕ). onesIn (8 * n) (now (c .before .before .before .args .bytes))) e
 
 pub ones-in-spec : {M : Type 1} → statement M

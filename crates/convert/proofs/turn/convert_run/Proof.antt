@@ -14,14 +14,14 @@ use Rattle.convert.proofs.turn.convert_run.Tie as tie
 
 -- what the run reader says
 says : (x : tie.After-read-run) → let s = x .before .before .before .before .before in
-    Found (s .args .signed) (now (s .args .input)) (s .args .p) (x .read-run .last .1 .1 .1 .0) (x .read-run .result)
+    Found (s .args .signed) (now (s .args .input)) (s .args .at .bytes) (x .read-run .last .1 .1 .1 .0) (x .read-run .result)
 says x =
     let s = x .before .before .before .before .before in
     let i = now (s .args .input) in
-    found (s .args .signed) i (s .args .p) _ _ (x .read-run .result) (below-all 256 i (λ k. x .before .before .before .before .shared-slice-known .given k .fits)) (search needs) (x .read-run .ensures)
+    found (s .args .signed) i (s .args .at .bytes) _ _ (x .read-run .result) (below-all 256 i (λ k. x .before .before .before .before .shared-slice-known .given k .fits)) (search needs) (x .read-run .ensures)
 
 ran : (m : tie.After-a) → let x = m .before .before .before in let s = x .before .before .before .before .before in
-    One (s .args .signed) (now (s .args .input)) (s .args .p) (x .read-run .last .1 .1 .1 .0) (m .a .given .0 .0)
+    One (s .args .signed) (now (s .args .input)) (s .args .at .bytes) (x .read-run .last .1 .1 .1 .0) (m .a .given .0 .0)
 ran m = rw (m .a .given .1) at (says (m .before .before .before))
 
 shared-slice-read-first : tie.Need-shared-slice-read-first
@@ -41,8 +41,7 @@ returns c =
     let m = back-6 .before .before .before .before .before .before in
     let a = back-18 .before .before in
     let i = back-6 .before in
-    rw (c .consumed .ensures)
-    (turned-odd (a .args .signed) (now (a .args .input)) (a .args .p) _ (m .a .given .0 .0) (ran m) (now (a .args .run)) _ (c .before .before .before .rewrite .result) (a .pre) (sym (i .is-odd .ensures) ∙ c .before .before .before .before .before .before .if1 .taken) (c .before .before .before .rewrite .ensures))
+    turned-odd (a .args .signed) (now (a .args .input)) (a .args .at .bytes) _ (m .a .given .0 .0) (ran m) (now (a .args .run)) _ (c .before .before .before .rewrite .result) _ (c .consumed .ensures) (a .pre) (sym (i .is-odd .ensures) ∙ c .before .before .before .before .before .before .if1 .taken) (c .before .before .before .rewrite .ensures)
 
 sub-copy : tie.Need-sub-copy
 sub-copy c = omega (arith, ran (c .before .before .before .before .before .before) .within)
@@ -55,7 +54,7 @@ copy-requires c κs =
     let m = (let back-6 = c .before .before .before .before .before .before in back-6 .before .before) in
     let a = (let back-6 = c .before .before .before .before .before .before in let back-12 = back-6 .before .before .before .before .before .before in back-12 .before .before .before .before) in
     let o = ran m in
-    (rw (rest-is (now (a .args .input)) (a .args .p), length-drop (a .args .p) (now (a .args .input))) (omega (arith, o .within)), omega (arith, o .bytes-are, byte-bounds (o .which) (o .valid), a .pre))
+    (rw (rest-is (now (a .args .input)) (a .args .at .bytes), length-drop (a .args .at .bytes) (now (a .args .input))) (omega (arith, o .within)), omega (arith, o .bytes-are, byte-bounds (o .which) (o .valid), a .pre))
 
 returns-2 : tie.Need-returns-2
 returns-2 c =
@@ -64,8 +63,8 @@ returns-2 c =
     let back-18 = back-12 .before .before .before .before .before .before in
     let m = back-6 .before .before .before .before .before in
     let a = back-18 .before in
-    turned-even (a .args .signed) (now (a .args .input)) (a .args .p) _ (m .a .given .0 .0) (ran m) (now (a .args .run)) _ (sym (c .before .before .before .before .before .before .is-odd .ensures) ∙ c .before .before .before .before .before .if1 .left)
-    (rw (rest-is (now (a .args .input)) (a .args .p)) at (c .before .before .copy .ensures))
+    turned-even (a .args .signed) (now (a .args .input)) (a .args .at .bytes) _ (m .a .given .0 .0) (ran m) (now (a .args .run)) _ (sym (c .before .before .before .before .before .before .is-odd .ensures) ∙ c .before .before .before .before .before .if1 .left)
+    (rw (rest-is (now (a .args .input)) (a .args .at .bytes)) at (c .before .before .copy .ensures))
 
 returns-3 : tie.Need-returns-3
 returns-3 c = rw (c .before .a2 .given .1) at (says (c .before .before .before .before))

@@ -7,10 +7,10 @@ use Rattle.index.proofs.walk.more.Statement.{statement}
 use Rattle.index.proofs.walk.more.Tie as tie
 
 returns : tie.Need-returns
-returns c m e = rows-past m _ _ (sym (c .before .before .total .given .1) ∙ e) (omega arith)
+returns c m e = rows-past m _ _ (sym (c .before .before .before .before .total .given .1) ∙ e) (omega arith)
 
 returns-2 : tie.Need-returns-2
-returns-2 c m e = rows-more m _ _ (sym (c .before .before .total .given .1) ∙ e) (omega arith)
+returns-2 c m e = rows-more m _ _ (sym (c .before .before .before .before .before .before .total .given .1) ∙ e) (omega arith)
 
 returns-3 : tie.Need-returns-3
 returns-3 c m e = past-more m _ (sym (c .enum-told .given .1) ∙ e)

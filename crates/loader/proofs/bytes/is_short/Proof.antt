@@ -20,4 +20,4 @@ returns-3 : tie.Need-returns-3
 returns-3 c = λ e. absurd (c .if2 .left (eqb-true _ _ e))
 
 pub is-short-spec : {M : Type 1} → statement M
-is-short-spec = tie.close (tie.spec returns (λ c. search needs) (λ c. search needs) returns-2 returns-3)
+is-short-spec = tie.close (tie.spec returns (λ c. search needs) (λ c. search needs) (λ c. search needs) returns-2 returns-3)

@@ -15,14 +15,14 @@ use Rattle.loader.proofs.bytes.put_repeat.Statement.{statement}
 use Rattle.loader.proofs.bytes.put_repeat.Tie as tie
 
 abbrev Inv-loop : tie.InvT-loop
-Inv-loop x n out₀ i₀ out i =
+Inv-loop x out₀ n i₀ out i =
     (i ≤ n)
     × (length out ≡ length out₀)
     × (take (8 * i) out ++ rowBytes (map asI64 (replicate (n - i) x)) ≡ rowBytes (map asI64 (replicate n x)))
     × (drop (8 * i) out ≡ drop (8 * i) out₀)
 
 abbrev μ-loop : tie.MeasureT-loop
-μ-loop x n out₀ i₀ out i = n - i
+μ-loop x out₀ n i₀ out i = n - i
 
 loop-again : tie.Need-loop-again Inv-loop μ-loop
 loop-again c =
@@ -36,7 +36,7 @@ loop-again c =
       omega arith,
       long-by (l .out) (p .put-row .last .1 .0) (lowestFirst 8 x) (8 * l .i) 8 (omega arith) (bytes-long 8 x) e (omega arith) ∙ l .inv .1,
       rw (n, front-is (l .out) (p .put-row .last .1 .0) (lowestFirst 8 x) (8 * l .i) 8 (omega arith) (bytes-long 8 x) e, append-assoc)
-          (rw (repeat-more (a .n) (l .i) x (omega arith) (t .before .before .fits .x .fits)) at (l .inv .2)),
+          (rw (repeat-more (a .count .rows) (l .i) x (omega arith) (t .before .before .fits .x .fits)) at (l .inv .2)),
       rw n (kept-by (l .out) (p .put-row .last .1 .0) (lowestFirst 8 x) (8 * l .i) 8 (omega arith) (bytes-long 8 x) e (now (a .out)) (l .inv .3)),
     )
 
@@ -45,9 +45,9 @@ unfolding rowBytes
 returns c =
     let l = c .before .loop in
     let a = c .before .before .before .args in
-    let d : l .i ≡ a .n = omega arith in
-    let z : a .n - l .i ≡ 0 = omega arith in
-    filled (l .out) (now (a .out)) _ (8 * a .n) (rw d at (simp (z, rowBytes) at (l .inv .2))) (rw d at (l .inv .3))
+    let d : l .i ≡ a .count .rows = omega arith in
+    let z : a .count .rows - l .i ≡ 0 = omega arith in
+    filled (l .out) (now (a .out)) _ (8 * a .count .rows) (rw d at (simp (z, rowBytes) at (l .inv .2))) (rw d at (l .inv .3))
 
 pub put-repeat-spec : {M : Type 1} → statement M
 put-repeat-spec =

@@ -14,14 +14,14 @@ use Rattle.loader.proofs.bytes.put_row.Statement.{statement}
 use Rattle.loader.proofs.bytes.put_row.Tie as tie
 
 abbrev Inv-loop : tie.InvT-loop
-Inv-loop x out₀ at left₀ j₀ out left j =
+Inv-loop x out₀ p left₀ j₀ out left j =
     (j ≤ 8)
     × (length out ≡ length out₀)
-    × (take (at + j) out ++ lowestFirst (8 - j) left ≡ take at out₀ ++ lowestFirst 8 x)
-    × (drop (at + j) out ≡ drop (at + j) out₀)
+    × (take (p + j) out ++ lowestFirst (8 - j) left ≡ take p out₀ ++ lowestFirst 8 x)
+    × (drop (p + j) out ≡ drop (p + j) out₀)
 
 abbrev μ-loop : tie.MeasureT-loop
-μ-loop x out₀ at left₀ j₀ out left j = 8 - j
+μ-loop x out₀ p left₀ j₀ out left j = 8 - j
 
 loop-again : tie.Need-loop-again Inv-loop μ-loop
 loop-again c =
@@ -29,8 +29,8 @@ loop-again c =
     let a = c .before .before .args in (
       omega arith,
       simp length-set (l .inv .1),
-      rw (← add-assoc) (grow (l .out) (a .at + l .j) _ _ _ (omega arith) (rw (byte-more (l .j) (l .left) (omega arith)) at (l .inv .2))),
-      rw (← add-assoc) (kept (l .out) (now (a .out)) (a .at + l .j) (l .left % 256) (l .inv .3)),
+      rw (← add-assoc) (grow (l .out) (a .at .bytes + l .j) _ _ _ (omega arith) (rw (byte-more (l .j) (l .left) (omega arith)) at (l .inv .2))),
+      rw (← add-assoc) (kept (l .out) (now (a .out)) (a .at .bytes + l .j) (l .left % 256) (l .inv .3)),
     )
 
 returns : tie.Need-returns Inv-loop μ-loop
@@ -39,7 +39,7 @@ returns c =
     let l = c .before .loop in
     let a = c .before .before .args in
     let d : l .j ≡ 8 = omega arith in
-    filled (l .out) (now (a .out)) _ (a .at + 8) (rw d at (l .inv .2)) (rw d at (l .inv .3))
+    filled (l .out) (now (a .out)) _ (a .at .bytes + 8) (rw d at (l .inv .2)) (rw d at (l .inv .3))
 
 pub put-row-spec : {M : Type 1} → statement M
 put-row-spec =

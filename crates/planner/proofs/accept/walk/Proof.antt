@@ -12,11 +12,11 @@ use Rattle.planner.proofs.accept.walk.Statement.{statement}
 use Rattle.planner.proofs.accept.walk.Tie as tie
 
 abbrev Inv-loop : tie.InvT-loop
-Inv-loop rows signed first counts forms widths bases room run₀ k₀ row₀ bytes₀ run k row bytes =
-    (length run ≡ anyRun) × Along signed rows (proposal first counts forms widths bases) room k row bytes
+Inv-loop rows signed first counts forms widths bases limit run₀ k₀ row₀ bytes₀ run k row bytes =
+    (length run ≡ anyRun) × Along signed rows (proposal first counts forms widths bases) limit k row bytes
 
 abbrev μ-loop : tie.MeasureT-loop
-μ-loop rows signed first counts forms widths bases room run₀ k₀ row₀ bytes₀ run k row bytes = length first - k
+μ-loop rows signed first counts forms widths bases limit run₀ k₀ row₀ bytes₀ run k row bytes = length first - k
 
 loop-holds : tie.Need-loop-holds Inv-loop μ-loop
 loop-holds c = (search needs, along-first _ _ _ _ (c .before .before .before .before .before .before .pre))
@@ -67,7 +67,7 @@ add-bytes c =
     let i = x .before .before .before in
     let l = i .before .loop in
     let r = i .before .before in
-    omega (arith, l .inv .1 .bytes-in, c .if2 .left, r .before .before .before .before .before .before .fits .room)
+    omega (arith, l .inv .1 .bytes-in, c .if2 .left, r .before .before .before .before .before .before .good)
 
 loop-again : tie.Need-loop-again Inv-loop μ-loop
 loop-again c =

@@ -12,20 +12,20 @@ use Rattle.planner.proofs.fallback.lay.Statement.{statement}
 use Rattle.planner.proofs.fallback.lay.Tie as tie
 
 abbrev Inv-loop : tie.InvT-loop
-Inv-loop rows runs first₀ counts₀ forms₀ widths₀ bases₀ k₀ first counts forms widths bases k =
-    Laying rows runs (proposal first₀ counts₀ forms₀ widths₀ bases₀) (proposal first counts forms widths bases) k
+Inv-loop runs first₀ counts₀ forms₀ widths₀ bases₀ n k₀ first counts forms widths bases k =
+    Laying n runs (proposal first₀ counts₀ forms₀ widths₀ bases₀) (proposal first counts forms widths bases) k
 
 abbrev μ-loop : tie.MeasureT-loop
-μ-loop rows runs first₀ counts₀ forms₀ widths₀ bases₀ k₀ first counts forms widths bases k = runs - k
+μ-loop runs first₀ counts₀ forms₀ widths₀ bases₀ n k₀ first counts forms widths bases k = runs - k
 
 -- a run begins within the rows
 mul-row : tie.Need-mul-row Inv-loop μ-loop
 mul-row c =
     let s = c .before .before .before .before .before .before .before in
-    omega (arith, c .loop-test .taken, s .pre .0, s .fits .rows)
+    omega (arith, c .loop-test .taken, s .pre .0, s .good)
 
-sub-part-rows : tie.Need-sub-part-rows Inv-loop μ-loop
-sub-part-rows c =
+sub-left : tie.Need-sub-left Inv-loop μ-loop
+sub-left c =
     let s = c .before .before .before .before .before .before .before in
     omega (arith, c .loop-test .taken, s .pre .0)
 
@@ -33,7 +33,7 @@ sub-part-rows c =
 offset : (c : tie.After-part-rows Inv-loop μ-loop) → Fits w64 (c .before .before .loop .k * 8)
 offset c =
     let s = c .before .before .before .before .before .before .before .before in
-    omega (arith, c .before .loop-test .taken, s .pre .0, s .fits .rows)
+    omega (arith, c .before .loop-test .taken, s .pre .0, s .good)
 
 -- where the next segment goes, at the turn's places
 places : (c : tie.After-part-rows Inv-loop μ-loop) → let l = c .before .before .loop in let s = c .before .before .before .before .before .before .before .before in
@@ -72,6 +72,6 @@ returns c = let l = c .before .loop in λ j h. l .inv .laid j (omega (arith, h, 
 
 pub lay-spec : {M : Type 1} → statement M
 lay-spec =
-    tie.close (tie.spec Inv-loop μ-loop (λ c. laying-first _ _ _) mul-row sub-part-rows (λ c κs. search needs) offset slice-write-first offset
-    slice-write-counts offset slice-write-forms offset slice-write-widths offset slice-write-bases (λ c. omega arith) (λ c. omega arith) loop-again
+    tie.close (tie.spec Inv-loop μ-loop (λ c. laying-first _ _ _) mul-row sub-left (λ c κs. search needs) offset slice-write-first offset
+    slice-write-counts offset slice-write-forms (λ c. search needs) offset slice-write-widths offset slice-write-bases (λ c. omega arith) (λ c. omega arith) loop-again
     same-length (λ c. c .before .loop .inv .counts) (λ c. c .before .loop .inv .forms) (λ c. c .before .loop .inv .widths) (λ c. c .before .loop .inv .bases) returns)

@@ -13,13 +13,13 @@ returns : tie.Need-returns
 returns c =
     let t = c .before in
     let a = t .before .before .args in
-    ran-none _ (now (a .out)) (step-elsewhere (a .signed) (now (a .rows)) (a .at) (a .s) (length (now (a .out))) _ (t .is-in-place .ensures) (c .if1 .taken))
+    ran-none _ (now (a .out)) (step-elsewhere (a .signed) (now (a .rows)) (a .at .rows) (a .s) (length (now (a .out))) _ (t .is-in-place .ensures) (c .if1 .taken))
 
-within : (c : tie.Else1) → let a = c .before .before .before .args in a .s .count ≤ length (now (a .rows)) - a .at
+within : (c : tie.Else1) → let a = c .before .before .before .args in a .s .count ≤ length (now (a .rows)) - a .at .rows
 within c =
     let t = c .before in
     let a = t .before .before .args in
-    within-is (a .at) (length (now (a .rows))) (a .s) _ (t .is-in-place .ensures) (c .if1 .left)
+    within-is (a .at .rows) (length (now (a .rows))) (a .s) _ (t .is-in-place .ensures) (c .if1 .left)
 
 returns-2 : tie.Need-returns-2
 returns-2 c =
@@ -27,8 +27,8 @@ returns-2 c =
     let e = w .before .before .before in
     let t = e .before in
     let a = t .before .before .args in
-    let k : a .at + a .s .count - a .at ≡ a .s .count = omega arith in
-    rw (step-here (a .signed) (now (a .rows)) (a .at) (a .s) (length (now (a .out))) _ (t .is-in-place .ensures) (e .if1 .left)) (rw k at (w .write .ensures))
+    let k : a .at .rows + a .s .count - a .at .rows ≡ a .s .count = omega arith in
+    rw (step-here (a .signed) (now (a .rows)) (a .at .rows) (a .s) (length (now (a .out))) _ (t .is-in-place .ensures) (e .if1 .left)) (rw k at (w .write .ensures))
 
 pub step-spec : {M : Type 1} → statement M
 step-spec =

@@ -16,13 +16,13 @@ less a b h (no d) = lt-leb a (b - 1) (omega (arith, d)) ∙ sym (le-ltb a b (ome
 returns : tie.Need-returns
 returns c =
     let a = c .before .args in
-    sym (le-ltb (2 * ((a .rows + 511) / 512) + 8 * a .rows) (a .bytes) (omega arith))
+    sym (le-ltb (2 * ((a .rows .rows + 511) / 512) + 8 * a .rows .rows) (a .bytes .bytes) (omega arith))
 
 returns-2 : tie.Need-returns-2
 returns-2 c =
     let a = c .before .before .args in
-    let n : ℕ = 2 * ((a .rows + 511) / 512) + 8 * a .rows in
-    c .wide-fits .ensures ∙ less n (a .bytes) (omega arith) (decLt n (a .bytes))
+    let n : ℕ = 2 * ((a .rows .rows + 511) / 512) + 8 * a .rows .rows in
+    c .wide-fits .ensures ∙ less n (a .bytes .bytes) (omega arith) (decLt n (a .bytes .bytes))
 
 pub is-longer-spec : {M : Type 1} → statement M
 is-longer-spec = tie.close (tie.spec returns (λ c. search needs) (λ c κs. search needs) returns-2)

@@ -37,7 +37,7 @@ step-requires c κs = let l = c .before .before .before .loop in covers-le _ (l 
 
 -- the plan after a turn
 turn : (c : tie.After-slice-known2 Inv-loop μ-loop) → let x = c .before .before in let i = x .before .before .before in let l = i .before .loop in let s = i .before .before in let a = s .before .before .before .before .before .before .args in
-    Plan (a .signed) (now (a .rows)) (proposal (now (a .first)) (now (a .counts)) (now (a .forms)) (now (a .widths)) (now (a .bases))) (now (a .out)) (take (l .bytes) (l .out) ++ (x .step .last .1 .1 .1 .1 .0 ++ drop (length (l .out) - l .bytes) (drop (l .bytes) (l .out)))) (l .k + 1) (l .row + x .before .before .at .result .count) (l .bytes + x .step .result)
+    Plan (a .signed) (now (a .rows)) (proposal (now (a .first)) (now (a .counts)) (now (a .forms)) (now (a .widths)) (now (a .bases))) (now (a .out)) (take (l .bytes) (l .out) ++ (x .step .last .1 .1 .1 .1 .0 ++ drop (length (l .out) - l .bytes) (drop (l .bytes) (l .out)))) (l .k + 1) (l .row + x .before .before .at .result .count) (l .bytes + x .step .result .bytes)
 turn c =
     let x = c .before .before in
     let i = x .before .before .before in

@@ -26,7 +26,7 @@ wide-run-requires c κs = omega (arith, c .before .part-rows .ensures, c .before
 
 -- the direct runs after a turn
 turn : (c : tie.After-slice-known2 Inv-loop μ-loop) → let x = c .before .before in let i = x .before .before .before in let l = i .before .loop in let a = i .before .before .before .before .args in
-    Widely (a .signed) (now (a .rows)) (now (a .out)) (take (l .bytes) (l .out) ++ (x .wide-run .last .1 .1 .1 .1 .0 ++ drop (length (l .out) - l .bytes) (drop (l .bytes) (l .out)))) (l .runs + 1) (l .row + x .before .before .part-rows .result) (l .bytes + x .wide-run .result)
+    Widely (a .signed) (now (a .rows)) (now (a .out)) (take (l .bytes) (l .out) ++ (x .wide-run .last .1 .1 .1 .1 .0 ++ drop (length (l .out) - l .bytes) (drop (l .bytes) (l .out)))) (l .runs + 1) (l .row + x .before .before .part-rows .result .rows) (l .bytes + x .wide-run .result .bytes)
 turn c =
     let x = c .before .before in
     let i = x .before .before .before in

@@ -17,9 +17,9 @@ returns : tie.Need-returns
 returns c =
     let w = c .before .before .before in
     let a = w .before .before .before .before .args in
-    let k : a .at + a .n - a .at ≡ a .n = omega arith in
+    let k : a .at .rows + a .n .rows - a .at .rows ≡ a .n .rows = omega arith in
     let v = rw k at (w .write-run .ensures) in
-    rw (c .consumed .ensures) (ran (writing (a .signed) Direct 31 (map asU64 (take (a .n) (drop (a .at) (now (a .rows))))) (length (now (a .out)))) (now (a .out)) _ _ (v .answer) (v .places))
+    rw (c .consumed .ensures) (ran (writing (a .signed) Direct 31 (map asU64 (take (a .n .rows) (drop (a .at .rows) (now (a .rows))))) (length (now (a .out)))) (now (a .out)) _ _ (v .answer) (v .places))
 
 pub wide-run-spec : {M : Type 1} → statement M
 wide-run-spec =

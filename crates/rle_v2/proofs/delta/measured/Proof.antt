@@ -19,20 +19,20 @@ entry b = there b .before .before
 
 -- the header passed its tests, before the varints were read
 abbrev header : tie.After-starts-at → tie.After-two-bytes
-header m = m .before .before .before
+header m = m .before .before .before .before
 
 returns : tie.Need-returns
-returns c = let s = c .before .before .before in rw (c .gone .ensures) (no-header (now (s .args .input)) (s .args .at) (s .pre) (c .before .if1 .taken))
+returns c = let s = c .before .before .before in rw (c .gone .ensures) (no-header (now (s .args .input)) (s .args .at .bytes) (s .pre) (c .before .if1 .taken))
 
 returns-2 : tie.Need-returns-2
 returns-2 c =
     let f = c .before .before in
-    let b = f .before in
+    let b = f .before .before in
     let h = b .two-bytes .ensures in
     let a = entry b .args in
     let few = f .too-few .ensures .0 (c .before .if2 .taken) in
     rw (c .gone2 .ensures)
-    (one-row (now (a .input)) (a .at) (there b .if1 .left) (λ q. few .0 (h .0 ∙ q)) (omega (arith, h .1, few .1)))
+    (one-row (now (a .input)) (a .at .bytes) (there b .if1 .left) (λ q. few .0 (h .0 ∙ q)) (omega (arith, h .1, few .1)))
 
 returns-3 : tie.Need-returns-3
 returns-3 c =
@@ -44,7 +44,7 @@ returns-3 c =
     record {
       passed = λ z. absurd (c .if3 .taken z);
       refusal = λ z.
-          no-varints (now (a .input)) (a .at) (there b .if1 .left) (λ q. sym (h .0) ∙ e .before .too-few .ensures .1 (e .if2 .left) (omega (arith, h .1, q))) _
+          no-varints (now (a .input)) (a .at .bytes) (there b .if1 .left) (λ q. sym (h .0) ∙ e .before .too-few .ensures .1 (e .if2 .left) (omega (arith, h .1, q))) _
           (m .starts-at .ensures .refusal z);
     }
 
@@ -56,8 +56,8 @@ returns-4 c =
     let a = entry b .args in
     record {
       passed = λ z.
-          rw (is-fixed (now (a .input)) (a .at) (there b .if1 .left) (sym (h .0) ∙ c .if4 .taken), ← (m .starts-at .ensures .rows-is z ∙ h .1))
-          (fixed-passed (now (a .input)) (a .at) _ (m .starts-at .ensures .started z));
+          rw (is-fixed (now (a .input)) (a .at .bytes) (there b .if1 .left) (sym (h .0) ∙ c .if4 .taken), ← (m .starts-at .ensures .rows-is z ∙ h .1))
+          (fixed-passed (now (a .input)) (a .at .bytes) _ (m .starts-at .ensures .started z));
       refusal = λ z. absurd (z (c .before .if3 .left));
     }
 
@@ -68,7 +68,7 @@ packed-rows-requires c κs =
     let h = header m .two-bytes .ensures in
     let none = c .before .if3 .left in
     let rows = m .starts-at .ensures .rows-is none in
-    let two : header m .two-bytes .result .rows ≡ 1 → ⊥ = λ q. c .if4 .left (e .before .too-few .ensures .1 (e .if2 .left) q) in
+    let two : header m .two-bytes .result .rows .rows ≡ 1 → ⊥ = λ q. c .if4 .left (e .before .too-few .ensures .1 (e .if2 .left) q) in
     (m .starts-at .ensures .started none, search needs, omega (arith, rows, h .1, two), omega (arith, rows, h .2))
 
 returns-5 : tie.Need-returns-5
@@ -79,8 +79,8 @@ returns-5 c =
     let h = b .two-bytes .ensures in
     let a = entry b .args in
     let rows = m .starts-at .ensures .rows-is (c .before .before .if3 .left) in
-    let n : m .starts-at .result .rows - 2 ≡ rowsLess (getD (now (a .input)) (a .at) 0) (getD (now (a .input)) (a .at + 1) 0) - 1 = omega (arith, h .1, rows) in
-    rw (is-packed (now (a .input)) (a .at) (there b .if1 .left) (λ q. c .before .if4 .left (h .0 ∙ q)) (λ q. c .before .if4 .left (e .before .too-few .ensures .1 (e .if2 .left) (omega (arith, h .1, q)))))
+    let n : m .starts-at .result .rows .rows - 2 ≡ rowsLess (getD (now (a .input)) (a .at .bytes) 0) (getD (now (a .input)) (a .at .bytes + 1) 0) - 1 = omega (arith, h .1, rows) in
+    rw (is-packed (now (a .input)) (a .at .bytes) (there b .if1 .left) (λ q. c .before .if4 .left (h .0 ∙ q)) (λ q. c .before .if4 .left (e .before .too-few .ensures .1 (e .if2 .left) (omega (arith, h .1, q)))))
     (rw (h .0, n) at (c .packed-rows .ensures))
 
 pub measured-spec : {M : Type 1} → statement M

@@ -22,13 +22,13 @@ returns : tie.Need-returns
 returns c =
     let r = c .before .before .before in
     let a = start r .args in
-    rw (c .gone .ensures) (first-cut (now (a .input)) (a .at) (a .rows) (bytes r) (start r .pre) (sym (r .varint-at .ensures) ∙ c .before .enum-told .given .1))
+    rw (c .gone .ensures) (first-cut (now (a .input)) (a .at .bytes) (a .rows .rows) (bytes r) (start r .pre) (sym (r .varint-at .ensures) ∙ c .before .enum-told .given .1))
 
 returns-2 : tie.Need-returns-2
 returns-2 c =
     let r = c .before .before .before in
     let a = start r .args in
-    rw (c .gone2 .ensures) (first-long (now (a .input)) (a .at) (a .rows) (bytes r) (sym (r .varint-at .ensures) ∙ c .before .enum-told2 .given .1))
+    rw (c .gone2 .ensures) (first-long (now (a .input)) (a .at .bytes) (a .rows .rows) (bytes r) (sym (r .varint-at .ensures) ∙ c .before .enum-told2 .given .1))
 
 returns-3 : tie.Need-returns-3
 returns-3 c =
@@ -37,7 +37,7 @@ returns-3 c =
     let r = b .before .before in
     let a = start r .args in
     rw (c .gone3 .ensures)
-    (second-cut (now (a .input)) (a .at) (a .rows) (bytes r) _ _ (sym (r .varint-at .ensures) ∙ b .first .given .1) (sym (r2 .varint-at2 .ensures) ∙ c .before .enum-told3 .given .1))
+    (second-cut (now (a .input)) (a .at .bytes) (a .rows .rows) (bytes r) _ _ (sym (r .varint-at .ensures) ∙ b .first .given .1) (sym (r2 .varint-at2 .ensures) ∙ c .before .enum-told3 .given .1))
 
 returns-4 : tie.Need-returns-4
 returns-4 c =
@@ -46,7 +46,7 @@ returns-4 c =
     let r = b .before .before in
     let a = start r .args in
     rw (c .gone4 .ensures)
-    (second-long (now (a .input)) (a .at) (a .rows) (bytes r) _ _ (sym (r .varint-at .ensures) ∙ b .first .given .1) (sym (r2 .varint-at2 .ensures) ∙ c .before .enum-told4 .given .1))
+    (second-long (now (a .input)) (a .at .bytes) (a .rows .rows) (bytes r) _ _ (sym (r .varint-at .ensures) ∙ b .first .given .1) (sym (r2 .varint-at2 .ensures) ∙ c .before .enum-told4 .given .1))
 
 returns-5 : tie.Need-returns-5
 returns-5 c =
@@ -54,7 +54,7 @@ returns-5 c =
     let b = first r2 in
     let r = b .before .before in
     let a = start r .args in
-    both-stood (now (a .input)) (a .at) (a .rows) (bytes r) _ _ (sym (r .varint-at .ensures) ∙ b .first .given .1) _ _ (sym (r2 .varint-at2 .ensures) ∙ c .before .base .given .1)
+    both-stood (now (a .input)) (a .at .bytes) (a .rows .rows) (bytes r) _ _ (sym (r .varint-at .ensures) ∙ b .first .given .1) _ _ (sym (r2 .varint-at2 .ensures) ∙ c .before .base .given .1)
 
 pub starts-at-spec : {M : Type 1} → statement M
 starts-at-spec =

@@ -10,7 +10,7 @@ returns : tie.Need-returns
 returns c = (λ e. let z : _≡_ {A = ℕ} 0 1 = cc in absurd (omega arith), λ f q. c .if1 .taken)
 
 returns-2 : tie.Need-returns-2
-returns-2 c = (λ e. (c .if1 .left, eqb-true _ _ e), λ f q. absurd (eqb-false _ _ f q))
+returns-2 c = (λ e. (c .before .if1 .left, eqb-true _ _ e), λ f q. absurd (eqb-false _ _ f q))
 
 pub too-few-spec : {M : Type 1} → statement M
 too-few-spec = tie.close (tie.spec returns returns-2)

@@ -19,10 +19,10 @@ use Rattle.rle_v2.proofs.patch_list.put.Tie as tie
 use Rattle.rle_v2.proofs.patch_list.put.Reads as reads
 
 abbrev Inv-loop : tie.InvT-loop
-Inv-loop list bits pw n width rows out₀ row₀ k₀ out row k = (k ≤ n) × Put width pw rows (fields bits n list) out₀ out k row
+Inv-loop list bits pw n width out₀ rows row₀ k₀ out row k = (k ≤ n) × Put width pw rows (fields bits n list) out₀ out k row
 
 abbrev μ-loop : tie.MeasureT-loop
-μ-loop list bits pw n width rows out₀ row₀ k₀ out row k = n - k
+μ-loop list bits pw n width out₀ rows row₀ k₀ out row k = n - k
 
 -- the entry that a turn reads
 next-is : (x : tie.After-entry-at Inv-loop μ-loop) → let l = x .before .before .loop in let a = x .before .before .before .before .args in
@@ -34,11 +34,11 @@ next-is x =
     entry-next (a .bits) (a .n) (l .k) (a .list .now) (below-all 256 (a .list .now) (λ i. k .shared-slice-known .given i .fits)) (x .before .loop-test .taken) (k .before .pre .0 .there)
 
 -- where it names a row, that is one of them
-named : (x : tie.After-entry-at Inv-loop μ-loop) → x .entry-at .result .skip ≡ false → x .before .before .loop .row + x .entry-at .result .gap < x .before .before .before .before .args .rows
+named : (x : tie.After-entry-at Inv-loop μ-loop) → x .entry-at .result .skip ≡ false → x .before .before .loop .row + x .entry-at .result .gap < x .before .before .before .before .args .count .rows
 named x y =
     let l = x .before .before .loop in
     let a = x .before .before .before .before .args in
-    put-inside (a .width) (a .pw) (a .rows) (fields (a .bits) (a .n) (a .list .now)) (a .out .now) (l .out) (l .k) (l .row) _ _ _ _ (l .inv .1) (next-is x) (x .entry-at .ensures) y
+    put-inside (a .width) (a .pw) (a .count .rows) (fields (a .bits) (a .n) (a .list .now)) (a .out .now) (l .out) (l .k) (l .row) _ _ _ _ (l .inv .1) (next-is x) (x .entry-at .ensures) y
 
 inside : (x : tie.After-entry-at Inv-loop μ-loop) → x .entry-at .result .skip ≡ false → x .before .before .loop .row + x .entry-at .result .gap < length (x .before .before .loop .out)
 inside x y = omega (arith, named x y, x .before .before .loop .inv .1 .long, x .before .before .before .before .pre .1 .2)
@@ -75,11 +75,11 @@ loop-again c =
       ⊎-elim
           (λ w.
           rw (w .6)
-          (put-named (a .width) (a .pw) (a .rows) es (a .out .now) (l .out) (l .k) (l .row) _ _ _ _ (l .inv .1) (next-is x) (x .entry-at .ensures) (not-true _ (w .0 .taken)) (z .pre .1 .1) _
+          (put-named (a .width) (a .pw) (a .count .rows) es (a .out .now) (l .out) (l .k) (l .row) _ _ _ _ (l .inv .1) (next-is x) (x .entry-at .ensures) (not-true _ (w .0 .taken)) (z .pre .1 .1) _
           (toZ-ofZ (sfits-of (w .5 .ok)) ∙ w .5 .ensures ∙ rw (w .4 .ensures, w .3 .ensures, toZ-ofZ (sfits-of (w .2 .given)), w .1 .ensures, add-mod-mod))))
           (λ w.
           rw (w .1)
-          (put-skip (a .width) (a .pw) (a .rows) es (a .out .now) (l .out) (l .k) (l .row) _ _ _ _ (l .inv .1) (next-is x) (x .entry-at .ensures) (not-false _ (w .0 .left))))
+          (put-skip (a .width) (a .pw) (a .count .rows) es (a .out .now) (l .out) (l .k) (l .row) _ _ _ _ (l .inv .1) (next-is x) (x .entry-at .ensures) (not-false _ (w .0 .left))))
           (c .if1 .came),
     )
 
@@ -87,7 +87,7 @@ returns : tie.Need-returns Inv-loop μ-loop
 returns c =
     let l = c .before .loop in
     let a = c .before .before .before .args in
-    put-last (a .width) (a .pw) (a .rows) (fields (a .bits) (a .n) (a .list .now)) (a .out .now) (l .out) (l .k) (l .row) (l .inv .1) (rw length-fields (c .loop-test .left))
+    put-last (a .width) (a .pw) (a .count .rows) (fields (a .bits) (a .n) (a .list .now)) (a .out .now) (l .out) (l .k) (l .row) (l .inv .1) (rw length-fields (c .loop-test .left))
 
 pub put-spec : {M : Type 1} → statement M
 put-spec =

@@ -48,7 +48,7 @@ returns c =
     let l = x .before .before .loop in
     let p = x .before .before .before in
     let a = p .before .before .args in
-    walk-large (a .width) (a .pw) (a .rows) (fields (a .bits) (a .n) (a .list .now)) (l .k) (l .place) (l .free) _ _ _ (l .skip) _ (l .inv .1) (next-is x) (x .entry-at .ensures)
+    walk-large (a .width) (a .pw) (a .count .rows) (fields (a .bits) (a .n) (a .list .now)) (l .k) (l .place) (l .free) _ _ _ (l .skip) _ (l .inv .1) (next-is x) (x .entry-at .ensures)
     (rw (p .patch-limit .ensures) at (c .if1 .taken))
 
 add-place : tie.Need-add-place Inv-loop μ-loop
@@ -61,7 +61,7 @@ returns-2 c =
     let l = x .before .before .loop in
     let a = x .before .before .before .before .before .args in
     rw (c .out-of-place .ensures)
-    (walk-stop (a .width) (a .pw) (a .rows) (fields (a .bits) (a .n) (a .list .now)) (l .k) (l .place) (l .free) _ _ _ (l .skip) _ (l .inv .1) (next-is x) (x .entry-at .ensures)
+    (walk-stop (a .width) (a .pw) (a .count .rows) (fields (a .bits) (a .n) (a .list .now)) (l .k) (l .place) (l .free) _ _ _ (l .skip) _ (l .inv .1) (next-is x) (x .entry-at .ensures)
     (not-true _ (t .before .if2 .taken)) (rw (lt-ltb _ _ (t .if3 .taken))))
 
 returns-3 : tie.Need-returns-3 Inv-loop μ-loop
@@ -72,7 +72,7 @@ returns-3 c =
     let l = x .before .before .loop in
     let a = x .before .before .before .before .before .args in
     rw (c .out-of-place2 .ensures)
-    (walk-stop (a .width) (a .pw) (a .rows) (fields (a .bits) (a .n) (a .list .now)) (l .k) (l .place) (l .free) _ _ _ (l .skip) _ (l .inv .1) (next-is x) (x .entry-at .ensures)
+    (walk-stop (a .width) (a .pw) (a .count .rows) (fields (a .bits) (a .n) (a .list .now)) (l .k) (l .place) (l .free) _ _ _ (l .skip) _ (l .inv .1) (next-is x) (x .entry-at .ensures)
     (not-true _ (e .before .if2 .taken)) (rw (le-ltb _ _ (e .if3 .left), le-leb _ _ (t .if4 .taken))))
 
 loop-again : tie.Need-loop-again Inv-loop μ-loop
@@ -87,21 +87,21 @@ loop-again c =
       ⊎-elim
           (λ w.
           rw (w .3)
-          (walk-named (a .width) (a .pw) (a .rows) es (l .k) (l .place) (l .free) _ _ _ (l .skip) _ (l .inv .1) (next-is x) (x .entry-at .ensures) (small e) (not-true _ (w .0 .taken)) (w .1 .left) (w .2 .left)
+          (walk-named (a .width) (a .pw) (a .count .rows) es (l .k) (l .place) (l .free) _ _ _ (l .skip) _ (l .inv .1) (next-is x) (x .entry-at .ensures) (small e) (not-true _ (w .0 .taken)) (w .1 .left) (w .2 .left)
           (z .pre .1 .2)))
           (λ w.
           rw (w .1)
-          (walk-skip (a .width) (a .pw) (a .rows) es (l .k) (l .place) (l .free) _ _ _ (l .skip) _ (l .inv .1) (next-is x) (x .entry-at .ensures) (small e) (not-false _ (w .0 .left))))
+          (walk-skip (a .width) (a .pw) (a .count .rows) es (l .k) (l .place) (l .free) _ _ _ (l .skip) _ (l .inv .1) (next-is x) (x .entry-at .ensures) (small e) (not-false _ (w .0 .left))))
           (c .if2 .came),
     )
 
 -- the list is at its end
 ended : (e : tie.After-loop Inv-loop μ-loop) → let l = e .before .loop in let a = e .before .before .before .before .args in
-    pick (l .skip) 7 0 ≡ listNumber (a .width) (a .pw) (a .rows) (fields (a .bits) (a .n) (a .list .now))
+    pick (l .skip) 7 0 ≡ listNumber (a .width) (a .pw) (a .count .rows) (fields (a .bits) (a .n) (a .list .now))
 ended e =
     let l = e .before .loop in
     let a = e .before .before .before .before .args in
-    walk-last (a .width) (a .pw) (a .rows) (fields (a .bits) (a .n) (a .list .now)) (l .k) (l .place) (l .free) (l .skip) (l .inv .1) (rw length-fields (e .loop-test .left))
+    walk-last (a .width) (a .pw) (a .count .rows) (fields (a .bits) (a .n) (a .list .now)) (l .k) (l .place) (l .free) (l .skip) (l .inv .1) (rw length-fields (e .loop-test .left))
 
 returns-4 : tie.Need-returns-4 Inv-loop μ-loop
 returns-4 c = rw (c .if5 .taken) at (ended (c .before))

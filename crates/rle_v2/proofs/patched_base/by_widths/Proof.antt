@@ -22,7 +22,7 @@ returns : tie.Need-returns
 returns c =
     let k = c .before .before .before in
     let a = k .before .before .before .before .args in
-    rw (c .gone .ensures, c .before .new .ensures) (gone-plain (now (a .input)) (a .at) _ 2 (λ z. omega arith) (refused-2 (now (a .input)) (a .at) (a .h .code) (a .h .rows) (a .h .base) (a .h .patch) (a .h .gap) (a .h .entries) (rw (sum-2 k) at (c .before .before .if1 .taken))))
+    rw (c .gone .ensures, c .before .new .ensures) (gone-plain (now (a .input)) (a .at .bytes) _ 2 (λ z. omega arith) (refused-2 (now (a .input)) (a .at .bytes) (a .h .code) (a .h .rows .rows) (a .h .base) (a .h .patch) (a .h .gap) (a .h .entries) (rw (sum-2 k) at (c .before .before .if1 .taken))))
 
 body-requires : tie.Need-body-requires
 body-requires c κs =

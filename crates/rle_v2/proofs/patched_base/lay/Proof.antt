@@ -17,9 +17,9 @@ returns c =
     let d = c .before in
     let u = d .before .before .before in
     let a = u .before .before .before .args in
-    let vs = fields (a .bits) (a .n) (now (a .block)) in
-    then-pass (based (a .base)) (map asI64 vs) (now (a .out)) (u .unpack .last .1 .1 .1 .0) (d .add-base .last .1 .1 .0) (a .n)
-    (length-map vs asI64 ∙ length-fields (a .bits) (a .n) (now (a .block))) (u .unpack .ensures) (d .add-base .ensures)
+    let vs = fields (a .bits) (a .n .rows) (now (a .block)) in
+    then-pass (based (a .base)) (map asI64 vs) (now (a .out)) (u .unpack .last .1 .1 .1 .0) (d .add-base .last .1 .1 .0) (a .n .rows)
+    (length-map vs asI64 ∙ length-fields (a .bits) (a .n .rows) (now (a .block))) (u .unpack .ensures) (d .add-base .ensures)
 
 pub lay-spec : {M : Type 1} → statement M
 lay-spec = tie.close (tie.spec (λ c κs. search needs) (λ c κs. search needs) (λ c. search needs) returns)

@@ -6,23 +6,26 @@ use borrow.Author.Needs.{needs}
 use Rattle.rle_v2.proofs.patched_base.put.Statement.{statement}
 use Rattle.rle_v2.proofs.patched_base.put.Tie as tie
 
+-- where the walk starts
+abbrev entry : tie.After-list → tie.Start
+entry l = l .before .before .before .before
+
 put-requires : tie.Need-put-requires
 put-requires c κs =
-    let back-6 = c .before .before .before .before .before .before in
-    let s = back-6 .before .before in
+    let s = entry (c .before .before .before .before .before .before .before) in
     let f = s .args .f in
     let r = s .pre .0 in
-    rw (rest-is (now (s .args .input)) (f .list)) (r .list-there, (r .narrow, r .rows, omega arith, r .in-place))
+    rw (rest-is (now (s .args .input)) (f .list .bytes)) (r .list-there, (r .narrow, r .rows, omega arith, r .in-place))
 
 returns : tie.Need-returns
 returns c =
     let p = c .before in
     let l = p .before .before .before .before in
     let b = l .before .before .before in
-    let a = b .before .before .args in
+    let a = entry (b .before) .args in
     rw (
-      ← (rw (rest-is (now (a .input)) (a .f .values), b .base-value .ensures) at (l .lay .ensures)),
-      ← (rest-is (now (a .input)) (a .f .list)),
+      ← (rw (rest-is (now (a .input)) (a .f .values .bytes), b .base-value .ensures) at (l .lay .ensures)),
+      ← (rest-is (now (a .input)) (a .f .list .bytes)),
     )
     (p .put .ensures)
 

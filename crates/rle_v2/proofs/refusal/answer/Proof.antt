@@ -8,7 +8,7 @@ returns : tie.Need-returns
 returns c = rw (c .refused .ensures, c .before .if1 .taken)
 
 returns-2 : tie.Need-returns-2
-returns-2 c = rw (c .cut .ensures, ne-eqb (c .before .before .args .field) 0 (c .before .if1 .left))
+returns-2 c = rw (c .cut .ensures, ne-eqb (c .before .before .args .field .bytes) 0 (c .before .if1 .left))
 
 pub answer-spec : {M : Type 1} → statement M
 answer-spec = tie.close (tie.spec (λ c κs. search needs) returns (λ c κs. search needs) returns-2)

@@ -10,10 +10,10 @@ use Rattle.rle_v2.proofs.rows.add_base.Statement.{statement}
 use Rattle.rle_v2.proofs.rows.add_base.Tie as tie
 
 abbrev Inv-loop : tie.InvT-loop
-Inv-loop base n out₀ i₀ out i = Turn (λ (x : ℕ) z. asI64 (plus x (asU64 z))) (λ x z. x) base n out₀ out i base
+Inv-loop base out₀ n i₀ out i = Turn (λ (x : ℕ) z. asI64 (plus x (asU64 z))) (λ x z. x) base n out₀ out i base
 
 abbrev μ-loop : tie.MeasureT-loop
-μ-loop base n out₀ i₀ out i = n - i
+μ-loop base out₀ n i₀ out i = n - i
 
 loop-again : tie.Need-loop-again Inv-loop μ-loop
 loop-again c =

@@ -14,10 +14,10 @@ use Rattle.rle_v2.proofs.rows.repeat.Statement.{statement}
 use Rattle.rle_v2.proofs.rows.repeat.Tie as tie
 
 abbrev Inv-loop : tie.InvT-loop
-Inv-loop value n out₀ row i₀ out i = Turn (λ x z. asI64 x) (λ x z. plus x 0) value n out₀ out i value
+Inv-loop value out₀ n row i₀ out i = Turn (λ x z. asI64 x) (λ x z. plus x 0) value n out₀ out i value
 
 abbrev μ-loop : tie.MeasureT-loop
-μ-loop value n out₀ row i₀ out i = n - i
+μ-loop value out₀ n row i₀ out i = n - i
 
 -- the row, and that a step of 0 leads to it again
 row-is : (c : tie.At-loop Inv-loop μ-loop) → toZ w64 (ofZ w64 (c .before .to-i64 .result)) ≡ asI64 (c .before .before .args .value)

@@ -10,10 +10,10 @@ use Rattle.rle_v2.proofs.rows.steps.Statement.{statement}
 use Rattle.rle_v2.proofs.rows.steps.Tie as tie
 
 abbrev Inv-loop : tie.InvT-loop
-Inv-loop first step n out₀ x₀ i₀ out x i = Turn (λ x z. asI64 x) (λ x z. plus x step) first n out₀ out i x
+Inv-loop first step out₀ n x₀ i₀ out x i = Turn (λ x z. asI64 x) (λ x z. plus x step) first n out₀ out i x
 
 abbrev μ-loop : tie.MeasureT-loop
-μ-loop first step n out₀ x₀ i₀ out x i = n - i
+μ-loop first step out₀ n x₀ i₀ out x i = n - i
 
 loop-again : tie.Need-loop-again Inv-loop μ-loop
 loop-again c =

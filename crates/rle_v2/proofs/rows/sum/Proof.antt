@@ -11,10 +11,10 @@ use Rattle.rle_v2.proofs.rows.sum.Statement.{statement}
 use Rattle.rle_v2.proofs.rows.sum.Tie as tie
 
 abbrev Inv-loop : tie.InvT-loop
-Inv-loop falling before n out₀ x₀ i₀ out x i = Turn (λ y z. asI64 (moved falling y (asU64 z))) (λ y z. moved falling y (asU64 z)) before n out₀ out i x
+Inv-loop falling before out₀ n x₀ i₀ out x i = Turn (λ y z. asI64 (moved falling y (asU64 z))) (λ y z. moved falling y (asU64 z)) before n out₀ out i x
 
 abbrev μ-loop : tie.MeasureT-loop
-μ-loop falling before n out₀ x₀ i₀ out x i = n - i
+μ-loop falling before out₀ n x₀ i₀ out x i = n - i
 
 loop-again : tie.Need-loop-again Inv-loop μ-loop
 loop-again c =

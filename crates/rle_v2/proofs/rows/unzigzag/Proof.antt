@@ -11,10 +11,10 @@ use Rattle.rle_v2.proofs.rows.unzigzag.Statement.{statement}
 use Rattle.rle_v2.proofs.rows.unzigzag.Tie as tie
 
 abbrev Inv-loop : tie.InvT-loop
-Inv-loop n out₀ i₀ out i = Turn (λ (x : ℕ) z. asI64 (zigzag (asU64 z))) (λ x z. x) 0 n out₀ out i 0
+Inv-loop out₀ n i₀ out i = Turn (λ (x : ℕ) z. asI64 (zigzag (asU64 z))) (λ x z. x) 0 n out₀ out i 0
 
 abbrev μ-loop : tie.MeasureT-loop
-μ-loop n out₀ i₀ out i = n - i
+μ-loop out₀ n i₀ out i = n - i
 
 loop-again : tie.Need-loop-again Inv-loop μ-loop
 loop-again c =

@@ -7,10 +7,10 @@ use Rattle.rle_v2.proofs.short_repeat.measure.Statement.{statement}
 use Rattle.rle_v2.proofs.short_repeat.measure.Tie as tie
 
 returns : tie.Need-returns
-returns c = let s = c .before .before .before .before in c .cut .ensures ∙ no-body (now (s .args .input)) (s .args .at) (s .pre .0) (c .before .if1 .taken)
+returns c = let s = c .before .before .before .before in c .cut .ensures ∙ no-body (now (s .args .input)) (s .args .at .bytes) (s .pre .0) (c .before .if1 .taken)
 
 returns-2 : tie.Need-returns-2
-returns-2 c = let s = c .before .before .before .before in c .run .ensures ∙ run-is (now (s .args .input)) (s .args .at) (c .before .if1 .left)
+returns-2 c = let s = c .before .before .before .before in c .run .ensures ∙ run-is (now (s .args .input)) (s .args .at .bytes) (c .before .if1 .left)
 
 pub measure-spec : {M : Type 1} → statement M
 measure-spec =

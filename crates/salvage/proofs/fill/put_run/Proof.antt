@@ -8,28 +8,28 @@ use Rattle.salvage.proofs.fill.put_run.Statement.{statement}
 use Rattle.salvage.proofs.fill.put_run.Tie as tie
 
 put-requires : tie.Need-put-requires
-put-requires c κs = let s = c .before .before in omega (arith, s .pre, run-long (s .args .first) (s .args .rows))
+put-requires c κs = let s = c .before .before .before in omega (arith, s .pre, run-long (s .args .first) (s .args .rows .rows))
 
 put-requires-2 : tie.Need-put-requires-2
 put-requires-2 c κs =
     let p = c .before .before .before in
-    let s = p .before .before .before in
-    omega (arith, s .pre, run-long (s .args .first) (s .args .rows), p .put .ensures .next, p .put .kept .1 .0)
+    let s = p .before .before .before .before in
+    omega (arith, s .pre, run-long (s .args .first) (s .args .rows .rows), p .put .ensures .next, p .put .kept .1 .0)
 
 write-requires : tie.Need-write-requires
 write-requires c κs =
     let q = c .before .before .before in
     let p = q .before .before .before .before in
-    let s = p .before .before .before in
-    omega (arith, s .pre, run-long (s .args .first) (s .args .rows), p .put .ensures .next, p .put .kept .1 .0, q .put2 .ensures .next, q .put2 .kept .1 .0)
+    let s = p .before .before .before .before in
+    omega (arith, s .pre, run-long (s .args .first) (s .args .rows .rows), p .put .ensures .next, p .put .kept .1 .0, q .put2 .ensures .next, q .put2 .kept .1 .0)
 
 put-requires-3 : tie.Need-put-requires-3
 put-requires-3 c κs =
     let w = c .before .before .before in
     let q = w .before .before .before .before in
     let p = q .before .before .before .before in
-    let s = p .before .before .before in
-    omega (arith, s .pre, run-long (s .args .first) (s .args .rows), p .put .ensures .next, p .put .kept .1 .0, q .put2 .ensures .next, q .put2 .kept .1 .0, w .write .ensures .next, w .write .kept .1 .0)
+    let s = p .before .before .before .before in
+    omega (arith, s .pre, run-long (s .args .first) (s .args .rows .rows), p .put .ensures .next, p .put .kept .1 .0, q .put2 .ensures .next, q .put2 .kept .1 .0, w .write .ensures .next, w .write .kept .1 .0)
 
 returns : tie.Need-returns
 unfolding runOf
@@ -38,10 +38,10 @@ returns c =
     let w = r .before .before .before .before in
     let q = w .before .before .before .before in
     let p = q .before .before .before .before in
-    let s = p .before .before .before in
-    then-written (omega (arith, s .pre, run-long (s .args .first) (s .args .rows))) (p .put .ensures)
-    (then-written (omega (arith, s .pre, run-long (s .args .first) (s .args .rows), p .put .ensures .next, p .put .kept .1 .0)) (q .put2 .ensures)
-    (then-written (omega (arith, s .pre, run-long (s .args .first) (s .args .rows), p .put .ensures .next, p .put .kept .1 .0, q .put2 .ensures .next, q .put2 .kept .1 .0)) (varint-written (w .write .ensures)) (r .put3 .ensures)))
+    let s = p .before .before .before .before in
+    then-written (omega (arith, s .pre, run-long (s .args .first) (s .args .rows .rows))) (p .put .ensures)
+    (then-written (omega (arith, s .pre, run-long (s .args .first) (s .args .rows .rows), p .put .ensures .next, p .put .kept .1 .0)) (q .put2 .ensures)
+    (then-written (omega (arith, s .pre, run-long (s .args .first) (s .args .rows .rows), p .put .ensures .next, p .put .kept .1 .0, q .put2 .ensures .next, q .put2 .kept .1 .0)) (varint-written (w .write .ensures)) (r .put3 .ensures)))
 
 pub put-run-spec : {M : Type 1} → statement M
 put-run-spec =

@@ -9,19 +9,19 @@ use Rattle.salvage.proofs.groups.is_kept.Tie as tie
 
 returns-2 : tie.Need-returns-2
 returns-2 c =
-    let m = c .before .before .before .before in
+    let m = c .before .before .before .before .before .before in
     let k = m .before .before in
     let a = k .before .args in
-    kept-whole (a .rows) (a .bytes .now) (below-all 256 (a .bytes .now) (λ i. k .shared-slice-known .given i .fits)) (omega arith) _
-    (sym (m .measure-stream .ensures) ∙ c .before .before .said .given .1)
+    kept-whole (a .rows .rows) (a .bytes .now) (below-all 256 (a .bytes .now) (λ i. k .shared-slice-known .given i .fits)) (omega arith) _
+    (sym (m .measure-stream .ensures) ∙ c .before .before .before .before .said .given .1)
 
 returns-3 : tie.Need-returns-3
 returns-3 c =
     let m = c .before .before in
     let k = m .before .before in
     let a = k .before .args in
-    kept-refused (a .rows) (a .bytes .now) (below-all 256 (a .bytes .now) (λ i. k .shared-slice-known .given i .fits)) (omega arith) _ _
+    kept-refused (a .rows .rows) (a .bytes .now) (below-all 256 (a .bytes .now) (λ i. k .shared-slice-known .given i .fits)) (omega arith) _ _
     (sym (m .measure-stream .ensures) ∙ c .enum-told .given .1)
 
 pub is-kept-spec : {M : Type 1} → statement M
-is-kept-spec = tie.close (tie.spec (λ c. kept-empty _ _ (c .if1 .taken)) (λ c κs. search needs) (λ c. search needs) (λ c. search needs) returns-2 returns-3)
+is-kept-spec = tie.close (tie.spec (λ c. kept-empty _ _ (c .before .if1 .taken)) (λ c κs. search needs) (λ c. search needs) (λ c. search needs) returns-2 returns-3)

@@ -9,7 +9,7 @@ use Rattle.salvage.proofs.groups.starts_right.Statement.{statement}
 use Rattle.salvage.proofs.groups.starts_right.Tie as tie
 
 abbrev Inv-loop : tie.InvT-loop
-Inv-loop starts end last₀ i₀ last i = (i ≤ length starts) × (startsRight end starts ≡ rising end last (drop i starts))
+Inv-loop starts end last₀ i₀ last i = (i ≤ length starts) × (startsRight (end .bytes) starts ≡ rising (end .bytes) last (drop i starts))
 
 abbrev μ-loop : tie.MeasureT-loop
 μ-loop starts end last₀ i₀ last i = length starts - i

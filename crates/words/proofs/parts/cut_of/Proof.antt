@@ -10,7 +10,7 @@ unfolding cutOf
 returns c = search needs
 
 returns-2 : tie.Need-returns-2
-returns-2 c = cut-at (c .before .args .flag) (c .before .args .byte) (c .if1 .left)
+returns-2 c = cut-at (c .before .args .flag) (c .before .args .byte .bytes) (c .if1 .left)
 
 pub cut-of-spec : {M : Type 1} → statement M
 cut-of-spec = tie.close (tie.spec returns returns-2)

@@ -11,7 +11,7 @@ use Rattle.words.proofs.parts.lay.Tie as tie
 returns : tie.Need-returns
 returns c =
     let a = c .args in
-    sets-eq (a .case ∷ 0 ∷ 0 ∷ a .kind ∷ a .rows ∷ a .bytes ∷ 0 ∷ 0 ∷ a .width ∷ a .start ∷ a .taken ∷ []) (now (a .words)) 0 (c .pre)
+    sets-eq (a .case ∷ 0 ∷ 0 ∷ a .kind ∷ a .rows .rows ∷ a .bytes .bytes ∷ 0 ∷ 0 ∷ a .width ∷ a .start .bytes ∷ a .taken .bytes ∷ []) (now (a .words)) 0 (c .pre)
 
 pub lay-spec : {M : Type 1} → statement M
 lay-spec =

@@ -62,7 +62,7 @@ block-size-requires c κs = (wide (c .before .before) .le, omega arith)
 
 -- ---- the size of both parts
 
-few : (c : tie.After-block-size) → c .before .start-size .result + c .block-size .result ≤ 4356
+few : (c : tie.After-block-size) → c .before .start-size .result .bytes + c .block-size .result ≤ 4356
 few c =
     let t = c .before .before .before in
     omega (arith, c .before .start-size .ensures .few, c .block-size .ensures, block-small (n t - 2) (sized t .bits-of .result) (omega arith) (wide t .le))

@@ -5,11 +5,11 @@ use borrow.Author.Needs.{needs}
 use Rattle.writer.proofs.delta.start_size.Statement.{statement}
 use Rattle.writer.proofs.delta.start_size.Tie as tie
 
-add-result : tie.Need-add-result
-add-result c = omega (arith, c .size .ensures, shortest-length (c .before .first-of .result) (omega (arith, c .before .first-of .ok)))
+add-bytes : tie.Need-add-bytes
+add-bytes c = omega (arith, c .size .ensures, shortest-length (c .before .first-of .result) (omega (arith, c .before .first-of .ok)))
 
-add-result-2 : tie.Need-add-result-2
-add-result-2 c =
+add-bytes-2 : tie.Need-add-bytes-2
+add-bytes-2 c =
     let f = c .before .before .before in
     omega (
       arith,
@@ -35,4 +35,4 @@ returns c =
 
 pub start-size-spec : {M : Type 1} → statement M
 start-size-spec =
-    tie.close (tie.spec (λ c κs. search needs) (λ c κs. search needs) add-result (λ c κs. search needs) (λ c κs. search needs) add-result-2 returns)
+    tie.close (tie.spec (λ c κs. search needs) (λ c κs. search needs) add-bytes (λ c κs. search needs) (λ c κs. search needs) add-bytes-2 returns)

@@ -23,7 +23,7 @@ module _ (m : tie.After-size-fixed) where
   known : Fixed (now (entry .args .rows)) (entry .args .signed) (entry .args .code)
   known = fixed-known (now (entry .args .rows)) (entry .args .signed) (entry .args .code) (omega arith) (omega arith) (omega arith)
 
-  size-is : 1 ≤ m .size-fixed .result → m .size-fixed .result ≡ 2 + length (shortest (firstOf (entry .args .signed) rs)) + length (shortest (zigzagged (baseDelta rs)))
+  size-is : 1 ≤ m .size-fixed .result .bytes → m .size-fixed .result .bytes ≡ 2 + length (shortest (firstOf (entry .args .signed) rs)) + length (shortest (zigzagged (baseDelta rs)))
   size-is h = opening-size known (m .size-fixed .ensures) h ∙ start-length 0 (length (now (entry .args .rows))) (firstOf (entry .args .signed) rs) (zigzagged (baseDelta rs))
 
 returns : tie.Need-returns

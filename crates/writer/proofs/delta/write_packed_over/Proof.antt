@@ -44,7 +44,7 @@ module _ (kept : tie.After-steps) where
   known : Packed (now (entry .args .rows)) (entry .args .signed) PackedDelta kind.Delta (entry .args .code) opening (n - 2) (sized .bits-of .result)
   known = delta-packed (now (entry .args .rows)) (entry .args .signed) (omega arith) (entry .args .code) (omega arith) (omega arith) (entry .pre .1 .0) (sized .bits-of .ensures)
 
-  size-is : entry .args .bytes ≡ length opening + bytesFor ((n - 2) * sized .bits-of .result)
+  size-is : entry .args .bytes .bytes ≡ length opening + bytesFor ((n - 2) * sized .bits-of .result)
   size-is = all-of-it known (entry .pre .1 .1) (omega arith)
 
   stand : take (n - 2) (kept .steps .last .1 .1 .0) ≡ valuesOf (entry .args .signed) PackedDelta rs
@@ -83,7 +83,7 @@ module _ (w : tie.After-write-start) where
   abbrev first : tie.Start
   first = entry values
 
-  begun : Started (opening values) (now (first .args .out)) (w .write-start .last .1 .1 .1 .1 .0) (w .write-start .result)
+  begun : Started (opening values) (now (first .args .out)) (w .write-start .last .1 .1 .1 .1 .0) (w .write-start .result .bytes)
   begun = started (first .args .code) (n values) (measured .before .first-of .ensures) (measured .base-of .ensures) (w .write-start .ensures)
 
 pack-requires : tie.Need-pack-requires
@@ -101,8 +101,8 @@ returns c r e =
     let p = c .before .before in
     let w = p .before .before .before .before .before in
     let k = values w in
-    packed (known k) (first w .pre .1 .1) (first w .pre .0 .5) _ (now (first w .args .out)) (w .write-start .last .1 .1 .1 .1 .0) (p .pack .last .1 .1 .1 .0) (w .write-start .result) r (stand k) (first w .pre .0 .6)
-    (e ∙ ap (λ (b : ℕ). ran kind.Delta b (n k) (first w .args .bytes)) (sym (sized k .bits-of .ensures))) (begun w .next) (begun w .places) (p .pack .ensures)
+    packed (known k) (first w .pre .1 .1) (first w .pre .0 .5) _ (now (first w .args .out)) (w .write-start .last .1 .1 .1 .1 .0) (p .pack .last .1 .1 .1 .0) (w .write-start .result .bytes) r (stand k) (first w .pre .0 .6)
+    (e ∙ ap (λ (b : ℕ). ran kind.Delta b (n k) (first w .args .bytes .bytes)) (sym (sized k .bits-of .ensures))) (begun w .next) (begun w .places) (p .pack .ensures)
 
 pub write-packed-over-spec : {M : Type 1} → statement M
 write-packed-over-spec =

@@ -32,8 +32,8 @@ returns c = let t = c .before in too-wide (known t) _ (t .all-stored-fit .ensure
 block-size-requires : tie.Need-block-size-requires
 block-size-requires c κs = let b = c .before .before in (width-known (b .before .args .code) (b .bits-of .ensures) .le, omega arith)
 
-add-result : tie.Need-add-result
-add-result c =
+add-bytes : tie.Need-add-bytes
+add-bytes c =
     let b = c .before .before .before in
     omega (arith, c .block-size .ensures, block-small (length (now (b .before .args .rows))) (b .bits-of .result) (omega arith) (width-known (b .before .args .code) (b .bits-of .ensures) .le))
 
@@ -46,4 +46,4 @@ returns-2 c =
     (omega (arith, c .block-size .ensures, block-small (length (now (b .before .args .rows))) (b .bits-of .result) (omega arith) (width-known (b .before .args .code) (b .bits-of .ensures) .le)))
 
 pub size-spec : {M : Type 1} → statement M
-size-spec = tie.close (tie.spec (λ c κs. search needs) all-stored-fit-requires returns block-size-requires add-result returns-2)
+size-spec = tie.close (tie.spec (λ c κs. search needs) all-stored-fit-requires returns block-size-requires add-bytes returns-2)

@@ -12,10 +12,10 @@ use Rattle.writer.proofs.patch_list.fill.Statement.{statement}
 use Rattle.writer.proofs.patch_list.fill.Tie as tie
 
 abbrev Inv-loop : tie.InvT-loop
-Inv-loop vals n bits pw list₀ i₀ from₀ k₀ list i from k = (length list ≡ length list₀) × Filling vals n bits pw list i from k
+Inv-loop vals bits pw list₀ n i₀ from₀ k₀ list i from k = (length list ≡ length list₀) × Filling vals n bits pw list i from k
 
 abbrev μ-loop : tie.MeasureT-loop
-μ-loop vals n bits pw list₀ i₀ from₀ k₀ list i from k = (n - i) + (n - from)
+μ-loop vals bits pw list₀ n i₀ from₀ k₀ list i from k = (n - i) + (n - from)
 
 -- each patch has its width
 patch-small : (c : tie.After-above Inv-loop μ-loop) → c .above .result < 2 ^ c .before .before .before .before .before .before .args .pw
@@ -24,7 +24,7 @@ patch-small c =
     let s = c .before .before .before .before .before .before in
     let a = s .args in
     let h : getD (now (a .vals)) (l .i) 0 < 2 ^ (a .pw + a .bits) =
-    rw (getD-take (a .n) (now (a .vals)) (l .i) 0 (omega arith)) at (below-getD (2 ^ (a .pw + a .bits)) (take (a .n) (now (a .vals))) (l .i) 0 (s .pre .1) (pow-pos _)) in
+    rw (getD-take (a .rows .rows) (now (a .vals)) (l .i) 0 (omega arith)) at (below-getD (2 ^ (a .pw + a .bits)) (take (a .rows .rows) (now (a .vals))) (l .i) 0 (s .pre .1) (pow-pos _)) in
     rw (c .above .ensures) (shr-lt (a .pw) (a .bits) h)
 
 loop-again : tie.Need-loop-again Inv-loop μ-loop

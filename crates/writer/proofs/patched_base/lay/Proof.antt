@@ -28,7 +28,7 @@ block-size-requires c κs = (width-known _ (c .before .before .before .before .b
 add-patches : tie.Need-add-patches
 add-patches c =
     let back-6 = c .before .before .before .before .before .before in
-    omega (arith, c .block-size .ensures, block-small (back-6 .before .before .before .args .h .rows) (c .before .before .before .before .before .bits-of .result) (omega arith) (width-known _ (c .before .before .before .before .before .bits-of .ensures) .le))
+    omega (arith, c .block-size .ensures, block-small (back-6 .before .before .before .args .h .rows .rows) (c .before .before .before .before .before .bits-of .result) (omega arith) (width-known _ (c .before .before .before .before .before .bits-of .ensures) .le))
 
 block-size-requires-2 : tie.Need-block-size-requires-2
 block-size-requires-2 c κs = (rw (c .before .before .entry-width .ensures) (least-is _ .le), omega arith)
@@ -41,7 +41,7 @@ add-end c =
       arith,
       c .before .block-size .ensures,
       c .block-size2 .ensures,
-      block-small (a .h .rows) (c .before .before .before .before .before .before .bits-of .result) (omega arith) (width-known _ (c .before .before .before .before .before .before .bits-of .ensures) .le),
+      block-small (a .h .rows .rows) (c .before .before .before .before .before .before .bits-of .result) (omega arith) (width-known _ (c .before .before .before .before .before .before .bits-of .ensures) .le),
       block-small (a .h .entries) (c .before .before .before .entry-width .result) (omega arith) (rw (c .before .before .before .entry-width .ensures) (least-is _ .le)),
     )
 
@@ -60,7 +60,7 @@ pack-requires c κs =
     let b = back-6 .before .before .before .before .before in
     let a = back-18 .before .before .before in
     let w = width-known _ (sized b .bits-is) in
-    let room : 4 + a .args .h .base + bytesFor (a .args .h .rows * b .before .before .before .before .before .before .bits-of .result) ≤ length (c .before .before .before .write .last .1 .1 .0) =
+    let room : 4 + a .args .h .base .bytes + bytesFor (a .args .h .rows .rows * b .before .before .before .before .before .before .bits-of .result) ≤ length (c .before .before .before .write .last .1 .1 .0) =
     omega (arith, sized b .values-are, back-6 .before .before .before .before .if1 .left, c .before .before .before .write .kept .1 .1 .0, back-6 .before .before .write-head .kept .1 .0) in
     ((w .pos, w .le, w .window), ((omega (arith, a .pre .rows), a .pre .rows-there, room), rw (sized b .bits-is) (a .pre .values-fit)))
 
@@ -73,7 +73,7 @@ pack-requires-2 c κs =
     let b = back-12 .before .before .before in
     let a = back-24 .before in
     let w : IsWidth (b .before .before .before .entry-width .result) = rw (b .before .before .before .entry-width .ensures) (least-is _) in
-    let room : 4 + a .args .h .base + b .before .block-size .result + bytesFor (a .args .h .entries * b .before .before .before .entry-width .result) ≤ length (c .before .before .before .pack .last .1 .1 .1 .0) =
+    let room : 4 + a .args .h .base .bytes + b .before .block-size .result + bytesFor (a .args .h .entries * b .before .before .before .entry-width .result) ≤ length (c .before .before .before .pack .last .1 .1 .1 .0) =
     omega (arith, sized b .list-is, back-12 .before .before .if1 .left, c .before .before .before .pack .kept .1 .1 .1 .0, back-6 .before .write .kept .1 .1 .0, back-6 .before .before .before .before .before .before .write-head .kept .1 .0) in
     ((w .pos, w .le, w .window), ((omega (arith, a .pre .entries), a .pre .entries-there, room), rw (sized b .entry-is) (a .pre .list-fits)))
 

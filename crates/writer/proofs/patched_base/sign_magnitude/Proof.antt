@@ -14,13 +14,13 @@ returns c = simp (lt-leb _ _ (c .if1 .taken)) (omega arith)
 
 add-result : tie.Need-add-result
 add-result c =
-    let p = pow-mono {i = 8 * c .before .before .args .size - 1} {j = 63} (omega arith) in
+    let p = pow-mono {i = 8 * c .before .before .args .size .bytes - 1} {j = 63} (omega arith) in
     omega (arith, c .magnitude .ensures)
 
 returns-2 : tie.Need-returns-2
 returns-2 c =
     let base = c .before .before .args .base in
-    let p = pow-mono {i = 8 * c .before .before .args .size - 1} {j = 63} (omega arith) in
+    let p = pow-mono {i = 8 * c .before .before .args .size .bytes - 1} {j = 63} (omega arith) in
     let t = le-leb (2 ^ 63) base (omega arith) in
     let m : c .magnitude .result ≡ two64 - base = c .magnitude .ensures ∙ rw t in
     rw t (omega (arith, m))

@@ -12,7 +12,7 @@ returns : tie.Need-returns
 returns c =
     let back-6 = c .before .before .before .before .before .before in
     let a = back-6 .before .before .before .args in
-    four-set (head 2 (a .h .code) (a .h .rows)) (now (a .out)) _ _ _ refl (omega arith) (c .before .before .before .before .before .before .write .ensures)
+    four-set (head 2 (a .h .code) (a .h .rows .rows)) (now (a .out)) _ _ _ refl (omega arith) (c .before .before .before .before .before .before .write .ensures)
 
 pub write-head-spec : {M : Type 1} → statement M
 write-head-spec =

@@ -19,7 +19,7 @@ module _ (m : tie.After-size) where
   known : Short (now (entry .args .rows)) (entry .args .signed) (entry .args .width)
   known = short-known (now (entry .args .rows)) (entry .args .signed) (entry .args .width) (omega arith) (omega arith) (omega arith) (omega arith)
 
-  size-is : 1 ≤ m .size .result → m .size .result ≡ 1 + entry .args .width
+  size-is : 1 ≤ m .size .result .bytes → m .size .result .bytes ≡ 1 + entry .args .width
   size-is h = repeat-size known (m .size .ensures) h
 
 returns : tie.Need-returns
