@@ -4,3 +4,5 @@ pub mod Columns
 pub mod Promises
 pub mod Theorems
 pub mod Walk
+pub mod Table
+pub mod TableWalk

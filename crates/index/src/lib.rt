@@ -15,6 +15,8 @@ use format::Kind;
 use format::Refusal;
 use format::RowNumber;
 
+// the same index as a table of entries
+pub mod table;
 mod walk;
 
 // One run: its first row, where it begins, and how many rows it has.
@@ -158,8 +160,8 @@ fn place_of(first: &[u64], counts: &[u64], row: RowNumber) -> usize
     i
 }
 
-// The entry that holds a row. Refusals: 15 if the columns are of unequal length, or are not exactly the stream's (a refused stream has none); 16
-// if there is no such row.
+// The entry that holds a row. Refusals: 15 if the columns are of unequal length, or are not exactly the stream's (a refused stream has
+// none); 16 if there is no such row.
 pub fn look_up(input: &[u8], first: &[u64], at: &[u64], counts: &[u64], row: RowNumber) -> Found
     ensures { λ r. ⌜ LookedUp (now (input .entry))
         (record { firsts = now (first .entry); offsets = now (at .entry); counts = now (counts .entry) }) (row .rows) r ⌝ }
@@ -258,8 +260,8 @@ fn lay(input: &[u8], at: ByteOffset, skip: RowNumber, signed: bool, out: &mut [i
     }
 }
 
-// The rows from a row on, through the index: the whole stream's rows without the first so many, in the first places. It decodes from the run
-// that holds the row on. Refusals: 15 and 16 as `look_up`, then 8, with no place touched.
+// The rows from row `row` on, through the index: all of the stream's rows but the first `row`, in the first places. It decodes from the
+// run that holds the row on. Refusals: 15 and 16 as `look_up`, then 8, with no place touched.
 pub fn read_from(
     input: &[u8],
     first: &[u64],
@@ -270,7 +272,8 @@ pub fn read_from(
     out: &mut [i64],
 ) -> Preview
     ensures { λ r. ⌜ ReadFrom (now (input .entry))
-        (record { firsts = now (first .entry); offsets = now (at .entry); counts = now (counts .entry) }) (row .rows) signed (now (out .entry)) (now (out .exit)) r ⌝ }
+        (record { firsts = now (first .entry); offsets = now (at .entry); counts = now (counts .entry) })
+        (row .rows) signed (now (out .entry)) (now (out .exit)) r ⌝ }
 {
     match look_up(input, first, at, counts, row) {
         Found::Refused(f) => Preview::Refused(f),
