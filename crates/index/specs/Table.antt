@@ -1,5 +1,5 @@
 -- The row index as a lent table of entries: what its calls promise, each an equation with the definitions over entries, and what follows
--- from the promises alone. Assumes nothing.
+-- from the promises alone: the calls on three columns say what the calls on the table say. Assumes nothing.
 use mathlib.Core.Path.{_≡_}
 use mathlib.Core.Logic.{_≢_}
 use Prim.Native.Nat.{ℕ}
@@ -10,7 +10,9 @@ use lib.IntN.{ℤ}
 use Rattle.format.specs.Digits.{AllBelow}
 use Rattle.index.specs.Entries as entries
 use Rattle.index.specs.Entries.{building, tableOf, lookup, reading, placesOf}
-use Rattle.index.specs.Promises.{builtOf, foundOf, previewOf, notFound}
+use Rattle.index.specs.Columns.{Columns}
+use Rattle.index.specs.Promises.{builtOf, foundOf, previewOf, notFound, BuiltIn, LookedUp, ReadFrom}
+use Rattle.index.specs.Theorems.{asColumns}
 use Rattle.index.specs.declared.Entry.{Entry}
 use Rattle.index.specs.declared.Sizes.{Sizes}
 use Rattle.index.specs.declared.Built.{Built}
@@ -51,3 +53,20 @@ pub record TablePromisesHold : Type 0 where
       → ReadIn input table row signed out out′ r → ReadIn input table row signed out out″ r′ → (r ≡ r′) × (out′ ≡ out″)
   pub never-15 : (input : List ℕ) (table table′ : List Entry) (s : Sizes) (row : ℕ) (r : Found) → AllBelow 256 input
       → BuiltTable input table table′ (built.Index s) → LookedIn input (take (s .entries) table′) row r → r ≢ notFound 15
+
+-- ---- THE COLUMNS FOR THE TABLE: over the same stream, each call on the three columns of a table gives the answer of the call on the table
+-- and leaves the same places; and where one builds the table, the other builds its columns
+
+-- the three columns of a lent table
+abbrev pub columnsOf : List Entry → Columns
+columnsOf table = asColumns (entriesOf table)
+
+pub record TablesHold : Type 0 where
+  pub same-lookup : (input : List ℕ) (table : List Entry) (row : ℕ) (r r′ : Found)
+      → LookedIn input table row r → LookedUp input (columnsOf table) row r′ → r ≡ r′
+  pub same-reading : (input : List ℕ) (table : List Entry) (row : ℕ) (signed : Bool) (out out′ out″ : List ℤ) (r r′ : Preview)
+      → ReadIn input table row signed out out′ r → ReadFrom input (columnsOf table) row signed out out″ r′ → (r ≡ r′) × (out′ ≡ out″)
+  pub same-building : (input : List ℕ) (table table′ : List Entry) (first at counts : List ℕ) (r r′ : Built)
+      → BuiltTable input table table′ r
+      → BuiltIn input (columnsOf table .firsts) (columnsOf table .offsets) (columnsOf table .counts) first at counts r′
+      → (r ≡ r′) × (columnsOf table′ ≡ record { firsts = first; offsets = at; counts = counts })
