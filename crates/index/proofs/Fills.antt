@@ -18,7 +18,7 @@ use Rattle.index.proofs.Turns.{stream-none, OneRun, NoRun}
 pub whole-inj : {ds es : List Description} → whole ds ≡ whole es → ds ≡ es
 whole-inj e = cc
 
-pub after-inv : (d : Description) (m : Reading) (rest : List Description) → after d m ≡ whole rest → (x : List Description) × (m ≡ whole x) × (rest ≡ d ∷ x)
+after-inv : (d : Description) (m : Reading) (rest : List Description) → after d m ≡ whole rest → (x : List Description) × (m ≡ whole x) × (rest ≡ d ∷ x)
 after-inv d (whole x) rest e = (x, refl, sym (whole-inj e))
 after-inv d (broken ds r t) rest e = let z : _≡_ {A = ℕ} 0 1 = cc in absurd (omega arith)
 

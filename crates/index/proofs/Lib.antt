@@ -1,4 +1,4 @@
--- The theorems of specs/Theorems.antt and specs/Table.antt, and the laws of the walks.
+-- The theorems of specs/Theorems.antt, and the laws of the walks.
 
 pub mod Entries
 pub mod Held
@@ -18,9 +18,3 @@ pub mod LookUps
 pub mod Looked
 pub mod Previews
 pub mod Outcomes
-pub mod TableScans
-pub mod TableVerdicts
-pub mod TablePlans
-pub mod TableFills
-pub mod TableReads
-pub mod Tables

@@ -26,7 +26,7 @@ use Rattle.index.proofs.Index.{lookup-holds}
 use Rattle.index.proofs.Previews.{sums-length}
 
 -- what was built, by the answer
-pub built-runs : (total : ℕ) (s : Sizes) (m : Result (List Description)) → built.Index s ≡ builtOf total m → (ds : List Description) × (m ≡ gives ds) × (s .entries ≡ length ds)
+built-runs : (total : ℕ) (s : Sizes) (m : Result (List Description)) → built.Index s ≡ builtOf total m → (ds : List Description) × (m ≡ gives ds) × (s .entries ≡ length ds)
 built-runs total s (gives ds) e = (ds, refl, ap entriesIn e)
   where
     entriesIn : Built → ℕ
@@ -43,7 +43,7 @@ as-built f o n bs ds e = go (alike f o n) e
     go false e = let z : _≡_ {A = ℕ} 0 1 = cc in absurd (omega arith)
 
 -- an answer of 15 is a refusal with 15
-pub fifteen : (m : Result Entry) → foundOf m ≡ notFound 15 → numberOf m ≡ 15
+fifteen : (m : Result Entry) → foundOf m ≡ notFound 15 → numberOf m ≡ 15
 fifteen (gives e) q = let z : _≡_ {A = ℕ} 0 1 = cc in absurd (omega arith)
 fifteen (refuses (plain k) p) q = ap numberIn q
   where

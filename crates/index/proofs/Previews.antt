@@ -89,13 +89,13 @@ module _ (bs f o n : List ℕ) (r : ℕ) where
         ∙ ap (λ (x : List ℕ). getD (sumsBefore 0 (map rowCount ds)) (length f - 1) 0 + getD x (length f - 1) 0) n-is
         ∙ last-sum 0 ds (length f - 1) (omega (arith, some, f-long)) ∙ zero-add (totalRows ds)
 
-    pub total-is : totalRows ds ≡ first + (rowCount (t .run) + totalRows (t .behind))
+    total-is : totalRows ds ≡ first + (rowCount (t .run) + totalRows (t .behind))
     total-is = omega (arith, total-append (t .before) (t .run ∷ t .behind), total-cons (t .run) (t .behind), t .first-is)
 
     pub row-below : r < getD f (length f - 1) 0 + getD n (length f - 1) 0
     row-below = omega (arith, last-is, total-is, t .below)
 
-    pub rest-is : drop at bs ≡ joined (t .run ∷ t .behind)
+    rest-is : drop at bs ≡ joined (t .run ∷ t .behind)
     rest-is = ap (drop at) (t .bytes ∙ joined-append (t .before) (t .run ∷ t .behind)) ∙ drop-at (joined (t .before)) (joined (t .run ∷ t .behind)) at (sym (t .at-is))
 
     pub ready : (places : ℕ) → totalRows ds - r ≤ places → Ready bs at (r - first) places

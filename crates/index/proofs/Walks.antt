@@ -25,7 +25,7 @@ use Rattle.index.proofs.Columns.{regrouped}
 use Rattle.index.proofs.Turns.{stream-none, OneRun, NoRun}
 use Rattle.format.proofs.Tests.{and-false}
 
-pub none-yet : total.Rows (record { rows = 0 }) ≡ totalOf 0
+none-yet : total.Rows (record { rows = 0 }) ≡ totalOf 0
 unfolding totalOf
 none-yet = refl
 

@@ -4,5 +4,3 @@ pub mod Columns
 pub mod Promises
 pub mod Theorems
 pub mod Walk
-pub mod Table
-pub mod TableWalk

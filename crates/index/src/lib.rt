@@ -15,8 +15,6 @@ use format::Kind;
 use format::Refusal;
 use format::RowNumber;
 
-// the same index as a table of entries
-pub mod table;
 mod walk;
 
 // One run: its first row, where it begins, and how many rows it has.

@@ -21,7 +21,7 @@ pub(crate) enum Survey {
     Refused(Refusal),
 }
 
-pub(crate) fn more(total: Total, n: RowNumber) -> Total
+fn more(total: Total, n: RowNumber) -> Total
     ensures { λ r. ⌜ ((m : ℕ) → total ≡ totalOf m → r ≡ totalOf (m + n .rows)) ⌝ }
 {
     match total {
@@ -65,7 +65,7 @@ pub(crate) fn whole_of(input: &[u8]) -> Survey
 }
 
 // Whether three numbers of the columns are a run's, before which there are so many rows and bytes.
-pub(crate) fn is_entry(
+fn is_entry(
     first: u64,
     at: u64,
     count: u64,
