@@ -32,8 +32,7 @@ Nanoseconds a row, the least of 31 samples, the candidates taking turns; less is
 - **Ours**: one call of `orc_read_run` a run, through the safe wrapper `menakovitsy`, into bytes; of
   whole streams one call of `orc_read_stream`, and of booleans one of `orc_read_booleans`; of a column in
   parts the calls of `orc_part_take` that its parts need, the runs used where they are handed out; of a
-  column that is written one call of `orc_plan` (two where the segments first lent are too few) and one of
-  `orc_write_column`.
+  column that is written one call of `orc_plan` and one of `orc_write_column`.
 - **Rust**: the decoders of WenyXu/orc-rs at 3a197fa636, unchanged, through their iterators, as a
   loader calls them. They have not written the widths 26, 28 and 30, and of booleans they agree with
   the rules within the first run only: so that is what is timed of them.
