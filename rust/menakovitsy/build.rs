@@ -1,9 +1,9 @@
-//! Finds the static library of the proved crate `loader`, or builds it, and says where it is. The first of:
+//! Finds the static library of the proved crate `exports`, or builds it, and says where it is. The first of:
 //!
 //! 1. what the folder holds that `MENAKOVITSY_LIB_DIR` names: `libmenakovitsy.a` of a release, or the
-//!    `libloader.a` that `rt staticlib loader` leaves in `target/staticlib`;
+//!    `libexports.a` that `rt staticlib exports` leaves in `target/staticlib`;
 //! 2. `libmenakovitsy.a` two folders above this crate, which then stands in a release's folder;
-//! 3. what `rt staticlib loader` makes of the checkout that this crate stands in. The repository's crates are
+//! 3. what `rt staticlib exports` makes of the checkout that this crate stands in. The repository's crates are
 //!    copied into this script's own output folder for it, and it runs there.
 //!
 //! Nothing is written but in the output folder. From there it is linked, under one name wherever it came from.
@@ -16,7 +16,7 @@ use std::{env, fs};
 const LIBRARY: &str = "libmenakovitsy.a";
 
 /// The name that `rt` gives it.
-const BUILT: &str = "libloader.a";
+const BUILT: &str = "libexports.a";
 
 fn main() {
     println!("cargo:rerun-if-changed=build.rs");
@@ -61,7 +61,7 @@ fn named(folder: &Path) -> PathBuf {
     library.unwrap_or_else(|| {
         fail(&format!(
             "MENAKOVITSY_LIB_DIR names {}, which holds neither {LIBRARY} nor {BUILT}: name a release's folder, or \
-             target/staticlib of a checkout behind `rt staticlib loader`, or unset it",
+             target/staticlib of a checkout behind `rt staticlib exports`, or unset it",
             folder.display()
         ))
     })
@@ -72,9 +72,9 @@ fn found_or_built(root: &Path, out: &Path, target: &str) -> PathBuf {
     if root.join(LIBRARY).is_file() {
         return root.join(LIBRARY);
     }
-    if !root.join("crates/loader").is_dir() {
+    if !root.join("crates/exports").is_dir() {
         fail(&format!(
-            "{} is neither a release (it holds no {LIBRARY}) nor a checkout (it holds no crates/loader): set \
+            "{} is neither a release (it holds no {LIBRARY}) nor a checkout (it holds no crates/exports): set \
              MENAKOVITSY_LIB_DIR to a release's folder",
             root.display()
         ));
@@ -89,9 +89,9 @@ fn found_or_built(root: &Path, out: &Path, target: &str) -> PathBuf {
     if let Err(error) = copied(root, &out) {
         fail(&format!("{} cannot be copied to {}: {error}", root.join("crates").display(), out.display()));
     }
-    match Command::new("rt").args(["staticlib", "loader"]).current_dir(&out).status() {
+    match Command::new("rt").args(["staticlib", "exports"]).current_dir(&out).status() {
         Ok(status) if status.success() => {}
-        Ok(status) => fail(&format!("`rt staticlib loader` in {} failed ({status})", out.display())),
+        Ok(status) => fail(&format!("`rt staticlib exports` in {} failed ({status})", out.display())),
         Err(error) if error.kind() == ErrorKind::NotFound => fail(
             "`rt`, which proves and compiles the library, is not on the PATH: install the Rattle kit, or set \
              MENAKOVITSY_LIB_DIR to a release's folder, which `.ci/release` makes where the kit is",

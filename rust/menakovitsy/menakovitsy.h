@@ -2,8 +2,8 @@
  * files.
  *
  * Link libmenakovitsy.a of a release, which stands beside this header there (x86-64, little endian,
- * 64-bit size_t). `.ci/release` in a checkout makes one; `rt staticlib loader` the library alone, as
- * target/staticlib/libloader.a.
+ * 64-bit size_t). `.ci/release` in a checkout makes one; `rt staticlib exports` the library alone, as
+ * target/staticlib/libexports.a.
  *
  * Slices. A slice is a pointer and, behind it, its length in elements (bytes, int64_t or uint64_t).
  * A null pointer is allowed where the length is 0. A slice that is read must hold its elements; one

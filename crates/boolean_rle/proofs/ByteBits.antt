@@ -8,7 +8,7 @@ use lib.Bits.{bitAnd}
 use lib.ListN.{getD, drop}
 use lib.Seq.{drop-cons}
 use Rattle.format.specs.Digits.{digits}
-use Rattle.format.specs.Loader.{lowestFirst}
+use Rattle.format.specs.Digits.{lowestFirst}
 use Rattle.format.proofs.Digits.{length-digits, getD-digits}
 
 -- what f gives of n numbers from i on

@@ -3,3 +3,4 @@ pub mod FirstPass
 pub mod RunBytes
 pub mod SecondPass
 pub mod ByteBits
+pub mod Ones

@@ -3,9 +3,8 @@
 ghost use mathlib.Core.Path.{_≡_};
 ghost use Prim.Native.Nat.{_+_, _-_, _*_, _≤_, _<_, min, max};
 ghost use lib.ListN.{length, drop, getD};
-ghost use Rattle.format.specs.Digits.{digits};
+ghost use Rattle.format.specs.Digits.{digits, lowestFirst};
 ghost use Rattle.format.specs.Fields.{bytesFor};
-ghost use Rattle.format.specs.Loader.{lowestFirst};
 ghost use Rattle.format.specs.Booleans.{byteRun, booleans, bits, BooleansRead};
 ghost use Rattle.boolean_rle.specs.Found.{foundIn, runBytesIn, spanOf, Wrote, Filled};
 use format::Answer;
@@ -13,6 +12,8 @@ use format::ByteOffset;
 use format::Kind;
 use format::RowNumber;
 use util::number;
+
+pub mod count;
 
 // A byte run's size in the input, and how many bytes it stands for.
 struct ByteRun {

@@ -7,11 +7,11 @@ use mathlib.Core.List.{List, _++_}
 use lib.ListN.{length, take, drop, length-append, length-drop}
 use lib.Seq.{length-take-le, take-at, drop-at, drop-drop}
 use borrow.Author.Tests.{lt-ltb, le-ltb, ltb-true}
-use Rattle.convert.specs.declared.Laid.{Laid}
+use Rattle.convert.specs.declared.LaidOutput.{LaidOutput}
 use Rattle.convert.specs.Walk.{Put, Filled, Lays}
 
-module _ (run : List ℕ) (n : ℕ) (at : Laid) (room : ℕ) (out : List ℕ) (some : n ≤ length run) where
-  abbrev full : Laid
+module _ (run : List ℕ) (n : ℕ) (at : LaidOutput) (room : ℕ) (out : List ℕ) (some : n ≤ length run) where
+  abbrev full : LaidOutput
   full = record { end = at .end; full = true }
 
   longer : (l : List ℕ) → length (l ++ take n run) ≡ length l + n

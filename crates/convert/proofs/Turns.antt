@@ -17,7 +17,7 @@ use Rattle.format.specs.Kept.{keptCodes, among, isKept, nextKept}
 use Rattle.format.specs.Runs.{Description, short, direct, fixed, delta, patched, Valid, layout, rowCount}
 use Rattle.format.specs.Rows.{asU64, i64Rows}
 use Rattle.format.specs.Parse.{Parsed, got, parse, into}
-use Rattle.format.specs.Promises.{answerOf, placesOf, RunRead}
+use Rattle.format.specs.Promises.{answerOf, runPlaces, RunRead}
 use Rattle.format.specs.Answers.{answerBytes}
 use Rattle.format.specs.Writing.{writing, Written}
 use Rattle.format.proofs.Below.{below-drop}
@@ -96,7 +96,7 @@ module _ (signed : Bool) (s : List ℕ) (p : ℕ) where
   found rows rows′ a h l g =
       rw (g .answer) (by (into (length rows) (parse (drop p s))) refl (into-outcome (length rows) (drop p s) (below-drop 256 p s h)) (g .places))
     where
-      by : (m : Parsed Description) → into (length rows) (parse (drop p s)) ≡ m → Into (length rows) (drop p s) m → rows′ ≡ placesOf signed rows m
+      by : (m : Parsed Description) → into (length rows) (parse (drop p s)) ≡ m → Into (length rows) (drop p s) m → rows′ ≡ runPlaces signed rows m
           → Found rows′ (answerOf p (length s - p) m)
       by m e (into-nothing z) o = z
       by m e (into-run {d} {rest} t f) o =

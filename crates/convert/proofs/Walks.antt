@@ -16,7 +16,7 @@ use Rattle.format.proofs.Runs.{layout-pos}
 use Rattle.format.proofs.Streams.{stream-broken}
 use Rattle.format.proofs.StreamRoom.{more-room}
 use Rattle.format.proofs.Joined.{joined-snoc, rows-le}
-use Rattle.convert.specs.declared.Laid.{Laid}
+use Rattle.convert.specs.declared.LaidOutput.{LaidOutput}
 use Rattle.convert.specs.declared.Converted.the-variants.{Refused}
 use Rattle.convert.specs.declared.turn.Turn.{Turn}
 use Rattle.convert.specs.Convert as c
@@ -49,7 +49,7 @@ result-inj e = cc
 
 module _ (signed : Bool) (bs : List ℕ) (limit : ℕ) (out₀ : List ℕ) where
   -- the runs ds are behind the walk
-  pub record Along (out : List ℕ) (p altered : ℕ) (at : Laid) : Type 0 where
+  pub record Along (out : List ℕ) (p altered : ℕ) (at : LaidOutput) : Type 0 where
     pub ds : List Description
     pub valid : AllValid ds
     pub split : bs ≡ joined ds ++ drop p bs
@@ -72,8 +72,8 @@ module _ (signed : Bool) (bs : List ℕ) (limit : ℕ) (out₀ : List ℕ) where
     fill = record { full-is = sym (le-ltb limit 0 (omega arith)); end-is = λ t. refl; end-in = omega arith; laid = λ e t. refl };
   }
 
-  module _ (out : List ℕ) (p altered : ℕ) (at : Laid) (w : Along out p altered at) where
-    pub along-next : (made out′ : List ℕ) (t : Turn) (at′ : Laid) → Turned signed bs p made t → Lays made (t .given .bytes) at limit out out′ at′
+  module _ (out : List ℕ) (p altered : ℕ) (at : LaidOutput) (w : Along out p altered at) where
+    pub along-next : (made out′ : List ℕ) (t : Turn) (at′ : LaidOutput) → Turned signed bs p made t → Lays made (t .given .bytes) at limit out out′ at′
         → Along out′ (p + t .taken .bytes) (altered + counted (t .odd)) at′
     along-next made out′ t at′ u l =
         let d = u .which in

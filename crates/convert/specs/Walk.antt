@@ -8,7 +8,7 @@ use lib.Seq.{paste}
 use lib.Dec.{ltb}
 use Rattle.format.specs.Fields.{pick}
 use Rattle.format.specs.Answers.{refusing}
-use Rattle.convert.specs.declared.Laid.{Laid}
+use Rattle.convert.specs.declared.LaidOutput.{LaidOutput}
 use Rattle.convert.specs.declared.Converted.{Converted}
 use Rattle.convert.specs.declared.Converted.the-variants.{Refused}
 use Rattle.convert.specs.Convert.{done, toldAs, result, convert}
@@ -16,7 +16,7 @@ use Rattle.convert.specs.Convert.{done, toldAs, result, convert}
 abbrev pub counted : Bool → ℕ
 counted odd = pick odd 1 0
 
-abbrev pub finished : ℕ → Laid → Converted
+abbrev pub finished : ℕ → LaidOutput → Converted
 finished altered at = pick (at .full) (Refused (refusing 8 0)) (done altered (at .end .bytes))
 
 -- a run's bytes at a place that has room for them
@@ -24,14 +24,14 @@ abbrev pub Put : List ℕ → ℕ → ℕ → List ℕ → List ℕ → Type 0
 Put run n at out out′ = at + n ≤ length out → out′ ≡ paste out at run n
 
 -- the bytes l, in so much room: they have it, and then an output of that length holds them in its first places; or they have not
-pub record Filled (l : List ℕ) (room : ℕ) (out₀ out : List ℕ) (at : Laid) : Type 0 where
+pub record Filled (l : List ℕ) (room : ℕ) (out₀ out : List ℕ) (at : LaidOutput) : Type 0 where
   pub full-is : at .full ≡ ltb room (length l)
   pub end-is : at .full ≡ false → at .end .bytes ≡ length l
   pub end-in : at .end .bytes ≤ room
   pub laid : length out₀ ≡ room → at .full ≡ false → out ≡ l ++ drop (length l) out₀
 
 -- n bytes more, behind whatever was laid
-pub record Lays (run : List ℕ) (n : ℕ) (at : Laid) (room : ℕ) (out out′ : List ℕ) (r : Laid) : Type 0 where
+pub record Lays (run : List ℕ) (n : ℕ) (at : LaidOutput) (room : ℕ) (out out′ : List ℕ) (r : LaidOutput) : Type 0 where
   pub long : length out′ ≡ length out
   pub more : (l out₀ : List ℕ) → Filled l room out₀ out at → Filled (l ++ take n run) room out₀ out′ r
 

@@ -26,7 +26,7 @@ pub enum Converted {
 }
 
 // How far the output is filled, and whether the runs have no room.
-struct Laid {
+struct LaidOutput {
     end: ByteOffset,
     full: bool,
 }
@@ -62,7 +62,7 @@ fn put(run: &[u8], n: ByteOffset, out: &mut [u8], at: ByteOffset)
 }
 
 // The first n bytes of a run behind those that are laid, in so much room.
-fn lay(run: &[u8], n: ByteOffset, at: Laid, room: ByteOffset, out: &mut [u8]) -> Laid
+fn lay(run: &[u8], n: ByteOffset, at: LaidOutput, room: ByteOffset, out: &mut [u8]) -> LaidOutput
     requires { ⌜ (n .bytes ≤ length (now run)) × (at .end .bytes ≤ room .bytes) ⌝ }
     ensures { λ r. ⌜ Lays (now (run .entry)) (n .bytes) at (room .bytes) (now (out .entry)) (now (out .exit)) r ⌝ }
 {
@@ -71,22 +71,22 @@ fn lay(run: &[u8], n: ByteOffset, at: Laid, room: ByteOffset, out: &mut [u8]) ->
     let size = n.bytes;
     let all = room.bytes;
     if at.full {
-        return Laid { end, full: true };
+        return LaidOutput { end, full: true };
     }
     if all - filled < size {
-        return Laid { end, full: true };
+        return LaidOutput { end, full: true };
     }
     put(run, n, out, end);
     let next = ByteOffset {
         bytes: filled + size,
     };
-    Laid {
+    LaidOutput {
         end: next,
         full: false,
     }
 }
 
-fn finish(altered: usize, at: Laid) -> Converted
+fn finish(altered: usize, at: LaidOutput) -> Converted
     ensures { λ r. ⌜ r ≡ finished altered at ⌝ }
 {
     if at.full {
@@ -102,7 +102,7 @@ fn walk(input: &[u8], signed: bool, room: ByteOffset, out: &mut [u8]) -> Convert
     let mut p: usize = 0;
     let mut altered: usize = 0;
     let none = ByteOffset { bytes: 0 };
-    let mut at = Laid {
+    let mut at = LaidOutput {
         end: none,
         full: false,
     };

@@ -22,7 +22,7 @@ use Rattle.format.specs.Parse
 use Rattle.format.specs.Parse.{parse, into}
 use Rattle.format.specs.Streams
 use Rattle.format.specs.Streams.{readAll, runsOf, joinedRows}
-use Rattle.format.specs.Promises.{answerOf, placesOf, streamAnswer}
+use Rattle.format.specs.Promises.{answerOf, runPlaces, streamAnswer}
 
 -- six places, each with 7 in it
 abbrev lent : List ℤ
@@ -43,7 +43,7 @@ unfolding Digits.number Digits.digits Fields.widths Fields.width Fields.leastOf 
     Rows.steps Rows.walk Rows.baseValue Rows.patchAt Rows.patchedRows Rows.rowsOf Rows.asI64 Rows.i64Rows
     Parse.bytes Parse.block Parse.varint Parse.shortRun Parse.directRun Parse.fixedBody Parse.deltaBody Parse.deltaRun Parse.patchedBody Parse.patchedRun Parse.byKind Parse.parse Parse.into
     Streams.runsFrom Streams.readAll Streams.totalRows Streams.joinedRows
-told signed bs = (answerOf 5 (length bs) (into 6 (parse bs)), placesOf signed lent (into 6 (parse bs)))
+told signed bs = (answerOf 5 (length bs) (into 6 (parse bs)), runPlaces signed lent (into 6 (parse bs)))
 
 -- a repeat of 3 yields 3
 repeat-of-three : told true (0x00 ∷ 0x01 ∷ []) ≡ run ShortRepeat 8 (negsuc 0 ∷ negsuc 0 ∷ negsuc 0 ∷ []) 2

@@ -98,3 +98,28 @@ readWhole rows bytes last = stream.the-variants.Whole (record { rows = record { 
 abbrev pub brokeAt : Refusal → ℕ → ℕ → LastRun → Stream
 brokeAt refusal rows bytes last =
     stream.the-variants.Refused refusal (record { rows = record { rows = rows }; consumed = record { bytes = bytes }; last = last })
+
+-- what both say: the refusal's number, its place and its cut field (none where the stream is whole), the counts of the runs that were read, and the last of them
+abbrev pub streamNumber : Stream → ℕ
+streamNumber (stream.the-variants.Whole n) = 0
+streamNumber (stream.the-variants.Refused f n) = f .number
+
+abbrev pub streamPlace : Stream → ℕ
+streamPlace (stream.the-variants.Whole n) = 0
+streamPlace (stream.the-variants.Refused f n) = f .place .bytes
+
+abbrev pub streamCut : Stream → CutField
+streamCut (stream.the-variants.Whole n) = field.None
+streamCut (stream.the-variants.Refused f n) = f .cut
+
+abbrev pub streamRows : Stream → ℕ
+streamRows (stream.the-variants.Whole n) = n .rows .rows
+streamRows (stream.the-variants.Refused f n) = n .rows .rows
+
+abbrev pub streamBytes : Stream → ℕ
+streamBytes (stream.the-variants.Whole n) = n .consumed .bytes
+streamBytes (stream.the-variants.Refused f n) = n .consumed .bytes
+
+abbrev pub streamLast : Stream → LastRun
+streamLast (stream.the-variants.Whole n) = n .last
+streamLast (stream.the-variants.Refused f n) = n .last

@@ -19,6 +19,11 @@ unfoldable pub digits : ℕ → ℕ → ℕ → List ℕ
 digits b zero x = []
 digits b (suc n) x = x / b ^ n % b ∷ digits b n x
 
+-- the n lowest bytes of x, lowest first
+unfoldable pub lowestFirst : ℕ → ℕ → List ℕ
+lowestFirst zero x = []
+lowestFirst (suc n) x = x % 256 ∷ lowestFirst n (x / 256)
+
 -- the w digits in base b of each of the numbers, one after another: the bits of a list of bytes are `spread 2 8`
 abbrev pub spread : ℕ → ℕ → List ℕ → List ℕ
 spread b w [] = []

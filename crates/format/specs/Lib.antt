@@ -9,8 +9,6 @@ pub mod Streams
 pub mod Answers
 pub mod Promises
 pub mod Parts
-pub mod Words
-pub mod Loader
 pub mod Booleans
 pub mod ByteValues
 pub mod Writing

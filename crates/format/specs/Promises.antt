@@ -50,15 +50,15 @@ answerOf at total (got d rest) = answer.Run (runOf d)
 answerOf at total (refused r) = answer.Refused (refusal at total r)
 
 -- the lent places at exit: the rows in the first of them, and what stood in the others; a refused call leaves every place unchanged
-abbrev pub placesOf : Bool → List ℤ → Parsed Description → List ℤ
-placesOf signed out end = out
-placesOf signed out (got d rest) = i64Rows signed d ++ drop (rowCount d) out
-placesOf signed out (refused r) = out
+abbrev pub runPlaces : Bool → List ℤ → Parsed Description → List ℤ
+runPlaces signed out end = out
+runPlaces signed out (got d rest) = i64Rows signed d ++ drop (rowCount d) out
+runPlaces signed out (refused r) = out
 
 -- the answer r and the places out′ at exit are those of m, what reading the `total` bytes at the position gives, in the places out
 pub record Gives (at total : ℕ) (signed : Bool) (m : Parsed Description) (out out′ : List ℤ) (r : Answer) : Type 0 where
   pub answer : r ≡ answerOf at total (into (length out) m)
-  pub places : out′ ≡ placesOf signed out (into (length out) m)
+  pub places : out′ ≡ runPlaces signed out (into (length out) m)
 
 -- THE RUN READER: what stands from the position on is read; a position past the end is empty input
 abbrev pub RunRead : List ℕ → ℕ → Bool → List ℤ → List ℤ → Answer → Type 0

@@ -11,7 +11,7 @@ use Rattle.format.specs.Runs.{Description, rowCount, layout, joined}
 use Rattle.format.specs.Rows.{i64Rows}
 use Rattle.format.specs.Parse.{got, parse, into}
 use Rattle.format.specs.Streams.{whole, readAll, totalRows, joinedRows}
-use Rattle.format.specs.Promises.{runOf, answerOf, placesOf, Gives, StreamRead}
+use Rattle.format.specs.Promises.{runOf, answerOf, runPlaces, Gives, StreamRead}
 use Rattle.format.specs.declared.Refusal.{Refusal}
 use Rattle.format.specs.declared.Run.{Run}
 use Rattle.format.specs.declared.Answer.{Answer}
@@ -22,7 +22,7 @@ use Rattle.format.proofs.RunComplete.{parse-complete}
 use Rattle.format.proofs.Rows.{row-bounds, i64-count}
 use Rattle.format.proofs.Streams.{into-got, stream-whole, joined-unique}
 use Rattle.util.proofs.Grow.{back-is}
-use Rattle.index.specs.Walk.{Ready, Laid}
+use Rattle.index.specs.Walk.{Ready, RowsLaid}
 
 module _ (s : List ℕ) (at skip : ℕ) (signed : Bool) (out : List ℤ) (y : Ready s at skip (length out)) where
   abbrev d : Description
@@ -44,7 +44,7 @@ module _ (s : List ℕ) (at skip : ℕ) (signed : Bool) (out : List ℤ) (y : Re
     ran = g .answer ∙ ap (answerOf at (length s - at)) into-is
 
     pub held-is : held′ ≡ i64Rows signed d ++ drop (rowCount d) held
-    held-is = g .places ∙ ap (placesOf signed held) into-is
+    held-is = g .places ∙ ap (runPlaces signed held) into-is
 
     pub rows-are : (r : Run) → a ≡ answer.Run r → r .rows .rows ≡ rowCount d
     rows-are r e = ap (λ (x : Run). x .rows .rows) (run-inj r (runOf d) (sym e ∙ ran))
@@ -121,7 +121,7 @@ module _ (s : List ℕ) (at skip : ℕ) (signed : Bool) (out : List ℤ) (y : Re
           ∙ ap (λ (x : List ℤ). (x ++ joinedRows signed b) ++ drop (n + totalRows b) out₁) front-is
           ∙ ap (λ (x : List ℤ). (piece ++ joinedRows signed b) ++ x) (sym (drop-drop (totalRows b) n out₁) ∙ ap (λ (x : List ℤ). drop (totalRows b) x) tail-is ∙ drop-drop (totalRows b) n out)
 
-      pub laid-is : Laid s at skip signed out (take n out₁ ++ (part ++ drop (length out₁ - n) (drop n out₁)))
+      pub laid-is : RowsLaid s at skip signed out (take n out₁ ++ (part ++ drop (length out₁ - n) (drop n out₁)))
       laid-is = record { laid = λ ds v w. done ∙ same ds (joined-unique (d ∷ b) ds (y .valid) v (sym (y .bytes) ∙ w)) }
         where
           same : (ds : List Description) → d ∷ b ≡ ds → (piece ++ joinedRows signed b) ++ drop (n + totalRows b) out ≡ drop skip (joinedRows signed ds) ++ drop (totalRows ds - skip) out

@@ -13,7 +13,7 @@ use Rattle.format.specs.Digits.{AllBelow}
 use Rattle.format.specs.Runs.{Description, rowCount, AllValid, joined}
 use Rattle.format.specs.Parse.{Reason, plain}
 use Rattle.format.specs.Streams.{totalRows}
-use Rattle.index.specs.Entries.{Result, gives, refuses, Entry, entries, holder, lookup, checked, placesOf}
+use Rattle.index.specs.Entries.{Result, gives, refuses, Entry, entries, holder, lookup, checked, previewPlaces}
 use Rattle.index.specs.Columns.{Columns, columns, alike, checkedIn, lookupIn, readingIn}
 use Rattle.index.specs.Theorems.{asColumns}
 use Rattle.index.specs.Promises.{foundOf, LookedUp, previewOf, ReadFrom}
@@ -108,5 +108,5 @@ module _ (bs f o n : List ℕ) (r : ℕ) where
   what-looked v h e = rw e (go (looked h))
     where
       go : {m : Result Entry} → Looked m → After (foundOf m)
-      go (looked-no x p g) = λ signed out. record { answer = sym (ap previewOf (g signed (length out))); places = sym (ap (placesOf out) (g signed (length out))) }
+      go (looked-no x p g) = λ signed out. record { answer = sym (ap previewOf (g signed (length out))); places = sym (ap (previewPlaces out) (g signed (length out))) }
       go (looked-yes e t) = t

@@ -17,11 +17,11 @@ use Rattle.format.specs.Streams.{totalRows, joinedRows}
 use Rattle.format.specs.declared.RowNumber.{RowNumber}
 use Rattle.format.proofs.Rows.{joined-count}
 use Rattle.format.proofs.Joined.{total-append, joined-append, rows-append, valid-behind}
-use Rattle.index.specs.Entries.{gives, refuses, placesOf}
+use Rattle.index.specs.Entries.{gives, refuses, previewPlaces}
 use Rattle.index.specs.Columns.{Columns, sumsBefore, readingIn}
 use Rattle.index.specs.Promises.{previewOf, readRows, notRead, ReadFrom}
 use Rattle.index.specs.declared.Left.the-variants as left
-use Rattle.index.specs.Walk.{leftOf, Ready, Laid}
+use Rattle.index.specs.Walk.{leftOf, Ready, RowsLaid}
 use Rattle.index.proofs.Entries.{total-cons}
 use Rattle.index.proofs.Looked.{Through}
 
@@ -119,7 +119,7 @@ module _ (bs f o n : List ℕ) (r : ℕ) where
       pub eight-so : length out < totalRows ds - r → ReadFrom bs c r signed out out (notRead 8)
       eight-so h =
           let e = reading-is true (lt-ltb (length out) (totalRows ds - r) h) in
-          record { answer = sym (ap previewOf e); places = sym (ap (placesOf out) e) }
+          record { answer = sym (ap previewOf e); places = sym (ap (previewPlaces out) e) }
 
       rows-are : drop r (joinedRows signed ds) ≡ drop (r - first) (joinedRows signed (t .run ∷ t .behind))
       rows-are =
@@ -131,7 +131,7 @@ module _ (bs f o n : List ℕ) (r : ℕ) where
       rows-long : length (drop r (joinedRows signed ds)) ≡ totalRows ds - r
       rows-long = length-drop r (joinedRows signed ds) ∙ ap (λ (x : ℕ). x - r) (joined-count signed ds)
 
-      pub rows-so : (k : ℕ) → k ≡ totalRows ds - r → k ≤ length out → (out′ : List ℤ) → Laid bs at (r - first) signed out out′ → ReadFrom bs c r signed out out′ (readRows k)
+      pub rows-so : (k : ℕ) → k ≡ totalRows ds - r → k ≤ length out → (out′ : List ℤ) → RowsLaid bs at (r - first) signed out out′ → ReadFrom bs c r signed out out′ (readRows k)
       rows-so k q l out′ w =
           let e = reading-is false (le-ltb (length out) (totalRows ds - r) (omega arith)) in
           let m : totalRows (t .run ∷ t .behind) - (r - first) ≡ length (drop r (joinedRows signed ds)) = omega (arith, rows-long, total-is, total-cons (t .run) (t .behind), t .from) in
@@ -141,5 +141,5 @@ module _ (bs f o n : List ℕ) (r : ℕ) where
                 w .laid (t .run ∷ t .behind) (valid-behind (t .before) (t .run ∷ t .behind) (t .valid)) rest-is
                 ∙ ap (λ (x : List ℤ). x ++ drop (totalRows (t .run ∷ t .behind) - (r - first)) out) (sym rows-are)
                 ∙ ap (λ (x : ℕ). drop r (joinedRows signed ds) ++ drop x out) m
-                ∙ sym (ap (placesOf out) e);
+                ∙ sym (ap (previewPlaces out) e);
           }

@@ -102,6 +102,6 @@ unfoldable pub reading : Bool → ℕ → List Entry → List ℕ → ℕ → Re
 reading signed places es bs r = then (checked es bs) (rowsFrom signed places r)
 
 -- the places at exit: the rows in the first of them, and what stood in the others; a refused call leaves every place unchanged
-abbrev pub placesOf : List ℤ → Result (List ℤ) → List ℤ
-placesOf out (gives rows) = rows ++ drop (length rows) out
-placesOf out (refuses r at) = out
+abbrev pub previewPlaces : List ℤ → Result (List ℤ) → List ℤ
+previewPlaces out (gives rows) = rows ++ drop (length rows) out
+previewPlaces out (refuses r at) = out

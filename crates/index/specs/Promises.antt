@@ -9,7 +9,7 @@ use Rattle.format.specs.Runs.{Description, joined}
 use Rattle.format.specs.Streams.{totalRows}
 use Rattle.format.specs.Answers.{refusing, refusal}
 use Rattle.index.specs.Entries as entries
-use Rattle.index.specs.Entries.{Result, gives, refuses, placesOf}
+use Rattle.index.specs.Entries.{Result, gives, refuses, previewPlaces}
 use Rattle.index.specs.Columns.{Columns, columnsAt, buildingIn, lookupIn, readingIn}
 use Rattle.index.specs.declared.Sizes.{Sizes}
 use Rattle.index.specs.declared.Built.{Built}
@@ -70,4 +70,4 @@ previewOf (refuses r at) = preview.Refused (refusal at 0 r)
 
 pub record ReadFrom (input : List ℕ) (c : Columns) (row : ℕ) (signed : Bool) (out out′ : List ℤ) (r : Preview) : Type 0 where
   pub answer : r ≡ previewOf (readingIn signed (length out) c input row)
-  pub places : out′ ≡ placesOf out (readingIn signed (length out) c input row)
+  pub places : out′ ≡ previewPlaces out (readingIn signed (length out) c input row)

@@ -62,10 +62,6 @@ pub record Filled (input first at counts first′ at′ counts′ : List ℕ) : 
 abbrev pub leftOf : ℕ → ℕ → ℕ → ℕ → Left
 leftOf first rows r places = pick (ltb places (first + rows - r)) left.TooMany (left.Rows (record { rows = first + rows - r }))
 
--- a run has no more rows
-abbrev pub mostRows : ℕ
-mostRows = 512
-
 -- a run at a place and the runs behind it, to the end; it has more rows than are left out, and there is room for the others ..
 pub record Ready (input : List ℕ) (at skip places : ℕ) : Type 0 where
   pub run : Description
@@ -77,6 +73,6 @@ pub record Ready (input : List ℕ) (at skip places : ℕ) : Type 0 where
   pub room : totalRows (run ∷ behind) - skip ≤ places
 
 -- .. and their rows are laid
-pub record Laid (input : List ℕ) (at skip : ℕ) (signed : Bool) (out out′ : List ℤ) : Type 0 where
+pub record RowsLaid (input : List ℕ) (at skip : ℕ) (signed : Bool) (out out′ : List ℤ) : Type 0 where
   pub laid : (ds : List Description) → AllValid ds → drop at input ≡ joined ds
       → out′ ≡ drop skip (joinedRows signed ds) ++ drop (totalRows ds - skip) out

@@ -6,7 +6,7 @@ ghost use lib.ListN.{length, take, drop};
 ghost use mathlib.Core.List.{_++_};
 ghost use Rattle.index.specs.Entries.{holdsRow};
 ghost use Rattle.index.specs.Promises.{builtWith, notBuilt, foundAt, notFound, readRows, notRead, BuiltIn, LookedUp, ReadFrom};
-ghost use Rattle.index.specs.Walk.{placeOf, leftOf, mostRows, Ready, Laid};
+ghost use Rattle.index.specs.Walk.{placeOf, leftOf, Ready, RowsLaid};
 use crate::walk::Survey;
 use crate::walk::Total;
 use format::Answer;
@@ -14,6 +14,7 @@ use format::ByteOffset;
 use format::Kind;
 use format::Refusal;
 use format::RowNumber;
+use util::rows;
 
 mod walk;
 
@@ -214,39 +215,19 @@ fn left_from(first: RowNumber, rows: RowNumber, row: RowNumber, places: usize) -
     Left::Rows(RowNumber { rows: n })
 }
 
-// Places for the rows of one run.
-fn scratch() -> [i64; Kind::MAX_ROWS]
-    ensures { λ r. ⌜ length r ≡ mostRows ⌝ }
-{
-    [0; Kind::MAX_ROWS]
-}
-
-// Rows from one slice, without the first few, into the first places of another.
-fn copy(rows: &[i64], skip: RowNumber, n: RowNumber, out: &mut [i64])
-    requires { ⌜ (skip .rows + n .rows ≤ length (now rows)) × (n .rows ≤ length (now out)) ⌝ }
-    ensures { λ _. ⌜ now (out .exit) ≡ take (n .rows) (drop (skip .rows) (now (rows .entry))) ++ drop (n .rows) (now (out .entry)) ⌝ }
-{
-    let mut i: usize = 0;
-    while i < n.rows {
-        let r = rows[skip.rows + i];
-        out[i] = r;
-        i += 1;
-    }
-}
-
 // The rows from a row on that the run at a place holds and the runs behind it, where there is room for them.
 fn lay(input: &[u8], at: ByteOffset, skip: RowNumber, signed: bool, out: &mut [i64])
     requires { ⌜ Ready (now input) (at .bytes) (skip .rows) (length (now out)) ⌝ }
-    ensures { λ _. ⌜ Laid (now (input .entry)) (at .bytes) (skip .rows) signed (now (out .entry)) (now (out .exit)) ⌝ }
+    ensures { λ _. ⌜ RowsLaid (now (input .entry)) (at .bytes) (skip .rows) signed (now (out .entry)) (now (out .exit)) ⌝ }
 {
-    let mut held = scratch();
+    let mut held = rows::scratch();
     let a = rle_v2::read_run(input, at, signed, &mut held);
     match a {
         Answer::Run(run) => {
-            let rows = run.rows;
+            let count = run.rows;
             let consumed = run.consumed;
-            let n = rows.rows - skip.rows;
-            copy(&held, skip, RowNumber { rows: n }, out);
+            let n = count.rows - skip.rows;
+            rows::copy(&held, skip, RowNumber { rows: n }, out);
             let next = ByteOffset {
                 bytes: at.bytes + consumed.bytes,
             };

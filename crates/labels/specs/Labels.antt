@@ -95,5 +95,5 @@ partOf block fall (Refused f) = []
 pub record Labelled (lengths numbers : List ℤ) (flags block fall : List ℕ) (row : ℕ) (r : Label) : Type 0 where
   pub answer : r ≡ label lengths numbers flags block fall row
 
-pub record Handed (lengths numbers : List ℤ) (flags block fall : List ℕ) (row : ℕ) (part : List ℕ) : Type 0 where
+pub record PartHanded (lengths numbers : List ℤ) (flags block fall : List ℕ) (row : ℕ) (part : List ℕ) : Type 0 where
   pub part-is : part ≡ partOf block fall (label lengths numbers flags block fall row)

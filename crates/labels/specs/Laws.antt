@@ -9,7 +9,7 @@ use lib.Dec.{T}
 use lib.IntN.{ℤ, pos, _+ℤ_}
 use lib.Signed.{_≤ℤ_}
 use Rattle.labels.specs.declared.Label.{Label}
-use Rattle.labels.specs.Labels.{isName, startOf, sizeOf, entryOf, nameAt, fallbackOf, refusedWith, label, partOf, Labelled, Handed}
+use Rattle.labels.specs.Labels.{isName, startOf, sizeOf, entryOf, nameAt, fallbackOf, refusedWith, label, partOf, Labelled, PartHanded}
 
 -- ---- the lengths, as whole numbers
 
@@ -80,7 +80,7 @@ PartsHold = (lengths : List ℤ) (block : List ℕ) → AddUp lengths block → 
 -- ---- THE PROMISES
 
 module _ (lengths numbers : List ℤ) (flags block fall : List ℕ) (row : ℕ) (r : Label) (part : List ℕ) where
-  pub record Given : Type 0 where
+  pub record LabelGives : Type 0 where
     -- a name is the part of the block that its number selects ..
     pub name-part : (k : ℕ) → r ≡ nameAt (startOf lengths k) (sizeOf lengths k) → part ≡ partAt lengths block k
     -- .. a row without a name is given the fallback whole ..
@@ -95,13 +95,13 @@ module _ (lengths numbers : List ℤ) (flags block fall : List ℕ) (row : ℕ) 
 abbrev pub LabelsGiven : Type 0
 LabelsGiven =
     (lengths numbers : List ℤ) (flags block fall : List ℕ) (row : ℕ) (r : Label) (part : List ℕ)
-    → Labelled lengths numbers flags block fall row r → Handed lengths numbers flags block fall row part
-    → Given lengths numbers flags block fall row r part
+    → Labelled lengths numbers flags block fall row r → PartHanded lengths numbers flags block fall row part
+    → LabelGives lengths numbers flags block fall row r part
 
 -- any two outcomes that the promises allow are equal
 abbrev pub LabelsDetermined : Type 0
 LabelsDetermined =
     (lengths numbers : List ℤ) (flags block fall : List ℕ) (row : ℕ) (r r′ : Label) (part part′ : List ℕ)
-    → Labelled lengths numbers flags block fall row r → Handed lengths numbers flags block fall row part
-    → Labelled lengths numbers flags block fall row r′ → Handed lengths numbers flags block fall row part′
+    → Labelled lengths numbers flags block fall row r → PartHanded lengths numbers flags block fall row part
+    → Labelled lengths numbers flags block fall row r′ → PartHanded lengths numbers flags block fall row part′
     → (r ≡ r′) × (part ≡ part′)

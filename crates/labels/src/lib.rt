@@ -5,7 +5,7 @@ ghost use mathlib.Core.Bool.{true};
 ghost use Prim.Native.Nat.{_≤_, _<_};
 ghost use lib.IntN.{pos};
 ghost use lib.ListN.{length, getD};
-ghost use Rattle.labels.specs.Labels.{nameAt, fallbackOf, refusedWith, addUp, startOf, entryOf, Labelled, Handed};
+ghost use Rattle.labels.specs.Labels.{nameAt, fallbackOf, refusedWith, addUp, startOf, entryOf, Labelled, PartHanded};
 ghost use Rattle.labels.specs.Labels as Labels;
 ghost use Rattle.labels.specs.Whole.{wholeOf};
 use format::ByteOffset;
@@ -177,7 +177,7 @@ pub fn part_of<'a>(
     fallback: &'a [u8],
     row: RowNumber,
 ) -> &'a [u8]
-    ensures { λ r. ⌜ Handed (now (lengths .entry)) (now (numbers .entry)) (now (flags .entry)) (now (block .entry)) (now (fallback .entry)) (row .rows) (now r) ⌝ }
+    ensures { λ r. ⌜ PartHanded (now (lengths .entry)) (now (numbers .entry)) (now (flags .entry)) (now (block .entry)) (now (fallback .entry)) (row .rows) (now r) ⌝ }
 {
     let said = label_of(lengths, numbers, flags, block, fallback, row);
     match said {

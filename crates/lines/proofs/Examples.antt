@@ -19,7 +19,7 @@ unfolding Digits.number Digits.digits Fields.widths Fields.width Fields.leastOf 
     Rows.steps Rows.walk Rows.baseValue Rows.patchAt Rows.patchedRows Rows.rowsOf Rows.asI64 Rows.i64Rows
     Parse.bytes Parse.block Parse.varint Parse.shortRun Parse.directRun Parse.fixedBody Parse.deltaBody Parse.deltaRun Parse.patchedBody Parse.patchedRun Parse.byKind Parse.parse Parse.into
     Hexadecimal.hexValue Hexadecimal.allHex Hexadecimal.hexBytes Decimal.decimalIn Decimal.decimal Decimal.rowText Decimal.rowsText
-    Line.badLine Line.answerWords Line.frameOf Line.frameText Line.answerText
+    Line.badLine Line.replyText Line.frameOf Line.frameText Line.answerText
 written line = Line.answerText line
 
 five-rows : written (ascii "000A012C") ≡ ascii "run 5 3 300 300 300 300 300"

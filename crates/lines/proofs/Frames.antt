@@ -14,14 +14,14 @@ use Rattle.format.specs.Runs.{Description, rowCount}
 use Rattle.format.specs.Rows.{i64Rows}
 use Rattle.format.specs.Parse.{Parsed, end, got, refused, unless, into, parse}
 use Rattle.format.specs.Answers.{answerRows}
-use Rattle.format.specs.Promises.{RunRead, answerOf, placesOf}
+use Rattle.format.specs.Promises.{RunRead, answerOf, runPlaces}
 use Rattle.format.specs.declared.Answer.{Answer}
 use Rattle.format.specs.declared.Answer.the-variants.{End, Run, Refused}
 use Rattle.format.proofs.Rows.{i64-count}
 use Rattle.text.specs.Ascii.{ascii}
 use Rattle.text.specs.Hexadecimal.{allHex, hexBytes}
 use Rattle.text.specs.Decimal.{rowText, rowsText}
-use Rattle.lines.specs.Line.{badLine, frameOf, frameText, answerText, ended, answerLine, answerWords, wordsOf, Framed, Answered}
+use Rattle.lines.specs.Line.{badLine, frameOf, frameText, answerText, ended, answerLine, replyText, readingText, Framed, Answered}
 use Rattle.text.specs.Written.{TextWritten}
 use Rattle.text.proofs.Texts.{decimal-length, row-length}
 
@@ -129,12 +129,12 @@ into-rows n (got b s) d rest e = by (ltb n (rowCount b)) refl e
 -- what was read at byte 1 of a frame, in words
 pub record Reads (frame : List ℕ) (signed : Bool) (out′ : List ℤ) (r : Answer) : Type 0 where
   pub few : answerRows r ≤ 512
-  pub words : answerWords r (take (answerRows r) out′) ≡ wordsOf (length frame - 1) signed (into 512 (parse (drop 1 frame)))
+  pub words : replyText r (take (answerRows r) out′) ≡ readingText (length frame - 1) signed (into 512 (parse (drop 1 frame)))
 
 pub reads : (frame : List ℕ) (signed : Bool) (out out′ : List ℤ) (r : Answer) → length out ≡ 512 → RunRead frame 1 signed out out′ r → Reads frame signed out′ r
 reads frame signed out out′ r l g = by (into 512 (parse (drop 1 frame))) refl (rw l at (g .answer)) (rw l at (g .places))
   where
-    by : (x : Parsed Description) → into 512 (parse (drop 1 frame)) ≡ x → r ≡ answerOf 1 (length frame - 1) x → out′ ≡ placesOf signed out x → Reads frame signed out′ r
+    by : (x : Parsed Description) → into 512 (parse (drop 1 frame)) ≡ x → r ≡ answerOf 1 (length frame - 1) x → out′ ≡ runPlaces signed out x → Reads frame signed out′ r
     by end e a p = record { few = rw a (omega arith); words = rw (a, e) }
     by (refused n) e a p = record { few = rw a (omega arith); words = rw (a, e) }
     by (got d rest) e a p = record {
@@ -143,7 +143,7 @@ reads frame signed out out′ r l g = by (into 512 (parse (drop 1 frame))) refl 
     }
 
 -- the frame's first byte and the run after it
-pub frame-text : (frame : List ℕ) → 0 < length frame → frameText frame ≡ wordsOf (length frame - 1) (eqb (getD frame 0 0) 1) (into 512 (parse (drop 1 frame)))
+pub frame-text : (frame : List ℕ) → 0 < length frame → frameText frame ≡ readingText (length frame - 1) (eqb (getD frame 0 0) 1) (into 512 (parse (drop 1 frame)))
 unfolding frameText
 frame-text [] h = absurd (omega arith)
 frame-text (flag ∷ run) h =
@@ -157,11 +157,11 @@ unfolding rowsText
 rows-length [] = omega arith
 rows-length (z ∷ zs) = omega (arith, length-append (32 ∷ rowText z) (rowsText zs), row-length z, rows-length zs)
 
-words-room : (r : Answer) (rows : List ℤ) → length rows ≤ 512 → length (answerWords r rows) ≤ 11309
-unfolding answerWords
-words-room End rows h = omega arith
-words-room (Run run) rows h = simp length-append (omega (arith, decimal-length (run .rows .rows), decimal-length (run .consumed .bytes), rows-length rows))
-words-room (Refused f) rows h = simp length-append (omega (arith, decimal-length (f .number)))
+reply-room : (r : Answer) (rows : List ℤ) → length rows ≤ 512 → length (replyText r rows) ≤ 11309
+unfolding replyText
+reply-room End rows h = omega arith
+reply-room (Run run) rows h = simp length-append (omega (arith, decimal-length (run .rows .rows), decimal-length (run .consumed .bytes), rows-length rows))
+reply-room (Refused f) rows h = simp length-append (omega (arith, decimal-length (f .number)))
 
-pub words-length : (r : Answer) (n : ℕ) (rows : List ℤ) → n ≤ 512 → length (answerWords r (take n rows)) ≤ 11309
-words-length r n rows h = words-room r (take n rows) (rw length-take (omega arith))
+pub reply-length : (r : Answer) (n : ℕ) (rows : List ℤ) → n ≤ 512 → length (replyText r (take n rows)) ≤ 11309
+reply-length r n rows h = reply-room r (take n rows) (rw length-take (omega arith))

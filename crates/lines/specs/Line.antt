@@ -11,7 +11,7 @@ use Rattle.format.specs.Fields.{pick}
 use Rattle.format.specs.Runs.{Description}
 use Rattle.format.specs.Rows.{i64Rows}
 use Rattle.format.specs.Parse.{Parsed, end, got, refused, parse, into}
-use Rattle.format.specs.Promises.{answerOf, placesOf}
+use Rattle.format.specs.Promises.{answerOf, runPlaces}
 use Rattle.format.specs.declared.Answer.{Answer}
 use Rattle.format.specs.declared.Answer.the-variants.{End, Run, Refused}
 use Rattle.lines.specs.declared.Reading.{Reading}
@@ -30,14 +30,14 @@ badLine line =
     || ltb 1 (getD (hexBytes line) 0 0)
 
 -- The numbers after `run` are rows, bytes consumed, then the rows as i64.
-abbrev pub runWords : ℕ → ℕ → List ℤ → List ℕ
-runWords rows bytes values = ascii "run " ++ decimal rows ++ (ascii " " ++ decimal bytes) ++ rowsText values
+abbrev pub runText : ℕ → ℕ → List ℤ → List ℕ
+runText rows bytes values = ascii "run " ++ decimal rows ++ (ascii " " ++ decimal bytes) ++ rowsText values
 
--- the run reader's answer in words
-unfoldable pub answerWords : Answer → List ℤ → List ℕ
-answerWords End values = ascii "end"
-answerWords (Run r) values = runWords (r .rows .rows) (r .consumed .bytes) values
-answerWords (Refused f) values = ascii "refused " ++ decimal (f .number)
+-- the run reader's answer as text
+unfoldable pub replyText : Answer → List ℤ → List ℕ
+replyText End values = ascii "end"
+replyText (Run r) values = runText (r .rows .rows) (r .consumed .bytes) values
+replyText (Refused f) values = ascii "refused " ++ decimal (f .number)
 
 -- the rows of what was read
 abbrev pub rowsIn : Bool → Parsed Description → List ℤ
@@ -45,9 +45,9 @@ rowsIn signed end = []
 rowsIn signed (got d rest) = i64Rows signed d
 rowsIn signed (refused r) = []
 
--- what reading gives, in words; the run stands in the `total` bytes from byte 1 on
-abbrev pub wordsOf : ℕ → Bool → Parsed Description → List ℕ
-wordsOf total signed m = answerWords (answerOf 1 total m) (rowsIn signed m)
+-- what reading gives, as text; the run stands in the `total` bytes from byte 1 on
+abbrev pub readingText : ℕ → Bool → Parsed Description → List ℕ
+readingText total signed m = replyText (answerOf 1 total m) (rowsIn signed m)
 
 -- The bytes of a line: none where it is bad.
 unfoldable pub frameOf : List ℕ → List ℕ
@@ -56,7 +56,7 @@ frameOf line = pick (badLine line) [] (hexBytes line)
 -- The first byte is the flag, the rest one run; bytes after it aren't read. No run has more than 512 rows, so that 512 places are room for any.
 unfoldable pub frameText : List ℕ → List ℕ
 frameText [] = ascii "bad line"
-frameText (flag ∷ run) = wordsOf (length run) (eqb flag 1) (into 512 (parse run))
+frameText (flag ∷ run) = readingText (length run) (eqb flag 1) (into 512 (parse run))
 
 -- the answer to a line, without its newline
 unfoldable pub answerText : List ℕ → List ℕ
@@ -91,7 +91,7 @@ frameReading room (flag ∷ run) = reading.Answered (answerOf 1 (length run) (in
 
 unfoldable pub framePlaces : List ℤ → List ℕ → List ℤ
 framePlaces out [] = out
-framePlaces out (flag ∷ run) = placesOf (eqb flag 1) out (into (length out) (parse run))
+framePlaces out (flag ∷ run) = runPlaces (eqb flag 1) out (into (length out) (parse run))
 
 -- WHAT `read_line` PROMISES: what is read is that of the line's bytes, and so are the places
 pub record LineRead (line : List ℕ) (out out′ : List ℤ) (r : Reading) : Type 0 where

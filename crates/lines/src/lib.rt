@@ -5,7 +5,7 @@ ghost use lib.ListN.{length, take, getD};
 ghost use lib.Dec.{eqb};
 ghost use Rattle.format.specs.Answers.{answerRows};
 ghost use Rattle.format.specs.Promises.{RunRead};
-ghost use Rattle.lines.specs.Line.{runWords, answerWords, frameText, ended, answerRoom, Framed, Answered, LineRead};
+ghost use Rattle.lines.specs.Line.{runText, replyText, frameText, ended, answerRoom, Framed, Answered, LineRead};
 ghost use Rattle.text.specs.Written.{TextWritten};
 use format::Answer;
 use format::ByteOffset;
@@ -42,7 +42,7 @@ pub enum Reading {
 // A run's rows, its bytes consumed, and then the rows.
 fn put_run(rows: RowNumber, consumed: ByteOffset, values: &[i64], out: &mut [u8]) -> ByteOffset
     requires { ⌜ (rows .rows ≤ 512) × (rows .rows ≤ length (now values)) × (answerRoom ≤ length (now out)) ⌝ }
-    ensures { λ r. ⌜ TextWritten (runWords (rows .rows) (consumed .bytes) (take (rows .rows) (now (values .entry))))
+    ensures { λ r. ⌜ TextWritten (runText (rows .rows) (consumed .bytes) (take (rows .rows) (now (values .entry))))
         (now (out .entry)) 0 (now (out .exit)) (r .bytes) ⌝ }
 {
     let mut at = put_word(&RUN, out, 0);
@@ -56,7 +56,7 @@ fn put_run(rows: RowNumber, consumed: ByteOffset, values: &[i64], out: &mut [u8]
 // What the run reader answered, in words.
 fn put_answer(answer: Answer, values: &[i64], out: &mut [u8]) -> ByteOffset
     requires { ⌜ (answerRows answer ≤ 512) × (answerRows answer ≤ length (now values)) × (answerRoom ≤ length (now out)) ⌝ }
-    ensures { λ r. ⌜ TextWritten (answerWords answer (take (answerRows answer) (now (values .entry))))
+    ensures { λ r. ⌜ TextWritten (replyText answer (take (answerRows answer) (now (values .entry))))
         (now (out .entry)) 0 (now (out .exit)) (r .bytes) ⌝ }
 {
     match answer {

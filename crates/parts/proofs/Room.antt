@@ -15,7 +15,7 @@ use Rattle.format.specs.Fields.{pick}
 use Rattle.format.specs.Digits.{AllBelow}
 use Rattle.format.specs.Runs.{Description}
 use Rattle.format.specs.Parse.{Parsed, end, got, refused, parse, into}
-use Rattle.format.specs.Promises.{answerOf, placesOf, RunRead}
+use Rattle.format.specs.Promises.{answerOf, runPlaces, RunRead}
 use Rattle.format.proofs.Below.{below-take}
 use Rattle.format.specs.declared.PartReader.{PartReader}
 use Rattle.format.specs.declared.Standing.the-variants.{Opened, Broken, Closed}
@@ -107,7 +107,7 @@ module _ (s : PartReader) (buffer : List ℕ) (signed : Bool) (out : List ℤ) w
         = goes-on (room buffer out) (s .standing) _ _ enough-closes e in
         record {
           step = rw c (ap (byLast s) (rw sub-zero at (g .answer) ∙ ap (answerOf 0 (length (take k buffer))) i ∙ ap (λ (x : List ℕ). answerOf 0 (length x) (parse (take (s .held) buffer))) front) ∙ by-step (parse (take (s .held) buffer)));
-          places = rw c (g .places ∙ ap (placesOf signed out) i ∙ by-places (parse (take (s .held) buffer)));
+          places = rw c (g .places ∙ ap (runPlaces signed out) i ∙ by-places (parse (take (s .held) buffer)));
         }
       where
         by-step : (m : Parsed Description) → byLast s (answerOf 0 (length (take (s .held) buffer)) m) ≡ stepOf s (onClose (stateOf s buffer) m)
@@ -117,7 +117,7 @@ module _ (s : PartReader) (buffer : List ℕ) (signed : Bool) (out : List ℤ) w
             rw z
         by-step (refused r) = rw (from-run (s .at .bytes) (length (take (s .held) buffer)) r)
 
-        by-places : (m : Parsed Description) → placesOf signed out m ≡ placesAfter signed out (onClose (stateOf s buffer) m .reply)
+        by-places : (m : Parsed Description) → runPlaces signed out m ≡ placesAfter signed out (onClose (stateOf s buffer) m .reply)
         by-places end = refl
         by-places (got d rest) = refl
         by-places (refused r) = refl

@@ -14,7 +14,7 @@ use Rattle.format.specs.Digits.{AllBelow}
 use Rattle.format.specs.Runs.{Description, layout}
 use Rattle.format.specs.Parse.{Reason, plain, cut, unfinished, Parsed, end, got, refused, parse, into}
 use Rattle.format.specs.Answers.{refusal}
-use Rattle.format.specs.Promises.{answerOf, placesOf, RunRead}
+use Rattle.format.specs.Promises.{answerOf, runPlaces, RunRead}
 use Rattle.format.proofs.Below.{append-below}
 use Rattle.format.proofs.Runs.{Outcome, nothing, run, outcome}
 use Rattle.format.proofs.RunComplete.{parse-complete}
@@ -60,7 +60,7 @@ module _ (s : PartReader) (part buffer : List ℕ) (signed : Bool) (out out′ :
   unfolding byAnswer onPart
   same k b room few far g =
       let e : into (length out) (parse bs) ≡ parse bs = into-all (length out) bs below room in
-      go (parse bs) refl (outcome bs below) (rw sub-zero at (g .answer) ∙ ap (answerOf 0 (length bs)) e) (g .places ∙ ap (placesOf signed out) e)
+      go (parse bs) refl (outcome bs below) (rw sub-zero at (g .answer) ∙ ap (answerOf 0 (length bs)) e) (g .places ∙ ap (runPlaces signed out) e)
     where
       bs : List ℕ
       bs = held ++ take k part
@@ -91,7 +91,7 @@ module _ (s : PartReader) (part buffer : List ℕ) (signed : Bool) (out out′ :
       size : length bs < 4356 → length held + k ≡ length (held ++ part)
       size l = sym long ∙ ap length (whole l)
 
-      go : (m : Parsed Description) → parse bs ≡ m → Outcome bs m → a ≡ answerOf 0 (length bs) m → out′ ≡ placesOf signed out m → Same k
+      go : (m : Parsed Description) → parse bs ≡ m → Outcome bs m → a ≡ answerOf 0 (length bs) m → out′ ≡ runPlaces signed out m → Same k
       go m e (nothing z) ea eo =
           let l : length bs < 4356 = rw z (omega arith) in
           let p : parse (held ++ part) ≡ end = ap parse (sym (whole l)) ∙ e in

@@ -14,7 +14,7 @@ use Rattle.planner.specs.declared.Columned.{Columned}
 use Rattle.planner.specs.declared.Checked.the-variants as checked
 use Rattle.planner.specs.declared.ColumnAnswer.the-variants as answer
 use Rattle.planner.specs.Check.{Columns, segments, runs, accepted, wide, column, told, checkedAs, Wrote}
-use Rattle.planner.specs.Walk.{Laid, WideLaid}
+use Rattle.planner.specs.Walk.{ColumnLaid, WideLaid}
 use Rattle.planner.proofs.Direct.{wide-holds}
 
 module _ (signed : Bool) (rows : List ℤ) (c : Columns) (room : ℕ) where
@@ -42,7 +42,7 @@ module _ (signed : Bool) (rows : List ℤ) (c : Columns) (room : ℕ) where
   wide-test b e = e ∙ ap (λ (n : ℕ). leb n room) (sym (wide-holds signed rows .bytes))
 
 module _ (signed : Bool) (rows : List ℤ) (c : Columns) (out out′ : List ℕ) where
-  pub wrote-planned : (t : Columned) → checked.Accepted t ≡ checkedAs signed rows c (length out) → Laid (runs signed rows (segments c)) out out′ → Wrote signed rows c out out′ (answer.Planned t)
+  pub wrote-planned : (t : Columned) → checked.Accepted t ≡ checkedAs signed rows c (length out) → ColumnLaid (runs signed rows (segments c)) out out′ → Wrote signed rows c out out′ (answer.Planned t)
   unfolding column
   wrote-planned t e l =
       let a = was-accepted signed rows c (length out) t e in

@@ -16,7 +16,7 @@ use Rattle.format.specs.Rows.{asU64}
 use Rattle.format.specs.Parse.{got}
 use Rattle.format.specs.Writing.{AllI64}
 use Rattle.format.proofs.Writing.{written}
-use Rattle.cuts.specs.Proposed.{Proposed}
+use Rattle.proposer.specs.Proposed.{Proposed}
 use Rattle.planner.specs.declared.segment.Segment.{Segment}
 use Rattle.planner.specs.Check.{Columns, proposal, segments, covers, anyRun, writeIn, runOf, parts, wide}
 use Rattle.planner.specs.Laws.{Accept, none, more}

@@ -9,7 +9,7 @@ use lib.IntN.{ℤ}
 use Rattle.format.specs.Runs.{layout, joined}
 use Rattle.planner.specs.declared.segment.Segment.{Segment}
 use Rattle.planner.specs.Check.{Columns, segments, covers, allRuns, runs, accepted}
-use Rattle.planner.specs.Walk.{segmentAt, stepIn, Ran, Laid}
+use Rattle.planner.specs.Walk.{segmentAt, stepIn, Ran, ColumnLaid}
 use Rattle.util.proofs.Grow.{rest-is}
 use Rattle.planner.proofs.Segments.{segment-next, segment-none}
 use Rattle.planner.proofs.Accepting.{tests}
@@ -32,7 +32,7 @@ module _ (signed : Bool) (rows : List ℤ) (c : Columns) (out₀ : List ℕ) whe
       record { few = omega arith; covering = t .1; writers = t .2; grown = grown-first all out₀ (t .3) }
 
   module _ (out : List ℕ) (k row bytes : ℕ) (p : Plan out k row bytes) where
-    pub plan-end : length (c .starts) ≤ k → Laid (runs signed rows (segments c)) out₀ out
+    pub plan-end : length (c .starts) ≤ k → ColumnLaid (runs signed rows (segments c)) out₀ out
     unfolding runs joined
     plan-end h = grown-end (rw (segment-none c k h) at (p .grown))
 

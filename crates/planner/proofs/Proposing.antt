@@ -10,7 +10,7 @@ use lib.IntN.{ℤ}
 use lib.Dec.{ltb}
 use borrow.Author.Tests.{eq-eqb, ltb-false}
 use Rattle.format.specs.Runs.{Description, joined}
-use Rattle.cuts.specs.Proposed.{Proposed}
+use Rattle.proposer.specs.Proposed.{Proposed}
 use Rattle.planner.specs.declared.Checked.{Checked}
 use Rattle.planner.specs.declared.Checked.the-variants as checked
 use Rattle.planner.specs.declared.Columned.{Columned}

@@ -8,7 +8,7 @@ use lib.ListN.{length, take}
 use lib.IntN.{ℤ}
 use lib.Dec.{leb}
 use Rattle.format.specs.Runs.{Description, joined}
-use Rattle.cuts.specs.Proposed.{Proposed}
+use Rattle.proposer.specs.Proposed.{Proposed}
 use Rattle.planner.specs.declared.segment.Segment.{Segment}
 use Rattle.planner.specs.Check.{Columns, proposal, wide, planned, column}
 use Rattle.planner.specs.Laws.{Accepted}

@@ -51,10 +51,10 @@ pub record Ran (m : Parsed Description) (out out′ : List ℕ) (r : ℕ) : Type
 -- ---- ALL OF THEM
 
 -- the runs stand in the first bytes, and what stood there in the others
-abbrev pub Laid : List Description → List ℕ → List ℕ → Type 0
-Laid ds out out′ = out′ ≡ joined ds ++ drop (length (joined ds)) out
+abbrev pub ColumnLaid : List Description → List ℕ → List ℕ → Type 0
+ColumnLaid ds out out′ = out′ ≡ joined ds ++ drop (length (joined ds)) out
 
 -- the direct runs, and what the answer tells of them
 pub record WideLaid (signed : Bool) (rows : List ℤ) (out out′ : List ℕ) (r : Columned) : Type 0 where
   pub answer : r ≡ told (wide signed rows)
-  pub places : Laid (wide signed rows) out out′
+  pub places : ColumnLaid (wide signed rows) out out′

@@ -2,7 +2,7 @@
 ghost use mathlib.Core.Path.{_≡_};
 ghost use mathlib.Core.Bool.{true, _&&_};
 ghost use lib.Dec.{eqb};
-ghost use Rattle.cuts.specs.Proposed.{Proposed};
+ghost use Rattle.proposer.specs.Proposed.{Proposed};
 ghost use Rattle.planner.specs.Check.{proposal, equalLengths, checkedAs};
 ghost use Rattle.planner.specs.Plan.{Kept};
 use crate::Checked;

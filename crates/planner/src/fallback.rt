@@ -3,7 +3,7 @@ ghost use mathlib.Core.Path.{_≡_};
 ghost use mathlib.Core.Bool.{_&&_};
 ghost use lib.ListN.{length};
 ghost use lib.Dec.{leb};
-ghost use Rattle.cuts.specs.Proposed.{Proposed};
+ghost use Rattle.proposer.specs.Proposed.{Proposed};
 ghost use Rattle.planner.specs.Check.{proposal};
 ghost use Rattle.planner.specs.Plan.{directRuns, DirectLaid, FallsBack};
 use crate::write;

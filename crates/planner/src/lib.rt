@@ -99,7 +99,7 @@ pub fn plan(
     if rows.len() == 0 {
         return 0;
     }
-    let k = cuts::propose(rows, signed, first, counts, forms, widths, bases);
+    let k = proposer::propose(rows, signed, first, counts, forms, widths, bases);
     let n = accept::sound(rows, signed, first, counts, forms, widths, bases, k);
     if 0 < n {
         return n;

@@ -10,7 +10,7 @@ ghost use Rattle.format.specs.Rows.{asU64};
 ghost use Rattle.format.specs.Writing.{writing, AllI64};
 ghost use Rattle.planner.specs.Check as Check;
 ghost use Rattle.planner.specs.Check.{proposal, accepted, segments};
-ghost use Rattle.planner.specs.Walk.{Ran, Laid, WideLaid};
+ghost use Rattle.planner.specs.Walk.{Ran, ColumnLaid, WideLaid};
 use crate::Columned;
 use crate::segment;
 use format::ByteOffset;
@@ -33,7 +33,7 @@ pub(crate) fn planned(
     out: &mut [u8],
 )
     requires { ⌜ accepted signed (now rows) (proposal (now first) (now counts) (now forms) (now widths) (now bases)) (length (now out)) ≡ true ⌝ }
-    ensures { λ _. ⌜ Laid (Check.runs signed (now (rows .entry)) (segments (proposal (now (first .entry)) (now (counts .entry)) (now (forms .entry)) (now (widths .entry)) (now (bases .entry))))) (now (out .entry)) (now (out .exit)) ⌝ }
+    ensures { λ _. ⌜ ColumnLaid (Check.runs signed (now (rows .entry)) (segments (proposal (now (first .entry)) (now (counts .entry)) (now (forms .entry)) (now (widths .entry)) (now (bases .entry))))) (now (out .entry)) (now (out .exit)) ⌝ }
 {
     let mut k: usize = 0;
     let mut row: usize = 0;

@@ -114,7 +114,7 @@ module _ (input : List ℕ) (at n : ℕ) (out out′ : List ℕ) (r : Answer) (p
     places = λ ds h l. full ds h l .1;
     only = only-one;
     fields = λ k byte. (λ e. absurd (run-no-refusal _ _ (full ds h l .0) e), λ (field, c, e). absurd (unheld k field c ds h));
-    together = (λ (k, b, e). absurd (run-no-refusal _ _ (full ds h l .0) e), λ f. absurd (f ds h));
+    input-ends = (λ (k, b, e). absurd (run-no-refusal _ _ (full ds h l .0) e), λ f. absurd (f ds h));
     eight = λ k. (λ e. absurd (run-no-refusal _ _ (full ds h l .0) e), λ (e, ds, h, few). absurd (omega arith));
     unchanged = λ f e. absurd (run-no-refusal _ f (full ds h l .0) e);
   }
@@ -123,7 +123,7 @@ module _ (input : List ℕ) (at n : ℕ) (out out′ : List ℕ) (r : Answer) (p
     places = λ ds h l. full ds h l .1;
     only = only-one;
     fields = λ k byte. (λ e. absurd (byte-or-none 8 k _ (few ds h l .0) e), λ (field, c, e). absurd (unheld k field c ds h));
-    together = (λ (k, b, e). absurd (byte-or-none 8 k b (few ds h l .0) e), λ f. absurd (f ds h));
+    input-ends = (λ (k, b, e). absurd (byte-or-none 8 k b (few ds h l .0) e), λ f. absurd (f ds h));
     eight = λ k. (λ e. (ap answerNumber (sym e ∙ few ds h l .0), ds, h, l), λ q. rw (q .0) (few ds h l .0));
     unchanged = λ f e. few ds h l .1;
   }
@@ -132,7 +132,7 @@ module _ (input : List ℕ) (at n : ℕ) (out out′ : List ℕ) (r : Answer) (p
     places = λ ds h l. full ds h l .1;
     only = only-one;
     fields = λ k′ byte. (λ e. same-field k field k′ byte c e, λ (field′, c′, e). rw e (off k′ field′ c′ .0));
-    together = (λ e. unheld k field c, λ f. (k, at + field, off k field c .0));
+    input-ends = (λ e. unheld k field c, λ f. (k, at + field, off k field c .0));
     eight = λ k′. (λ e. absurd (byte-or-none k′ k _ e (off k field c .0)), λ (e, ds, h, few). absurd (unheld k field c ds h));
     unchanged = λ f e. off k field c .1;
   }

@@ -6,11 +6,11 @@ use native.Mathlib.Decide.{decLt}
 use native.Mathlib.Omega.{arith}
 use mathlib.Core.List.{List}
 use lib.ListN.{length, drop}
-use Rattle.promises.specs.Demand2.{Demand2}
+use Rattle.promises.specs.OneRunExactly.{OneRunExactly}
 use Rattle.promises.specs.Refusals
 use Rattle.promises.specs.Refusals.{Table, refusal-1, refusal-2, refusal-3, refusal-4, refusal-5, refusal-7, refusal-8, CutLine, CutNumber, six, twelve, thirteen, fourteen, Answers, baseBytes, listFrom}
 use Rattle.promises.specs.BrokeOff.{Ended, in-value, in-direct, in-first-row, in-base-delta, in-magnitudes, in-patched, BrokeOffHolds}
-use Rattle.promises.proofs.Demand2.{demand2}
+use Rattle.promises.proofs.OneRunExactly.{one-run-exactly}
 use Rattle.promises.proofs.Refusals.{answers, field-pos}
 
 ended : (bs : List ℕ) (n field : ℕ) → CutLine bs n field → Ended bs
@@ -54,12 +54,12 @@ cut-numbers fourteen l = absurd (omega arith)
 
 pub broke-off : BrokeOffHolds
 broke-off input h at signed out out′ r p =
-    let d : Demand2 (drop at input) signed out out′ r = demand2 input h at signed out out′ r p in
+    let d : OneRunExactly (drop at input) signed out out′ r = one-run-exactly input h at signed out out′ r p in
     let a : Answers (drop at input) at (length out) r = answers input h at signed out out′ r p in
     record {
       accepted = d .exactly;
       same = λ x b l. (d .counts x b l, d .rows x b l);
-      together = (
+      input-ends = (
         λ (n, byte, e). let (field, l, _) = a .fields n byte .0 e in ended (drop at input) n field l,
         λ e. let (n, field, l) = somewhere (drop at input) e in (n, at + field, a .fields n (at + field) .1 (field, l, refl)),
       );

@@ -23,8 +23,8 @@ use Rattle.format.proofs.Cut.{cut-number}
 use Rattle.format.proofs.Joined.{joined-append, valid-behind}
 use Rattle.format.proofs.Streams.{into-refused, stream-broken}
 use Rattle.promises.specs.CutFile.{EndInside, CutBetween, in-header, in-field, Inside, Refuses, LacksRoom, CutFileHolds}
-use Rattle.promises.specs.Demand3.{IsWhole}
-use Rattle.promises.specs.Refusals.{Given, by-number, by-field}
+use Rattle.promises.specs.WholeStreamExactly.{IsWhole}
+use Rattle.promises.specs.Refusals.{TableGives, by-number, by-field}
 use Rattle.promises.proofs.Refusals.{refusals, field-le, field-pos, field-here}
 use Rattle.promises.proofs.ShortOfRoom.{valid-front, Short, first-short, stops-short}
 
@@ -88,7 +88,7 @@ module _ (n : ℕ) (ds : List Description) (v : AllValid ds) (i : Inside n ds) w
       ∙ ap (λ (t : List ℕ). joined (i .before) ++ t) (take-append-le size (layout (i .cut)) (joined (i .later)) (omega (arith, i .ended)))
 
   -- ---- why it is refused, if the rows before it have room, and what reading the rest of the file gives
-  broken-there : (r : Reason) × T (unfinished r) × Given 0 left r
+  broken-there : (r : Reason) × T (unfinished r) × TableGives 0 left r
       × ((room : ℕ) → totalRows (i .before) ≤ room → readAll room (take n (joined ds)) ≡ broken (i .before) r left)
   broken-there =
       let right : List ℕ = drop size (layout (i .cut)) in
@@ -105,7 +105,7 @@ module _ (n : ℕ) (ds : List Description) (v : AllValid ds) (i : Inside n ds) w
       )
 
   -- where it begins, and the file ends
-  cut-between : (at : ℕ) (r : Reason) → Given 0 left r → T (unfinished r)
+  cut-between : (at : ℕ) (r : Reason) → TableGives 0 left r → T (unfinished r)
       → CutBetween (at + length (joined (i .before))) (at + n) (refusal (at + length (joined (i .before))) (length left) r)
   cut-between at r (by-number {n = k} t) c = rw (eqb→eq k 1 c) in-header
   cut-between at r (by-field {n = k} {field} l) c =

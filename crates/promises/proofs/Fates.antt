@@ -10,7 +10,7 @@ use Rattle.format.specs.Digits.{AllBelow}
 use Rattle.format.specs.Fields.{pick, lastBelow, Varint, last, more}
 use Rattle.format.specs.Runs.{Description}
 use Rattle.format.specs.Parse.{Reason, plain, Parsed, end, got, refused, then, unless, varint}
-use Rattle.promises.specs.Refusals.{Given}
+use Rattle.promises.specs.Refusals.{TableGives}
 use Rattle.promises.specs.Refusals.{TenthAbove, Unended}
 
 -- ---- varints: each outcome, with its line
@@ -64,4 +64,4 @@ module _ (c : Reason) where
 pub data Fate (places : ℕ) (bs : List ℕ) : Parsed Description → Type 0 where
   no-run : Fate places bs end
   a-run : {d : Description} {rest : List ℕ} → Fate places bs (got d rest)
-  by-line : {r : Reason} → Given places bs r → Fate places bs (refused r)
+  by-line : {r : Reason} → TableGives places bs r → Fate places bs (refused r)

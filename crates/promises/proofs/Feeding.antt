@@ -22,7 +22,7 @@ use Rattle.format.proofs.Cut.{refused-stays}
 use Rattle.format.specs.declared.Standing.the-variants.{Opened, Broken}
 use Rattle.format.specs.Parts as reader
 use Rattle.format.specs.Parts.{State, onPart, takePart}
-use Rattle.promises.specs.Parts.{Fed, goOn, offer, feed, together, starting}
+use Rattle.promises.specs.Parts.{Fed, goOn, offer, feed, joinedParts, starting}
 
 -- ---- what stands after some bytes
 
@@ -130,23 +130,23 @@ unfolding feed offer takePart reader.inPlaces reader.unlessStopped
 stopped f h at [] = refl
 stopped f h at (p ∷ ps) = rw (stopped f h at ps)
 
-pub fed : (h : List ℕ) (at : ℕ) (ps : List (List ℕ)) → Waits h → AllBelow 256 (together ps)
-    → Result at (h ++ together ps) (feed (record { held = h; at = at; standing = Opened }) ps)
+pub fed : (h : List ℕ) (at : ℕ) (ps : List (List ℕ)) → Waits h → AllBelow 256 (joinedParts ps)
+    → Result at (h ++ joinedParts ps) (feed (record { held = h; at = at; standing = Opened }) ps)
 unfolding feed starting after joined
 fed h at [] w c = waiting [] tt (append-nil h) w
 fed h at (p ∷ ps) w c =
-    go (offered (suc (length p)) h at p w (below-append 256 h p (bytes-held w) (append-below 256 p (together ps) c)) (omega arith)) (λ h′ at′ w′. fed h′ at′ ps w′ behind)
+    go (offered (suc (length p)) h at p w (below-append 256 h p (bytes-held w) (append-below 256 p (joinedParts ps) c)) (omega arith)) (λ h′ at′ w′. fed h′ at′ ps w′ behind)
   where
-    behind : AllBelow 256 (together ps)
-    behind = rw (drop-append-seam p (together ps)) at (below-drop 256 (length p) (p ++ together ps) c)
+    behind : AllBelow 256 (joinedParts ps)
+    behind = rw (drop-append-seam p (joinedParts ps)) at (below-drop 256 (length p) (p ++ joinedParts ps) c)
 
-    joins : (ds : List Description) (rest : List ℕ) → h ++ p ≡ joined ds ++ rest → h ++ (p ++ together ps) ≡ joined ds ++ (rest ++ together ps)
-    joins ds rest e = sym (append-assoc h p (together ps)) ∙ ap (λ (x : List ℕ). x ++ together ps) e ∙ append-assoc (joined ds) rest (together ps)
+    joins : (ds : List Description) (rest : List ℕ) → h ++ p ≡ joined ds ++ rest → h ++ (p ++ joinedParts ps) ≡ joined ds ++ (rest ++ joinedParts ps)
+    joins ds rest e = sym (append-assoc h p (joinedParts ps)) ∙ ap (λ (x : List ℕ). x ++ joinedParts ps) e ∙ append-assoc (joined ds) rest (joinedParts ps)
 
     go : {f : Fed} → Result at (h ++ p) f
-        → ((h′ : List ℕ) (at′ : ℕ) → Waits h′ → Result at′ (h′ ++ together ps) (feed (record { held = h′; at = at′; standing = Opened }) ps))
-        → Result at (h ++ (p ++ together ps)) (record { runs = f .runs ++ feed (f .state) ps .runs; state = feed (f .state) ps .state })
-    go (waiting ds {rest} v e w′) ih = prefixed (rest ++ together ps) ds v (joins ds rest e) (ih rest (after at ds) w′)
+        → ((h′ : List ℕ) (at′ : ℕ) → Waits h′ → Result at′ (h′ ++ joinedParts ps) (feed (record { held = h′; at = at′; standing = Opened }) ps))
+        → Result at (h ++ (p ++ joinedParts ps)) (record { runs = f .runs ++ feed (f .state) ps .runs; state = feed (f .state) ps .state })
+    go (waiting ds {rest} v e w′) ih = prefixed (rest ++ joinedParts ps) ds v (joins ds rest e) (ih rest (after at ds) w′)
     go (barred ds rest {h = h′} n v e w′ q u) ih =
         rw (stopped (refusing n (after at ds)) h′ (after at ds) ps, append-nil (starting at ds))
-        (barred ds (rest ++ together ps) n v (joins ds rest e) w′ (refused-stays rest (together ps) (plain n) q u) u)
+        (barred ds (rest ++ joinedParts ps) n v (joins ds rest e) w′ (refused-stays rest (joinedParts ps) (plain n) q u) u)

@@ -69,12 +69,12 @@ took bs d rest h e = go (rw e at (outcome bs h))
     go (run t) = t
 
 -- an accepted run is valid, and its layout stands in front of the bytes
-pub record Laid (front : List ℕ) (x : ℕ) (back follows rest : List ℕ) (d : Description) : Type 0 where
+pub record FlippedLayout (front : List ℕ) (x : ℕ) (back follows rest : List ℕ) (d : Description) : Type 0 where
   pub ok : Valid d
   pub split : front ++ (x ∷ (back ++ follows)) ≡ layout d ++ rest
 
 pub laid : {input front back : List ℕ} {at x : ℕ} {d : Description} → (h : HoldsRun input at front x back d)
-    → Laid front x back (h .follows) (h .rest) d
+    → FlippedLayout front x back (h .follows) (h .rest) d
 laid {input} {at} {d} h =
     let t = took (drop at input) d (h .rest) (below-drop 256 at input (h .bytes)) (h .accepted) in
     record { ok = t .ok; split = sym (h .split) ∙ t .split }

@@ -9,8 +9,8 @@ pub mod Fated
 pub mod Lines
 pub mod Refusals
 -- its demands
-pub mod Demand2
-pub mod Demand3
+pub mod OneRunExactly
+pub mod WholeStreamExactly
 pub mod BooleanFates
 pub mod BooleanLines
 pub mod BooleansAndValues

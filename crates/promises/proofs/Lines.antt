@@ -13,7 +13,7 @@ use Rattle.format.proofs.RunComplete.{parse-complete}
 use Rattle.format.proofs.Streams.{into-refused}
 use Rattle.format.proofs.Tests.{T-true, is-false}
 use Rattle.promises.specs.Refusals
-use Rattle.promises.specs.Refusals.{Table, refusal-1, refusal-2, refusal-3, refusal-4, refusal-5, refusal-7, refusal-8, CutLine, Given, by-number, by-field}
+use Rattle.promises.specs.Refusals.{Table, refusal-1, refusal-2, refusal-3, refusal-4, refusal-5, refusal-7, refusal-8, CutLine, TableGives, by-number, by-field}
 use Rattle.promises.specs.Refusals.{TenthAbove, Unended, Headed, PatchedRun, DeltaRun, magnitudeBytes, listFrom, listTo, entries, valueBytes, baseBytes}
 use Rattle.promises.proofs.PatchCases.{too-large, out-of-place}
 use Rattle.promises.proofs.Fates.{tenth-above, unended}
@@ -89,7 +89,7 @@ line-8 : (places : ℕ) (bs : List ℕ) → Refusals.Line8 places bs → into pl
 unfolding into
 line-8 places bs (d, rest, v, e, l) = rw (e, parse-complete d rest v, lt-ltb places (rowCount d) l)
 
-pub line : (places : ℕ) (bs : List ℕ) {r : Reason} → Given places bs r → into places (parse bs) ≡ refused r
+pub line : (places : ℕ) (bs : List ℕ) {r : Reason} → TableGives places bs r → into places (parse bs) ≡ refused r
 line places bs t = by t
   where
     given : (r : Reason) → parse bs ≡ refused r → into places (parse bs) ≡ refused r
@@ -104,6 +104,6 @@ line places bs t = by t
     go (refusal-7 l) = given _ (line-7 bs l)
     go (refusal-8 l) = line-8 places bs l
 
-    by : {r : Reason} → Given places bs r → into places (parse bs) ≡ refused r
+    by : {r : Reason} → TableGives places bs r → into places (parse bs) ≡ refused r
     by (by-number t) = go t
     by (by-field l) = given _ (line-cut bs l)

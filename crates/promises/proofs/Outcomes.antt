@@ -7,17 +7,17 @@ use native.Mathlib.Decide.{decLt}
 use Rattle.format.specs.Fields.{width, widths, two64, Narrowest}
 use Rattle.format.specs.Kept.{nextKept}
 use Rattle.format.proofs.Kept.{narrowest-next, narrowest-kept-unique}
-use Rattle.promises.specs.Outcomes.{Determines, RunDetermined, StreamDetermined, RunMeasuredDetermined, StreamMeasuredDetermined, BooleansDetermined, ValueDetermined, WriterDetermined, LoaderDetermined, RunToldDetermined, StreamToldDetermined, BooleansToldDetermined, ValueToldDetermined, WriteToldDetermined, VersionDetermined, NarrowestDetermined, PatchedDetermined, EquationDetermined, StartDetermined, PartDetermined, ClosingDetermined}
+use Rattle.promises.specs.Outcomes.{Determines, RunDetermined, StreamDetermined, RunMeasuredDetermined, StreamMeasuredDetermined, BooleansDetermined, ValueDetermined, WriterDetermined, NarrowestDetermined, PatchedDetermined, EquationDetermined, StartDetermined, PartDetermined, ClosingDetermined}
 
 -- a promise that says what the places and the answer are
-determined : {P A : Type 0} (Allows : P → A → Type 0) (p₀ : P) (r₀ : A) → Allows p₀ r₀ → ((p : P) (r : A) → Allows p r → (p ≡ p₀) × (r ≡ r₀)) → Determines P A Allows
+pub determined : {P A : Type 0} (Allows : P → A → Type 0) (p₀ : P) (r₀ : A) → Allows p₀ r₀ → ((p : P) (r : A) → Allows p r → (p ≡ p₀) × (r ≡ r₀)) → Determines P A Allows
 determined Allows p₀ r₀ h f = record {
   some-outcome = (p₀, r₀, h);
   same-places = λ p p′ r r′ a b. f p r a .0 ∙ sym (f p′ r′ b .0);
   same-answer = λ p p′ r r′ a b. f p r a .1 ∙ sym (f p′ r′ b .1);
 }
 
-pair : {A B : Type 0} {a a′ : A} {b b′ : B} → a ≡ a′ → b ≡ b′ → _≡_ {A = A × B} (a, b) (a′, b′)
+pub pair : {A B : Type 0} {a a′ : A} {b b′ : B} → a ≡ a′ → b ≡ b′ → _≡_ {A = A × B} (a, b) (a′, b′)
 pair p q = cc
 
 pub run-determined : RunDetermined
@@ -44,43 +44,8 @@ writer-determined rows signed form width out = determined _ _ _ (record { answer
 pub patched-determined : PatchedDetermined
 patched-determined rows base width out = determined _ _ _ (record { answer = refl; places = refl }) (λ p r a. (a .places, a .answer))
 
-pub loader-determined : LoaderDetermined
-loader-determined input flag out = determined _ _ _ (record { number = refl; bytes = refl }) (λ p r a. (a .bytes, a .number))
-
--- ---- the loader's functions with words
-
--- two lent places by their equations
-both : {A B : Type 0} {a a′ : A} {b b′ : B} → a ≡ a′ → b ≡ b′ → _≡_ {A = A × B} (a, b) (a′, b′)
-both e f = rw (e, f)
-
-pub run-told-determined : RunToldDetermined
-run-told-determined input at flag rows words =
-    determined _ (_, _) _ (record { told = record { number-is = refl; words-are = refl }; places-are = refl })
-    (λ p r a. (both (a .places-are) (a .told .words-are), a .told .number-is))
-
-pub stream-told-determined : StreamToldDetermined
-stream-told-determined input at flag rows words =
-    determined _ (_, _) _ (record { told = record { number-is = refl; words-are = refl }; places-are = refl })
-    (λ p r a. (both (a .places-are) (a .told .words-are), a .told .number-is))
-
-pub booleans-told-determined : BooleansToldDetermined
-booleans-told-determined input at n out words =
-    determined _ (_, _) _ (record { told = record { number-is = refl; words-are = refl }; places-are = refl })
-    (λ p r a. (both (a .places-are) (a .told .words-are), a .told .number-is))
-
-pub value-told-determined : ValueToldDetermined
-value-told-determined input at n words = determined _ _ _ (record { number-is = refl; words-are = refl }) (λ p r a. (a .words-are, a .number-is))
-
-pub write-told-determined : WriteToldDetermined
-write-told-determined rows flag form width out words =
-    determined _ (_, _) _ (record { told = record { number-is = refl; words-are = refl }; places-are = refl })
-    (λ p r a. (both (a .places-are) (a .told .words-are), a .told .number-is))
-
 pub equation-determined : EquationDetermined
 equation-determined A a = determined _ tt a refl (λ p r e. (refl, e))
-
-pub version-determined : VersionDetermined
-version-determined = equation-determined _ _
 
 -- no code below c holds x
 abbrev NoneBelow : ℕ → ℕ → Type 0

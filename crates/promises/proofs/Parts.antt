@@ -15,7 +15,7 @@ use Rattle.format.proofs.RunComplete.{parse-complete}
 use Rattle.format.proofs.Streams.{into-refused, stream-whole, stream-broken, Reads, reads-whole, reads-broken, stream-post}
 use Rattle.format.specs.Parts as reader
 use Rattle.format.specs.Parts.{State, start, onPart, takePart, close}
-use Rattle.promises.specs.Parts.{Fed, Given, feed, together, readParts, starting, streamGives, rowsIn, SameAsStream, AnyCut, AtOnce, ByThatCall, Begins}
+use Rattle.promises.specs.Parts.{Fed, GivenInParts, feed, joinedParts, readParts, starting, streamGives, rowsIn, SameAsStream, AnyCut, AtOnce, ByThatCall, Begins}
 use Rattle.promises.proofs.Feeding.{nothing-held, begun, after, Result, waiting, barred, fed}
 
 -- ---- starts and rows of runs one after another
@@ -37,7 +37,7 @@ cut-there start field = omega arith
 -- ---- the theorem
 
 given : {bs : List ℕ} {f : Fed} → Result 0 bs f → (n : ℕ) → rowsIn (f .runs) ≤ n
-    → _≡_ {A = Given} (record { runs = f .runs; answer = close 512 (f .state) .reply }) (streamGives (readAll n bs))
+    → _≡_ {A = GivenInParts} (record { runs = f .runs; answer = close 512 (f .state) .reply }) (streamGives (readAll n bs))
 unfolding close reader.inPlaces reader.unlessStopped reader.onClose
 given (waiting ds v e (nothing-held z)) n l =
     rw (e, z, append-nil (joined ds), stream-whole n ds v (rw (rows-of 0 ds) at l), parse-empty)
@@ -54,7 +54,7 @@ given (waiting ds {rest} v e (begun {r = cut k left} b p u)) n l =
 given (barred ds rest k v e w p u) n l =
     rw (e, stream-broken n ds rest (plain k) v (rw (rows-of 0 ds) at l) (rw p (into-refused (n - totalRows ds) (plain k))), after-is 0 ds (omega arith))
 
-pub all-fed : (ps : List (List ℕ)) → AllBelow 256 (together ps) → Result 0 (together ps) (feed start ps)
+pub all-fed : (ps : List (List ℕ)) → AllBelow 256 (joinedParts ps) → Result 0 (joinedParts ps) (feed start ps)
 all-fed ps h = fed [] 0 ps (nothing-held refl) h
 
 in-room : {n : ℕ} {bs : List ℕ} {m : Reading} → Reads n bs m → totalRows (runsOf m) ≤ n
@@ -63,7 +63,7 @@ in-room (reads-broken v e l r) = l
 
 pub same-as-stream : SameAsStream
 same-as-stream ps h n = (
-  λ e. rw (← (rows-of 0 (runsOf (readAll n (together ps)))), ← (ap (λ (g : Given). g .runs) e)) at (in-room (stream-post n (together ps) h)),
+  λ e. rw (← (rows-of 0 (runsOf (readAll n (joinedParts ps)))), ← (ap (λ (g : GivenInParts). g .runs) e)) at (in-room (stream-post n (joinedParts ps) h)),
   λ l. given (all-fed ps h) n l,
 )
 
@@ -75,7 +75,7 @@ any-cut ps qs h e =
 -- ---- before closing
 
 pub at-once : AtOnce
-at-once ps h n l = ap (λ (g : Given). g .runs) (given (all-fed ps h) n l)
+at-once ps h n l = ap (λ (g : GivenInParts). g .runs) (given (all-fed ps h) n l)
 
 pub by-that-call : ByThatCall
 unfolding takePart reader.inPlaces reader.unlessStopped onPart
@@ -86,12 +86,12 @@ unfolding feed
 feed-append s [] qs = refl
 feed-append s (p ∷ ps) qs = rw (feed-append _ ps qs, append-assoc)
 
-together-append : (ps qs : List (List ℕ)) → together (ps ++ qs) ≡ together ps ++ together qs
-together-append [] qs = refl
-together-append (p ∷ ps) qs = rw (together-append ps qs, append-assoc)
+joined-parts-append : (ps qs : List (List ℕ)) → joinedParts (ps ++ qs) ≡ joinedParts ps ++ joinedParts qs
+joined-parts-append [] qs = refl
+joined-parts-append (p ∷ ps) qs = rw (joined-parts-append ps qs, append-assoc)
 
 pub begins : Begins
 begins ps qs h n l = (
   feed (feed start ps .state) qs .runs,
-  rw (← (together-append ps qs)) (sym (at-once (ps ++ qs) (rw (together-append ps qs) h) n l)) ∙ feed-append start ps qs,
+  rw (← (joined-parts-append ps qs)) (sym (at-once (ps ++ qs) (rw (joined-parts-append ps qs) h) n l)) ∙ feed-append start ps qs,
 )

@@ -21,7 +21,7 @@ use Rattle.format.specs.Parts.{Handed, State, Call, takePart, close, stateOf, a
 use Rattle.format.proofs.Below.{append-below, below-drop}
 use Rattle.format.proofs.Runs.{run}
 use Rattle.format.proofs.Rows.{i64-count, joined-count}
-use Rattle.promises.specs.Parts.{Fed, goOn, offer, feed, Given, readParts, together, starting, lastAnswer, streamGives, rowsIn}
+use Rattle.promises.specs.Parts.{Fed, goOn, offer, feed, GivenInParts, readParts, joinedParts, starting, lastAnswer, streamGives, rowsIn}
 use Rattle.promises.specs.PartsCalls.{rowsShown, AsStreamHolds, StandsHolds, Shown, shown, Offers, last, gives, Offered, no-part, a-part, Delivers}
 use Rattle.promises.proofs.Feeding.{nothing-held}
 use Rattle.promises.proofs.Parts.{same-as-stream}
@@ -89,13 +89,13 @@ map-append : (f : Handed → Shown) (xs ys : List Handed) → map f (xs ++ ys) �
 map-append f [] ys = refl
 map-append f (x ∷ xs) ys = ap (λ (zs : List Shown). f x ∷ zs) (map-append f xs ys)
 
-offered-is : {signed : Bool} {s t : PartReader} {buffer b : List ℕ} {ps : List (List ℕ)} {hs : List Shown} → Offered signed s buffer ps hs t b → AllBelow 256 (together ps)
+offered-is : {signed : Bool} {s t : PartReader} {buffer b : List ℕ} {ps : List (List ℕ)} {hs : List Shown} → Offered signed s buffer ps hs t b → AllBelow 256 (joinedParts ps)
     → Ready (stateOf s buffer) → Did signed t b hs (feed (stateOf s buffer) ps)
 unfolding feed
 offered-is no-part below ready = record { runs = refl; state = refl }
 offered-is {signed} {s} {buffer} (a-part {t} {b} {p} {ps} {hs} {ks} o os) below ready =
-    let here : AllBelow 256 p = append-below 256 p (together ps) below in
-    let behind : AllBelow 256 (together ps) = rw (drop-append-seam p (together ps)) at (below-drop 256 (length p) (p ++ together ps) below) in
+    let here : AllBelow 256 p = append-below 256 p (joinedParts ps) below in
+    let behind : AllBelow 256 (joinedParts ps) = rw (drop-append-seam p (joinedParts ps)) at (below-drop 256 (length p) (p ++ joinedParts ps) below) in
     let f : Fed = offer (suc (length p)) (stateOf s buffer) p in
     let d : Did signed t b hs f = offers-is o here ready (suc (length p)) (omega arith) in
     let e = offered-is os behind (rw (d .state) (ready-after p ready here)) in
@@ -130,16 +130,16 @@ rows-are signed at (d ∷ ds) = ap (λ (x : List ℤ). i64Rows signed d ++ x) (r
 pub as-stream : AsStreamHolds
 as-stream signed ps buffer b hs t out out′ r below o l c all all′ w s room =
     let (runs, answer) = delivers signed ps buffer b hs t out out′ r below o l c in
-    let m : Reading = readAll (length all) (together ps) in
+    let m : Reading = readAll (length all) (joinedParts ps) in
     let n : rowsIn (readParts ps .runs) ≤ length all = omega (arith, ap (λ (x : List Shown). length (rowsShown x)) runs, counted signed (readParts ps .runs)) in
     let given : readParts ps ≡ streamGives m = same-as-stream ps below (length all) .1 n in
-    let shows : hs ≡ map (shown signed) (starting 0 (runsOf m)) = runs ∙ ap (λ (g : Given). map (shown signed) (g .runs)) given in
+    let shows : hs ≡ map (shown signed) (starting 0 (runsOf m)) = runs ∙ ap (λ (g : GivenInParts). map (shown signed) (g .runs)) given in
     let rows : rowsShown hs ≡ joinedRows signed (runsOf m) = ap rowsShown shows ∙ rows-are signed 0 (runsOf m) in
     let count : length (rowsShown hs) ≡ totalRows (runsOf m) = ap length rows ∙ joined-count signed (runsOf m) in
     record {
       rows = rw (count, rows) (s .places);
       runs = shows;
-      answer = answer ∙ ap (λ (g : Given). answered (g .answer)) given ∙ ap (λ (x : Stream). answered (lastAnswer x)) (sym (s .answer));
+      answer = answer ∙ ap (λ (g : GivenInParts). answered (g .answer)) given ∙ ap (λ (x : Stream). answered (lastAnswer x)) (sym (s .answer));
     }
 
 pub stands : StandsHolds

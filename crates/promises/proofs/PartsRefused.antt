@@ -23,7 +23,7 @@ use Rattle.promises.specs.Refusals
 use Rattle.promises.specs.Refusals.{Table, by-number, by-field}
 use Rattle.promises.proofs.Refusals.{refusals, field-pos}
 use Rattle.promises.proofs.BrokeOff.{others, cut-numbers}
-use Rattle.promises.specs.Parts.{Fed, together, OfUnfinished, in-header, in-field, TheNumbers, WhenRefused, NoRun, Repeats, AfterRefusal, AfterLast, AfterClosing, TooFewPlaces, MorePlaces, HeldBelow}
+use Rattle.promises.specs.Parts.{Fed, joinedParts, OfUnfinished, in-header, in-field, TheNumbers, WhenRefused, NoRun, Repeats, AfterRefusal, AfterLast, AfterClosing, TooFewPlaces, MorePlaces, HeldBelow}
 use Rattle.format.proofs.Length.{unfinished-short}
 use Rattle.promises.proofs.Feeding.{Waits, nothing-held, begun, Result, waiting, barred}
 use Rattle.promises.proofs.Parts.{all-fed}
@@ -39,7 +39,7 @@ the-numbers bs b r e at = go r (refusals 0 bs b r .0 (ap (into 0) e ∙ into-ref
         let (l, ne) = others 0 bs t in
         absurd (ne (cut-numbers c l))
 
-    go : (r : Reason) → Refusals.Given 0 bs r → T (unfinished r) ↔ OfUnfinished (refusalFrom at (length bs) r .number)
+    go : (r : Reason) → Refusals.TableGives 0 bs r → T (unfinished r) ↔ OfUnfinished (refusalFrom at (length bs) r .number)
     go r (by-number {n} t) = ((λ u. rw (eqb→eq n 1 u) in-header), only-1 t)
     go r (by-field {n} l) = ((λ u. in-field (field-pos bs l .1)), λ f. tt)
 
@@ -100,7 +100,7 @@ pub after-closing : AfterClosing
 unfolding close reader.inPlaces reader.unlessStopped reader.onClose
 after-closing ps h = go (all-fed ps h)
   where
-    go : {f : Fed} → Result 0 (together ps) f → Repeats (close 512 (f .state) .state) (close 512 (f .state) .reply)
+    go : {f : Fed} → Result 0 (joinedParts ps) f → Repeats (close 512 (f .state) .state) (close 512 (f .state) .reply)
     go (waiting ds v e (nothing-held z)) = rw (z, parse-empty) (end-repeats _ refl)
     go (waiting ds v e (begun b p u)) = rw p (refusal-repeats _ _ refl)
     go (barred ds rest n v e w p u) = refusal-repeats _ _ refl
@@ -165,6 +165,6 @@ held-below ps h = go (all-fed ps h)
     few (nothing-held z) = rw z (omega arith)
     few {bs} (begun {r} b p u) = unfinished-short bs r b p u
 
-    go : {f : Fed} → Result 0 (together ps) f → length (f .state .held) < 4356
+    go : {f : Fed} → Result 0 (joinedParts ps) f → length (f .state .held) < 4356
     go (waiting ds v e w) = few w
     go (barred ds rest n v e w p u) = few w

@@ -20,17 +20,17 @@ use Rattle.format.proofs.Below.{behind-below}
 use Rattle.format.proofs.Joined.{rows-le}
 use Rattle.format.proofs.Runs.{parse-empty}
 use Rattle.format.proofs.Tests.{never-both}
-use Rattle.promises.specs.Parts.{Fed, Given, together, starting, lastAnswer, rowsIn, OfUnfinished, Stands, BeforeClosing, EnoughRoom}
+use Rattle.promises.specs.Parts.{Fed, GivenInParts, joinedParts, starting, lastAnswer, rowsIn, OfUnfinished, Stands, BeforeClosing, EnoughRoom}
 use Rattle.promises.proofs.Feeding.{nothing-held, begun, after, Result, waiting, barred}
 use Rattle.promises.proofs.Parts.{rows-of, all-fed, same-as-stream}
 use Rattle.promises.proofs.PartsRefused.{the-numbers}
 
 pub before-closing : BeforeClosing
 unfolding close reader.inPlaces reader.unlessStopped reader.onClose
-before-closing ps h n l = go (all-fed ps h) (ap (λ (g : Given). g .answer) (same-as-stream ps h n .1 l))
+before-closing ps h n l = go (all-fed ps h) (ap (λ (g : GivenInParts). g .answer) (same-as-stream ps h n .1 l))
   where
     w : Stream
-    w = streamAnswer 0 (readAll n (together ps))
+    w = streamAnswer 0 (readAll n (joinedParts ps))
 
     -- open: the stream's answer is the end, or one of the five
     opened : ((f : Refusal) → lastAnswer w ≡ broke f → OfUnfinished (f .number)) → Stands Opened w
@@ -39,7 +39,7 @@ before-closing ps h n l = go (all-fed ps h) (ap (λ (g : Given). g .answer) (sam
       still-open = ((λ e. u), λ v. refl);
     }
 
-    go : {f : Fed} → Result 0 (together ps) f → close 512 (f .state) .reply ≡ lastAnswer w → Stands (f .state .standing) w
+    go : {f : Fed} → Result 0 (joinedParts ps) f → close 512 (f .state) .reply ≡ lastAnswer w → Stands (f .state .standing) w
     go (waiting ds v e (nothing-held z)) c =
         let q : ended ≡ lastAnswer w = rw (z, parse-empty) at c in
         opened (λ f g. let y : _≡_ {A = ℕ} 0 1 = cc in absurd (omega arith))
@@ -62,10 +62,10 @@ before-closing ps h n l = go (all-fed ps h) (ap (λ (g : Given). g .answer) (sam
 pub enough-room : EnoughRoom
 enough-room ps h = go (all-fed ps h)
   where
-    few : (ds : List Description) (rest : List ℕ) → AllValid ds → together ps ≡ joined ds ++ rest
-        → rowsIn (starting 0 ds) ≤ 512 * length (together ps)
+    few : (ds : List Description) (rest : List ℕ) → AllValid ds → joinedParts ps ≡ joined ds ++ rest
+        → rowsIn (starting 0 ds) ≤ 512 * length (joinedParts ps)
     few ds rest v e = omega (arith, rows-of 0 ds, rows-le ds v, ap length e, length-append (joined ds) rest)
 
-    go : {f : Fed} → Result 0 (together ps) f → rowsIn (f .runs) ≤ 512 * length (together ps)
+    go : {f : Fed} → Result 0 (joinedParts ps) f → rowsIn (f .runs) ≤ 512 * length (joinedParts ps)
     go (waiting ds {rest} v e w) = few ds rest v e
     go (barred ds rest n v e w p u) = few ds rest v e

@@ -20,7 +20,7 @@ use Rattle.format.proofs.Posts.{Took}
 use Rattle.format.proofs.Below.{below-drop}
 use Rattle.format.proofs.Runs.{parse-sound}
 use Rattle.promises.specs.Refusals
-use Rattle.promises.specs.Refusals.{Table, refusal-8, CutLine, CutNumber, six, twelve, thirteen, fourteen, Given, by-number, by-field, RefusalsHold, AnswersHold}
+use Rattle.promises.specs.Refusals.{Table, refusal-8, CutLine, CutNumber, six, twelve, thirteen, fourteen, TableGives, by-number, by-field, RefusalsHold, AnswersHold}
 use Rattle.promises.proofs.Fates.{Fate, no-run, a-run, by-line}
 use Rattle.promises.proofs.Fated.{fate}
 use Rattle.promises.proofs.Lines.{line}
@@ -29,23 +29,23 @@ pub refusals : RefusalsHold
 unfolding into
 refusals places bs h r = (λ e. to (fate places bs h) refl e, λ t. line places bs t)
   where
-    room : {d : Description} {rest : List ℕ} (t : Bool) → ltb places (rowCount d) ≡ t → parse bs ≡ got d rest → unless t 8 (got d rest) ≡ refused r → Given places bs r
+    room : {d : Description} {rest : List ℕ} (t : Bool) → ltb places (rowCount d) ≡ t → parse bs ≡ got d rest → unless t 8 (got d rest) ≡ refused r → TableGives places bs r
     room {d} {rest} true l f e =
         let k : plain 8 ≡ r = cc in
         let t : Took bs layout Valid d rest = parse-sound bs d rest h f in
-        subst (λ (x : Reason). Given places bs x) k (by-number (refusal-8 (d, rest, t .ok, t .split, ltb-true places (rowCount d) l)))
+        subst (λ (x : Reason). TableGives places bs x) k (by-number (refusal-8 (d, rest, t .ok, t .split, ltb-true places (rowCount d) l)))
     room {d} {rest} false l f e =
         let z : _≡_ {A = ℕ} 0 1 = cc in
         absurd (omega arith)
 
-    to : {m : Parsed Description} → Fate places bs m → parse bs ≡ m → into places m ≡ refused r → Given places bs r
+    to : {m : Parsed Description} → Fate places bs m → parse bs ≡ m → into places m ≡ refused r → TableGives places bs r
     to no-run f e =
         let z : _≡_ {A = ℕ} 0 1 = cc in
         absurd (omega arith)
     to (a-run {d} {rest}) f e = room (ltb places (rowCount d)) refl f e
     to (by-line {r = q} t) f e =
         let k : q ≡ r = cc in
-        subst (λ (x : Reason). Given places bs x) k t
+        subst (λ (x : Reason). TableGives places bs x) k t
 
 -- ---- the same of the answer
 
@@ -87,7 +87,7 @@ byteOf None = 0
 byteOf (At o) = o .bytes
 
 module _ (places at : ℕ) (bs : List ℕ) (n : ℕ) where
-  of-number : {r : Reason} → Given places bs r → refusal at (length bs) r ≡ refusing n at → Table places bs n
+  of-number : {r : Reason} → TableGives places bs r → refusal at (length bs) r ≡ refusing n at → Table places bs n
   of-number (by-number t) e = subst (λ (x : ℕ). Table places bs x) (ap (λ (f : Refusal). f .number) e) t
   of-number (by-field l) e =
       let q : At _ ≡ None = ap (λ (f : Refusal). f .cut) e in
@@ -99,7 +99,7 @@ module _ (places at : ℕ) (bs : List ℕ) (n : ℕ) where
       let e : length bs - length (drop field bs) ≡ field = omega (arith, length-drop field bs, field-le bs l) in
       rw e
 
-  of-field : (byte : ℕ) {r : Reason} → Given places bs r → refusal at (length bs) r ≡ cutting n at byte → (field : ℕ) × CutLine bs n field × (byte ≡ at + field)
+  of-field : (byte : ℕ) {r : Reason} → TableGives places bs r → refusal at (length bs) r ≡ cutting n at byte → (field : ℕ) × CutLine bs n field × (byte ≡ at + field)
   unfolding byteOf
   of-field byte (by-number t) e =
       let q : None ≡ At _ = ap (λ (f : Refusal). f .cut) e in
@@ -112,9 +112,9 @@ module _ (places at : ℕ) (bs : List ℕ) (n : ℕ) where
 pub answers : AnswersHold
 answers input h at signed out out′ r p =
     let bs : List ℕ = drop at input in
-    let law : (q : Reason) → (into (length out) (parse bs) ≡ refused q) ↔ Given (length out) bs q = refusals (length out) bs (below-drop 256 at input h) in
+    let law : (q : Reason) → (into (length out) (parse bs) ≡ refused q) ↔ TableGives (length out) bs q = refusals (length out) bs (below-drop 256 at input h) in
     let a : r ≡ answerOf at (length bs) (into (length out) (parse bs)) = rw (length-drop at input) (p .answer) in
-    let why : (f : Refusal) → r ≡ Refused f → (q : Reason) × Given (length out) bs q × (refusal at (length bs) q ≡ f) =
+    let why : (f : Refusal) → r ≡ Refused f → (q : Reason) × TableGives (length out) bs q × (refusal at (length bs) q ≡ f) =
     λ f e. let (q, i, j) = answer-refused at (length bs) f _ (sym a ∙ e) in (q, law q .0 i, j) in
     record {
       numbers = λ n. (

@@ -7,7 +7,7 @@ use lib.ListN.{length, drop}
 use lib.IntN.{ℤ}
 use Rattle.format.specs.declared.Answer.{Answer}
 use Rattle.format.specs.Parse.{parse, into}
-use Rattle.format.specs.Promises.{answerOf, placesOf}
+use Rattle.format.specs.Promises.{answerOf, runPlaces}
 use Rattle.format.specs.Booleans as b
 use Rattle.format.specs.Booleans.{booleansInto, booleansAnswer, booleansPlaces}
 use Rattle.format.proofs.Examples.{told}
@@ -21,7 +21,7 @@ Seen = Answer × List ℤ × List ℕ
 abbrev given : Line → Seen
 given (integers room at flag input said) =
     let m = into (length (integerPlaces room)) (parse (drop at input)) in
-    (answerOf at (length input - at) m, placesOf flag (integerPlaces room) m, [])
+    (answerOf at (length input - at) m, runPlaces flag (integerPlaces room) m, [])
 given (booleans room at n input said) =
     let m = booleansInto (length (bytePlaces room)) n (drop at input) in
     (booleansAnswer at (length input - at) n m, [], booleansPlaces n (bytePlaces room) m)

@@ -45,7 +45,7 @@ pub record BooleansExactly (bs : List ℕ) (at n : ℕ) (out out′ : List ℕ) 
   pub only : (ds ds′ : List ByteRun) → Hold bs n ds → Hold bs n ds′ → ds ≡ ds′
   -- 6 and 13, each with its byte; together: the input ends before the booleans asked for are there
   pub fields : (k byte : ℕ) → (r ≡ cutAt k at byte) ↔ ((field : ℕ) × CutShort bs (bytesFor n) k field × (byte ≡ at + field))
-  pub together : ((k byte : ℕ) × (r ≡ cutAt k at byte)) ↔ ((ds : List ByteRun) → Hold bs n ds → ⊥)
+  pub input-ends : ((k byte : ℕ) × (r ≡ cutAt k at byte)) ↔ ((ds : List ByteRun) → Hold bs n ds → ⊥)
   -- then 8: the output has too few places; and no other number
   pub eight : (k : ℕ) → (r ≡ refusedAt k at) ↔ ((k ≡ 8) × (ds : List ByteRun) × Hold bs n ds × (length out < n))
   -- a refused call leaves every lent place unchanged

@@ -15,7 +15,7 @@ use Rattle.format.specs.Fields.{Varint}
 use Rattle.format.specs.Runs.{Description, rowCount, layout}
 use Rattle.format.specs.Rows.{i64Rows}
 use Rattle.format.specs.Promises.{kindOf, widthOf, RunRead}
-use Rattle.promises.specs.Demand2.{Begins, IsRun}
+use Rattle.promises.specs.OneRunExactly.{Begins, IsRun}
 use Rattle.promises.specs.Refusals.{Headed, PatchedRun, DeltaRun, Unended, CutNumber, size, code, rows, valueBytes, magnitudeBytes, listTo}
 
 -- the four together: the input ends before the run does
@@ -34,7 +34,7 @@ pub record BrokeOff (bs : List ℕ) (at : ℕ) (signed : Bool) (out out′ : Lis
   pub same : (d : Description) → Begins bs d → rowCount d ≤ length out
       → (r ≡ ran (kindOf d) (widthOf d) (rowCount d) (length (layout d))) × (out′ ≡ i64Rows signed d ++ drop (rowCount d) out)
   -- .. the refusals that name a byte are together: the input ends before the run does ..
-  pub together : ((n byte : ℕ) × (r ≡ cutAt n at byte)) ↔ Ended bs
+  pub input-ends : ((n byte : ℕ) × (r ≡ cutAt n at byte)) ↔ Ended bs
   -- .. and a byte is named exactly with 6, 12, 13 and 14
   pub with-byte : (n byte : ℕ) → r ≡ cutAt n at byte → CutNumber n
   pub without : (n : ℕ) → r ≡ refusedAt n at → CutNumber n → ⊥

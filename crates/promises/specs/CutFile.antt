@@ -13,7 +13,7 @@ use Rattle.format.specs.Answers.{refusing, cutting, brokeAt}
 use Rattle.format.specs.Runs.{Description, rowCount, AllValid, layout, joined}
 use Rattle.format.specs.Streams.{totalRows, joinedRows}
 use Rattle.format.specs.Promises.{lastOf, StreamRead}
-use Rattle.promises.specs.Demand3.{IsWhole}
+use Rattle.promises.specs.WholeStreamExactly.{IsWhole}
 use Rattle.promises.specs.Refusals.{CutNumber}
 
 -- the first n bytes of the joined runs end inside a run: they are not all, and not those of the first k runs, whatever k is

@@ -5,8 +5,8 @@ pub mod Table
 pub mod Samples
 pub mod Refusals
 -- its demands
-pub mod Demand2
-pub mod Demand3
+pub mod OneRunExactly
+pub mod WholeStreamExactly
 pub mod BooleansAndValues
 pub mod RoundTrips
 -- the user's four questions

@@ -12,7 +12,6 @@ use Rattle.format.specs.Kept.{NarrowestKept}
 use Rattle.format.specs.Promises.{RunRead, RunMeasured, StreamRead, StreamMeasured}
 use Rattle.format.specs.Booleans.{BooleansRead}
 use Rattle.format.specs.ByteValues.{ValueRead, ValueGiven}
-use Rattle.format.specs.Loader.{Loaded, faceVersion, RunTold, StreamTold, BooleansTold, ValueTold, WriteTold}
 use Rattle.format.specs.Writing.{Written}
 use Rattle.format.specs.PatchedWriting.{PatchedWritten}
 use Rattle.format.specs.Parts.{fresh, Takes, Closes}
@@ -56,40 +55,7 @@ WriterDetermined = (rows : List ℤ) (signed : Bool) (form : Form) (width : ℕ)
 abbrev pub PatchedDetermined : Type 0
 PatchedDetermined = (rows : List ℤ) (base : ℤ) (width : ℕ) (out : List ℕ) → Determines (List ℕ) Answer (λ p r. PatchedWritten rows base width out p r)
 
--- the loader's number and bytes: for every input, flag and lent bytes
-abbrev pub LoaderDetermined : Type 0
-LoaderDetermined = (input : List ℕ) (flag : ℕ) (out : List ℕ) → Determines (List ℕ) ℕ (λ p r. Loaded input flag out p r)
-
--- the loader's functions with words: the lent rows or bytes and the lent words, and the number; for every position, flag or count, with words enough or
--- too few
-abbrev pub RunToldDetermined : Type 0
-RunToldDetermined =
-    (input : List ℕ) (at flag : ℕ) (rows : List ℤ) (words : List ℕ)
-    → Determines (List ℤ × List ℕ) ℕ (λ p r. RunTold input at flag rows (p .0) words (p .1) r)
-
-abbrev pub StreamToldDetermined : Type 0
-StreamToldDetermined =
-    (input : List ℕ) (at flag : ℕ) (rows : List ℤ) (words : List ℕ)
-    → Determines (List ℤ × List ℕ) ℕ (λ p r. StreamTold input at flag rows (p .0) words (p .1) r)
-
-abbrev pub BooleansToldDetermined : Type 0
-BooleansToldDetermined =
-    (input : List ℕ) (at n : ℕ) (out words : List ℕ)
-    → Determines (List ℕ × List ℕ) ℕ (λ p r. BooleansTold input at n out (p .0) words (p .1) r)
-
-abbrev pub ValueToldDetermined : Type 0
-ValueToldDetermined = (input : List ℕ) (at n : ℕ) (words : List ℕ) → Determines (List ℕ) ℕ (λ p r. ValueTold input at n words p r)
-
--- for every form and width, those too that no form has
-abbrev pub WriteToldDetermined : Type 0
-WriteToldDetermined =
-    (rows : List ℤ) (flag form width : ℕ) (out words : List ℕ)
-    → Determines (List ℕ × List ℕ) ℕ (λ p r. WriteTold rows flag form width out (p .0) words (p .1) r)
-
--- and those with no lent place: the version, and the narrowest code of every number of 64 bits
-abbrev pub VersionDetermined : Type 0
-VersionDetermined = Determines (Unit {0}) ℕ (λ p r. r ≡ faceVersion)
-
+-- with no lent place: the narrowest code of every number of 64 bits
 abbrev pub NarrowestDetermined : Type 0
 NarrowestDetermined = (x : ℕ) → x < two64 → Determines (Unit {0}) ℕ (λ p r. NarrowestKept x r)
 

@@ -58,19 +58,19 @@ feed s (p ∷ ps) =
     record { runs = f .runs ++ g .runs; state = g .state }
 
 -- what is given in all: the runs, and the answer of the closing call
-pub record Given : Type 0 where
+pub record GivenInParts : Type 0 where
   pub runs : List Handed
   pub answer : Reply
 
-abbrev pub readParts : List (List ℕ) → Given
+abbrev pub readParts : List (List ℕ) → GivenInParts
 readParts ps = record { runs = feed start ps .runs; answer = close 512 (feed start ps .state) .reply }
 
 -- ---- the whole-stream reader's, to compare
 
 -- the bytes of the parts, joined
-abbrev pub together : List (List ℕ) → List ℕ
-together [] = []
-together (p ∷ ps) = p ++ together ps
+abbrev pub joinedParts : List (List ℕ) → List ℕ
+joinedParts [] = []
+joinedParts (p ∷ ps) = p ++ joinedParts ps
 
 -- runs one after another, each with its start, modulo 2^64; the first starts at `at`
 unfoldable pub starting : ℕ → List Description → List Handed
@@ -86,7 +86,7 @@ abbrev pub lastAnswer : Stream → Reply
 lastAnswer (Whole c) = ended
 lastAnswer (Refused f c) = broke (record { number = f .number; place = record { bytes = f .place .bytes % two64 }; cut = cutModulo (f .cut) })
 
-abbrev pub streamGives : Reading → Given
+abbrev pub streamGives : Reading → GivenInParts
 streamGives m = record { runs = starting 0 (runsOf m); answer = lastAnswer (streamAnswer 0 m) }
 
 -- the rows of the runs handed out
@@ -97,17 +97,17 @@ rowsIn (h ∷ hs) = rowCount (h .run) + rowsIn hs
 -- ---- THE THEOREM: for every list of parts, the runs, their starts and the answer after closing are those of the whole-stream reader over the joined
 -- bytes, exactly with room enough for the rows
 abbrev pub SameAsStream : Type 0
-SameAsStream = (ps : List (List ℕ)) → AllBelow 256 (together ps) → (n : ℕ)
-    → (readParts ps ≡ streamGives (readAll n (together ps))) ↔ (rowsIn (readParts ps .runs) ≤ n)
+SameAsStream = (ps : List (List ℕ)) → AllBelow 256 (joinedParts ps) → (n : ℕ)
+    → (readParts ps ≡ streamGives (readAll n (joinedParts ps))) ↔ (rowsIn (readParts ps .runs) ≤ n)
 
 -- two ways of cutting the same bytes give the same
 abbrev pub AnyCut : Type 0
-AnyCut = (ps qs : List (List ℕ)) → AllBelow 256 (together ps) → together ps ≡ together qs → readParts ps ≡ readParts qs
+AnyCut = (ps qs : List (List ℕ)) → AllBelow 256 (joinedParts ps) → joinedParts ps ≡ joinedParts qs → readParts ps ≡ readParts qs
 
 -- before closing, what is handed out is all that the whole-stream reader reads in the bytes so far: no run whose last byte is there is kept back ..
 abbrev pub AtOnce : Type 0
-AtOnce = (ps : List (List ℕ)) → AllBelow 256 (together ps) → (n : ℕ) → rowsIn (feed start ps .runs) ≤ n
-    → feed start ps .runs ≡ starting 0 (runsOf (readAll n (together ps)))
+AtOnce = (ps : List (List ℕ)) → AllBelow 256 (joinedParts ps) → (n : ℕ) → rowsIn (feed start ps .runs) ≤ n
+    → feed start ps .runs ≡ starting 0 (runsOf (readAll n (joinedParts ps)))
 
 -- .. by the very call in which its last byte comes, in every state that is open
 abbrev pub ByThatCall : Type 0
@@ -116,8 +116,8 @@ ByThatCall = (places : ℕ) (s : State) (part : List ℕ) (d : Description) (res
 
 -- .. and it is how the runs of the whole stream begin, whatever follows
 abbrev pub Begins : Type 0
-Begins = (ps qs : List (List ℕ)) → AllBelow 256 (together ps ++ together qs) → (n : ℕ) → rowsIn (feed start (ps ++ qs) .runs) ≤ n
-    → (hs : List Handed) × (starting 0 (runsOf (readAll n (together ps ++ together qs))) ≡ feed start ps .runs ++ hs)
+Begins = (ps qs : List (List ℕ)) → AllBelow 256 (joinedParts ps ++ joinedParts qs) → (n : ℕ) → rowsIn (feed start (ps ++ qs) .runs) ≤ n
+    → (hs : List Handed) × (starting 0 (runsOf (readAll n (joinedParts ps ++ joinedParts qs))) ≡ feed start ps .runs ++ hs)
 
 -- an unfinished run's refusals are 1, 6, 12, 13 and 14: an open reader refuses a part exactly if the run reader, over the bytes held and the part's, gives
 -- another
@@ -142,12 +142,12 @@ pub record Stands (t : Standing) (w : Stream) : Type 0 where
 
 -- after every list of parts, with room enough for the rows handed out ..
 abbrev pub BeforeClosing : Type 0
-BeforeClosing = (ps : List (List ℕ)) → AllBelow 256 (together ps) → (n : ℕ) → rowsIn (feed start ps .runs) ≤ n
-    → Stands (feed start ps .state .standing) (streamAnswer 0 (readAll n (together ps)))
+BeforeClosing = (ps : List (List ℕ)) → AllBelow 256 (joinedParts ps) → (n : ℕ) → rowsIn (feed start ps .runs) ≤ n
+    → Stands (feed start ps .state .standing) (streamAnswer 0 (readAll n (joinedParts ps)))
 
 -- .. which 512 places a byte always are
 abbrev pub EnoughRoom : Type 0
-EnoughRoom = (ps : List (List ℕ)) → AllBelow 256 (together ps) → rowsIn (feed start ps .runs) ≤ 512 * length (together ps)
+EnoughRoom = (ps : List (List ℕ)) → AllBelow 256 (joinedParts ps) → rowsIn (feed start ps .runs) ≤ 512 * length (joinedParts ps)
 
 -- an answer that is no run
 abbrev pub NoRun : PartAnswer → Type 0
@@ -172,7 +172,7 @@ AfterLast = (places : ℕ) (s : State) (a : Reply) → 512 ≤ places → close 
     → (close places s .taken ≡ 0) × Repeats (close places s .state) a
 
 abbrev pub AfterClosing : Type 0
-AfterClosing = (ps : List (List ℕ)) → AllBelow 256 (together ps) → Repeats (close 512 (feed start ps .state) .state) (readParts ps .answer)
+AfterClosing = (ps : List (List ℕ)) → AllBelow 256 (joinedParts ps) → Repeats (close 512 (feed start ps .state) .state) (readParts ps .answer)
 
 -- 8 changes nothing, whatever the state: the call may be made again
 pub record NoRoom (places : ℕ) (s : State) : Type 0 where
@@ -192,7 +192,7 @@ MorePlaces = (places : ℕ) (s : State) → 512 ≤ places → AsIn512 places s
 
 -- what is held is one byte at least shorter than the longest run
 abbrev pub HeldBelow : Type 0
-HeldBelow = (ps : List (List ℕ)) → AllBelow 256 (together ps) → length (feed start ps .state .held) < 4356
+HeldBelow = (ps : List (List ℕ)) → AllBelow 256 (joinedParts ps) → length (feed start ps .state .held) < 4356
 
 -- After a call with a part the reader and the lent bytes stand for that call's state: so the code's calls, one after another, do what `feed` does.
 abbrev pub Follows : Type 0

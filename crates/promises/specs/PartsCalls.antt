@@ -18,7 +18,7 @@ use Rattle.format.specs.Streams.{readAll, runsOf}
 use Rattle.format.specs.Promises.{runOf, StreamRead}
 use Rattle.format.specs.Rows.{i64Rows}
 use Rattle.format.specs.Parts.{Handed, fresh, answered, Takes, Closes}
-use Rattle.promises.specs.Parts.{NoRun, Stands, readParts, together, starting, lastAnswer}
+use Rattle.promises.specs.Parts.{NoRun, Stands, readParts, joinedParts, starting, lastAnswer}
 
 -- a run as a call gives it: its start, what the answer says of it, and its rows in the first places
 pub record Shown : Type 0 where
@@ -53,7 +53,7 @@ pub data Offered (signed : Bool) : PartReader → List ℕ → List (List ℕ) �
 -- From a fresh reader, whatever stood in the lent bytes: the runs, with their starts and rows, and the answer of the closing call are `readParts`'s, which
 -- are the whole stream's.
 abbrev pub Delivers : Type 0
-Delivers = (signed : Bool) (ps : List (List ℕ)) (buffer b : List ℕ) (hs : List Shown) (t : PartReader) (out out′ : List ℤ) (r : PartStep) → AllBelow 256 (together ps)
+Delivers = (signed : Bool) (ps : List (List ℕ)) (buffer b : List ℕ) (hs : List Shown) (t : PartReader) (out out′ : List ℤ) (r : PartStep) → AllBelow 256 (joinedParts ps)
     → Offered signed fresh buffer ps hs t b → Lent b out → Closes t b signed out out′ r
     → (hs ≡ map (shown signed) (readParts ps .runs)) × (r .answer ≡ answered (readParts ps .answer))
 
@@ -69,14 +69,14 @@ pub record AsStream (signed : Bool) (bytes : List ℕ) (hs : List Shown) (r : Pa
   pub answer : r .answer ≡ answered (lastAnswer w)
 
 abbrev pub AsStreamHolds : Type 0
-AsStreamHolds = (signed : Bool) (ps : List (List ℕ)) (buffer b : List ℕ) (hs : List Shown) (t : PartReader) (out out′ : List ℤ) (r : PartStep) → AllBelow 256 (together ps)
+AsStreamHolds = (signed : Bool) (ps : List (List ℕ)) (buffer b : List ℕ) (hs : List Shown) (t : PartReader) (out out′ : List ℤ) (r : PartStep) → AllBelow 256 (joinedParts ps)
     → Offered signed fresh buffer ps hs t b → Lent b out → Closes t b signed out out′ r
-    → (all all′ : List ℤ) (w : Stream) → StreamRead (together ps) 0 signed all all′ w → length (rowsShown hs) ≤ length all
-    → AsStream signed (together ps) hs r all all′ w
+    → (all all′ : List ℤ) (w : Stream) → StreamRead (joinedParts ps) 0 signed all all′ w → length (rowsShown hs) ≤ length all
+    → AsStream signed (joinedParts ps) hs r all all′ w
 
 -- And before the closing call: the reader stands refused, or is open, as the stream reader's answer over the bytes so far says.
 abbrev pub StandsHolds : Type 0
-StandsHolds = (signed : Bool) (ps : List (List ℕ)) (buffer b : List ℕ) (hs : List Shown) (t : PartReader) → AllBelow 256 (together ps)
+StandsHolds = (signed : Bool) (ps : List (List ℕ)) (buffer b : List ℕ) (hs : List Shown) (t : PartReader) → AllBelow 256 (joinedParts ps)
     → Offered signed fresh buffer ps hs t b
-    → (all all′ : List ℤ) (w : Stream) → StreamRead (together ps) 0 signed all all′ w → length (rowsShown hs) ≤ length all
+    → (all all′ : List ℤ) (w : Stream) → StreamRead (joinedParts ps) 0 signed all all′ w → length (rowsShown hs) ≤ length all
     → Stands (t .standing) w

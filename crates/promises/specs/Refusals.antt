@@ -176,13 +176,13 @@ pub data Table (places : ℕ) (bs : List ℕ) : ℕ → Type 0 where
   refusal-8 : Line8 places bs → Table places bs 8
 
 -- why a refusal is given: by its number's line, or by the field that the input ends in
-pub data Given (places : ℕ) (bs : List ℕ) : Reason → Type 0 where
-  by-number : {n : ℕ} → Table places bs n → Given places bs (plain n)
-  by-field : {n field : ℕ} → CutLine bs n field → Given places bs (cutIn n (drop field bs))
+pub data TableGives (places : ℕ) (bs : List ℕ) : Reason → Type 0 where
+  by-number : {n : ℕ} → Table places bs n → TableGives places bs (plain n)
+  by-field : {n field : ℕ} → CutLine bs n field → TableGives places bs (cutIn n (drop field bs))
 
 -- for every list of bytes and number of places: a refusal is given exactly when its line of the table holds ..
 abbrev pub RefusalsHold : Type 0
-RefusalsHold = (places : ℕ) (bs : List ℕ) → AllBelow 256 bs → (r : Reason) → (into places (parse bs) ≡ refused r) ↔ Given places bs r
+RefusalsHold = (places : ℕ) (bs : List ℕ) → AllBelow 256 bs → (r : Reason) → (into places (parse bs) ≡ refused r) ↔ TableGives places bs r
 
 -- .. and so says the run reader's promise, of every input, position, flag and lent places: a number with the byte where the refused run begins, and
 -- for a cut field also the byte where the field begins

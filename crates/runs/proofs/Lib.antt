@@ -3,4 +3,4 @@ pub mod Blocks
 pub mod Lines
 pub mod Pieces
 pub mod Turns
-pub mod Handed
+pub mod TextSaid

@@ -22,7 +22,7 @@ use Rattle.runs.specs.declared.Left.{Left}
 use Rattle.runs.specs.declared.Left.the-variants.{Begun, Ended, Failed, Unwritten}
 use Rattle.runs.proofs.Blocks.{answers-append, no-open, block-turn, program-blocks}
 use Rattle.runs.proofs.Pieces.{whole-text, open-text}
-use Rattle.runs.proofs.Handed.{read-pending, read-open, pending-open}
+use Rattle.runs.proofs.TextSaid.{read-pending, read-open, pending-open}
 
 -- ---- from turn to turn
 

@@ -123,10 +123,10 @@ pub record Last (reads : Reads) (said : Said) (line : List ℕ) : Type 0 where
 -- ---- for the functions that read and write
 
 -- what is known of the input after a read, by what the system answered
-abbrev pub Given : Reads → Said → List ℕ → ℤ → Type 0
-Given reads said input (pos zero) = NoNewline input × Last reads said input
-Given reads said input (pos (suc k)) = Pending reads said input
-Given reads said input (negsuc k) = Unit {0}
+abbrev pub ReadGave : Reads → Said → List ℕ → ℤ → Type 0
+ReadGave reads said input (pos zero) = NoNewline input × Last reads said input
+ReadGave reads said input (pos (suc k)) = Pending reads said input
+ReadGave reads said input (negsuc k) = Unit {0}
 
 -- WHAT COMES OF A READ, by what the system answered.
 

@@ -11,7 +11,7 @@ ghost use Prim.Native.Nat.{_+_, _<_, _≤_, _^_};
 ghost use lib.ListN.{length};
 ghost use Rattle.lines.specs.Line.{answerRoom};
 ghost use Rattle.blocks.specs.Blocks.{part, came, NoNewline};
-ghost use Rattle.runs.specs.Program.{Pending, Last, Given, Open, AfterBlock, AfterEnd, After, Turned, Over};
+ghost use Rattle.runs.specs.Program.{Pending, Last, ReadGave, Open, AfterBlock, AfterEnd, After, Turned, Over};
 
 // From where to where in the input a line has begun; that the input has ended; that reading failed; or that the output cannot be written.
 enum Left {
@@ -99,7 +99,7 @@ fn answer_came(
     error: i32,
     output: &mut [u8],
 ) -> Outcome
-    requires { ⌜ Given reads before (now input) got × (answerRoom ≤ length (now output)) ⌝ }
+    requires { ⌜ ReadGave reads before (now input) got × (answerRoom ≤ length (now output)) ⌝ }
     ensures { λ r. ⌜ After reads before (now (input .entry)) held got error (r .left) (r .said) ⌝ }
 {
     if got > 0 {

@@ -15,8 +15,8 @@ use Rattle.format.specs.Runs.{Description}
 use Rattle.format.specs.Streams.{totalRows}
 use Rattle.salvage.specs.Salvage
 use Rattle.salvage.specs.Salvage.{Group, groups, rising, startsRight, mended, salvaged, report, unless, salvaging}
-use Rattle.salvage.specs.Laws.{AllBytes, AllKept, counts, together, startsFrom, RightStarts, Room, SomeRows, trueGroups, AllValidGroups, renewed, CallHolds}
-use Rattle.salvage.proofs.Grouping.{renew, some-rows, kept-together, runs-kept, renewed-together, salvaged-holds}
+use Rattle.salvage.specs.Laws.{AllBytes, AllKept, counts, joinedGroups, startsFrom, RightStarts, Room, SomeRows, trueGroups, AllValidGroups, renewed, CallHolds}
+use Rattle.salvage.proofs.Grouping.{renew, some-rows, kept-joined, runs-kept, renewed-joined, salvaged-holds}
 use Rattle.salvage.proofs.Starting.{back}
 use Rattle.format.proofs.Tests.{T-true, and-e, and-i}
 
@@ -77,21 +77,21 @@ module _ (signed : Bool) (fill : ℤ) (fits : SFits w64 fill) where
         );
       }
 
-  call : (gs : List Group) (places lines : ℕ) → T (startsRight (length (together gs)) (startsFrom 0 gs)) → length (salvaged signed fill gs) ≤ places → length (report 0 gs) ≤ lines
-      → salvaging signed fill (together gs) (startsFrom 0 gs) (counts gs) places lines ≡ Salvage.written (salvaged signed fill gs) (report 0 gs)
+  call : (gs : List Group) (places lines : ℕ) → T (startsRight (length (joinedGroups gs)) (startsFrom 0 gs)) → length (salvaged signed fill gs) ≤ places → length (report 0 gs) ≤ lines
+      → salvaging signed fill (joinedGroups gs) (startsFrom 0 gs) (counts gs) places lines ≡ Salvage.written (salvaged signed fill gs) (report 0 gs)
   unfolding salvaging
   call gs places lines r p l =
-      rw (back gs, eq-eqb (length (startsFrom 0 gs)) (length (counts gs)) (length-starts 0 gs), T-true (startsRight (length (together gs)) (startsFrom 0 gs)) r, le-ltb places (length (salvaged signed fill gs)) p, le-ltb lines (length (report 0 gs)) l)
+      rw (back gs, eq-eqb (length (startsFrom 0 gs)) (length (counts gs)) (length-starts 0 gs), T-true (startsRight (length (joinedGroups gs)) (startsFrom 0 gs)) r, le-ltb places (length (salvaged signed fill gs)) p, le-ltb lines (length (report 0 gs)) l)
 
   pub true-kept : (dss : List (List Description)) → AllValidGroups dss → AllKept (trueGroups dss)
   true-kept [] v = tt
   true-kept (ds ∷ dss) v = (runs-kept signed fill fits ds (totalRows ds) (v .0) refl, true-kept dss (v .1))
 
-  pub true-groups : (dss : List (List Description)) → AllValidGroups dss → (bs : List ℕ) → bs ≡ together (trueGroups dss)
+  pub true-groups : (dss : List (List Description)) → AllValidGroups dss → (bs : List ℕ) → bs ≡ joinedGroups (trueGroups dss)
       → T (startsRight (length bs) (startsFrom 0 (trueGroups dss))) → (places lines : ℕ) → length bs ≤ places → length (report 0 (trueGroups dss)) ≤ lines
       → salvaging signed fill bs (startsFrom 0 (trueGroups dss)) (counts (trueGroups dss)) places lines ≡ Salvage.written bs (report 0 (trueGroups dss))
   true-groups dss v bs e r places lines p l =
-      let k = kept-together signed fill fits (trueGroups dss) (true-kept dss v) in
+      let k = kept-joined signed fill fits (trueGroups dss) (true-kept dss v) in
       rw e (rw k at (call (trueGroups dss) places lines (rw e at r) (rw (k, ← e) p) l))
 
   -- the new starts rise exactly past groups with rows
@@ -119,6 +119,6 @@ module _ (signed : Bool) (fill : ℤ) (fits : SFits w64 fill) where
       ≡ Salvage.written (salvaged signed fill gs) (report 0 (renewed signed fill gs))
   twice gs h some places lines p l =
       let new : List Group = renewed signed fill gs in
-      let e : together new ≡ salvaged signed fill gs = renewed-together signed fill fits gs in
+      let e : joinedGroups new ≡ salvaged signed fill gs = renewed-joined signed fill fits gs in
       let a : salvaged signed fill new ≡ salvaged signed fill gs = salvaged-holds signed fill fits gs h .again in
       rw (e, a, counts-renewed gs) at (call new places lines (rw e (new-starts gs h .1 some)) (rw a p) l)

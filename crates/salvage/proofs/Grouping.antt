@@ -22,7 +22,7 @@ use Rattle.format.proofs.StreamRoom.{stream-is}
 use Rattle.format.proofs.Joined.{rows-le, total-append, joined-append, rows-append}
 use Rattle.format.proofs.Tests.{T-true}
 use Rattle.salvage.specs.Salvage.{Group, keptOf, kept, fillRuns, mended, salvaged}
-use Rattle.salvage.specs.Laws.{AllBytes, AllKept, counts, sum, together, groupRows, renewed, SalvagedHolds}
+use Rattle.salvage.specs.Laws.{AllBytes, AllKept, counts, sum, joinedGroups, groupRows, renewed, SalvagedHolds}
 use Rattle.salvage.proofs.Tests.{same-test}
 use Rattle.salvage.proofs.Filling.{valid-append, fill-runs}
 
@@ -134,10 +134,10 @@ module _ (signed : Bool) (fill : ℤ) (fits : SFits w64 fill) where
   unfolding mended
   kept-bytes g t = rw (T-true (kept g) t)
 
-  pub kept-together : (gs : List Group) → AllKept gs → salvaged signed fill gs ≡ together gs
-  unfolding salvaged together
-  kept-together [] h = refl
-  kept-together (g ∷ gs) h = rw (kept-bytes g (h .0), kept-together gs (h .1))
+  pub kept-joined : (gs : List Group) → AllKept gs → salvaged signed fill gs ≡ joinedGroups gs
+  unfolding salvaged joinedGroups
+  kept-joined [] h = refl
+  kept-joined (g ∷ gs) h = rw (kept-bytes g (h .0), kept-joined gs (h .1))
 
   -- runs are kept with their rows
   pub runs-kept : (ds : List Description) (n : ℕ) → AllValid ds → totalRows ds ≡ n → T (kept (record { bytes = joined ds; rows = n }))
@@ -151,10 +151,10 @@ module _ (signed : Bool) (fill : ℤ) (fits : SFits w64 fill) where
       let r = renew g (h .0) in
       (rw (r .bytes) (runs-kept (r .runs) (g .rows) (r .valid) (r .total)), renewed-kept gs (h .1))
 
-  pub renewed-together : (gs : List Group) → together (renewed signed fill gs) ≡ salvaged signed fill gs
-  unfolding renewed together salvaged
-  renewed-together [] = refl
-  renewed-together (g ∷ gs) = rw (renewed-together gs)
+  pub renewed-joined : (gs : List Group) → joinedGroups (renewed signed fill gs) ≡ salvaged signed fill gs
+  unfolding renewed joinedGroups salvaged
+  renewed-joined [] = refl
+  renewed-joined (g ∷ gs) = rw (renewed-joined gs)
 
   pub salvaged-holds : (gs : List Group) → AllBytes gs → SalvagedHolds signed fill gs
   salvaged-holds gs h =
@@ -166,7 +166,7 @@ module _ (signed : Bool) (fill : ℤ) (fits : SFits w64 fill) where
         in-places = λ n l. ap (readAll n) (r .bytes) ∙ stream-whole n (r .runs) (r .valid) (omega (arith, r .total));
         total = r .total;
         rows = r .rows;
-        unchanged = kept-together gs;
+        unchanged = kept-joined gs;
         all-kept = k;
-        again = kept-together (renewed signed fill gs) k ∙ renewed-together gs;
+        again = kept-joined (renewed signed fill gs) k ∙ renewed-joined gs;
       }

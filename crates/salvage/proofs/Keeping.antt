@@ -12,7 +12,7 @@ use Rattle.format.specs.declared.Refusal.{Refusal}
 use Rattle.format.specs.declared.Stream.the-variants.{Whole, Refused}
 use Rattle.format.specs.Digits.{AllBelow}
 use Rattle.format.specs.Fields.{two64}
-use Rattle.format.specs.Words.{streamRows}
+use Rattle.format.specs.Answers.{streamRows}
 use Rattle.format.specs.Promises.{streamAnswer}
 use Rattle.format.specs.Streams.{Reading, whole, broken, readAll, runsFrom, stream, totalRows}
 use Rattle.salvage.specs.Salvage.{keptOf, kept}

@@ -34,7 +34,7 @@ module _ (signed : Bool) (fill : ℤ) (bs starts ns : List ℕ) where
 
   -- ---- the groups before i are written, and their lines
 
-  pub record Laid (out₀ lines₀ out lines : List ℕ) (stream told i : ℕ) : Type 0 where
+  pub record GroupsLaid (out₀ lines₀ out lines : List ℕ) (stream told i : ℕ) : Type 0 where
     pub bound : i ≤ length starts
     pub done : List ℕ
     pub said : List ℕ
@@ -46,7 +46,7 @@ module _ (signed : Bool) (fill : ℤ) (bs starts ns : List ℕ) where
     pub same-lines : length lines ≡ length lines₀
     pub room : Room (length out₀) (length lines₀) (new signed fill bs starts ns) (text signed fill bs starts ns)
 
-  pub laid-none : (out lines : List ℕ) → roomFor signed fill bs starts ns (length out) (length lines) ≡ true → Laid out lines out lines 0 0 0
+  pub laid-none : (out lines : List ℕ) → roomFor signed fill bs starts ns (length out) (length lines) ≡ true → GroupsLaid out lines out lines 0 0 0
   laid-none out lines e = record {
     bound = omega arith;
     done = [];
@@ -60,7 +60,7 @@ module _ (signed : Bool) (fill : ℤ) (bs starts ns : List ℕ) where
     room = has e;
   }
 
-  module _ {out₀ lines₀ out lines bytes : List ℕ} {stream told i rows first : ℕ} {keep : Bool} (l : Laid out₀ lines₀ out lines stream told i) (t : Turn signed fill bs starts ns i bytes rows keep first) where
+  module _ {out₀ lines₀ out lines bytes : List ℕ} {stream told i rows first : ℕ} {keep : Bool} (l : GroupsLaid out₀ lines₀ out lines stream told i) (t : Turn signed fill bs starts ns i bytes rows keep first) where
     at-stream : (l .done ++ made keep bytes first rows) ++ salvaged signed fill (drop (suc i) (gs signed fill bs starts ns)) ≡ new signed fill bs starts ns
     at-stream =
         append-assoc (l .done) (made keep bytes first rows) (salvaged signed fill (drop (suc i) (gs signed fill bs starts ns)))
@@ -97,7 +97,7 @@ module _ (signed : Bool) (fill : ℤ) (bs starts ns : List ℕ) where
         )
 
     pub laid-next : {out′ lines′ : List ℕ} {stream′ told′ : ℕ} → i < length starts → TextWritten (made keep bytes first rows) out stream out′ stream′ → length out′ ≡ length out
-        → TextWritten (line keep i rows) lines told lines′ told′ → length lines′ ≡ length lines → Laid out₀ lines₀ out′ lines′ stream′ told′ (i + 1)
+        → TextWritten (line keep i rows) lines told lines′ told′ → length lines′ ≡ length lines → GroupsLaid out₀ lines₀ out′ lines′ stream′ told′ (i + 1)
     laid-next h w s v r =
         let e : i + 1 ≡ suc i = omega arith in
         rw e (record {
@@ -155,7 +155,7 @@ module _ (signed : Bool) (fill : ℤ) (bs starts ns : List ℕ) where
   was-refused n {out} {lines} {r} e f = record { answer = rw e f; new-stream = rw e; report-is = rw e }
 
   pub was-written : {out₀ lines₀ out lines : List ℕ} {stream told i : ℕ} {r : Outcome} → RightStarts bs starts ns → roomFor signed fill bs starts ns (length out₀) (length lines₀) ≡ true
-      → Laid out₀ lines₀ out lines stream told i → length starts ≤ i → r ≡ writtenOf stream told → Salvaged bs starts ns fill signed out₀ out lines₀ lines r
+      → GroupsLaid out₀ lines₀ out lines stream told i → length starts ≤ i → r ≡ writtenOf stream told → Salvaged bs starts ns fill signed out₀ out lines₀ lines r
   unfolding salvaged report
   was-written {out₀} {lines₀} {out} {lines} {stream} {told} {i} {r} s e l h f =
       let g = groups-end bs starts ns i h in

@@ -10,7 +10,7 @@ use Rattle.format.specs.Digits.{AllBelow}
 use Rattle.format.proofs.Below.{below-take, below-drop}
 use Rattle.format.proofs.Tests.{and-e}
 use Rattle.salvage.specs.Salvage.{Group, groups, rising, startsRight}
-use Rattle.salvage.specs.Laws.{AllBytes, counts, together, startsFrom, RightStarts}
+use Rattle.salvage.specs.Laws.{AllBytes, counts, joinedGroups, startsFrom, RightStarts}
 
 pub groups-none : (bs ns : List ℕ) → groups bs [] ns ≡ []
 unfolding groups
@@ -27,18 +27,18 @@ groups-cons bs s t n ss ns = refl
 same-group : {b c : List ℕ} (n : ℕ) {gs hs : List Group} → b ≡ c → gs ≡ hs → record { bytes = b; rows = n } ∷ gs ≡ record { bytes = c; rows = n } ∷ hs
 same-group n e f = rw (e, f)
 
-back-from : (p : List ℕ) (gs : List Group) → groups (p ++ together gs) (startsFrom (length p) gs) (counts gs) ≡ gs
-unfolding together startsFrom
+back-from : (p : List ℕ) (gs : List Group) → groups (p ++ joinedGroups gs) (startsFrom (length p) gs) (counts gs) ≡ gs
+unfolding joinedGroups startsFrom
 back-from p [] = groups-none (p ++ []) []
 back-from p (g ∷ []) = groups-last _ _ _ _ ∙ same-group (g .rows) (drop-append-seam p (g .bytes ++ []) ∙ append-nil (g .bytes)) refl
 back-from p (g ∷ h ∷ gs) =
-    let bs : List ℕ = p ++ (g .bytes ++ together (h ∷ gs)) in
+    let bs : List ℕ = p ++ (g .bytes ++ joinedGroups (h ∷ gs)) in
     let l : length p + length (g .bytes) - length p ≡ length (g .bytes) = omega arith in
-    let first : take (length p + length (g .bytes) - length p) (drop (length p) bs) ≡ g .bytes = rw (l, drop-append-seam p (g .bytes ++ together (h ∷ gs))) (take-append-seam (g .bytes) (together (h ∷ gs))) in
-    let rest : groups bs (startsFrom (length p + length (g .bytes)) (h ∷ gs)) (counts (h ∷ gs)) ≡ h ∷ gs = rw (append-assoc p (g .bytes) (together (h ∷ gs)), length-append p (g .bytes)) at (back-from (p ++ g .bytes) (h ∷ gs)) in
+    let first : take (length p + length (g .bytes) - length p) (drop (length p) bs) ≡ g .bytes = rw (l, drop-append-seam p (g .bytes ++ joinedGroups (h ∷ gs))) (take-append-seam (g .bytes) (joinedGroups (h ∷ gs))) in
+    let rest : groups bs (startsFrom (length p + length (g .bytes)) (h ∷ gs)) (counts (h ∷ gs)) ≡ h ∷ gs = rw (append-assoc p (g .bytes) (joinedGroups (h ∷ gs)), length-append p (g .bytes)) at (back-from (p ++ g .bytes) (h ∷ gs)) in
     groups-cons _ _ _ _ _ _ ∙ same-group (g .rows) first rest
 
-pub back : (gs : List Group) → groups (together gs) (startsFrom 0 gs) (counts gs) ≡ gs
+pub back : (gs : List Group) → groups (joinedGroups gs) (startsFrom 0 gs) (counts gs) ≡ gs
 back gs = back-from [] gs
 
 starts-same : (s : ℕ) (before behind : List Group) (g k : Group) → length (g .bytes) ≡ length (k .bytes)
@@ -52,7 +52,7 @@ counts-same [] behind g k e = ap (λ (n : ℕ). n ∷ counts behind) e
 counts-same (h ∷ before) behind g k e = ap (λ (l : List ℕ). h .rows ∷ l) (counts-same before behind g k e)
 
 pub damage : (before behind : List Group) (g : Group) (b : List ℕ) → length b ≡ length (g .bytes)
-    → groups (together (before ++ (record { bytes = b; rows = g .rows } ∷ behind))) (startsFrom 0 (before ++ (g ∷ behind))) (counts (before ++ (g ∷ behind)))
+    → groups (joinedGroups (before ++ (record { bytes = b; rows = g .rows } ∷ behind))) (startsFrom 0 (before ++ (g ∷ behind))) (counts (before ++ (g ∷ behind)))
     ≡ before ++ (record { bytes = b; rows = g .rows } ∷ behind)
 damage before behind g b e =
     let k : Group = record { bytes = b; rows = g .rows } in
@@ -60,8 +60,8 @@ damage before behind g b e =
 
 -- the bytes from a start on are made up of the groups from it on
 make-from : (bs : List ℕ) (s : ℕ) (ss ns : List ℕ) → T (rising (length bs) s ss) → suc (length ss) ≡ length ns
-    → (together (groups bs (s ∷ ss) ns) ≡ drop s bs) × (counts (groups bs (s ∷ ss) ns) ≡ ns)
-unfolding rising together
+    → (joinedGroups (groups bs (s ∷ ss) ns) ≡ drop s bs) × (counts (groups bs (s ∷ ss) ns) ≡ ns)
+unfolding rising joinedGroups
 make-from bs s ss [] r e = absurd (omega arith)
 make-from bs s [] (n ∷ ns) r e = rw (groups-last bs s n ns) (append-nil (drop s bs), ap (λ (l : List ℕ). n ∷ l) (none ns (omega arith)))
   where
@@ -76,8 +76,8 @@ make-from bs s (t ∷ ss) (n ∷ ns) r e =
     rw (groups-cons bs s t n ss ns)
     (ap (λ (x : List ℕ). take (t - s) (drop s bs) ++ x) (ih .0 ∙ d) ∙ take-append-drop (t - s) (drop s bs), ap (λ (x : List ℕ). n ∷ x) (ih .1))
 
-pub make-up : (bs starts ns : List ℕ) → RightStarts bs starts ns → (together (groups bs starts ns) ≡ bs) × (counts (groups bs starts ns) ≡ ns)
-unfolding startsRight together
+pub make-up : (bs starts ns : List ℕ) → RightStarts bs starts ns → (joinedGroups (groups bs starts ns) ≡ bs) × (counts (groups bs starts ns) ≡ ns)
+unfolding startsRight joinedGroups
 make-up [] [] [] r = rw (groups-none [] []) (refl, refl)
 make-up (b ∷ bs) [] [] r = absurd (omega (arith, eqb→eq (suc (length bs)) 0 (r .right)))
 make-up bs [] (n ∷ ns) r = absurd (omega (arith, r .lengths))

@@ -39,9 +39,9 @@ sum [] = 0
 sum (n ∷ ns) = n + sum ns
 
 -- the groups' bytes, joined; and where each of them begins, the first at s
-unfoldable pub together : List Group → List ℕ
-together [] = []
-together (g ∷ gs) = g .bytes ++ together gs
+unfoldable pub joinedGroups : List Group → List ℕ
+joinedGroups [] = []
+joinedGroups (g ∷ gs) = g .bytes ++ joinedGroups gs
 
 unfoldable pub startsFrom : ℕ → List Group → List ℕ
 startsFrom s [] = []
@@ -104,7 +104,7 @@ module _ (signed : Bool) (fill : ℤ) where
     pub rows : (before behind : List Group) (g : Group) → gs ≡ before ++ (g ∷ behind)
         → take (g .rows) (drop (sum (counts before)) (joinedRows signed runs)) ≡ groupRows g
     -- all kept: nothing changes
-    pub unchanged : AllKept gs → salvaged signed fill gs ≡ together gs
+    pub unchanged : AllKept gs → salvaged signed fill gs ≡ joinedGroups gs
     -- in the new stream every group is kept, so that salvaging it again changes nothing
     pub all-kept : AllKept (renewed gs)
     pub again : salvaged signed fill (renewed gs) ≡ salvaged signed fill gs
@@ -121,17 +121,17 @@ module _ (signed : Bool) (fill : ℤ) where
   -- ---- BY STARTS AND COUNTS
   pub record StartsHold : Type 0 where
     -- right starts cut the stream into groups that make it up, of the counts listed
-    pub make-up : (bs starts ns : List ℕ) → RightStarts bs starts ns → (together (groups bs starts ns) ≡ bs) × (counts (groups bs starts ns) ≡ ns)
+    pub make-up : (bs starts ns : List ℕ) → RightStarts bs starts ns → (joinedGroups (groups bs starts ns) ≡ bs) × (counts (groups bs starts ns) ≡ ns)
     pub of-bytes : (bs starts ns : List ℕ) → AllBelow 256 bs → AllBytes (groups bs starts ns)
     -- and any groups are those of their joined bytes, with their own starts
-    pub back : (gs : List Group) → groups (together gs) (startsFrom 0 gs) (counts gs) ≡ gs
+    pub back : (gs : List Group) → groups (joinedGroups gs) (startsFrom 0 gs) (counts gs) ≡ gs
     -- bytes changed within one group leave every other group as it was
     pub damage : (before behind : List Group) (g : Group) (b : List ℕ) → length b ≡ length (g .bytes)
-        → groups (together (before ++ (record { bytes = b; rows = g .rows } ∷ behind))) (startsFrom 0 (before ++ (g ∷ behind))) (counts (before ++ (g ∷ behind)))
+        → groups (joinedGroups (before ++ (record { bytes = b; rows = g .rows } ∷ behind))) (startsFrom 0 (before ++ (g ∷ behind))) (counts (before ++ (g ∷ behind)))
         ≡ before ++ (record { bytes = b; rows = g .rows } ∷ behind)
     -- a whole stream with its true groups is all kept, and comes out byte for byte
     pub true-kept : (dss : List (List Description)) → AllValidGroups dss → AllKept (trueGroups dss)
-    pub true-groups : (dss : List (List Description)) → AllValidGroups dss → (bs : List ℕ) → bs ≡ together (trueGroups dss)
+    pub true-groups : (dss : List (List Description)) → AllValidGroups dss → (bs : List ℕ) → bs ≡ joinedGroups (trueGroups dss)
         → T (startsRight (length bs) (startsFrom 0 (trueGroups dss))) → (places lines : ℕ) → length bs ≤ places → length (report 0 (trueGroups dss)) ≤ lines
         → salvaging signed fill bs (startsFrom 0 (trueGroups dss)) (counts (trueGroups dss)) places lines ≡ written bs (report 0 (trueGroups dss))
     -- the new starts are right exactly if no group but the last lists 0 rows (such a group becomes no bytes) ..
@@ -157,7 +157,7 @@ SalvageProved = (signed : Bool) (fill : ℤ) → SFits w64 fill → SalvageHolds
 -- ---- THE PROMISE, as a caller has it
 
 module _ (input starts ns : List ℕ) (out out′ lines lines′ : List ℕ) (r : Outcome) where
-  pub record Given : Type 0 where
+  pub record SalvageGives : Type 0 where
     -- where bytes were written, they read whole, with the sum of the listed counts for their rows
     pub reads : (m k : ℕ) → r ≡ writtenOf m k → (ds : List Description) × (stream (take m out′) ≡ whole ds) × (totalRows ds ≡ sum ns)
     -- a refused call leaves every byte as it was
@@ -166,7 +166,7 @@ module _ (input starts ns : List ℕ) (out out′ lines lines′ : List ℕ) (r 
 abbrev pub SalvageGiven : Type 0
 SalvageGiven =
     (input starts ns : List ℕ) (fill : ℤ) (signed : Bool) (out out′ lines lines′ : List ℕ) (r : Outcome) → SFits w64 fill → AllBelow 256 input
-    → Salvaged input starts ns fill signed out out′ lines lines′ r → Given input starts ns out out′ lines lines′ r
+    → Salvaged input starts ns fill signed out out′ lines lines′ r → SalvageGives input starts ns out out′ lines lines′ r
 
 -- any two outcomes that the promise allows are equal
 abbrev pub SalvageDetermined : Type 0

@@ -15,18 +15,18 @@ use Rattle.format.specs.Runs.{Description, rowCount}
 use Rattle.format.specs.Rows.{i64Rows}
 use Rattle.format.specs.Parse.{plain, cut, Parsed, end, got, refused, parse, into}
 use Rattle.format.proofs.Rows.{i64-count}
-use Rattle.format.specs.Promises.{answerOf, placesOf}
+use Rattle.format.specs.Promises.{answerOf, runPlaces}
 use Rattle.format.specs.declared.Answer.{Answer}
 use Rattle.text.specs.Hexadecimal.{hexValue, allHex, hexBytes}
 use Rattle.lines.specs.declared.Reading.the-variants.{Bad, Answered}
 use Rattle.lines.specs.Line.{badLine, frameOf, frameReading, framePlaces, LineRead}
-use Rattle.season.specs.Totals.{Line, bad, answered}
-use Rattle.season.specs.Held.{lineWith, replyTo, takeLine}
-use Rattle.season.specs.declared.Totals.{Totals}
-use Rattle.season.specs.declared.Taken.{Taken}
-use Rattle.season.specs.Laws.{AllBytes, I64}
-use Rattle.season.proofs.Lines.{lines-read}
-use Rattle.season.proofs.Sizes.{all-fit}
+use Rattle.tally.specs.Totals.{Line, bad, answered}
+use Rattle.tally.specs.Held.{lineWith, replyTo, takeLine}
+use Rattle.tally.specs.declared.totals.Totals.{Totals}
+use Rattle.tally.specs.declared.totals.Taken.{Taken}
+use Rattle.tally.specs.Laws.{AllBytes, I64}
+use Rattle.tally.proofs.Lines.{lines-read}
+use Rattle.tally.proofs.Sizes.{all-fit}
 use Rattle.totals.specs.Program.{answerTo, answersTo}
 
 -- ---- a line's bytes are bytes
@@ -91,7 +91,7 @@ answer-is [] out out′ a b l e p = let z : _≡_ {A = ℕ} 0 1 = cc in absurd (
 answer-is (flag ∷ run) out out′ a b l e p =
     let g : a ≡ answerOf 1 (length run) (into (length out) (parse run)) = cc in
     let h : a ≡ answerOf 1 (length run) (into 512 (parse run)) = rw l at g in
-    let q : out′ ≡ placesOf (eqb flag 1) out (into 512 (parse run)) = rw l at p in
+    let q : out′ ≡ runPlaces (eqb flag 1) out (into 512 (parse run)) = rw l at p in
     rw (h, q) (lines-read flag run 1 out (b .1) .as-answered)
 
 read-answer : (line : List ℕ) (out out′ : List ℤ) (a : Answer) → length out ≡ 512 → LineRead line out out′ (Answered a)
@@ -99,7 +99,7 @@ read-answer : (line : List ℕ) (out out′ : List ℤ) (a : Answer) → length 
 read-answer line out out′ a l r = answer-is (frameOf line) out out′ a (frame-below line) l (r .answer) (r .places)
 
 -- the rows of an answer stand in the places
-answer-within : (signed : Bool) (at total : ℕ) (out : List ℤ) (m : Parsed Description) → answerRows (answerOf at total m) ≤ length (placesOf signed out m)
+answer-within : (signed : Bool) (at total : ℕ) (out : List ℤ) (m : Parsed Description) → answerRows (answerOf at total m) ≤ length (runPlaces signed out m)
 answer-within signed at total out end = omega arith
 answer-within signed at total out (got d rest) = omega (arith, length-append (i64Rows signed d) (drop (rowCount d) out), i64-count signed d)
 answer-within signed at total out (refused (plain n)) = omega arith

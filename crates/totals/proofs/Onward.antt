@@ -9,12 +9,12 @@ use borrow.Author.Tests.{eq-eqb, ne-eqb}
 use Rattle.format.specs.Fields.{pick}
 use Rattle.blocks.specs.Blocks.{linesFrom, begunFrom, lastLine, lineLength}
 use Rattle.blocks.proofs.Lines.{line-open, lines-append, end-le, next-lines, next-whole}
-use Rattle.season.specs.declared.Totals.{Totals}
-use Rattle.season.specs.declared.Taken.{Taken}
-use Rattle.season.specs.declared.Stop.{Stop}
-use Rattle.season.specs.declared.Stop.the-variants.{None, Refused}
-use Rattle.season.specs.Totals.{Line, totals, rowsIn, tooMany}
-use Rattle.season.specs.Held.{held, together, going, stopped, takeLine, unlessStopped, takeAll}
+use Rattle.tally.specs.declared.totals.Totals.{Totals}
+use Rattle.tally.specs.declared.totals.Taken.{Taken}
+use Rattle.tally.specs.declared.totals.Stop.{Stop}
+use Rattle.tally.specs.declared.totals.Stop.the-variants.{None, Refused}
+use Rattle.tally.specs.Totals.{Line, totals, rowsIn, tooMany}
+use Rattle.tally.specs.Held.{held, together, going, stopped, takeLine, unlessStopped, takeAll}
 use Rattle.totals.specs.Program.{answerTo, answersTo, isStopped, Rest}
 
 -- ---- one after another

@@ -7,11 +7,11 @@ use mathlib.Core.List.{List, _++_}
 use lib.ListN.{length, take, drop, length-append}
 use lib.Seq.{take-at}
 use borrow.Author.Tests.{le-ltb}
-use Rattle.season.specs.declared.Totals.{Totals}
+use Rattle.tally.specs.declared.totals.Totals.{Totals}
 use Rattle.text.specs.Ascii.{ascii}
 use Rattle.text.specs.Written.{TextWritten}
 use Rattle.text.proofs.Texts.{then-written, from-first}
-use Rattle.totals_text.specs.Text.{totalsText, shownIn, Shown}
+use Rattle.tally.specs.Text.{totalsText, shownIn, Shown}
 use Rattle.totals.specs.Program.{writtenFor}
 
 -- what `show` leaves

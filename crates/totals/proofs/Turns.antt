@@ -14,9 +14,9 @@ use Rattle.blocks.specs.declared.reading.Read.{Read}
 use Rattle.blocks.proofs.Begun.{no-take}
 use Rattle.blocks.proofs.Turns.{carried, block-long, input-whole, only-held}
 use Rattle.blocks.proofs.Brought.{none-brought, brought-on}
-use Rattle.season.specs.declared.Totals.{Totals}
-use Rattle.season.specs.Totals.{empty}
-use Rattle.season.specs.Held.{held, stopped, takeAll}
+use Rattle.tally.specs.declared.totals.Totals.{Totals}
+use Rattle.tally.specs.Totals.{empty}
+use Rattle.tally.specs.Held.{held, stopped, takeAll}
 use Rattle.totals.specs.Program.{answersTo, Rest, AfterBlock, AfterEnd, AfterFailure, After, Turned, Going, Reached, over, Final, at-end, in-block, Ready, Over}
 use Rattle.totals.specs.Program.Takes.{ends, stops, turns}
 use Rattle.totals.specs.declared.taking.Next.{Next}

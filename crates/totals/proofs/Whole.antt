@@ -10,11 +10,11 @@ use Rattle.blocks.proofs.Lines.{lines-append, lines-open}
 use Rattle.blocks.proofs.Turns.{cut-is, left-is}
 use Rattle.blocks.proofs.Joined.{blocks-joined}
 use Rattle.blocks.proofs.Brought.{unread-only}
-use Rattle.season.specs.declared.Totals.{Totals}
-use Rattle.season.specs.declared.Taken.{Taken}
-use Rattle.season.specs.Totals.{Line, empty, takeLines}
-use Rattle.season.specs.Held.{held, going, stopped, takeAll, heldOutcome}
-use Rattle.season.proofs.Taking.{code-holds}
+use Rattle.tally.specs.declared.totals.Totals.{Totals}
+use Rattle.tally.specs.declared.totals.Taken.{Taken}
+use Rattle.tally.specs.Totals.{Line, empty, takeLines}
+use Rattle.tally.specs.Held.{held, going, stopped, takeAll, heldOutcome}
+use Rattle.tally.proofs.Taking.{code-holds}
 use Rattle.totals.specs.Program.{answerTo, answersTo, isStopped, writtenFor, takenText, programText, Takes, over, at-end, in-block, of-input, whatever-comes, FinalSays, NoneUnread}
 use Rattle.totals.specs.Program.Takes.{ends, stops, turns}
 use Rattle.totals.proofs.Answers.{long-alike, all-i64}

@@ -13,13 +13,13 @@ use Rattle.blocks.specs.Blocks.{linesFrom, begunFrom, lastLine, linesIn, NoNewl
 use Rattle.blocks.specs.Reading.{noReads, isBroken, ReadOnce, Brought, BroughtAll}
 use Rattle.blocks.specs.declared.reading.Reads.{Reads}
 use Rattle.blocks.specs.declared.reading.Read.{Read}
-use Rattle.season.specs.Totals.{Line, answered, empty, takeLines}
-use Rattle.season.specs.Held.{held, going, stopped, takeAll, heldOutcome}
-use Rattle.season.specs.declared.Totals.{Totals}
-use Rattle.season.specs.declared.Taken.{Taken}
-use Rattle.season.specs.declared.Stop.{Stop}
-use Rattle.season.specs.declared.Stop.the-variants as stop
-use Rattle.totals_text.specs.Text.{totalsText}
+use Rattle.tally.specs.Totals.{Line, answered, empty, takeLines}
+use Rattle.tally.specs.Held.{held, going, stopped, takeAll, heldOutcome}
+use Rattle.tally.specs.declared.totals.Totals.{Totals}
+use Rattle.tally.specs.declared.totals.Taken.{Taken}
+use Rattle.tally.specs.declared.totals.Stop.{Stop}
+use Rattle.tally.specs.declared.totals.Stop.the-variants as stop
+use Rattle.tally.specs.Text.{totalsText}
 use Rattle.totals.specs.declared.taking.Next.{Next}
 use Rattle.totals.specs.declared.taking.Next.the-variants.{Begun, Ended, Stopped, Failed}
 

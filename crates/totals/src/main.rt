@@ -5,9 +5,9 @@ mod taking;
 use blocks::reading;
 use blocks::reading::Reads;
 use libc::STDOUT_FILENO;
-use season::Totals;
 use taking::Next;
 use taking::Turn;
+use tally::totals::Totals;
 ghost use mathlib.Core.Path.{_≡_};
 ghost use Prim.Native.Nat.{_+_, _≤_};
 ghost use lib.ListN.{length, take};
@@ -40,7 +40,7 @@ fn put_text(totals: Totals, stopped: bool, out: &mut [u8]) -> usize
     ensures { λ r. ⌜ TextWritten (writtenFor totals stopped) (now (out .entry)) 0 (now (out .exit)) r ⌝ }
 {
     let mut lines = io::buffer();
-    let n = totals_text::show(totals, &mut lines);
+    let n = tally::report::show(totals, &mut lines);
     let end = text::put_word(&lines[..n], out, 0);
     if stopped {
         return text::put_word(&REFUSED_20, out, end);

@@ -1,13 +1,13 @@
 // Lines taken into the totals: the part of the program that neither reads nor writes.
 use format::Kind;
 use lines::Reading;
-use season::Reply;
-use season::Stop;
-use season::Taken;
-use season::Totals;
+use tally::totals::Reply;
+use tally::totals::Stop;
+use tally::totals::Taken;
+use tally::totals::Totals;
 ghost use mathlib.Core.Path.{_≡_};
 ghost use lib.ListN.{length};
-ghost use Rattle.season.specs.Held.{takeLine};
+ghost use Rattle.tally.specs.Held.{takeLine};
 ghost use Rattle.blocks.specs.Blocks.{NoNewline};
 ghost use Rattle.totals.specs.Program.{answerTo, isStopped, AfterBlock, AfterEnd};
 

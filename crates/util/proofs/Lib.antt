@@ -6,3 +6,4 @@ pub mod VarintSize
 pub mod Widths
 pub mod Window
 pub mod Packing
+pub mod Copied

@@ -18,7 +18,7 @@ use Rattle.format.proofs.Digits.{spread-number, digits-add, length-digits, numb
 use Rattle.format.proofs.Below.{below-all, below-take, below-drop}
 use Rattle.format.proofs.Widths.{IsWidth}
 use Rattle.util.proofs.BigEndian.{number-bits}
-use Rattle.util.specs.Packed.{fields, bits, fieldAt, Width, Laid, lowFirst, swap}
+use Rattle.util.specs.Packed.{fields, bits, fieldAt, Width, FieldsLaid, lowFirst, swap}
 
 -- ---- bits
 
@@ -88,7 +88,7 @@ length-fields w n s = length-digits (2 ^ w) n _
 
 -- one more field is laid
 pub laid-more : (w n k : ℕ) (z : ℤ) (s : List ℕ) (o out : List ℤ) → AllBelow 256 s → bytesFor (n * w) ≤ length s → k < n → k < length out
-    → z ≡ asI64 (fieldAt w k s) → Laid w n s k o out → Laid w n s (k + 1) o (set out k z)
+    → z ≡ asI64 (fieldAt w k s) → FieldsLaid w n s k o out → FieldsLaid w n s (k + 1) o (set out k z)
 laid-more w n k z s o out d l h r e t =
     let p = map asI64 (take k (fields w n s)) in
     let q : length p ≡ k = rw (length-map, length-take-le k (fields w n s) (rw length-fields (t .few))) in
@@ -99,7 +99,7 @@ laid-more w n k z s o out d l h r e t =
     }
 
 -- all fields are laid
-pub laid-all : (w n : ℕ) (s : List ℕ) (o out : List ℤ) → Laid w n s n o out → out ≡ map asI64 (fields w n s) ++ drop n o
+pub laid-all : (w n : ℕ) (s : List ℕ) (o out : List ℤ) → FieldsLaid w n s n o out → out ≡ map asI64 (fields w n s) ++ drop n o
 laid-all w n s o out t = rw (take-all n (fields w n s) (rw length-fields (le-refl n))) at (t .rows)
 
 -- a field of width w starts where eight bytes hold it

@@ -2,3 +2,4 @@
 pub mod Width
 pub mod Packed
 pub mod Varint
+pub mod Rows

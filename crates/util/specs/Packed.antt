@@ -31,13 +31,13 @@ pub record Room (w n : ℕ) (s : List ℕ) (out : List ℤ) : Type 0 where
   pub there : bytesFor (n * w) ≤ length s
 
 -- the first k of the n fields that s begins with stand as rows in out, whose other places are those of o
-pub record Laid (w n : ℕ) (s : List ℕ) (k : ℕ) (o out : List ℤ) : Type 0 where
+pub record FieldsLaid (w n : ℕ) (s : List ℕ) (k : ℕ) (o out : List ℤ) : Type 0 where
   pub few : k ≤ n
   pub rows : out ≡ map asI64 (take k (fields w n s)) ++ drop k o
 
 -- where k fields stand in out, m stand in out'
 abbrev pub Lays : ℕ → List ℕ → ℕ → ℕ → List ℤ → List ℤ → Type 0
-Lays w s k m out out' = (n : ℕ) (o : List ℤ) → m ≤ n → bytesFor (n * w) ≤ length s → Laid w n s k o out → Laid w n s m o out'
+Lays w s k m out out' = (n : ℕ) (o : List ℤ) → m ≤ n → bytesFor (n * w) ≤ length s → FieldsLaid w n s k o out → FieldsLaid w n s m o out'
 
 -- ---- eight bytes, as a machine's word has them
 

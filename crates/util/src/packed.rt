@@ -7,7 +7,7 @@ ghost use lib.ListN.{length, take, drop};
 ghost use Rattle.format.specs.Digits.{AllBelow, number};
 ghost use Rattle.format.specs.Fields.{bytesFor, blockBytes};
 ghost use Rattle.format.specs.Rows.{asI64};
-ghost use Rattle.util.specs.Packed.{fields, bits, fieldAt, Width, Room, Laid, Lays, lowFirst, swap};
+ghost use Rattle.util.specs.Packed.{fields, bits, fieldAt, Width, Room, FieldsLaid, Lays, lowFirst, swap};
 use crate::big_endian;
 use crate::number;
 use crate::pattern;
@@ -148,7 +148,7 @@ fn eights(s: &[u8], w: usize, v: usize, n: usize, out: &mut [i64]) -> usize
     requires { ⌜ Width v ⌝ }
     requires { ⌜ v ≡ w ⌝ }
     requires { ⌜ Room w n (now s) (now out) ⌝ }
-    ensures { λ r. ⌜ Laid w n (now (s .entry)) r (now (out .entry)) (now (out .exit)) ⌝ }
+    ensures { λ r. ⌜ FieldsLaid w n (now (s .entry)) r (now (out .entry)) (now (out .exit)) ⌝ }
 {
     let whole = n - n % 8;
     let mut k = 0;
@@ -169,7 +169,7 @@ fn eights(s: &[u8], w: usize, v: usize, n: usize, out: &mut [i64]) -> usize
 fn eights_at(s: &[u8], w: usize, n: usize, out: &mut [i64]) -> usize
     requires { ⌜ Width w ⌝ }
     requires { ⌜ Room w n (now s) (now out) ⌝ }
-    ensures { λ r. ⌜ Laid w n (now (s .entry)) r (now (out .entry)) (now (out .exit)) ⌝ }
+    ensures { λ r. ⌜ FieldsLaid w n (now (s .entry)) r (now (out .entry)) (now (out .exit)) ⌝ }
 {
     match w {
         1 => eights(s, w, 1, n, out),
@@ -212,7 +212,7 @@ fn eights_at(s: &[u8], w: usize, n: usize, out: &mut [i64]) -> usize
 fn few(s: &[u8], w: usize, n: usize, out: &mut [i64])
     requires { ⌜ 0 < w ⌝ }
     requires { ⌜ (0 < n) × (length (now s) < 8) × Room w n (now s) (now out) ⌝ }
-    ensures { λ _. ⌜ Laid w n (now (s .entry)) n (now (out .entry)) (now (out .exit)) ⌝ }
+    ensures { λ _. ⌜ FieldsLaid w n (now (s .entry)) n (now (out .entry)) (now (out .exit)) ⌝ }
 {
     let len = s.len();
     let x = big_endian::bytes(s, 0, len);

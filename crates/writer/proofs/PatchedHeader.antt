@@ -22,7 +22,7 @@ use Rattle.format.proofs.Widths.{least-holds}
 use Rattle.format.proofs.PatchedWriting.{below-mods, size-low, size-is, code-width, width-56, gap-1, gap-8, gap-holds, es-below, fields-below}
 use Rattle.format.proofs.Tests.{and-false}
 use Rattle.writer.specs.declared.patched_base.Header.{Header}
-use Rattle.writer.specs.PatchedBase.{signMagnitude, headed, Headed, Laid}
+use Rattle.writer.specs.PatchedBase.{signMagnitude, headed, Headed, PatchedLaid}
 
 -- ---- a field that has no room
 
@@ -130,7 +130,7 @@ module _ (rows : List ℤ) (base : ℤ) (w : ℕ) (out : List ℕ) (r : Answer) 
     unfolding writingPatched
     bad-form k h e = record { answer = rw (counted, k, h) e; places = rw (counted, k, h) }
 
-    pub formed : (out′ : List ℕ) → isKeptWidth w ≡ true → headerHolds (parts (asU64 base) w (map asU64 rows)) ≡ true → Laid (parts (asU64 base) w (map asU64 rows)) out out′ r
+    pub formed : (out′ : List ℕ) → isKeptWidth w ≡ true → headerHolds (parts (asU64 base) w (map asU64 rows)) ≡ true → PatchedLaid (parts (asU64 base) w (map asU64 rows)) out out′ r
         → PatchedWritten rows base w out out′ r
     unfolding writingPatched
     formed out′ k h l = record { answer = rw (counted, k, h) (l .answer); places = rw (counted, k, h) (l .places) }

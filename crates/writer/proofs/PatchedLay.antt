@@ -17,7 +17,7 @@ use Rattle.format.specs.PatchedWriting.{Parts, run}
 use Rattle.format.proofs.Digits.{length-digits}
 use Rattle.format.proofs.Fields.{length-block}
 use Rattle.writer.specs.declared.patched_base.Header.{Header}
-use Rattle.writer.specs.PatchedBase.{signMagnitude, headed, headBytes, Ready, Laid}
+use Rattle.writer.specs.PatchedBase.{signMagnitude, headed, headBytes, Ready, PatchedLaid}
 use Rattle.writer.proofs.Pieces.{behind}
 
 -- the widths that a header names, and the bytes of both blocks
@@ -60,7 +60,7 @@ module _ {h : Header} {base : ℕ} {vals list : List ℕ} {bits entry v l : ℕ}
       ∙ simp (length-append, length-digits 256 (h .base .bytes) (signMagnitude base (h .base .bytes)), length-block bits (h .rows .rows) (padded (take (h .rows .rows) vals)), length-block entry (h .entries) (padded (take (h .entries) list)))
       (omega (arith, s .values-are, s .list-is))
 
-  pub no-room : (out : List ℕ) (r : Answer) → length out < 4 + h .base .bytes + v + l → r ≡ refusedAt 8 0 → Laid d out out r
+  pub no-room : (out : List ℕ) (r : Answer) → length out < 4 + h .base .bytes + v + l → r ≡ refusedAt 8 0 → PatchedLaid d out out r
   no-room out r f e =
       let t = lt-ltb (length out) (length (layout (run d))) (rw lay-size f) in
       record { answer = rw t e; places = rw t }
@@ -68,7 +68,7 @@ module _ {h : Header} {base : ℕ} {vals list : List ℕ} {bits entry v l : ℕ}
   pub laid : (out o₁ o₂ o₃ o₄ : List ℕ) (r : Answer) → 4 + h .base .bytes + v + l ≤ length out → r ≡ ran kind.PatchedBase bits (h .rows .rows) (4 + h .base .bytes + v + l)
       → o₁ ≡ headBytes h ++ drop 4 out → o₂ ≡ take 4 o₁ ++ base-is ++ drop (4 + h .base .bytes) o₁
       → o₃ ≡ take (4 + h .base .bytes) o₂ ++ values-block ++ drop (4 + h .base .bytes + bytesFor (h .rows .rows * bits)) o₂
-      → o₄ ≡ take (4 + h .base .bytes + v) o₃ ++ list-block ++ drop (4 + h .base .bytes + v + bytesFor (h .entries * entry)) o₃ → Laid d out o₄ r
+      → o₄ ≡ take (4 + h .base .bytes + v) o₃ ++ list-block ++ drop (4 + h .base .bytes + v + bytesFor (h .entries * entry)) o₃ → PatchedLaid d out o₄ r
   laid out o₁ o₂ o₃ o₄ r f e e₁ e₂ e₃ e₄ =
       let t = le-ltb (length out) (length (layout (run d))) (rw lay-size f) in
       let n₁ : 4 + h .base .bytes ≡ length (headBytes h ++ base-is) = simp (length-append, length-digits 256 (h .base .bytes) (signMagnitude base (h .base .bytes))) (omega arith) in

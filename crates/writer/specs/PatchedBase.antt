@@ -85,6 +85,6 @@ HeaderOf base w rs vals list (found.Header h) = Headed base w rs vals list h
 abbrev pub roomed : Parts → ℕ → Parsed Description
 roomed d places = unless (ltb places (length (layout (run d)))) 8 (got (run d) [])
 
-pub record Laid (d : Parts) (out out′ : List ℕ) (r : Answer) : Type 0 where
+pub record PatchedLaid (d : Parts) (out out′ : List ℕ) (r : Answer) : Type 0 where
   pub answer : r ≡ answerOf 0 0 (roomed d (length out))
   pub places : out′ ≡ bytesIn out (roomed d (length out))

@@ -8,7 +8,7 @@ ghost use Rattle.format.specs.Kept.{isKeptWidth};
 ghost use Rattle.format.specs.Rows.{asU64};
 ghost use Rattle.format.specs.PatchedWriting as PatchedWriting;
 ghost use Rattle.format.specs.PatchedWriting.{codeFor, baseSize, PatchedWritten};
-ghost use Rattle.writer.specs.PatchedBase.{signMagnitude, headed, headBytes, Ready, HeaderOf, Laid};
+ghost use Rattle.writer.specs.PatchedBase.{signMagnitude, headed, headBytes, Ready, HeaderOf, PatchedLaid};
 use crate::head;
 use crate::patch_list;
 use crate::values;
@@ -142,7 +142,7 @@ fn write_head(h: Header, out: &mut [u8])
 // The run, where it has room.
 fn lay(h: Header, base: u64, vals: &[u64], list: &[u64], out: &mut [u8]) -> Answer
     requires { ⌜ Ready h base (now vals) (now list) ⌝ }
-    ensures { λ r. ⌜ Laid (headed h base (now (vals .entry)) (now (list .entry))) (now (out .entry)) (now (out .exit)) r ⌝ }
+    ensures { λ r. ⌜ PatchedLaid (headed h base (now (vals .entry)) (now (list .entry))) (now (out .entry)) (now (out .exit)) r ⌝ }
 {
     let bits = width::bits_of(h.code);
     let entry = width::entry_width(width::bits_of(h.patch) + h.gap);

@@ -1,6 +1,6 @@
 //! Reads and writes the integer runs (RLEv2), booleans and byte values of Apache ORC files.
 //!
-//! The readers and the writer are proved, in the crate `loader` of the same repository, and linked
+//! The readers and the writer are proved, in the crate `exports` of the same repository, and linked
 //! from a static library; this crate is the safe way to them. Every call is answered: an input that
 //! is none of the format's is a [`Refused`], with its number, its place, the byte of the field that is
 //! cut, if one is, and a text that says what to do. A refused call leaves every lent place as it was.
@@ -37,7 +37,7 @@
 //! # Building
 //!
 //! In a release's folder the build script takes the library that stands there, `libmenakovitsy.a`. In a checkout it
-//! proves and builds it in its own output folder (`rt staticlib loader`). Where `MENAKOVITSY_LIB_DIR` is set, it
+//! proves and builds it in its own output folder (`rt staticlib exports`). Where `MENAKOVITSY_LIB_DIR` is set, it
 //! takes what that folder holds, of a release or of `target/staticlib`, and runs nothing. The library is for x86-64.
 //! Programs in C link the same one, by `menakovitsy.h`.
 #![warn(missing_docs)]

@@ -22,10 +22,10 @@ fn the_same_version_in_every_place() {
     assert_eq!(said("rust/Cargo.toml", "\nversion = \"", "\""), release);
     assert_eq!(menakovitsy::library_version(), VERSION, "the library that is linked");
     for (file, before, behind) in [
-        ("crates/format/specs/Loader.antt", "\nfaceVersion = ", "\n"),
-        ("crates/loader/src/lib.rt", "⌜ r ≡ faceVersion ⌝ }\n{\n", "\n}"),
+        ("crates/exports/specs/Version.antt", "\nfaceVersion = ", "\n"),
+        ("crates/exports/src/lib.rt", "⌜ r ≡ faceVersion ⌝ }\n{\n", "\n}"),
         ("rust/menakovitsy/menakovitsy.h", "#define ORC_VERSION UINT64_C(", ")"),
-        ("docs/PROMISES.md", "| `loader::orc_version` | the number of the face: ", " |"),
+        ("docs/PROMISES.md", "| `exports::orc_version` | the number of the face: ", " |"),
     ] {
         assert_eq!(said(file, before, behind), VERSION.to_string(), "{file}");
     }

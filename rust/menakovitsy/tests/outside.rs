@@ -29,9 +29,9 @@ fn says_what_is_missing() {
         project.refused(cargo)
     };
     let line = said();
-    assert!(line.contains("holds neither libmenakovitsy.a nor libloader.a: name a release"), "{line}");
+    assert!(line.contains("holds neither libmenakovitsy.a nor libexports.a: name a release"), "{line}");
     // either name is looked at, the release's first
-    for name in ["libloader.a", "libmenakovitsy.a"] {
+    for name in ["libexports.a", "libmenakovitsy.a"] {
         fs::write(folder.join(name), "!<arch>\n").unwrap();
         let line = said();
         assert!(line.contains(&format!("{name} is for no processor that an ELF object names")), "{line}");

@@ -1,6 +1,6 @@
 -- `lines::put_answer` meets its contract, answer by answer. Assumes nothing.
 use native.Mathlib.Omega.{arith}
-use Rattle.lines.specs.Line.{answerWords}
+use Rattle.lines.specs.Line.{replyText}
 use Rattle.text.proofs.Texts.{decimal-length, then-written}
 use borrow.Author.Needs.{needs}
 use Rattle.lines.proofs.put_answer.Statement.{statement}
@@ -19,19 +19,19 @@ put-decimal-requires c κs =
     omega (arith, s .pre, w .put-word2 .ensures .next, w .put-word2 .kept .1 .0, decimal-length (a .answer2 .given .0 .0 .number))
 
 returns : tie.Need-returns
-unfolding answerWords
+unfolding replyText
 returns c =
     let w = c .before .before in
     rw (w .before .before .before .enum-told .given .1) (w .put-word .ensures)
 
 returns-2 : tie.Need-returns-2
-unfolding answerWords
+unfolding replyText
 returns-2 c =
     let p = c .before .before in
     rw (p .before .before .before .answer .given .1) (p .put-run .ensures)
 
 returns-3 : tie.Need-returns-3
-unfolding answerWords
+unfolding replyText
 returns-3 c =
     let d = c .before .before in
     let w = d .before .before .before .before .before in

@@ -3,7 +3,7 @@ use mathlib.Core.Path.{sym, _∙_}
 use native.Mathlib.Omega.{arith}
 use denote.Ref.{now}
 use Rattle.text.proofs.Texts.{then-written}
-use Rattle.lines.proofs.Frames.{reads, frame-text, words-length}
+use Rattle.lines.proofs.Frames.{reads, frame-text, reply-length}
 use borrow.Author.Needs.{needs}
 use Rattle.lines.proofs.put_frame.Statement.{statement}
 use Rattle.lines.proofs.put_frame.Tie as tie
@@ -23,7 +23,7 @@ put-requires c κs =
     let s = r .before .before .before .before .before in
     let h =
     reads (now (s .args .frame)) _ _ _ _ (r .before .before .row-places .ensures) (r .read-frame .ensures) in
-    omega (arith, s .pre, p .put-answer .ensures .next, p .put-answer .kept .1 .1 .0, words-length (r .read-frame .result) _ (r .read-frame .last .1 .0) (h .few))
+    omega (arith, s .pre, p .put-answer .ensures .next, p .put-answer .kept .1 .1 .0, reply-length (r .read-frame .result) _ (r .read-frame .last .1 .0) (h .few))
 
 returns : tie.Need-returns
 returns c =

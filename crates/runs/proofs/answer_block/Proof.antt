@@ -12,7 +12,7 @@ use Rattle.blocks.specs.Blocks.{begunFrom}
 use Rattle.blocks.proofs.Begun.{whole-more}
 use Rattle.runs.specs.Program.{Pending}
 use Rattle.runs.proofs.Pieces.{whole-text}
-use Rattle.runs.proofs.Handed.{lines-due, lines-on, pending-open}
+use Rattle.runs.proofs.TextSaid.{lines-due, lines-on, pending-open}
 use Rattle.runs.proofs.answer_block.Statement.{statement}
 use Rattle.runs.proofs.answer_block.Tie as tie
 

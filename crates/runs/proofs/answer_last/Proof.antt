@@ -4,7 +4,7 @@ use lib.Seq.{length-take-le}
 use borrow.Author.Needs.{needs}
 use Rattle.runs.proofs.Lines.{answered-le}
 use Rattle.runs.proofs.Pieces.{open-text, no-answer, last-text}
-use Rattle.runs.proofs.Handed.{last-due, last-said, none-last}
+use Rattle.runs.proofs.TextSaid.{last-due, last-said, none-last}
 use Rattle.runs.proofs.answer_last.Statement.{statement}
 use Rattle.runs.proofs.answer_last.Tie as tie
 

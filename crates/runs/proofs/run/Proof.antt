@@ -16,7 +16,7 @@ use Rattle.runs.specs.declared.Left.{Left}
 use Rattle.runs.specs.declared.Left.the-variants.{Begun, Ended, Failed, Unwritten}
 use Rattle.runs.specs.Program.{Ready, Over}
 use Rattle.runs.proofs.Left.{the-type}
-use Rattle.runs.proofs.Handed.{reached-first}
+use Rattle.runs.proofs.TextSaid.{reached-first}
 use Rattle.runs.proofs.Turns.{turned-ready, ready-over}
 use Rattle.runs.proofs.run.Statement.{statement}
 use Rattle.runs.proofs.run.Tie as tie

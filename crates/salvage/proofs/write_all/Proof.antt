@@ -7,13 +7,13 @@ use mir.Facts.{toZ-ofZ}
 use mir.Syntax.{w64}
 use mir.Val.{toZ, ofZ}
 use Rattle.salvage.proofs.Turning.{Turn, turn}
-use Rattle.salvage.proofs.Setting.{Laid, laid-none, stream-room, lines-room, laid-next, was-written}
+use Rattle.salvage.proofs.Setting.{GroupsLaid, laid-none, stream-room, lines-room, laid-next, was-written}
 use Rattle.salvage.proofs.write_all.Statement.{statement}
 use Rattle.salvage.proofs.write_all.Tie as tie
 
 abbrev Inv-loop : tie.InvT-loop
 Inv-loop input starts counts fill signed out₀ report₀ first stream₀ lines₀ i₀ out report stream lines i =
-    Laid signed (toZ w64 fill) input starts counts out₀ report₀ out report (stream .bytes) (lines .bytes) i
+    GroupsLaid signed (toZ w64 fill) input starts counts out₀ report₀ out report (stream .bytes) (lines .bytes) i
 
 abbrev μ-loop : tie.MeasureT-loop
 μ-loop input starts counts fill signed out₀ report₀ first stream₀ lines₀ i₀ out report stream lines i = length starts - i

@@ -11,7 +11,7 @@ use mathlib.Core.List.{List, [], _∷_}
 use types.Run.{OneOf}
 use denote.Enum.Declared.{tagOf}
 use Rattle.blocks.specs.declared.reading.Reads.{Reads}
-use Rattle.season.specs.declared.Totals.{Totals}
+use Rattle.tally.specs.declared.totals.Totals.{Totals}
 use Rattle.totals.specs.declared.taking.Next.{Next}
 use Rattle.totals.specs.declared.taking.Next.the-variants.{Begun, Ended, Stopped, Failed}
 use Rattle.totals.specs.Program.{Ready, Over}

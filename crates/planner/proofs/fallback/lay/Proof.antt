@@ -5,7 +5,7 @@ use mir.Syntax.{w64}
 use mir.Val.{Fits}
 use native.Mathlib.Omega.{arith}
 use borrow.Author.Needs.{needs}
-use Rattle.cuts.specs.Proposed.{Proposed}
+use Rattle.proposer.specs.Proposed.{Proposed}
 use Rattle.planner.specs.Check.{proposal}
 use Rattle.planner.proofs.Falling.{Laying, laying-first, next-places, laying-on}
 use Rattle.planner.proofs.fallback.lay.Statement.{statement}

@@ -7,13 +7,13 @@ use native.Mathlib.Omega.{arith}
 use lib.ListN.{length}
 use borrow.Author.Needs.{needs}
 use borrow.Author.Tests.{ltb-false}
-use Rattle.util.specs.Packed.{Laid}
+use Rattle.util.specs.Packed.{FieldsLaid}
 use Rattle.util.proofs.packed.eights.Statement.{statement}
 use Rattle.util.proofs.packed.eights.Tie as tie
 
 abbrev Inv-loop : tie.InvT-loop
 Inv-loop s w v n out₀ whole k₀ b₀ out k b =
-    (8 * b ≡ k * w) × (k % 8 ≡ 0) × (k ≤ whole) × (length out ≡ length out₀) × Laid w n s k out₀ out
+    (8 * b ≡ k * w) × (k % 8 ≡ 0) × (k ≤ whole) × (length out ≡ length out₀) × FieldsLaid w n s k out₀ out
 
 abbrev μ-loop : tie.MeasureT-loop
 μ-loop s w v n out₀ whole k₀ b₀ out k b = whole - k

@@ -10,13 +10,13 @@ use mir.Syntax.{w64}
 use borrow.Author.Needs.{needs, sfits-of}
 use Rattle.format.specs.Rows.{asI64}
 use Rattle.format.proofs.Below.{below-all}
-use Rattle.util.specs.Packed.{fieldAt, Laid}
+use Rattle.util.specs.Packed.{fieldAt, FieldsLaid}
 use Rattle.util.proofs.Window.{window, field-there, laid-more}
 use Rattle.util.proofs.packed.few.Statement.{statement}
 use Rattle.util.proofs.packed.few.Tie as tie
 
 abbrev Inv-loop : tie.InvT-loop
-Inv-loop s w n out₀ len x low₀ k₀ out low k = (low + k * w ≡ 8 * length s) × (k ≤ n) × (length out ≡ length out₀) × Laid w n s k out₀ out
+Inv-loop s w n out₀ len x low₀ k₀ out low k = (low + k * w ≡ 8 * length s) × (k ≤ n) × (length out ≡ length out₀) × FieldsLaid w n s k out₀ out
 
 abbrev μ-loop : tie.MeasureT-loop
 μ-loop s w n out₀ len x low₀ k₀ out low k = n - k

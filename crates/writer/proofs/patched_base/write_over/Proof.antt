@@ -6,7 +6,7 @@ use mir.Facts.{toZ-ofZ}
 use denote.Ref.{now}
 use Rattle.format.specs.Rows.{asU64}
 use Rattle.format.specs.PatchedWriting.{parts, headerHolds}
-use Rattle.writer.specs.PatchedBase.{Headed, Laid}
+use Rattle.writer.specs.PatchedBase.{Headed, PatchedLaid}
 use Rattle.writer.proofs.PatchedHeader.{bad-form, formed}
 use borrow.Author.Needs.{needs}
 use Rattle.writer.proofs.patched_base.write_over.Statement.{statement}
@@ -40,7 +40,7 @@ returns-2 c =
     let g = s .before .before .before .pre in
     let a = s .before .before .before .args in
     let e : headerHolds (parts (asU64 (a .base)) (a .width) (map asU64 (now (a .rows)))) ≡ true = rw (low-is s) at (header h .holds) in
-    let d : Laid (parts (asU64 (a .base)) (a .width) (map asU64 (now (a .rows)))) (now (a .out)) (l .lay .last .1 .1 .1 .1 .0) (l .lay .result) =
+    let d : PatchedLaid (parts (asU64 (a .base)) (a .width) (map asU64 (now (a .rows)))) (now (a .out)) (l .lay .last .1 .1 .1 .1 .0) (l .lay .result) =
     rw (header h .same, low-is s) at (l .lay .ensures) in
     formed (now (a .rows)) (a .base) (a .width) (now (a .out)) (l .lay .result) (g .0 .0) (g .0 .1) _ (g .1) e d
 

@@ -1,0 +1,9 @@
+-- The laws that the proofs cite.
+pub mod RowBytes
+pub mod Repeat
+pub mod Room
+pub mod Reading
+pub mod Telling
+pub mod FormNumbers
+pub mod PartWords
+pub mod Outcomes

@@ -1,0 +1,16 @@
+-- Each case has its words. Assumes nothing.
+use borrow.Author.Needs.{needs}
+use Rattle.exports.specs.Salvage.{salvageWords}
+use Rattle.exports.proofs.salvage_words.of.Statement.{statement}
+use Rattle.exports.proofs.salvage_words.of.Tie as tie
+
+returns : tie.Need-returns
+unfolding salvageWords
+returns c = rw (c .before .outcome .given .1)
+
+returns-2 : tie.Need-returns-2
+unfolding salvageWords
+returns-2 c = rw (c .before .before .outcome2 .given .1)
+
+pub of-spec : {M : Type 1} → statement M
+of-spec = tie.close (tie.spec (λ c. search needs) (λ c. search needs) (λ c. search needs) returns returns-2)

@@ -1,0 +1,17 @@
+-- `proposer::runs::magnitudes` is safe and ends: a turn takes one row. Assumes nothing.
+use Prim.Native.Nat.{_-_}
+use lib.ListN.{length}
+use borrow.Author.Needs.{needs}
+use Rattle.proposer.proofs.runs.magnitudes.Statement.{statement}
+use Rattle.proposer.proofs.runs.magnitudes.Tie as tie
+
+abbrev Inv-loop : tie.InvT-loop
+Inv-loop rows falls all₀ i₀ all i = Unit
+
+abbrev μ-loop : tie.MeasureT-loop
+μ-loop rows falls all₀ i₀ all i = length rows - i
+
+pub magnitudes-spec : {M : Type 1} → statement M
+magnitudes-spec =
+    tie.close (tie.spec Inv-loop μ-loop (λ c κs. search needs) (λ c. search needs) (λ c κs. search needs) (λ c. search needs) (λ c. search needs) (λ c. search needs)
+    (λ c. search needs))

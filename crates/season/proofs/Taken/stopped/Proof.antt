@@ -1,7 +1,0 @@
--- `Taken::stopped` meets its contract. Assumes nothing.
-use borrow.Author.Needs.{needs}
-use Rattle.season.proofs.Taken.stopped.Statement.{statement}
-use Rattle.season.proofs.Taken.stopped.Tie as tie
-
-pub stopped-spec : {M : Type 1} → statement M
-stopped-spec = tie.close (tie.spec (λ c κs. search needs) (λ c. rw (c .new .ensures)))

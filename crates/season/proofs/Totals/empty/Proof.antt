@@ -1,9 +1,0 @@
--- `Totals::empty` meets its contract. Assumes nothing.
-use mathlib.Core.Path.{sym, _∙_}
-use borrow.Author.Needs.{needs}
-use Rattle.season.proofs.Held.{no-line}
-use Rattle.season.proofs.Totals.empty.Statement.{statement}
-use Rattle.season.proofs.Totals.empty.Tie as tie
-
-pub empty-spec : {M : Type 1} → statement M
-empty-spec = tie.close (tie.spec (λ c κs. search needs) (λ c. c .counting .ensures ∙ sym no-line))

@@ -1,9 +1,0 @@
--- `row_count` meets its contract. Assumes nothing.
-use borrow.Author.Needs.{needs}
-use Rattle.season.proofs.row_count.Statement.{statement}
-use Rattle.season.proofs.row_count.Tie as tie
-
-pub row-count-spec : {M : Type 1} → statement M
-row-count-spec =
-    tie.close (tie.spec (λ c. search needs) (λ c. search needs) (λ c. search needs) (λ c. search needs) (λ c. rw (c .enum-told .given .1)) (λ c. search needs)
-    (λ c. search needs) (λ c. search needs))

@@ -1,7 +1,0 @@
--- `slot` meets its contract. Assumes nothing.
-use borrow.Author.Tests.{lt-ltb, le-ltb}
-use Rattle.season.proofs.slot.Statement.{statement}
-use Rattle.season.proofs.slot.Tie as tie
-
-pub slot-spec : {M : Type 1} → statement M
-slot-spec = tie.close (tie.spec (λ c. rw (lt-ltb _ 15 (c .if1 .taken))) (λ c. rw (le-ltb _ 15 (c .if1 .left))))

@@ -1,2 +1,0 @@
--- The text of a season's totals.
-pub mod Text
