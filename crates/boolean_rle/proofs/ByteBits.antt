@@ -7,9 +7,8 @@ use mathlib.Core.List.{List, [], _∷_}
 use lib.Bits.{bitAnd}
 use lib.ListN.{getD, drop}
 use lib.Seq.{drop-cons}
-use Rattle.format.specs.Digits.{digits}
-use Rattle.format.specs.Digits.{lowestFirst}
-use Rattle.format.proofs.Digits.{length-digits, getD-digits}
+use Rattle.format.specs.Digits.{digits, lowestFirst}
+use Rattle.format.proofs.Digits.{length-digits}
 
 -- what f gives of n numbers from i on
 unfoldable table : (ℕ → List ℕ) → ℕ → ℕ → List (List ℕ)
@@ -53,10 +52,8 @@ module _ (byte j x : ℕ) (h : j < 8) (l : Left byte j x) where
       let e : 8 - j ≡ suc (8 - (j + 1)) = omega arith in
       sym (ap (λ (n : ℕ). lowestFirst n x) e) ∙ l ∙ drop-cons (digits 2 8 byte) j 0 (rw length-digits h)
 
-  pub bit-here : x % 256 ≡ byte / 2 ^ (7 - j) % 2
-  bit-here =
-      let e : x % 256 ≡ getD (digits 2 8 byte) j 0 = cc both in
-      e ∙ getD-digits 2 8 byte j h
+  pub bit-here : x % 256 ≡ getD (digits 2 8 byte) j 0
+  bit-here = cc both
 
   pub left-next : Left byte (j + 1) (x / 256)
   left-next =

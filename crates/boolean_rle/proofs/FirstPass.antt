@@ -57,7 +57,9 @@ pub record Here (s : List ℕ) (p : ℕ) (e : code.ByteRun) (d : ByteRun) : Type
   pub count-is : byteCount d ≡ e .count
   pub split : drop p s ≡ runLayout d ++ drop (p + e .size) s
   pub inside : p + e .size ≤ length s
+  pub takes : 1 ≤ e .size
   pub some : 1 ≤ e .count
+  pub few : e .count ≤ 130
   pub valid : ValidRun d
 
 sizeIn : Found → ℕ
@@ -72,6 +74,11 @@ pub layout-pos : (d : ByteRun) → ValidRun d → (1 ≤ length (runLayout d)) �
 unfolding runLayout byteCount
 layout-pos (repeat count byte) v = (omega arith, omega (arith, v))
 layout-pos (literals bs) v = (omega arith, omega (arith, v))
+
+pub count-le : (d : ByteRun) → ValidRun d → byteCount d ≤ 130
+unfolding byteCount
+count-le (repeat count byte) v = v .many
+count-le (literals bs) v = omega (arith, v)
 
 pub here : (s : List ℕ) (p : ℕ) (e : code.ByteRun) → ((i : ℕ) → getD s i 0 < 256) → foundIn (length s) (byteRun (drop p s)) ≡ found.Run e → (d : ByteRun) × Here s p e d
 unfolding sizeIn countIn
@@ -90,7 +97,9 @@ here s p e b f = go (byteRun (drop p s)) refl (run-sound (drop p s) (below-drop 
             count-is = n;
             split = rw q (t .split);
             inside = omega (arith, z, k .0, length-append (runLayout d) rest, ap length (t .split), length-drop p s);
+            takes = omega (arith, z, k .0);
             some = omega (arith, n, k .1);
+            few = omega (arith, n, count-le d (t .ok));
             valid = t .ok;
           },
         )

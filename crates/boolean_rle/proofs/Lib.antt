@@ -1,6 +1,21 @@
 -- The laws that the proofs of the boolean reader cite.
 pub mod FirstPass
 pub mod RunBytes
+pub mod RunParts
 pub mod SecondPass
 pub mod ByteBits
 pub mod Ones
+pub mod Column
+pub mod Onward
+pub mod FlagsOnward
+pub mod Batches
+pub mod InParts
+pub mod Ends
+pub mod FirstByte
+pub mod Placed
+pub mod ByteReader
+pub mod FlagReader
+pub mod Outcomes
+pub mod AsBooleans
+pub mod Calls
+pub mod PositionExamples

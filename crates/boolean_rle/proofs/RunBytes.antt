@@ -25,7 +25,7 @@ pub record ByteAt (s : List ℕ) (p i : ℕ) (bs : List ℕ) : Type 0 where
   pub literal : 128 ≤ getD s p 0 → (p + 1 + i < length s) × (getD s (p + 1 + i) 0 ≡ getD bs i 0)
 
 -- element j of what stands at p
-at-place : (s : List ℕ) {t : List ℕ} (p j : ℕ) → drop p s ≡ t → getD s (p + j) 0 ≡ getD t j 0
+pub at-place : (s : List ℕ) {t : List ℕ} (p j : ℕ) → drop p s ≡ t → getD s (p + j) 0 ≡ getD t j 0
 at-place s p j e = sym (getD-drop p s j 0) ∙ ap (λ (x : List ℕ). getD x j 0) e
 
 pub byte-at : (s : List ℕ) (p : ℕ) (e : code.ByteRun) (d : ByteRun) → Here s p e d → (i : ℕ) → i < e .count → ByteAt s p i (runBytes d)
@@ -55,7 +55,11 @@ length-bytes total end e f = ap countIn f
 length-bytes total (got d rest) e f = length-run d ∙ ap countIn f
 length-bytes total (refused r) e f = ap countIn f
 
--- ---- bits in places
+-- how many are left of them after some
+pub length-left : (d : ByteRun) (skip : ℕ) → length (drop skip (runBytes d)) ≡ byteCount d - skip
+length-left d skip = rw (length-drop, length-run d)
+
+-- ---- values in places
 
 -- one place more of what is to stand there
 grow : (all d : List ℕ) (p : ℕ) → p < length all → p < length d → set (take p all ++ drop p d) p (getD all p 0) ≡ take (suc p) all ++ drop (suc p) d
@@ -66,21 +70,39 @@ grow all d p h l =
 pub wrote-none : (k : ℕ) (ys out : List ℕ) → Wrote k (k + 0) ys out out
 wrote-none k ys out all d more e o = rw add-zero o
 
--- bit j of a byte: the turn of the loop that stores them
-pub bit-more : (byte k j : ℕ) (o out : List ℕ) → j < 8 → k + j < length out → Wrote k (k + j) (digits 2 8 byte) o out
-    → Wrote k (k + (j + 1)) (digits 2 8 byte) o (set out (k + j) (byte / 2 ^ (7 - j) % 2))
-bit-more byte k j o out h l w all d more e f =
+-- what follows them changes nothing
+pub wrote-more : (k k′ : ℕ) (ys zs o out : List ℕ) → Wrote k k′ ys o out → Wrote k k′ (ys ++ zs) o out
+wrote-more k k′ ys zs o out w all d more e f = w all d (zs ++ more) (e ∙ append-assoc ys zs more) f
+
+-- some of them, and then those that are left
+pub wrote-on : (k j n : ℕ) (ys zs o out out′ : List ℕ) → k ≤ j → j - k ≤ length ys → drop (j - k) ys ≡ zs → Wrote k j ys o out
+    → Wrote j n zs out out′
+    → Wrote k n ys o out′
+wrote-on k j n ys zs o out out′ h l g w v all d more e f =
+    let y : j ≡ k + (j - k) = omega arith in
+    let q : drop j all ≡ zs ++ more =
+    ap (λ (x : ℕ). drop x all) y ∙ sym (drop-drop (j - k) k all) ∙ ap (λ (x : List ℕ). drop (j - k) x) e
+    ∙ drop-append-le (j - k) ys more l ∙ ap (λ (x : List ℕ). x ++ more) g in
+    v all d more q (w all d more e f)
+
+-- one of them more: the turn of a loop that stores them
+pub one-more : (ys : List ℕ) (k j v : ℕ) (o out : List ℕ) → j < length ys → k + j < length out → v ≡ getD ys j 0 → Wrote k (k + j) ys o out
+    → Wrote k (k + (j + 1)) ys o (set out (k + j) v)
+one-more ys k j v o out h l i w all d more e f =
     let u : out ≡ take (k + j) all ++ drop (k + j) d = w all d more e f in
-    let b : length all - k ≡ 8 + length more = sym (length-drop k all) ∙ ap length e ∙ length-append (digits 2 8 byte) more ∙ ap (λ (n : ℕ). n + length more) (length-digits 2 8 byte) in
+    let b : length all - k ≡ length ys + length more = sym (length-drop k all) ∙ ap length e ∙ length-append ys more in
     let n : length out ≡ k + j + (length d - (k + j)) =
     ap length u ∙ length-append (take (k + j) all) (drop (k + j) d) ∙ rw (length-take-le (k + j) all (omega arith), length-drop (k + j) d) in
-    let v : byte / 2 ^ (7 - j) % 2 ≡ getD all (k + j) 0 =
-    sym (at-place all k j e ∙ List·getD-append (digits 2 8 byte) more 0 j (rw length-digits h) ∙ getD-digits 2 8 byte j h) in
+    let g : v ≡ getD all (k + j) 0 = i ∙ sym (at-place all k j e ∙ List·getD-append ys more 0 j h) in
     let z : k + (j + 1) ≡ suc (k + j) = omega arith in
-    rw (u, v, z) (grow all d (k + j) (omega arith) (omega arith))
+    rw (u, g, z) (grow all d (k + j) (omega arith) (omega arith))
+
+-- bit j of a byte after its first `skip`
+pub bit-is : (byte skip j : ℕ) → skip + j < 8 → byte / 2 ^ (7 - (skip + j)) % 2 ≡ getD (drop skip (digits 2 8 byte)) j 0
+bit-is byte skip j h = sym (getD-drop skip (digits 2 8 byte) j 0 ∙ getD-digits 2 8 byte (skip + j) h)
 
 -- the bits from byte i on
-bits-from : (bs : List ℕ) (i : ℕ) → i < length bs → drop (8 * i) (bits bs) ≡ digits 2 8 (getD bs i 0) ++ bits (drop (suc i) bs)
+pub bits-from : (bs : List ℕ) (i : ℕ) → i < length bs → drop (8 * i) (bits bs) ≡ digits 2 8 (getD bs i 0) ++ bits (drop (suc i) bs)
 bits-from [] i h = absurd (omega arith)
 bits-from (b ∷ bs) zero h = refl
 bits-from (b ∷ bs) (suc i) h =
@@ -90,9 +112,9 @@ bits-from (b ∷ bs) (suc i) h =
 -- byte i of some bytes, or the first m bits of it
 pub byte-more : (bs : List ℕ) (k i m : ℕ) (o out out′ : List ℕ) → i < length bs → Wrote k (k + 8 * i) (bits bs) o out
     → Wrote (k + 8 * i) (k + 8 * i + m) (digits 2 8 (getD bs i 0)) out out′ → Wrote k (k + 8 * i + m) (bits bs) o out′
-byte-more bs k i m o out out′ h w v all d more e f =
-    let q : drop (k + 8 * i) all ≡ digits 2 8 (getD bs i 0) ++ (bits (drop (suc i) bs) ++ more) =
-    sym (drop-drop (8 * i) k all) ∙ ap (λ (x : List ℕ). drop (8 * i) x) e
-    ∙ drop-append-le (8 * i) (bits bs) more (rw length-bits (omega arith))
-    ∙ ap (λ (x : List ℕ). x ++ more) (bits-from bs i h) ∙ append-assoc (digits 2 8 (getD bs i 0)) (bits (drop (suc i) bs)) more in
-    v all d (bits (drop (suc i) bs) ++ more) q (w all d more e f)
+byte-more bs k i m o out out′ h w v =
+    let z : k + 8 * i - k ≡ 8 * i = omega arith in
+    let q : drop (k + 8 * i - k) (bits bs) ≡ digits 2 8 (getD bs i 0) ++ bits (drop (suc i) bs) = ap (λ (x : ℕ). drop x (bits bs)) z
+    ∙ bits-from bs i h in
+    wrote-on k (k + 8 * i) (k + 8 * i + m) (bits bs) _ o out out′ (omega arith) (rw length-bits (omega arith)) q w
+    (wrote-more (k + 8 * i) (k + 8 * i + m) (digits 2 8 (getD bs i 0)) (bits (drop (suc i) bs)) out out′ v)

@@ -1,14 +1,24 @@
 -- What the reader's own functions answer, by what reading at a place gives. Assumes nothing.
 use mathlib.Core.Path.{_≡_}
-use Prim.Native.Nat.{ℕ, _-_}
+use Prim.Native.Nat.{ℕ, _+_, _-_, _*_, _<_, _≤_}
 use mathlib.Core.List.{List, [], _++_}
 use lib.ListN.{length, take, drop}
+use lib.Dec.{leb}
+use Rattle.format.specs.Fields.{pick}
 use Rattle.format.specs.Parse.{Reason, plain, cut, Parsed, end, got, refused}
-use Rattle.format.specs.Booleans.{ByteRun, runLayout, runBytes, byteCount, joinedRuns, booleansOf}
+use Rattle.format.specs.Booleans.{ByteRun, runLayout, runBytes, byteCount, joinedRuns, joinedBytes, bits, byteRun}
 use Rattle.boolean_rle.specs.declared.Found.{Found}
 use Rattle.boolean_rle.specs.declared.Found.the-variants as found
 use Rattle.boolean_rle.specs.declared.Span.{Span}
 use Rattle.boolean_rle.specs.declared.Span.the-variants as span
+use Rattle.boolean_rle.specs.declared.positions.BytePosition.{BytePosition}
+use Rattle.boolean_rle.specs.declared.positions.FlagPosition.{FlagPosition}
+use Rattle.boolean_rle.specs.declared.positions.ByteEnd.{ByteEnd}
+use Rattle.boolean_rle.specs.declared.positions.ByteEnd.the-variants as byte
+use Rattle.boolean_rle.specs.declared.positions.FlagEnd.{FlagEnd}
+use Rattle.boolean_rle.specs.declared.positions.FlagEnd.the-variants as flag
+use Rattle.boolean_rle.specs.Column.{runsAt, column}
+use Rattle.boolean_rle.specs.Positions.{skipped, past, pastFlags, Plain}
 
 -- where an input of `total` bytes is cut: the refusal's number, and the byte from which on `left` are left (byte runs have no other refusal)
 abbrev pub numberOf : Reason → ℕ
@@ -31,6 +41,13 @@ runBytesIn end = []
 runBytesIn (got d rest) = runBytes d
 runBytesIn (refused r) = []
 
+-- the two at a byte of an input
+abbrev pub foundAt : List ℕ → ℕ → Found
+foundAt input at = foundIn (length input) (byteRun (drop at input))
+
+abbrev pub bytesAt : List ℕ → ℕ → List ℕ
+bytesAt input at = runBytesIn (byteRun (drop at input))
+
 -- several runs: the bytes of their layouts
 abbrev pub spanOf : ℕ → Parsed (List ByteRun) → Span
 spanOf total end = span.Cut 6 total
@@ -43,6 +60,25 @@ abbrev pub Wrote : ℕ → ℕ → List ℕ → List ℕ → List ℕ → Type 0
 Wrote k k′ ys out out′ =
     (all d more : List ℕ) → drop k all ≡ ys ++ more → out ≡ take k all ++ drop k d → out′ ≡ take k′ all ++ drop k′ d
 
--- the first n places hold the booleans of the runs that were read
-abbrev pub Filled : ℕ → Parsed (List ByteRun) → List ℕ → List ℕ → Type 0
-Filled n m out out′ = (ds : List ByteRun) (rest : List ℕ) → m ≡ got ds rest → out′ ≡ booleansOf n ds ++ drop n out
+-- ---- positions: the one after m bytes, or after k flags, from the byte `at` on; or where the input is cut
+
+abbrev pub byteEnd : List ℕ → ℕ → ℕ → ByteEnd
+byteEnd input at m = pick (leb m (length (joinedBytes (runsAt input at .runs)))) (byte.At (past at m (runsAt input at .runs)))
+    (byte.Cut (numberOf (runsAt input at .why)) (fieldIn (length input) (runsAt input at .why)))
+
+abbrev pub flagEnd : List ℕ → ℕ → ℕ → FlagEnd
+flagEnd input at k = pick (leb k (8 * length (joinedBytes (runsAt input at .runs)))) (flag.At (pastFlags at k (runsAt input at .runs)))
+    (flag.Cut (numberOf (runsAt input at .why)) (fieldIn (length input) (runsAt input at .why)))
+
+-- the column's values after those that a position skips
+abbrev pub bytesAhead : List ℕ → BytePosition → List ℕ
+bytesAhead input p = drop (p .bytes .bytes) (column (drop (p .run .bytes) input))
+
+abbrev pub flagsAhead : List ℕ → FlagPosition → List ℕ
+flagsAhead input p = drop (skipped p) (bits (column (drop (p .run .bytes) input)))
+
+-- a plain position with n flags after it
+pub record Ready (input : List ℕ) (p : FlagPosition) (n : ℕ) : Type 0 where
+  pub inByte : p .bits < 8
+  pub inRun : Plain (p .bytes .bytes) (runsAt input (p .run .bytes) .runs)
+  pub there : skipped p + n ≤ 8 * length (column (drop (p .run .bytes) input))

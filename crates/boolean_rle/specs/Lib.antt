@@ -1,3 +1,7 @@
--- The definitions that the contracts of the reader's own functions cite.
+-- The definitions that the contracts cite: batches from a position, and what the reader's own functions answer.
+pub mod Column
+pub mod Positions
+pub mod Batches
+pub mod BatchTheorems
 pub mod Found
 pub mod Ones

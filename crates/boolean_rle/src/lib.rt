@@ -2,18 +2,22 @@
 // only then is a place written.
 ghost use mathlib.Core.Path.{_≡_};
 ghost use Prim.Native.Nat.{_+_, _-_, _*_, _≤_, _<_, min, max};
-ghost use lib.ListN.{length, drop, getD};
+ghost use lib.ListN.{length, take, drop, getD, replicate};
 ghost use Rattle.format.specs.Digits.{digits, lowestFirst};
 ghost use Rattle.format.specs.Fields.{bytesFor};
-ghost use Rattle.format.specs.Booleans.{byteRun, booleans, bits, BooleansRead};
-ghost use Rattle.boolean_rle.specs.Found.{foundIn, runBytesIn, spanOf, Wrote, Filled};
+ghost use Rattle.format.specs.Booleans.{booleans, bits, BooleansRead};
+ghost use Rattle.boolean_rle.specs.Column.{column};
+ghost use Rattle.boolean_rle.specs.Found.{foundAt, bytesAt, spanOf, Wrote};
 use format::Answer;
 use format::ByteOffset;
 use format::Kind;
 use format::RowNumber;
 use util::number;
 
+pub mod bytes;
 pub mod count;
+pub mod flags;
+pub mod positions;
 
 // A byte run's size in the input, and how many bytes it stands for.
 struct ByteRun {
@@ -35,7 +39,7 @@ enum Span {
 
 // Control c from 0 to 127: c+3 copies of the next byte. From 128 to 255: 256-c literal bytes. A missing control would stand at the input's end.
 fn run_at(input: &[u8], at: usize) -> Found
-    ensures { λ r. ⌜ r ≡ foundIn (length (now (input .entry))) (byteRun (drop at (now (input .entry)))) ⌝ }
+    ensures { λ r. ⌜ r ≡ foundAt (now (input .entry)) at ⌝ }
 {
     if input.len() <= at {
         return Found::Cut(6, input.len());
@@ -76,6 +80,13 @@ fn less(a: usize, b: usize) -> usize
     if b <= a { a - b } else { 0 }
 }
 
+// The lesser of the two.
+fn lesser(a: usize, b: usize) -> usize
+    ensures { λ r. ⌜ r ≡ min a b ⌝ }
+{
+    if a <= b { a } else { b }
+}
+
 // The greater of the two: a field that is missing past the end of the input begins at the call's position.
 fn later(a: usize, b: usize) -> usize
     ensures { λ r. ⌜ r ≡ max a b ⌝ }
@@ -105,8 +116,8 @@ fn span_from(input: &[u8], at: usize, n: usize) -> Span
 
 // Byte i of the run at a place.
 fn run_byte(input: &[u8], at: usize, run: ByteRun, i: usize) -> u8
-    requires { ⌜ (foundIn (length (now input)) (byteRun (drop at (now input))) ≡ Found.Run run) × (i < run .count) ⌝ }
-    ensures { λ r. ⌜ r ≡ getD (runBytesIn (byteRun (drop at (now (input .entry))))) i 0 ⌝ }
+    requires { ⌜ (foundAt (now input) at ≡ Found.Run run) × (i < run .count) ⌝ }
+    ensures { λ r. ⌜ r ≡ getD (bytesAt (now (input .entry)) at) i 0 ⌝ }
 {
     if input[at] < 128 {
         return input[at + 1];
@@ -114,14 +125,14 @@ fn run_byte(input: &[u8], at: usize, run: ByteRun, i: usize) -> u8
     input[at + 1 + i]
 }
 
-// The first m bits of a byte, highest first, in the places from k on.
-fn put_bits(byte: u8, m: usize, out: &mut [u8], k: usize)
-    requires { ⌜ (m ≤ 8) × (k + m ≤ length (now out)) ⌝ }
-    ensures { λ _. ⌜ Wrote k (k + m) (digits 2 8 byte) (now (out .entry)) (now (out .exit)) ⌝ }
+// m bits of a byte after its first `skip`, highest first, in the places from k on.
+fn put_bits(byte: u8, skip: usize, m: usize, out: &mut [u8], k: usize)
+    requires { ⌜ (skip + m ≤ 8) × (k + m ≤ length (now out)) ⌝ }
+    ensures { λ _. ⌜ Wrote k (k + m) (drop skip (digits 2 8 byte)) (now (out .entry)) (now (out .exit)) ⌝ }
 {
     let mut j = 0;
     while j < m {
-        out[k + j] = (byte >> (7 - j)) % 2;
+        out[k + j] = (byte >> (7 - (skip + j))) % 2;
         j += 1;
     }
 }
@@ -150,32 +161,79 @@ fn put_byte(byte: u8, out: &mut [u8], k: usize)
     }
 }
 
-// The first bytes of the run at a place, in eight places each, from k on.
-fn put_bytes(input: &[u8], at: usize, run: ByteRun, count: usize, out: &mut [u8], k: usize)
-    requires { ⌜ (foundIn (length (now input)) (byteRun (drop at (now input))) ≡ Found.Run run) × (count ≤ run .count) × (k + 8 * count ≤ length (now out)) ⌝ }
-    ensures { λ _. ⌜ Wrote k (k + 8 * count) (bits (runBytesIn (byteRun (drop at (now (input .entry)))))) (now (out .entry)) (now (out .exit)) ⌝ }
+// The bits of copies of a byte, in eight places each, from k on.
+fn put_copies(byte: u8, count: usize, out: &mut [u8], k: usize)
+    requires { ⌜ k + 8 * count ≤ length (now out) ⌝ }
+    ensures { λ _. ⌜ Wrote k (k + 8 * count) (bits (replicate count byte)) (now (out .entry)) (now (out .exit)) ⌝ }
 {
     let mut i = 0;
     while i < count {
-        put_byte(run_byte(input, at, run, i), out, k + 8 * i);
+        put_byte(byte, out, k + 8 * i);
         i += 1;
     }
 }
 
-// The booleans of the run at a place, from place k on and up to place n: the place after them.
-fn put_run(input: &[u8], at: usize, run: ByteRun, n: usize, out: &mut [u8], k: usize) -> usize
-    requires { ⌜ (foundIn (length (now input)) (byteRun (drop at (now input))) ≡ Found.Run run) × (k ≤ n) × (n ≤ length (now out)) ⌝ }
-    ensures { λ r. ⌜ (r ≡ min n (k + 8 * run .count)) × Wrote k r (bits (runBytesIn (byteRun (drop at (now (input .entry)))))) (now (out .entry)) (now (out .exit)) ⌝ }
+// The bits of the bytes from `first` on, in eight places each, from k on.
+fn put_literals(bytes: &[u8], first: usize, count: usize, out: &mut [u8], k: usize)
+    requires { ⌜ (first + count ≤ length (now bytes)) × (k + 8 * count ≤ length (now out)) ⌝ }
+    ensures { λ _. ⌜ Wrote k (k + 8 * count) (bits (take count (drop first (now (bytes .entry))))) (now (out .entry)) (now (out .exit)) ⌝ }
+{
+    let mut i = 0;
+    while i < count {
+        put_byte(bytes[first + i], out, k + 8 * i);
+        i += 1;
+    }
+}
+
+// The bits of some bytes of the run at a place, from byte `first` on, in eight places each, from k on. The control is looked at once for
+// all: a look at it for each byte keeps the compiler from vectors.
+fn put_bytes(
+    input: &[u8],
+    at: usize,
+    run: ByteRun,
+    first: usize,
+    count: usize,
+    out: &mut [u8],
+    k: usize,
+)
+    requires { ⌜ (foundAt (now input) at ≡ Found.Run run) × (count ≤ run .count - first) × (k + 8 * count ≤ length (now out)) ⌝ }
+    ensures { λ _. ⌜ Wrote k (k + 8 * count) (bits (drop first (bytesAt (now (input .entry)) at))) (now (out .entry)) (now (out .exit)) ⌝ }
+{
+    // none of a run that is skipped whole, after which the input may end
+    if count == 0 {
+        return;
+    }
+    if input[at] < 128 {
+        put_copies(input[at + 1], count, out, k);
+        return;
+    }
+    put_literals(input, at + 1 + first, count, out, k);
+}
+
+// The booleans of the run at a place, without its first bytes, from place k on and up to place n: the place after them.
+fn put_run(
+    input: &[u8],
+    at: usize,
+    run: ByteRun,
+    skip: usize,
+    n: usize,
+    out: &mut [u8],
+    k: usize,
+) -> usize
+    requires { ⌜ (foundAt (now input) at ≡ Found.Run run) × (k ≤ n) × (n ≤ length (now out)) ⌝ }
+    ensures { λ r. ⌜ r ≡ min n (k + 8 * (run .count - skip)) ⌝ }
+    ensures { λ r. ⌜ Wrote k r (bits (drop skip (bytesAt (now (input .entry)) at))) (now (out .entry)) (now (out .exit)) ⌝ }
 {
     let whole = (n - k) / 8;
-    let count = run.count;
+    let count = less(run.count, skip);
     if count <= whole {
-        put_bytes(input, at, run, count, out, k);
+        put_bytes(input, at, run, skip, count, out, k);
         return k + 8 * count;
     }
-    put_bytes(input, at, run, whole, out, k);
+    put_bytes(input, at, run, skip, whole, out, k);
     put_bits(
-        run_byte(input, at, run, whole),
+        run_byte(input, at, run, skip + whole),
+        0,
         (n - k) % 8,
         out,
         k + 8 * whole,
@@ -183,18 +241,21 @@ fn put_run(input: &[u8], at: usize, run: ByteRun, n: usize, out: &mut [u8], k: u
     n
 }
 
-// The second pass: the first n booleans from a position on, whose runs are all there, in the first n places.
-fn put_booleans(input: &[u8], at: usize, n: usize, out: &mut [u8])
-    requires { ⌜ n ≤ length (now out) ⌝ }
-    ensures { λ _. ⌜ Filled n (booleans n (drop at (now (input .entry)))) (now (out .entry)) (now (out .exit)) ⌝ }
+// The booleans of the column from a place on, without its first bytes, in the places from k up to n. A run that is skipped whole is
+// not unpacked.
+fn put_booleans(input: &[u8], at: usize, skip: usize, n: usize, out: &mut [u8], k: usize)
+    requires { ⌜ (k ≤ n) × (n ≤ length (now out)) × (n - k ≤ 8 * (length (column (drop at (now input))) - skip)) ⌝ }
+    ensures { λ _. ⌜ Wrote k n (bits (drop skip (column (drop at (now (input .entry)))))) (now (out .entry)) (now (out .exit)) ⌝ }
 {
     let mut place = at;
-    let mut k = 0;
-    while k < n {
+    let mut left = skip;
+    let mut done = k;
+    while done < n {
         let Found::Run(run) = run_at(input, place) else {
             return;
         };
-        k = put_run(input, place, run, n, out, k);
+        done = put_run(input, place, run, left, n, out, done);
+        left = less(left, run.count);
         place = place + run.size;
     }
 }
@@ -215,6 +276,6 @@ pub fn read_booleans(input: &[u8], at: ByteOffset, n: RowNumber, out: &mut [u8])
     if out.len() < rows {
         return Answer::refused(8, at);
     }
-    put_booleans(input, position, rows, out);
+    put_booleans(input, position, 0, rows, out, 0);
     Answer::run(Kind::Booleans, 1, n, ByteOffset { bytes: consumed })
 }
