@@ -1,4 +1,5 @@
--- Laws for the walks over the columns: what is left of the lengths at each place, and how many names the flags have before it. Assumes nothing.
+-- The lengths add up exactly if those that are left do, with the sum so far; so a name that is found lies within the block. Assumes
+-- nothing.
 use mathlib.Core.Path.{_≡_, refl, ap, _∙_}
 use Prim.Native.Nat.{ℕ, zero, suc, _+_, _<_, _≤_}
 use mathlib.Core.Logic.{_≢_}
@@ -13,11 +14,12 @@ use borrow.Author.Tests.{ne-eqb, eq-eqb, lt-ltb, le-ltb, le-leb, lt-leb}
 use Rattle.format.specs.Fields.{pick}
 use Rattle.labels.specs.declared.Whole.the-variants.{Number, Below}
 use Rattle.labels.specs.Whole.{wholeOf}
-use Rattle.labels.specs.Labels.{size, total, noneBelow, addUp, startOf, sizeOf, names, entryOf, isName, nameAt, fallbackOf, refusedWith, numbered, named, label}
+use Rattle.labels.specs.Labels.{size, total, noneBelow, addUpTo, addUp, startOf, sizeOf, entryOf, nameAt, fallbackOf}
+use Rattle.labels.specs.Labels.{refusedWith, numbered, named, label}
 use Rattle.labels.specs.declared.Label as Label
 use Rattle.labels.specs.declared.Name.{Name}
 use Rattle.labels.specs.Laws.{NoneBelow, Said, the-name}
-use Rattle.labels.proofs.Labels.{labels-exactly, adds, total-is, size-is, start-suc, start-le}
+use Rattle.labels.proofs.Labels.{labels-exactly, adds, adds-total, total-is, size-is, start-suc, start-le}
 
 -- ---- the lengths
 
@@ -25,9 +27,9 @@ use Rattle.labels.proofs.Labels.{labels-exactly, adds, total-is, size-i
 unfoldable pub leftOver : List ℤ → ℕ → ℕ → Bool
 leftOver zs sum n = noneBelow zs && eqb (sum + total zs) n
 
-pub begin : (l : List ℤ) (b : List ℕ) → addUp l b ≡ leftOver l 0 (length b)
-unfolding addUp leftOver
-begin l b = let s : 0 + total l ≡ total l = omega arith in rw s
+pub begin : (l : List ℤ) (n : ℕ) → addUpTo l n ≡ leftOver l 0 n
+unfolding addUpTo leftOver
+begin l n = let s : 0 + total l ≡ total l = omega arith in rw s
 
 -- an entry below 0 spoils them all ..
 spoilt : (z : ℤ) (zs : List ℤ) (sum n : ℕ) → wholeOf z ≡ Below → leftOver (z ∷ zs) sum n ≡ false
@@ -81,37 +83,20 @@ adds-whole l b i a h e =
     let w : wholeOf (pos (sizeOf l i)) ≡ Below = ap wholeOf s ∙ e in
     let y : _≡_ {A = ℕ} 0 1 = cc in omega arith
 
-pub adds-start : (l : List ℤ) (b : List ℕ) (k : ℕ) → addUp l b ≡ true → startOf l k ≤ length b
-adds-start l b k a = omega (arith, start-le l k, total-is l b (adds l b a))
+pub adds-start : (l : List ℤ) (n k : ℕ) → addUpTo l n ≡ true → startOf l k ≤ n
+adds-start l n k a = omega (arith, start-le l k, adds-total l n a)
+
+-- a number of a column, as the code finds it
+pub whole-natural : (z : ℤ) (k : ℕ) → wholeOf z ≡ Number k → size z ≡ k
+whole-natural (pos j) k e = cc
+whole-natural (negsuc j) k e = let y : _≡_ {A = ℕ} 0 1 = cc in absurd (omega arith)
 
 pub size-at : (l : List ℤ) (i k : ℕ) → wholeOf (getD l i (pos 0)) ≡ Number k → sizeOf l i ≡ k
 unfolding sizeOf
-size-at l i k e = go (getD l i (pos 0)) e
-  where
-    go : (z : ℤ) → wholeOf z ≡ Number k → size z ≡ k
-    go (pos j) e = cc
-    go (negsuc j) e = let y : _≡_ {A = ℕ} 0 1 = cc in absurd (omega arith)
+size-at l i k e = whole-natural (getD l i (pos 0)) k e
 
 pub whole-size : (l : List ℤ) (i k : ℕ) → wholeOf (getD l i (pos 0)) ≡ Number k → startOf l (suc i) ≡ startOf l i + k
 whole-size l i k e = rw (start-suc l i, size-at l i k e)
-
--- ---- the flags
-
-pub entry-suc : (l : List ℕ) (i : ℕ) → i < length l → entryOf l (suc i) ≡ entryOf l i + pick (isName (getD l i 0)) 1 0
-unfolding entryOf names
-entry-suc (x ∷ l) zero h = omega arith
-entry-suc (x ∷ l) (suc i) h = omega (arith, entry-suc l i (omega arith))
-entry-suc [] i h = absurd (omega arith)
-
-pub entry-none : (l : List ℕ) → entryOf l 0 ≡ 0
-unfolding entryOf names
-entry-none l = refl
-
-pub entry-name : (l : List ℕ) (i : ℕ) → i < length l → getD l i 0 ≢ 0 → entryOf l (i + 1) ≡ entryOf l i + 1
-entry-name l i h n = let s : i + 1 ≡ suc i = omega arith in rw (s, entry-suc l i h, ne-eqb (getD l i 0) 0 n)
-
-pub entry-no-name : (l : List ℕ) (i : ℕ) → i < length l → getD l i 0 ≡ 0 → entryOf l (i + 1) ≡ entryOf l i
-entry-no-name l i h n = let s : i + 1 ≡ suc i = omega arith in rw (s, entry-suc l i h, eq-eqb (getD l i 0) 0 n) (omega arith)
 
 -- ---- the number that stands in a row's entry
 

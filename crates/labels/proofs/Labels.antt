@@ -1,4 +1,4 @@
--- The laws of labels. Assumes nothing.
+-- Each label follows from the first test that applies, and the parts of the names, one after the other, are the block. Assumes nothing.
 use mathlib.Core.Path.{_≡_, refl, sym, ap, subst, _∙_}
 use Prim.Native.Nat.{ℕ, zero, suc, _+_, _<_, _≤_, zero-le}
 use native.Mathlib.Omega.{arith}
@@ -14,7 +14,8 @@ use Rattle.format.specs.Fields.{pick}
 use Rattle.format.proofs.Widths.{and-left, and-right}
 use Rattle.format.proofs.Tests.{T-true, is-false}
 use Rattle.labels.specs.declared.Label.{Label}
-use Rattle.labels.specs.Labels.{total, noneBelow, addUp, startOf, sizeOf, isName, entryOf, nameAt, fallbackOf, refusedWith, numbered, named, label, partOf}
+use Rattle.labels.specs.Labels.{total, noneBelow, addUpTo, addUp, startOf, sizeOf, isName, entryOf, nameAt, fallbackOf, refusedWith}
+use Rattle.labels.specs.Labels.{numbered, named, label, partOf}
 use Rattle.labels.specs.Laws.{sum, NoneBelow, AddUp, Number, Name, Said, sixteen, eighteen, nineteen, the-name, no-name, LabelsExactly, partsBefore, PartsHold, LabelsGiven, LabelsDetermined}
 
 -- ---- tests
@@ -46,17 +47,24 @@ none-take (suc k) [] h = tt
 none-take (suc k) (z ∷ l) h = (h .0, none-take k l (h .1))
 
 pub adds : (l : List ℤ) (b : List ℕ) → addUp l b ≡ true → AddUp l b
-unfolding addUp
+unfolding addUpTo
 adds l b e =
     let t : T (addUp l b) = rw e tt in
     let n : NoneBelow l = none-below l (and-left (noneBelow l) _ t) in
     record { none-below = n; whole = sum-total l n ∙ ap pos (eqb→eq _ _ (and-right (noneBelow l) _ t)) }
 
+-- lengths that add up to n bytes have the sum n
+pub adds-total : (l : List ℤ) (n : ℕ) → addUpTo l n ≡ true → total l ≡ n
+unfolding addUpTo
+adds-total l n e =
+    let t : T (addUpTo l n) = rw e tt in
+    eqb→eq (total l) n (and-right (noneBelow l) (eqb (total l) n) t)
+
 pub total-is : (l : List ℤ) (b : List ℕ) → AddUp l b → total l ≡ length b
 total-is l b a = let e : pos (total l) ≡ pos (length b) = sym (sum-total l (a .none-below)) ∙ a .whole in cc
 
 pub added : (l : List ℤ) (b : List ℕ) → AddUp l b → addUp l b ≡ true
-unfolding addUp
+unfolding addUpTo
 added l b a = go (noneBelow l) (below-none l (a .none-below))
   where
     go : (t : Bool) → T t → (t && eqb (total l) (length b)) ≡ true

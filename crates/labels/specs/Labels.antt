@@ -11,6 +11,7 @@ use lib.IntN.{ℤ, pos, negsuc}
 use lib.Signed.{nonNeg}
 use Rattle.format.specs.Fields.{pick}
 use Rattle.format.specs.Answers.{refusing}
+use Rattle.present.specs.Present.{present}
 use Rattle.labels.specs.declared.Label.{Label}
 use Rattle.labels.specs.declared.Label.the-variants.{Name, Fallback, Refused}
 
@@ -31,9 +32,13 @@ unfoldable pub noneBelow : List ℤ → Bool
 noneBelow [] = true
 noneBelow (z ∷ zs) = nonNeg z && noneBelow zs
 
--- no length is below 0, and they add up to the block
-unfoldable pub addUp : List ℤ → List ℕ → Bool
-addUp lengths block = noneBelow lengths && eqb (total lengths) (length block)
+-- no length is below 0, and they add up to this number of bytes ..
+unfoldable pub addUpTo : List ℤ → ℕ → Bool
+addUpTo lengths bytes = noneBelow lengths && eqb (total lengths) bytes
+
+-- .. to the block
+abbrev pub addUp : List ℤ → List ℕ → Bool
+addUp lengths block = addUpTo lengths (length block)
 
 -- name k begins where the lengths before it end, and has the k-th length; there is none beyond the lengths
 unfoldable pub startOf : List ℤ → ℕ → ℕ
@@ -48,16 +53,12 @@ sizeOf lengths k = size (getD lengths k (pos 0))
 abbrev pub isName : ℕ → Bool
 isName flag = not (eqb flag 0)
 
--- how many of the flags mean a name
-unfoldable pub names : List ℕ → ℕ
-names [] = 0
-names (f ∷ fs) = pick (isName f) 1 0 + names fs
-
--- a row's entry in the numbers column is the one after those of the named rows before it
+-- the numbers are a column with missing rows: a row's entry is the one after those of the named rows before it
 unfoldable pub entryOf : List ℕ → ℕ → ℕ
-entryOf flags row = names (take row flags)
+entryOf flags row = present (take row flags)
 
--- ---- THE ANSWER: a name, by where it begins in the block and its length; the fallback, by its length; or a refusal, by its number, at place 0
+-- ---- THE ANSWER: a name, by where it begins in the block and its length; the fallback, by its length; or a refusal, by its number, at
+-- place 0
 
 abbrev pub nameAt : ℕ → ℕ → Label
 nameAt start size = Name (record { start = record { bytes = start }; size = record { bytes = size } })

@@ -9,7 +9,8 @@ use lib.Dec.{T}
 use lib.IntN.{ℤ, pos, _+ℤ_}
 use lib.Signed.{_≤ℤ_}
 use Rattle.labels.specs.declared.Label.{Label}
-use Rattle.labels.specs.Labels.{isName, startOf, sizeOf, entryOf, nameAt, fallbackOf, refusedWith, label, partOf, Labelled, PartHanded}
+use Rattle.labels.specs.Labels.{isName, startOf, sizeOf, entryOf, nameAt, fallbackOf, refusedWith, label, partOf, Labelled}
+use Rattle.labels.specs.Labels.{PartHanded}
 
 -- ---- the lengths, as whole numbers
 
@@ -80,7 +81,7 @@ PartsHold = (lengths : List ℤ) (block : List ℕ) → AddUp lengths block → 
 -- ---- THE PROMISES
 
 module _ (lengths numbers : List ℤ) (flags block fall : List ℕ) (row : ℕ) (r : Label) (part : List ℕ) where
-  pub record LabelGives : Type 0 where
+  pub record PartIs : Type 0 where
     -- a name is the part of the block that its number selects ..
     pub name-part : (k : ℕ) → r ≡ nameAt (startOf lengths k) (sizeOf lengths k) → part ≡ partAt lengths block k
     -- .. a row without a name is given the fallback whole ..
@@ -96,7 +97,7 @@ abbrev pub LabelsGiven : Type 0
 LabelsGiven =
     (lengths numbers : List ℤ) (flags block fall : List ℕ) (row : ℕ) (r : Label) (part : List ℕ)
     → Labelled lengths numbers flags block fall row r → PartHanded lengths numbers flags block fall row part
-    → LabelGives lengths numbers flags block fall row r part
+    → PartIs lengths numbers flags block fall row r part
 
 -- any two outcomes that the promises allow are equal
 abbrev pub LabelsDetermined : Type 0

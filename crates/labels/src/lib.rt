@@ -5,12 +5,15 @@ ghost use mathlib.Core.Bool.{true};
 ghost use Prim.Native.Nat.{_≤_, _<_};
 ghost use lib.IntN.{pos};
 ghost use lib.ListN.{length, getD};
-ghost use Rattle.labels.specs.Labels.{nameAt, fallbackOf, refusedWith, addUp, startOf, entryOf, Labelled, PartHanded};
+ghost use Rattle.labels.specs.Labels.{nameAt, fallbackOf, refusedWith, addUpTo, addUp, startOf, entryOf, Labelled, PartHanded};
 ghost use Rattle.labels.specs.Labels as Labels;
 ghost use Rattle.labels.specs.Whole.{wholeOf};
+ghost use Rattle.labels.specs.Column.{placesIn, labelledRows, columnRefused, rowRefused, LabelledAll};
 use format::ByteOffset;
 use format::Refusal;
 use format::RowNumber;
+
+mod column;
 
 // A name: the byte of the block where it begins, and how many bytes it has.
 pub struct Name {
@@ -23,6 +26,13 @@ pub enum Label {
     Name(Name),
     Fallback(ByteOffset),
     Refused(Refusal),
+}
+
+// What all rows of a column are called: how many they are; a refusal; or a refusal with the first row that it is for.
+pub enum LabelColumn {
+    Rows(RowNumber),
+    Refused(Refusal),
+    RefusedRow(Refusal, RowNumber),
 }
 
 // A length or a number of a column: not below 0, or below.
@@ -51,6 +61,26 @@ impl Label {
     }
 }
 
+impl LabelColumn {
+    pub fn rows(rows: RowNumber) -> Self
+        ensures { λ r. ⌜ r ≡ labelledRows (rows .rows) ⌝ }
+    {
+        LabelColumn::Rows(rows)
+    }
+
+    pub fn refused(number: u8) -> Self
+        ensures { λ r. ⌜ r ≡ columnRefused number ⌝ }
+    {
+        LabelColumn::Refused(Refusal::new(number, ByteOffset { bytes: 0 }))
+    }
+
+    pub fn refused_row(number: u8, row: RowNumber) -> Self
+        ensures { λ r. ⌜ r ≡ rowRefused number (row .rows) ⌝ }
+    {
+        LabelColumn::RefusedRow(Refusal::new(number, ByteOffset { bytes: 0 }), row)
+    }
+}
+
 fn as_whole(x: i64) -> Whole
     ensures { λ r. ⌜ r ≡ wholeOf x ⌝ }
 {
@@ -67,23 +97,24 @@ fn entry(column: &[i64], i: usize) -> Whole
     as_whole(column[i])
 }
 
-// No length is below 0, and they add up to the block. The sum stops where it passes the block, so it never wraps.
-fn add_up(lengths: &[i64], block: &[u8]) -> bool
-    ensures { λ r. ⌜ r ≡ addUp (now (lengths .entry)) (now (block .entry)) ⌝ }
+// No length is below 0, and they add up to the block's bytes. The sum stops where it passes the block, so it never wraps.
+fn add_up(lengths: &[i64], block: ByteOffset) -> bool
+    ensures { λ r. ⌜ r ≡ addUpTo (now (lengths .entry)) (block .bytes) ⌝ }
 {
+    let bytes = block.bytes;
     let mut sum: usize = 0;
     let mut i: usize = 0;
     while i < lengths.len() {
         let Whole::Number(size) = entry(lengths, i) else {
             return false;
         };
-        if block.len() - sum < size {
+        if bytes - sum < size {
             return false;
         }
         sum += size;
         i += 1;
     }
-    sum == block.len()
+    sum == bytes
 }
 
 // Where name k begins: the sum of the lengths before it.
@@ -109,15 +140,8 @@ fn entry_of(flags: &[u8], row: RowNumber) -> usize
     ensures { λ r. ⌜ r ≡ entryOf (now (flags .entry)) (row .rows) ⌝ }
 {
     let before = row.rows;
-    let mut names: usize = 0;
-    let mut i: usize = 0;
-    while i < before {
-        if flags[i] != 0 {
-            names += 1;
-        }
-        i += 1;
-    }
-    names
+    let named = present::count_present(&flags[..before]);
+    named.rows
 }
 
 // The name of the number that stands in this entry.
@@ -151,13 +175,14 @@ pub fn label_of(
     fallback: &[u8],
     row: RowNumber,
 ) -> Label
-    ensures { λ r. ⌜ Labelled (now (lengths .entry)) (now (numbers .entry)) (now (flags .entry)) (now (block .entry)) (now (fallback .entry)) (row .rows) r ⌝ }
+    ensures { λ r. ⌜ Labelled (now (lengths .entry)) (now (numbers .entry)) (now (flags .entry)) (now (block .entry))
+        (now (fallback .entry)) (row .rows) r ⌝ }
 {
     let i = row.rows;
     if flags.len() <= i {
         return Label::refused(16);
     }
-    if !add_up(lengths, block) {
+    if !add_up(lengths, ByteOffset { bytes: block.len() }) {
         return Label::refused(18);
     }
     if flags[i] == 0 {
@@ -177,7 +202,8 @@ pub fn part_of<'a>(
     fallback: &'a [u8],
     row: RowNumber,
 ) -> &'a [u8]
-    ensures { λ r. ⌜ PartHanded (now (lengths .entry)) (now (numbers .entry)) (now (flags .entry)) (now (block .entry)) (now (fallback .entry)) (row .rows) (now r) ⌝ }
+    ensures { λ r. ⌜ PartHanded (now (lengths .entry)) (now (numbers .entry)) (now (flags .entry)) (now (block .entry))
+        (now (fallback .entry)) (row .rows) (now r) ⌝ }
 {
     let said = label_of(lengths, numbers, flags, block, fallback, row);
     match said {
@@ -195,4 +221,43 @@ pub fn part_of<'a>(
             return &block[..0];
         }
     }
+}
+
+// What every row is called, in one pass. The first places of `offsets` get where each name begins in the block, those of `starts` and
+// `sizes` for each row where its name begins and its length, or 0 and 0 if it has none. It refuses without touching a place: 18 as
+// `label_of`; then 19, with the first row whose number is outside the dictionary or missing; then 8 if there are too few places in any of
+// the three.
+pub fn label_column(
+    flags: &[u8],
+    numbers: &[i64],
+    lengths: &[i64],
+    block: ByteOffset,
+    offsets: &mut [u64],
+    starts: &mut [u64],
+    sizes: &mut [u64],
+) -> LabelColumn
+    ensures { λ r. ⌜ LabelledAll (now (flags .entry)) (now (numbers .entry)) (now (lengths .entry)) (block .bytes)
+        (placesIn (now (offsets .entry)) (now (starts .entry)) (now (sizes .entry)))
+        (placesIn (now (offsets .exit)) (now (starts .exit)) (now (sizes .exit))) r ⌝ }
+{
+    if !add_up(lengths, block) {
+        return LabelColumn::refused(18);
+    }
+    let rows = flags.len();
+    let good = column::good_rows(flags, numbers, lengths);
+    if good.rows < rows {
+        return LabelColumn::refused_row(19, good);
+    }
+    if offsets.len() < lengths.len() {
+        return LabelColumn::refused(8);
+    }
+    if starts.len() < rows {
+        return LabelColumn::refused(8);
+    }
+    if sizes.len() < rows {
+        return LabelColumn::refused(8);
+    }
+    column::put_offsets(lengths, block, offsets);
+    column::put_labels(flags, numbers, lengths, offsets, starts, sizes);
+    LabelColumn::rows(RowNumber { rows })
 }

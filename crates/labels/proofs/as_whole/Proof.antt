@@ -1,4 +1,4 @@
--- `as_whole` meets its contract: an i64 is below 0, or the natural number that it is. Assumes nothing.
+-- An i64 is below 0, or the natural number that it is. Assumes nothing.
 use Prim.Native.Nat.{ℕ}
 use mathlib.Core.Path.{_≡_, refl}
 use mathlib.Core.Bool.{Bool, true, false}

@@ -1,4 +1,4 @@
--- `entry` meets its contract. Assumes nothing.
+-- The entry read is the one at that place of the column. Assumes nothing.
 use mathlib.Core.Path.{ap, _∙_}
 use lib.IntN.{ℤ, pos}
 use lib.ListN.{getD}

@@ -1,4 +1,4 @@
--- `label_of` meets its contract. Assumes nothing.
+-- The tests are the definition's, in its order: the row, the lengths, the flag, the entry. Assumes nothing.
 use mathlib.Core.Path.{sym, ap, _∙_}
 use mathlib.Core.Bool.{not}
 use borrow.Author.Needs.{needs}

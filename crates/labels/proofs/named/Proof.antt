@@ -1,4 +1,4 @@
--- `named` meets its contract. Assumes nothing.
+-- An entry that is there, of a number of the dictionary, names the part that begins at the sum of the lengths before it. Assumes nothing.
 use mathlib.Core.Path.{sym, _∙_}
 use borrow.Author.Needs.{needs}
 use denote.Ref.{now}

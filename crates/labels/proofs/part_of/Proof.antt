@@ -1,4 +1,4 @@
--- `part_of` meets its contract: a name lies in the block. Assumes nothing.
+-- A name lies in the block, since the lengths add up to it. Assumes nothing.
 use native.Mathlib.Omega.{arith}
 use lib.ListN.{length}
 use Prim.Native.Nat.{_+_, _≤_}

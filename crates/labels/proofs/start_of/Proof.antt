@@ -1,4 +1,4 @@
--- `start_of` meets its contract. Assumes nothing.
+-- The sum so far is where name i begins, and no sum passes the block. Assumes nothing.
 use Prim.Native.Nat.{ℕ, suc, _+_, _≤_, _-_}
 use mathlib.Core.Path.{_≡_, refl, sym, ap, _∙_}
 use native.Mathlib.Omega.{arith}
