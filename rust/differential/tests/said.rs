@@ -1,6 +1,12 @@
 //! Lines 11 to 19 of the probe: lines and answers that were worked out by hand, held to what the model makes
 //! of the lines; and byte runs that a writer may choose, or may not.
+use std::collections::BTreeMap;
+
+use differential::probe::Requests;
+use differential::random::Random;
 use differential::said::{said, Expected};
+use differential::stages::{batches, lined_up, rescue};
+use model::{read_stream, Stream};
 
 /// The lines with their answers. A field `#N` is a number of eight bytes.
 fn by_hand() -> Vec<(String, &'static str)> {
@@ -82,4 +88,70 @@ fn runs_of_the_writers_choice() {
     let equal = said(&format!("180004{}", "05".repeat(132)));
     assert!(equal.takes("written 132 4 7e050005") && equal.takes("written 132 4 3f053f05"));
     assert!(!equal.takes("written 132 5 7f05fe0505"));
+}
+
+/// How many answers begin with each word, and with each number of a refusal.
+fn kinds(lines: &Requests) -> BTreeMap<String, usize> {
+    let mut kinds = BTreeMap::new();
+    for (_, answer) in lines.lines() {
+        let words = if answer.starts_with("refused") { 2 } else { 1 };
+        let kind: Vec<&str> = answer.split(' ').take(words).collect();
+        *kinds.entry(kind.join(" ")).or_default() += 1;
+    }
+    kinds
+}
+
+/// The lines that are made for the probe have every answer and every refusal, and none is bad by mistake.
+#[test]
+fn made_lines() {
+    let all = [
+        "end",
+        "rows",
+        "flags",
+        "bytes",
+        "spread",
+        "labels",
+        "rescued",
+        "refused 6",
+        "refused 8",
+        "refused 12",
+        "refused 13",
+        "refused 16",
+        "refused 17",
+        "refused 18",
+        "refused 19",
+        "refused 21",
+    ];
+    let mut random = Random::new(7);
+    let mut any = Requests::default();
+    for _ in 0..3_000 {
+        batches::probe_line(&mut any, &mut random);
+        lined_up::probe_line(&mut any, &mut random);
+        rescue::probe_line(&mut any, &mut random);
+    }
+    let mut fixed = Requests::default();
+    batches::fixed_lines(&mut fixed);
+    lined_up::fixed_lines(&mut fixed);
+    rescue::fixed_lines(&mut fixed);
+    for lines in [&any, &fixed] {
+        let kinds = kinds(lines);
+        assert!(all.iter().all(|kind| kinds.get(*kind).is_some_and(|count| *count > 5)), "{kinds:?}");
+        assert!(lines.lines().all(|(line, answer)| said(line).takes(answer)));
+    }
+    assert_eq!(kinds(&any).get("bad"), None);
+}
+
+/// Of a whole stream every group is kept, wherever it is cut and however its positions are said.
+#[test]
+fn whole_tables() {
+    let mut random = Random::new(11);
+    for _ in 0..500 {
+        let table = rescue::table(&mut random);
+        let Stream::Whole { rows, .. } = read_stream(&table.input, 0, table.flag == 1, usize::MAX) else {
+            panic!("{table:?}");
+        };
+        let rows: String = rows.iter().map(|row| format!(" {row}")).collect();
+        let kept = "1".repeat(table.columns[0].len());
+        assert!(said(&table.line()).takes(&format!("rescued {kept}{rows}")), "{table:?}");
+    }
 }
