@@ -58,6 +58,8 @@ fn a_damaged_run_costs_the_groups_that_have_rows_of_it() {
     given(DAMAGED, &[(0, 0, 5), (3, 0, 3), (7, 0, 5)], "101", &one);
     // The second position passes the first run, and nothing of the damaged one is read for it.
     given(DAMAGED, &[(0, 0, 5), (0, 5, 3), (7, 0, 5)], "101", &one);
+    // The third position passes it: it can't be made plain, though the group has no row of it.
+    given(DAMAGED, &[(0, 0, 5), (0, 5, 3), (0, 8, 5)], "100", &[&ALL[..5], &[F; 8]].concat());
     // Two groups have rows of it, and one ends before it within a run.
     let two = [&ALL[..3], &[F; 10]].concat();
     given(DAMAGED, &[(0, 0, 3), (0, 3, 4), (3, 2, 6)], "100", &two);

@@ -148,7 +148,7 @@ pub fn fixed_lines(requests: &mut Requests) {
 fn fixed_written(requests: &mut Requests) {
     for length in (0..6).chain(126..135).chain(256..265).chain([390, 393]) {
         let different: Vec<u8> = (0..length).map(|k| (k % 251) as u8).collect();
-        for bytes in [&vec![5; length], &different, &[&different[..], &vec![9; 3], &different].concat()] {
+        for bytes in [&vec![5; length], &different, &[&different[..], &[9; 3], &different].concat()] {
             let least = model::least_size(bytes);
             for places in [least.saturating_sub(1), least, least + 1, 8_192] {
                 requests.said(write_line(0x18, bytes, places));
