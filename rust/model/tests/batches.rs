@@ -100,10 +100,13 @@ fn a_byte_within_a_run() {
 fn batches_join() {
     for size in 1..15 {
         let (mut position, mut joined) = (RowPosition { run: 0, skip: 0 }, Vec::new());
-        while let Batch::Given { rows, next } = read_rows(&bytes(THREE), position, false, size) {
+        // No more batches than there are rows, and the end.
+        for _ in 0..14 {
+            let Batch::Given { rows, next } = read_rows(&bytes(THREE), position, false, size) else { break };
             joined.extend(rows);
             position = next;
         }
+        assert_eq!(read_rows(&bytes(THREE), position, false, size), Batch::End);
         assert_eq!((joined.as_slice(), position), (&ALL[..], RowPosition { run: 11, skip: 0 }), "{size}");
     }
 }
