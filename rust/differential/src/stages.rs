@@ -1,4 +1,5 @@
 //! What is compared, stage by stage.
+pub mod batches;
 pub mod column_lines;
 pub mod columns;
 pub mod convert;
@@ -6,11 +7,13 @@ pub mod count;
 mod cuts;
 pub mod index;
 pub mod labels;
+pub mod lined_up;
 mod lines;
 pub mod parts;
 pub mod patched_runs;
 mod patches;
 pub mod plans;
+pub mod rescue;
 pub mod salvage;
 mod varints;
 mod written_streams;
