@@ -23,9 +23,9 @@ fn refused<T: std::fmt::Debug>(answer: Result<T, Refused>, refusal: Refusal) {
 #[test]
 fn built() {
     assert_eq!(Index::build(&THREE), Ok(right()));
-    assert_eq!(right().rows(), RowNumber(13));
+    assert_eq!(right().row_count(), RowNumber(13));
     assert_eq!(Index::build(&[]), Ok(Index::default()));
-    assert_eq!(Index::default().rows(), RowNumber(0));
+    assert_eq!(Index::default().row_count(), RowNumber(0));
     // The stream's own refusals, with their places and cut fields.
     let cut = Index::build(&THREE[..6]).unwrap_err();
     assert_eq!((cut.refusal, cut.at, cut.cut), (Refusal::RowsCut, ByteOffset(3), Some(ByteOffset(5))));
@@ -43,7 +43,7 @@ fn many_entries() {
             let expected: Vec<u64> = (0..runs as u64).collect();
             let times = |by: usize| expected.iter().map(|k| k * by as u64).collect::<Vec<_>>();
             assert_eq!(built.columns(), [&times(rows)[..], &times(run.len()), &vec![rows as u64; runs]]);
-            assert_eq!(built.rows(), RowNumber(rows * runs));
+            assert_eq!(built.row_count(), RowNumber(rows * runs));
             let last = built.rows_from(&column, RowNumber(rows * runs - 1), Sign::Unsigned).unwrap();
             assert_eq!(last.len(), 1);
         }
