@@ -127,11 +127,13 @@ fn made_lines() {
     for _ in 0..3_000 {
         batches::probe_line(&mut any, &mut random);
         lined_up::probe_line(&mut any, &mut random);
+        lined_up::written_line(&mut any, &mut random);
         rescue::probe_line(&mut any, &mut random);
     }
     let mut fixed = Requests::default();
     batches::fixed_lines(&mut fixed);
     lined_up::fixed_lines(&mut fixed);
+    lined_up::fixed_written(&mut fixed);
     rescue::fixed_lines(&mut fixed);
     for lines in [&any, &fixed] {
         let kinds = kinds(lines);

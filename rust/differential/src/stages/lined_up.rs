@@ -81,16 +81,20 @@ fn any_written(random: &mut Random) -> String {
     write_line(if flags { 0x17 } else { 0x18 }, &bytes, places.min(8_192))
 }
 
-/// Any line of these kinds.
+/// Any line of 15 and 16.
 pub fn probe_line(requests: &mut Requests, random: &mut Random) {
-    requests.said(match random.below(3) {
-        0 => any_spread(random),
-        1 => any_labels(random),
-        _ => any_written(random),
+    requests.said(match random.once_in(2) {
+        true => any_spread(random),
+        false => any_labels(random),
     });
 }
 
-/// Each answer and each refusal, the refusals' order, and places about those that are needed.
+/// Any line of 17 and 18.
+pub fn written_line(requests: &mut Requests, random: &mut Random) {
+    requests.said(any_written(random));
+}
+
+/// Of 15 and 16 each answer and each refusal, the refusals' order, and places about those that are needed.
 pub fn fixed_lines(requests: &mut Requests) {
     for flags in [&[][..], &[0], &[1], &[255, 0], &[0, 2, 0, 1], &[1, 1, 1, 1], &[0, 0, 0, 128]] {
         for count in 0..6 {
@@ -124,7 +128,6 @@ pub fn fixed_lines(requests: &mut Requests) {
         requests.said(labels_line(&[0, 0, 0], &[], &[], 0, places));
         requests.said(labels_line(&[0, 1, 0], &[0], &[], 0, places));
     }
-    fixed_written(requests);
     let zero = "0000000000000000";
     for line in [
         format!("15{zero}200100000000"),
@@ -134,18 +137,16 @@ pub fn fixed_lines(requests: &mut Requests) {
         format!("16{zero}000100000000000900090009"),
         format!("16{zero}00000000000000090009000900"),
         format!("16{zero}000000000000200100090009"),
-        "17".into(),
-        "1700".into(),
-        "172001".into(),
-        "18".into(),
-        "18200105".into(),
     ] {
         requests.bad(&line);
     }
 }
 
-/// Stretches and literals of every length about the ends of a run.
-fn fixed_written(requests: &mut Requests) {
+/// Of 17 and 18: stretches and literals of every length about the ends of a run.
+pub fn fixed_written(requests: &mut Requests) {
+    for line in ["17", "1700", "172001", "18", "18200105"] {
+        requests.bad(line);
+    }
     for length in (0..6).chain(126..135).chain(256..265).chain([390, 393]) {
         let different: Vec<u8> = (0..length).map(|k| (k % 251) as u8).collect();
         for bytes in [&vec![5; length], &different, &[&different[..], &[9; 3], &different].concat()] {
