@@ -96,18 +96,38 @@ fn any_bytes(random: &mut Random) -> (Vec<u8>, u64, usize) {
     }
 }
 
-/// Any batch, as a line for the probe.
-pub fn probe_line(requests: &mut Requests, random: &mut Random) {
-    let line = match random.below(4) {
+/// One call, or several one after the other, that a line asks for.
+#[derive(Debug, Clone, PartialEq, Eq)]
+pub enum Asked {
+    Rows { at: At, places: usize, input: Vec<u8> },
+    Batches { at: At, sizes: Vec<usize>, input: Vec<u8> },
+    Flags { n: u64, position: [u64; 3], places: usize, input: Vec<u8> },
+    Bytes { n: u64, position: [u64; 2], places: usize, input: Vec<u8> },
+}
+
+impl Asked {
+    pub fn line(&self) -> String {
+        match self {
+            Asked::Rows { at, places, input } => rows_line(*at, *places, input),
+            Asked::Batches { at, sizes, input } => batches_line(*at, sizes, input),
+            Asked::Flags { n, position, places, input } => flags_line(*n, *position, *places, input),
+            Asked::Bytes { n, position, places, input } => bytes_line(*n, *position, *places, input),
+        }
+    }
+}
+
+/// Any batch.
+pub fn any(random: &mut Random) -> Asked {
+    match random.below(4) {
         0 => {
             let (input, at, left) = any_rows(random);
-            rows_line(at, places(left as u64, random), &input)
+            Asked::Rows { at, places: places(left as u64, random), input }
         }
         1 => {
             let (input, at, _) = any_rows(random);
             let size = |random: &mut Random| random.pick(&[0, 1, 2, 3, 7, 20, 100, 512, MOST]);
             let sizes: Vec<usize> = (0..random.from(1, 9)).map(|_| size(random)).collect();
-            batches_line(at, &sizes, &input)
+            Asked::Batches { at, sizes, input }
         }
         2 => {
             let (input, run, left) = any_bytes(random);
@@ -116,16 +136,21 @@ pub fn probe_line(requests: &mut Requests, random: &mut Random) {
             // The same number of booleans as bytes and bits in any way.
             let bytes =
                 if random.once_in(2) { skipped / 8 } else { random.below(skipped as usize / 8 + 1) as u64 };
-            flags_line(n, [run, bytes, skipped - 8 * bytes], places(n, random), &input)
+            let position = [run, bytes, skipped - 8 * bytes];
+            Asked::Flags { n, position, places: places(n, random), input }
         }
         _ => {
             let (input, run, left) = any_bytes(random);
             let skipped = about(left, random);
             let n = about(left.saturating_sub(skipped as usize), random);
-            bytes_line(n, [run, skipped], places(n, random), &input)
+            Asked::Bytes { n, position: [run, skipped], places: places(n, random), input }
         }
-    };
-    requests.said(line);
+    }
+}
+
+/// Any batch, as a line for the probe.
+pub fn probe_line(requests: &mut Requests, random: &mut Random) {
+    requests.said(any(random).line());
 }
 
 /// Every position of small inputs, with every number of places; each answer, each refusal, and sums that

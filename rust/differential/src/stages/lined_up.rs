@@ -22,7 +22,27 @@ pub fn write_line(kind: u8, bytes: &[u8], places: usize) -> String {
     format!("{kind:02x}{places:04x}{}", Hex(bytes))
 }
 
-fn any_spread(random: &mut Random) -> String {
+/// Rows to spread over flags.
+#[derive(Debug, Clone, PartialEq, Eq)]
+pub struct Spread {
+    pub flags: Vec<u8>,
+    pub rows: Vec<i64>,
+    pub fill: i64,
+    pub places: usize,
+}
+
+/// All labels of a column, with places lent for offsets, starts and sizes.
+#[derive(Debug, Clone, PartialEq, Eq)]
+pub struct Labels {
+    pub flags: Vec<u8>,
+    pub numbers: Vec<i64>,
+    pub lengths: Vec<i64>,
+    pub block_length: u64,
+    pub places: [usize; 3],
+}
+
+/// Any rows to spread: most of them as many as there are flags.
+pub fn any_spread(random: &mut Random) -> Spread {
     let flags: Vec<u8> = (0..random.below(20)).map(|_| random.pick(&[0, 0, 0, 1, 1, 2, 128, 255])).collect();
     let set = flags.iter().filter(|flag| **flag != 0).count();
     let any = random.below(20);
@@ -31,12 +51,13 @@ fn any_spread(random: &mut Random) -> String {
     let fill = random.any() as i64 >> random.below(64);
     let most = flags.len();
     let places = random.pick(&[most, most, most + 1, most + 9, most.saturating_sub(1)]);
-    spread_line(&flags, &rows, fill, places)
+    Spread { flags, rows, fill, places }
 }
 
-fn any_labels(random: &mut Random) -> String {
+/// Any labels: half of them of a good dictionary, and most with as many places as they need.
+pub fn any_labels(random: &mut Random) -> Labels {
     let labels::Asked { block, lengths, numbers, flags, .. } = labels::any(random);
-    let length = match random.below(16) {
+    let block_length = match random.below(16) {
         0 => random.any(),
         _ => block.len() as u64,
     };
@@ -47,7 +68,7 @@ fn any_labels(random: &mut Random) -> String {
         1 => places[which] += 1,
         _ => {}
     }
-    labels_line(&flags, &numbers, &lengths, length, places)
+    Labels { flags, numbers, lengths, block_length, places }
 }
 
 /// Bytes in stretches of every length that a run ends at, of few different bytes.
@@ -83,9 +104,12 @@ fn any_written(random: &mut Random) -> String {
 
 /// Any line of 15 and 16.
 pub fn probe_line(requests: &mut Requests, random: &mut Random) {
-    requests.said(match random.once_in(2) {
-        true => any_spread(random),
-        false => any_labels(random),
+    requests.said(if random.once_in(2) {
+        let Spread { flags, rows, fill, places } = any_spread(random);
+        spread_line(&flags, &rows, fill, places)
+    } else {
+        let Labels { flags, numbers, lengths, block_length, places } = any_labels(random);
+        labels_line(&flags, &numbers, &lengths, block_length, places)
     });
 }
 
