@@ -5,6 +5,7 @@ pub mod columns;
 pub mod convert;
 pub mod count;
 mod cuts;
+mod in_batches;
 pub mod index;
 pub mod labels;
 pub mod lined_up;
@@ -80,6 +81,7 @@ impl Session {
         self.random_frames();
         self.streams();
         self.booleans();
+        self.in_batches();
         self.values();
         self.written();
         self.patched_runs();
