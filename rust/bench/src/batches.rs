@@ -3,7 +3,7 @@
 use std::fmt::Write as _;
 use std::hint::black_box;
 
-use menakovitsy::{Column, Dictionary, Flags, Labels, Sign};
+use menakovitsy::{label_column, Column, Dictionary, Flags, Labels, RowNumber, Sign};
 
 use crate::booleans::Flags as FlagCase;
 use crate::cases::{Case, Group};
@@ -44,6 +44,17 @@ fn rows_in_batches(case: &Case, size: usize, rows: &mut [i64]) {
     }
 }
 
+/// The same by [`Column::batches`], which reads small batches several at once.
+fn rows_by_wrapper(case: &Case, size: usize, rows: &mut [i64]) {
+    let mut batches = Column::new(&case.bytes, sign(case)).batches(RowNumber(size));
+    for places in rows.chunks_mut(size) {
+        match batches.next_batch() {
+            Some(Ok(batch)) if batch.len() == places.len() => places.copy_from_slice(batch),
+            answer => panic!("{}: {answer:?}", case.name),
+        }
+    }
+}
+
 /// Reads flags into `out`, a call for each part of [`FLAGS`] places.
 fn flags_in_batches(bytes: &[u8], out: &mut [u8]) {
     let mut flags = Flags::new(bytes);
@@ -52,30 +63,34 @@ fn flags_in_batches(bytes: &[u8], out: &mut [u8]) {
     }
 }
 
-/// A case, and nanoseconds a row: by one call of `orc_read_stream`, and in batches of each size.
+/// A case, and nanoseconds a row: by one call of `orc_read_stream`, by one of `orc_read_rows` for each batch of
+/// each size, and by the wrapper's batches of the smaller.
 pub struct Rows {
     name: String,
     signed: bool,
     stream: f64,
-    batches: [f64; 2],
+    batches: [f64; 3],
 }
 
 /// Times the long buffers.
 pub fn rows(cases: &[&Case], samples: usize) -> Vec<Rows> {
     let timed = |case: &Case| {
-        let mut places = [(); 3].map(|()| vec![0; case.rows.len()]);
+        let mut places = [(); 4].map(|()| vec![0; case.rows.len()]);
         for (size, places) in SIZES.into_iter().zip(&mut places) {
             rows_in_batches(case, size, places);
             assert!(*places == case.rows, "{}: other rows in batches of {size}", case.name);
         }
-        let [large, small, all] = &mut places;
+        let [large, small, all, wrapped] = &mut places;
+        rows_by_wrapper(case, SIZES[1], wrapped);
+        assert!(*wrapped == case.rows, "{}: other rows by the wrapper", case.name);
         let mut stream = || crate::ours::stream_into(black_box(case), black_box(all));
         let mut large = || rows_in_batches(black_box(case), SIZES[0], black_box(large));
         let mut small = || rows_in_batches(black_box(case), SIZES[1], black_box(small));
-        let candidates: &mut [&mut dyn FnMut()] = &mut [&mut stream, &mut large, &mut small];
+        let mut wrapped = || rows_by_wrapper(black_box(case), SIZES[1], black_box(wrapped));
+        let candidates: &mut [&mut dyn FnMut()] = &mut [&mut stream, &mut large, &mut small, &mut wrapped];
         let times = take_turns(case.rows.len(), 1, samples, candidates);
         let (name, signed) = (case.name.clone(), case.signed);
-        Rows { name, signed, stream: times[0], batches: [times[1], times[2]] }
+        Rows { name, signed, stream: times[0], batches: [times[1], times[2], times[3]] }
     };
     cases.iter().filter(|case| case.group != Group::Single).map(|case| timed(case)).collect()
 }
@@ -111,8 +126,9 @@ pub fn flags(cases: &[&FlagCase], samples: usize) -> Vec<FlagTimes> {
     cases.iter().map(|case| timed(case)).collect()
 }
 
-/// Nanoseconds a row of all labels in one pass, of a column where one row of ten has no name.
-pub fn labels(samples: usize) -> f64 {
+/// Nanoseconds a row of all labels in one pass, of a column where one row of ten has no name: into lists that
+/// are there, and into those of [`Labels`], which are made for it.
+pub fn labels(samples: usize) -> [f64; 2] {
     let lengths: Vec<i64> = (0..NAMES as i64).map(|name| 1 + name % 20).collect();
     let block = vec![b'a'; lengths.iter().sum::<i64>() as usize];
     let flags: Vec<u8> = (0..NAMED).map(|row| u8::from(row % 10 != 3)).collect();
@@ -128,20 +144,28 @@ pub fn labels(samples: usize) -> f64 {
         _ => name.map(<[u8]>::len) == next.next().map(|number| lengths[*number as usize] as usize),
     });
     assert!(right, "other names");
-    let mut all = || drop(black_box(Labels::new(black_box(dictionary))));
-    take_turns(NAMED, 1, samples, &mut [&mut all])[0]
+    let [mut offsets, mut starts, mut sizes] = [vec![0; NAMES], vec![0; NAMED], vec![0; NAMED]];
+    let mut into = || {
+        let [offsets, starts, sizes] = [&mut offsets, &mut starts, &mut sizes].map(black_box);
+        let given = label_column(black_box(dictionary), offsets, starts, sizes);
+        debug_assert!(given.is_ok());
+    };
+    let mut made = || drop(black_box(Labels::new(black_box(dictionary))));
+    let times = take_turns(NAMED, 1, samples, &mut [&mut into, &mut made]);
+    [times[0], times[1]]
 }
 
 /// The three tables, with what they must show.
-pub fn markdown(rows: &[Rows], flags: &[FlagTimes], labels: f64) -> String {
+pub fn markdown(rows: &[Rows], flags: &[FlagTimes], [labels, made]: [f64; 2]) -> String {
     let mut text = String::new();
     rows_table(&mut text, rows);
     flags_table(&mut text, flags);
     writeln!(
         text,
-        "\n## All labels in one pass: `orc_label_column`, through `Labels` of the wrapper\n\n\
-         {NAMED} rows, one of ten without a name, a dictionary of {NAMES} names: {labels:.1} ns a row, the making of \
-         the three lists included (at most {LABEL_BAR:.0}: {}).",
+        "\n## All labels in one pass: `orc_label_column`\n\n\
+         {NAMED} rows, one of ten without a name, a dictionary of {NAMES} names: {labels:.1} ns a row (at most \
+         {LABEL_BAR:.0}: {}); {made:.1} by `Labels` of the wrapper, which makes the lists and looks at each part once \
+         more.",
         kept(labels <= LABEL_BAR)
     )
     .expect("a string takes it");
@@ -159,30 +183,29 @@ fn kept(kept: bool) -> &'static str {
 fn rows_table(text: &mut String, rows: &[Rows]) {
     text.push_str(
         "\n## Rows in batches: `orc_read_rows` against one call of `orc_read_stream`, nanoseconds a row\n\n\
-         Each batch goes into its part of the same places that the stream reader fills.\n\n\
-         | Runs | Flag | Stream | Batches of 1,024 | Batches of 100 | 1,024 / stream | 100 / stream |\n\
-         |---|---|---:|---:|---:|---:|---:|\n",
+         Each batch goes into its part of the same places that the stream reader fills. The wrapper's \
+         `Column::batches(100)` reads ten batches by one call, and hands out a copy of each here.\n\n\
+         | Runs | Flag | Stream | Batches of 1,024 | of 100 | of 100, wrapper | 1,024 / stream | 100 / stream \
+         | wrapper / stream |\n|---|---|---:|---:|---:|---:|---:|---:|---:|\n",
     );
-    for Rows { name, signed, stream, batches: [large, small] } in rows {
+    for Rows { name, signed, stream, batches } in rows {
         let flag = if *signed { "signed" } else { "unsigned" };
-        writeln!(
-            text,
-            "| {name} | {flag} | {stream:.2} | {large:.2} | {small:.2} | {:.2} | {:.2} |",
-            large / stream,
-            small / stream
-        )
-        .expect("a string takes it");
+        let [large, small, wrapped] = batches;
+        let over = batches.map(|time| format!("{:.2}", time / stream)).join(" | ");
+        writeln!(text, "| {name} | {flag} | {stream:.2} | {large:.2} | {small:.2} | {wrapped:.2} | {over} |")
+            .expect("a string takes it");
     }
-    let means = [0, 1].map(|size| mean(rows.iter().map(|row| Some(row.batches[size] / row.stream))));
-    let [large, small] = means.map(|mean| mean.unwrap_or(f64::NAN));
+    let means = [0, 1, 2].map(|how| mean(rows.iter().map(|row| Some(row.batches[how] / row.stream))));
+    let [large, small, wrapped] = means.map(|mean| mean.unwrap_or(f64::NAN));
     writeln!(
         text,
-        "| geometric mean | | | | | {large:.2} | {small:.2} |\n\n\
-         At most {} for 1,024: {}; at most {} for 100: {}.",
+        "| geometric mean | | | | | | {large:.2} | {small:.2} | {wrapped:.2} |\n\n\
+         At most {} for 1,024: {}; at most {} for 100: {} (by the wrapper: {}).",
         ROW_BARS[0],
         kept(large <= ROW_BARS[0]),
         ROW_BARS[1],
-        kept(small <= ROW_BARS[1])
+        kept(small <= ROW_BARS[1]),
+        kept(wrapped <= ROW_BARS[1])
     )
     .expect("a string takes it");
 }

@@ -104,44 +104,64 @@ pub fn read_rows(
 #[derive(Debug, Clone)]
 pub struct Batches<'a> {
     column: Column<'a>,
-    position: RowPosition,
+    size: usize,
     given: RowNumber,
     ended: bool,
+    /// Rows that were read at one position by one call, and how many of them; of these how many were given.
     places: Vec<i64>,
+    read_at: RowPosition,
+    held: usize,
+    handed: usize,
+    /// Where the row after them is.
+    next: RowPosition,
 }
+
+/// Small batches are read several at once, up to this many rows: a run is then decoded once for all the
+/// batches that have rows of it.
+const AHEAD: usize = 1_024;
 
 impl<'a> Batches<'a> {
     pub(crate) fn new(column: Column<'a>, size: RowNumber) -> Self {
         // No more places than the column can have rows.
         let most = (column.bytes().len() / LEAST_BYTES).saturating_mul(MAX_ROWS);
-        let places = vec![0; size.0.min(most).max(1)];
-        Batches { column, position: column.start(), given: RowNumber(0), ended: false, places }
+        let size = size.0.min(most).max(1);
+        let (given, start) = (RowNumber(0), column.start());
+        let places = vec![0; size * (AHEAD / size).max(1)];
+        Batches { column, size, given, ended: false, places, read_at: start, held: 0, handed: 0, next: start }
     }
 
     /// The same batches from a position on, which a row index gave, or [`position`](Batches::position).
     pub fn starting_at(self, position: RowPosition) -> Self {
-        Batches { position, given: RowNumber(0), ended: false, ..self }
+        Batches { given: RowNumber(0), ended: false, held: 0, handed: 0, next: position, ..self }
     }
 
     /// The next batch; nothing at the end. A refusal is given once, and ends the batches; the rows before
     /// it were given.
     pub fn next_batch(&mut self) -> Option<Result<&[i64], Refused>> {
-        match self.step()? {
-            Ok(rows) => Some(Ok(self.places.get(..rows).unwrap_or_default())),
-            Err(refused) => Some(Err(refused)),
+        if self.handed == self.held {
+            match self.read()? {
+                Ok(()) => {}
+                Err(refused) => return Some(Err(refused)),
+            }
         }
+        // The places are a number of whole batches: so only the last rows before an end can be fewer.
+        let rest = self.places.get(self.handed..self.held).unwrap_or_default();
+        let batch = rest.get(..self.size).unwrap_or(rest);
+        self.handed += batch.len();
+        self.given += RowNumber(batch.len());
+        Some(Ok(batch))
     }
 
-    /// How many rows the next batch has: they stand in the first places.
-    fn step(&mut self) -> Option<Result<usize, Refused>> {
+    /// Reads on, into all places.
+    fn read(&mut self) -> Option<Result<(), Refused>> {
         if self.ended {
             return None;
         }
-        match self.column.read_at(self.position, &mut self.places) {
+        match self.column.read_at(self.next, &mut self.places) {
             Ok(Some(batch)) => {
-                self.position = batch.next;
-                self.given += batch.rows;
-                Some(Ok(batch.rows.0))
+                (self.read_at, self.next) = (self.next, batch.next);
+                (self.handed, self.held) = (0, batch.rows.0);
+                Some(Ok(()))
             }
             Ok(None) => {
                 self.ended = true;
@@ -154,10 +174,15 @@ impl<'a> Batches<'a> {
         }
     }
 
-    /// The position of the next batch's first row: batches that start there go on where these are.
+    /// The position of the next batch's first row: batches that start there go on where these are. The rows
+    /// to skip may pass whole runs.
     #[must_use]
     pub fn position(&self) -> RowPosition {
-        self.position
+        if self.handed == self.held {
+            return self.next;
+        }
+        let RowPosition { run, skip } = self.read_at;
+        RowPosition { run, skip: skip + RowNumber(self.handed) }
     }
 
     /// How many rows were given.

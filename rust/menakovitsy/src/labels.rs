@@ -5,7 +5,7 @@ use crate::answers::Words;
 use crate::exported::{self, case};
 use crate::{Refused, RowNumber};
 
-pub use column::{LabelIter, Labels, LabelsRefused};
+pub use column::{label_column, LabelIter, Labels, LabelsRefused};
 
 /// A dictionary of names, and the columns that say what each row is called, all of them borrowed: the
 /// block may live longer than the columns, and the names are parts of it.

@@ -18,7 +18,7 @@
 //! | how many flags are true, packed eight to a byte | [`count_true`] |
 //! | a byte value, as a part of the input | [`byte_value`] |
 //! | an index beside a column, to start at any row | [`Index`]: [`build`](Index::build), [`look_up`](Index::look_up), [`rows`](Index::rows), [`rows_from`](Index::rows_from) |
-//! | the names of all rows, by a dictionary, or of one | [`Labels`], [`label`] |
+//! | the names of all rows, by a dictionary, or of one | [`Labels`], [`label_column`], [`label`] |
 //! | a damaged column salvaged, by its row groups | [`salvage()`] |
 //! | a column's odd widths retired | [`convert()`] |
 //! | a column written, cut into runs by the planner | [`write_column`], [`column_room`] |
@@ -84,7 +84,7 @@ pub use convert::{convert, Converted};
 pub use exported::{MAX_ROWS, MAX_RUN_BYTES};
 pub use flags::{read_flags, FlagPosition, Flags};
 pub use index::{Entry, Index};
-pub use labels::{label, Dictionary, Label, LabelIter, Labels, LabelsRefused};
+pub use labels::{label, label_column, Dictionary, Label, LabelIter, Labels, LabelsRefused};
 pub use library::{
     byte_value, library_version, narrowest_code, read_booleans, read_run, read_run_bytes, read_stream,
     unpack, write_run, Counts,

@@ -76,7 +76,10 @@ fn batches_of_any_size() {
             assert_eq!(lending.position(), column.start());
             while let Some(batch) = lending.next_batch() {
                 given += batch.unwrap().len();
-                assert_eq!((lending.given(), lending.position()), (RowNumber(given), plain(given)));
+                assert_eq!(lending.given(), RowNumber(given));
+                // The position may pass runs; made plain, it is the row's.
+                let batch = column.read_at(lending.position(), &mut []).unwrap();
+                assert_eq!(batch.map_or(plain(13), |batch| batch.next), plain(given));
                 let rest = column.batches(RowNumber(4)).starting_at(lending.position());
                 assert_eq!(rest.collect::<Result<Vec<_>, _>>().unwrap().concat(), rows[given..]);
             }
@@ -125,4 +128,44 @@ fn inside_a_patched_run() {
     let column = [0x86, 0x03, 0x03, 0x21, 0x64, 0x12, 0x34, 0x94];
     let (batch, rows) = read(&column, at(0, 2), 1);
     assert_eq!((batch.unwrap().unwrap().next, rows), (at(0, 3), vec![183]));
+}
+
+/// Longer columns, whose batches are read several at once: runs of 512 rows, and the size of a batch about
+/// theirs, and about how many rows are read at once.
+#[test]
+fn long_columns() {
+    let run = |first: u8| [0xC1, 0xFF, first, 0x02];
+    let mut bytes: Vec<u8> = (0..7).flat_map(|k| run(10 * k)).collect();
+    let rows: Vec<i64> = (0..7).flat_map(|k| (0..512).map(move |row| 10 * k + row)).collect();
+    for size in [1, 7, 100, 511, 512, 513, 1_000, 1_023, 1_024, 1_025, 2_048, 3_583, 3_584, 3_585] {
+        for damaged in [false, true] {
+            bytes.truncate(28);
+            if damaged {
+                bytes.extend([0xC2, 0x00]);
+            }
+            let column = Column::new(&bytes, Sign::Unsigned);
+            let (mut batches, mut expected) = (column.batches(RowNumber(size)), rows.chunks(size));
+            loop {
+                let (position, given) = (batches.position(), batches.given());
+                match (batches.next_batch(), expected.next()) {
+                    (Some(Ok(batch)), Some(expected)) => assert_eq!(batch, expected),
+                    (None, None) => {
+                        assert!(!damaged);
+                        break;
+                    }
+                    (Some(Err(refused)), None) => {
+                        assert!(damaged && batches.next_batch().is_none());
+                        assert_eq!((refused.refusal, refused.at), (Refusal::OneRowDelta, ByteOffset(28)));
+                        break;
+                    }
+                    (given, expected) => panic!("{size}: {given:?} for {expected:?}"),
+                }
+                // A batch by itself, from the position before it.
+                let mut alone = column.batches(RowNumber(size)).starting_at(position);
+                let rest = &rows[given.0..];
+                assert_eq!(alone.next_batch().unwrap().unwrap(), &rest[..rest.len().min(size)]);
+            }
+            assert_eq!((batches.given(), batches.position()), (RowNumber(3_584), at(28, 0)));
+        }
+    }
 }

@@ -1,5 +1,5 @@
 //! FORMAT.md, "Labels": what a row is called, by the wrapper. Lines written out by hand.
-use menakovitsy::{label, Dictionary, Label, Labels, LabelsRefused, Refusal, RowNumber};
+use menakovitsy::{label, label_column, Dictionary, Label, Labels, LabelsRefused, Refusal, RowNumber};
 
 /// The names "drums", "", "bass" and "vox"; four rows of seven have one.
 const STEMS: Dictionary = Dictionary {
@@ -137,4 +137,21 @@ fn refused_columns_of_names() {
     );
     let refused = Labels::new(Dictionary { lengths: &[], ..STEMS }).unwrap_err();
     assert!(refused.to_string().starts_with("at byte 0: refusal 18: dictionary: "));
+}
+
+/// Into lists of the caller's: the places after the rows keep their content, and with one too few nothing is
+/// written.
+#[test]
+fn into_the_callers_lists() {
+    let [mut offsets, mut starts, mut sizes] = [vec![7; 5], vec![7; 8], vec![7; 9]];
+    assert_eq!(label_column(STEMS, &mut offsets, &mut starts, &mut sizes), Ok(RowNumber(7)));
+    assert_eq!(offsets, [0, 5, 5, 9, 7]);
+    assert_eq!(starts, [0, 5, 0, 0, 5, 9, 0, 7]);
+    assert_eq!(sizes, [0, 4, 5, 0, 0, 3, 0, 7, 7]);
+    for places in [[3, 7, 7], [4, 6, 7], [4, 7, 6]] {
+        let [mut offsets, mut starts, mut sizes] = places.map(|places| vec![7; places]);
+        let refused = label_column(STEMS, &mut offsets, &mut starts, &mut sizes).unwrap_err();
+        assert_eq!((refused.refused.refusal, refused.row), (Refusal::TooFewPlaces, None));
+        assert!([offsets, starts, sizes].concat().iter().all(|place| *place == 7));
+    }
 }

@@ -6,7 +6,7 @@ use std::iter::FusedIterator;
 use super::Dictionary;
 use crate::answers::Words;
 use crate::exported::{self, labels_word};
-use crate::{Refusal, Refused, RowNumber};
+use crate::{ByteOffset, Refusal, Refused, RowNumber};
 
 /// The names of all rows of a column. They are found in one pass, in time linear in the rows and in the
 /// dictionary, and each is what [`label`](super::label) says of its row. The names are parts of the block:
@@ -50,42 +50,15 @@ impl<'a, 'c> Labels<'a, 'c> {
     /// rows; [`NoSuchName`](Refusal::NoSuchName), with the first row that has a flag and no name. Numbers
     /// after those of the rows with a name are not looked at.
     pub fn new(dictionary: Dictionary<'a, 'c>) -> Result<Self, LabelsRefused> {
-        let Dictionary { block, lengths, numbers, flags } = dictionary;
+        let Dictionary { block, lengths, flags, .. } = dictionary;
         let mut offsets = vec![0; lengths.len()];
         let (mut starts, mut sizes) = (vec![0; flags.len()], vec![0; flags.len()]);
-        let mut words = Words::lent(0, 0);
-        // SAFETY: each pointer is of a live slice of this length, those that are written are lent
-        // exclusively, and the function is proved to stay within them and to keep none.
-        words.number = unsafe {
-            exported::orc_label_column(
-                flags.as_ptr(),
-                flags.len(),
-                numbers.as_ptr(),
-                numbers.len(),
-                lengths.as_ptr(),
-                lengths.len(),
-                block.len() as u64,
-                offsets.as_mut_ptr(),
-                offsets.len(),
-                starts.as_mut_ptr(),
-                starts.len(),
-                sizes.as_mut_ptr(),
-                sizes.len(),
-                words.lent.as_mut_ptr(),
-                words.lent.len(),
-            )
-        };
-        words.accepted(None).map_err(|refused| LabelsRefused {
-            refused,
-            row: (refused.refusal == Refusal::NoSuchName)
-                .then_some(RowNumber(words.lent[labels_word::REFUSED_ROW] as usize)),
-        })?;
-        // Whatever library is linked, there is a part for each row, and it is within the block.
+        label_column(dictionary, &mut offsets, &mut starts, &mut sizes)?;
+        // Whatever library is linked, each part is within the block.
         let within = |(start, size): (&u64, &u64)| part(block, *start, *size).is_some();
-        let all = words.lent[labels_word::ROWS] == flags.len() as u64;
-        match all && starts.iter().zip(&sizes).all(within) {
+        match starts.iter().zip(&sizes).all(within) {
             true => Ok(Labels { block, flags, starts, sizes }),
-            false => Err(LabelsRefused { refused: words.unknown(), row: None }),
+            false => Err(Refused::whole(Refusal::Unknown(0), ByteOffset(0)).into()),
         }
     }
 
@@ -106,6 +79,61 @@ impl<'a, 'c> Labels<'a, 'c> {
     /// The names of all rows in order, nothing for each that has none.
     pub fn iter(&self) -> LabelIter<'_, 'a, 'c> {
         LabelIter { labels: self, next: 0 }
+    }
+}
+
+/// Where the name of each row is, into lists of the caller's: `offsets[j]` becomes the byte of the block where
+/// name j begins; `starts[i]` and `sizes[i]` where the name of row i begins and how long it is, 0 and 0 if it
+/// has none. How many rows there are; places after them keep their content.
+///
+/// Refusals: those of [`Labels::new`], and then [`TooFewPlaces`](Refusal::TooFewPlaces) if `offsets` has fewer
+/// places than there are lengths, or `starts` or `sizes` fewer than there are flags. A refused call changes no
+/// place.
+pub fn label_column(
+    dictionary: Dictionary,
+    offsets: &mut [u64],
+    starts: &mut [u64],
+    sizes: &mut [u64],
+) -> Result<RowNumber, LabelsRefused> {
+    let Dictionary { block, lengths, numbers, flags } = dictionary;
+    let mut words = Words::lent(0, 0);
+    // SAFETY: each pointer is of a live slice of this length, those that are written are lent exclusively,
+    // and the function is proved to stay within them and to keep none.
+    words.number = unsafe {
+        exported::orc_label_column(
+            flags.as_ptr(),
+            flags.len(),
+            numbers.as_ptr(),
+            numbers.len(),
+            lengths.as_ptr(),
+            lengths.len(),
+            block.len() as u64,
+            offsets.as_mut_ptr(),
+            offsets.len(),
+            starts.as_mut_ptr(),
+            starts.len(),
+            sizes.as_mut_ptr(),
+            sizes.len(),
+            words.lent.as_mut_ptr(),
+            words.lent.len(),
+        )
+    };
+    words.accepted(None).map_err(|refused| LabelsRefused {
+        refused,
+        row: (refused.refusal == Refusal::NoSuchName)
+            .then_some(RowNumber(words.lent[labels_word::REFUSED_ROW] as usize)),
+    })?;
+    // Whatever library is linked, a part a flag was written, and there were the places for it.
+    let rows = words.lent[labels_word::ROWS] as usize;
+    if rows != flags.len() || rows > starts.len().min(sizes.len()) {
+        return Err(words.unknown().into());
+    }
+    Ok(RowNumber(rows))
+}
+
+impl From<Refused> for LabelsRefused {
+    fn from(refused: Refused) -> Self {
+        LabelsRefused { refused, row: None }
     }
 }
 
