@@ -184,7 +184,7 @@ fn rows_table(text: &mut String, rows: &[Rows]) {
     text.push_str(
         "\n## Rows in batches: `orc_read_rows` against one call of `orc_read_stream`, nanoseconds a row\n\n\
          Each batch goes into its part of the same places that the stream reader fills. The wrapper's \
-         `Column::batches(100)` reads ten batches by one call, and hands out a copy of each here.\n\n\
+         `Column::batches(100)` reads 40 batches by one call; here each is copied into its part.\n\n\
          | Runs | Flag | Stream | Batches of 1,024 | of 100 | of 100, wrapper | 1,024 / stream | 100 / stream \
          | wrapper / stream |\n|---|---|---:|---:|---:|---:|---:|---:|---:|\n",
     );

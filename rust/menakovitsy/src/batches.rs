@@ -118,7 +118,7 @@ pub struct Batches<'a> {
 
 /// Small batches are read several at once, up to this many rows: a run is then decoded once for all the
 /// batches that have rows of it.
-const AHEAD: usize = 1_024;
+const AHEAD: usize = 4_096;
 
 impl<'a> Batches<'a> {
     pub(crate) fn new(column: Column<'a>, size: RowNumber) -> Self {

@@ -135,11 +135,13 @@ fn inside_a_patched_run() {
 #[test]
 fn long_columns() {
     let run = |first: u8| [0xC1, 0xFF, first, 0x02];
-    let mut bytes: Vec<u8> = (0..7).flat_map(|k| run(10 * k)).collect();
-    let rows: Vec<i64> = (0..7).flat_map(|k| (0..512).map(move |row| 10 * k + row)).collect();
-    for size in [1, 7, 100, 511, 512, 513, 1_000, 1_023, 1_024, 1_025, 2_048, 3_583, 3_584, 3_585] {
+    let mut bytes: Vec<u8> = (0..9).flat_map(|k| run(10 * k)).collect();
+    let rows: Vec<i64> = (0..9).flat_map(|k| (0..512).map(move |row| 10 * k + row)).collect();
+    for size in
+        [1, 7, 100, 511, 512, 513, 1_000, 2_047, 2_048, 2_049, 4_095, 4_096, 4_097, 4_607, 4_608, 4_609]
+    {
         for damaged in [false, true] {
-            bytes.truncate(28);
+            bytes.truncate(36);
             if damaged {
                 bytes.extend([0xC2, 0x00]);
             }
@@ -155,7 +157,7 @@ fn long_columns() {
                     }
                     (Some(Err(refused)), None) => {
                         assert!(damaged && batches.next_batch().is_none());
-                        assert_eq!((refused.refusal, refused.at), (Refusal::OneRowDelta, ByteOffset(28)));
+                        assert_eq!((refused.refusal, refused.at), (Refusal::OneRowDelta, ByteOffset(36)));
                         break;
                     }
                     (given, expected) => panic!("{size}: {given:?} for {expected:?}"),
@@ -165,7 +167,7 @@ fn long_columns() {
                 let rest = &rows[given.0..];
                 assert_eq!(alone.next_batch().unwrap().unwrap(), &rest[..rest.len().min(size)]);
             }
-            assert_eq!((batches.given(), batches.position()), (RowNumber(3_584), at(28, 0)));
+            assert_eq!((batches.given(), batches.position()), (RowNumber(4_608), at(36, 0)));
         }
     }
 }
