@@ -1,6 +1,6 @@
 //! Rows and flags in batches, through the wrapper.
 use menakovitsy::{read_flags, ByteOffset, Column, RowNumber};
-use model::{Batch, FlagPosition, Flags, Refusal, RowPosition};
+use model::{Batch, FlagPosition, Flags, Refusal, RowPosition, Stream};
 
 use super::{sign, BEFORE, ROW_BEFORE};
 
@@ -68,4 +68,29 @@ pub fn check_flags(
         true => Ok(()),
         false => Err(format!("at {at:?}: {answer:?}, flags {flags:?}")),
     }
+}
+
+/// Holds the wrapper's batches of one size to the model's stream: each but the last has that many rows, and a
+/// refusal comes last.
+pub fn check_batches(bytes: &[u8], signed: bool, size: usize) -> Result<(), String> {
+    let (rows, refusal) = match model::read_stream(bytes, 0, signed, usize::MAX) {
+        Stream::Whole { rows, .. } => (rows, None),
+        Stream::Refused { rows, refusal, .. } => (rows, Some(refusal)),
+    };
+    let mut batches = Column::new(bytes, sign(signed)).batches(RowNumber(size));
+    for expected in rows.chunks(size) {
+        match batches.next_batch() {
+            Some(Ok(batch)) if batch == expected => {}
+            other => return Err(format!("batches of {size}: {other:?}, for {expected:?}")),
+        }
+    }
+    let last = batches.next().map(|batch| batch.map_err(|refused| (same_as(&refused, refusal), refused)));
+    match (&last, refusal) {
+        (None, None) | (Some(Err((true, _))), Some(_)) if batches.next().is_none() => Ok(()),
+        _ => Err(format!("batches of {size}: {last:?} at the end")),
+    }
+}
+
+fn same_as(refused: &menakovitsy::Refused, paper: Option<Refusal>) -> bool {
+    paper.is_some_and(|paper| same(refused, &paper))
 }

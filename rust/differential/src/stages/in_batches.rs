@@ -103,6 +103,11 @@ impl Session {
                     Err(answer) => self.tally.differs(bytes, call, &format!("{batch:?}"), "ours", &answer),
                 }
             }
+            let size = self.random.pick(&[1, 3, 100, 512, 1024, 5000]);
+            match crate::ours::batches::check_batches(bytes, signed, size) {
+                Ok(()) => self.tally.ours(1),
+                Err(answer) => self.tally.differs(bytes, call, "the stream's rows", "ours", &answer),
+            }
         }
     }
 
