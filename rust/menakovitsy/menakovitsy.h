@@ -34,7 +34,7 @@ extern "C" {
 
 /* The version of these functions: each change of them makes it one more. A program compares what
  * orc_version answers with the header that it was compiled with. */
-#define ORC_VERSION UINT64_C(11)
+#define ORC_VERSION UINT64_C(12)
 
 uint64_t orc_version(void);
 
@@ -62,6 +62,13 @@ uint64_t orc_version(void);
 /* orc_check_column, orc_write_column. */
 #define ORC_CHECK_WORDS 4
 #define ORC_COLUMN_WORDS 6
+/* orc_read_rows, orc_read_flags, orc_read_bytes. */
+#define ORC_BATCH_WORDS 8
+#define ORC_FLAGS_WORDS 9
+#define ORC_BYTES_WORDS 8
+/* orc_spread, orc_label_column. */
+#define ORC_SPREAD_WORDS 4
+#define ORC_LABELS_WORDS 5
 
 /* What it returns where it was lent fewer: then it has touched nothing, no word, row or byte. */
 #define ORC_TOO_FEW_WORDS UINT64_MAX
@@ -181,9 +188,63 @@ enum orc_column_word {
     ORC_COLUMN_BYTES = 5
 };
 
+/* The words of a batch of rows after ORC_CASE (ORC_CASE_END if there are no more rows), ORC_NUMBER and
+ * ORC_PLACE. The first three are 0 unless the case is ORC_CASE_READ. */
+enum orc_batch_word {
+    /* How many rows there are, in the first places. */
+    ORC_BATCH_ROWS = 3,
+    /* The position of the row after them: its run, and the rows of that run to skip. */
+    ORC_BATCH_NEXT_RUN = 4,
+    ORC_BATCH_NEXT_SKIP = 5,
+    /* 1 if the refusal has a cut field, and the byte where it begins; otherwise 0. */
+    ORC_BATCH_CUT = 6,
+    ORC_BATCH_CUT_AT = 7
+};
+
+/* The words of a batch of flags after ORC_CASE, ORC_NUMBER and ORC_PLACE. The first four are 0 if it is
+ * refused. */
+enum orc_flags_word {
+    /* How many flags there are, in the first bytes. */
+    ORC_FLAGS_GIVEN = 3,
+    /* The position of the flag after them: its run, the bytes to skip, and the bits of the next byte. */
+    ORC_FLAGS_NEXT_RUN = 4,
+    ORC_FLAGS_NEXT_BYTES = 5,
+    ORC_FLAGS_NEXT_BITS = 6,
+    /* 1 if the refusal has a cut field, and the byte where it begins; otherwise 0. */
+    ORC_FLAGS_CUT = 7,
+    ORC_FLAGS_CUT_AT = 8
+};
+
+/* The words of a batch of bytes after ORC_CASE, ORC_NUMBER and ORC_PLACE. The first three are 0 if it is
+ * refused. */
+enum orc_bytes_word {
+    /* How many bytes there are, in the first places. */
+    ORC_BYTES_GIVEN = 3,
+    /* The position of the byte after them: its run, and the bytes to skip. */
+    ORC_BYTES_NEXT_RUN = 4,
+    ORC_BYTES_NEXT_BYTES = 5,
+    /* 1 if the refusal has a cut field, and the byte where it begins; otherwise 0. */
+    ORC_BYTES_CUT = 6,
+    ORC_BYTES_CUT_AT = 7
+};
+
+/* The word of spread rows after ORC_CASE, ORC_NUMBER and ORC_PLACE. */
+enum orc_spread_word {
+    /* How many rows the column has, in the first places; 0 if it is refused. */
+    ORC_SPREAD_ROWS = 3
+};
+
+/* The words of all labels after ORC_CASE, ORC_NUMBER and ORC_PLACE. */
+enum orc_labels_word {
+    /* How many rows there are, in the first starts and sizes; 0 if it is refused. */
+    ORC_LABELS_ROWS = 3,
+    /* For ORC_NO_SUCH_NAME the first row that has a flag and no name of the dictionary; otherwise 0. */
+    ORC_LABELS_REFUSED_ROW = 4
+};
+
 enum orc_case {
-    /* The input is empty: there is no run. orc_read_run_at only; and of the reader in parts, once it is
-     * closed: the column has ended. */
+    /* The input is empty: there is no run. orc_read_run_at only; of the reader in parts, once it is
+     * closed: the column has ended; and of orc_read_rows: there are no more rows. */
     ORC_CASE_END = 0,
     /* Of orc_check_column alone: the proposal is not accepted. */
     ORC_CASE_NOT_ACCEPTED = 0,
@@ -262,6 +323,9 @@ enum orc_answer {
     /* Dictionary: the row's number is outside it, or the numbers end before the row's entry. Give the
      * numbers of the rows that the flags are of. */
     ORC_NO_SUCH_NAME = 19,
+    /* Flags and rows are not lined up: there are more or fewer rows than flags that are not 0. Give the
+     * flags and the rows of the same column, from the same row on; if they are, the file is damaged. */
+    ORC_NOT_LINED_UP = 21,
     /* Of orc_read_run, from here on: 65536 times the bytes consumed, plus the rows. */
     ORC_RUN = 65536
 };
@@ -280,7 +344,10 @@ uint64_t orc_read_run_at(const uint8_t *input, size_t input_len, uint64_t at, ui
 uint64_t orc_read_stream(const uint8_t *input, size_t input_len, uint64_t at, uint64_t flag,
                          int64_t *rows, size_t rows_len, uint64_t *words, size_t words_len);
 
-/* Reads n booleans from byte at of input on into the first n bytes of out, each as 0 or 1. */
+/* Reads n booleans from byte at of input on into the first n bytes of out, each as 0 or 1. Byte runs are
+ * taken whole: ORC_BYTES counts all of the last one that is needed, also if not all of its booleans were
+ * asked for. So a call at the byte after it does not go on with the next boolean. To read a column in
+ * batches use orc_read_flags. */
 uint64_t orc_read_booleans(const uint8_t *input, size_t input_len, uint64_t at, uint64_t n,
                            uint8_t *out, size_t out_len, uint64_t *words, size_t words_len);
 
@@ -352,7 +419,9 @@ uint64_t orc_part_close(uint64_t *state, size_t state_len, uint8_t *held, size_t
                         size_t words_len);
 
 /* How many of the first n booleans are true, packed eight to a byte, the highest bit first: the word
- * ORC_COUNT_TRUE. Refused where the bytes hold fewer: ORC_VALUE_CUT, at 0, cut at 0. */
+ * ORC_COUNT_TRUE. It wants the bytes and not the column: of the flag column 00 FF FF 00, 32 rows of which 24
+ * are true, it answers 16, the ones of the runs themselves. orc_read_bytes reads the bytes that a column
+ * stands for. Refused where the bytes hold fewer: ORC_VALUE_CUT, at 0, cut at 0. */
 uint64_t orc_count_true(const uint8_t *packed, size_t packed_len, uint64_t n, uint64_t *words,
                         size_t words_len);
 /* The index beside a stream: three columns, an entry a run, with the number of the run's first row, the
@@ -430,6 +499,59 @@ uint64_t orc_write_column(const int64_t *rows, size_t rows_len, uint64_t flag, c
                           const uint64_t *forms, size_t forms_len, const uint64_t *widths,
                           size_t widths_len, const uint64_t *bases, size_t bases_len, uint8_t *out,
                           size_t out_len, uint64_t *words, size_t words_len);
+
+/* Rows in batches. Reads the rows from a position on into rows, as many as there are places. A position is
+ * what ORC's row index holds for an integer column: run is the byte where a run begins, and skip the rows to
+ * skip from there. Runs that are skipped are measured and not decoded.
+ *
+ * ORC_CASE_READ: ORC_BATCH_ROWS rows stand in the first places, and the next batch begins at the position
+ * ORC_BATCH_NEXT_RUN, ORC_BATCH_NEXT_SKIP. Fewer rows than places come at the column's end, and before a run
+ * that is refused: a damaged run costs none of the rows before it. The call after that answers ORC_CASE_END,
+ * or that run's refusal. ORC_NO_SUCH_ROW, at place 0, if skip is more than the rows that there are. A column
+ * is read whole by
+ *
+ *     uint64_t run = 0, skip = 0;
+ *     while (orc_read_rows(input, input_len, run, skip, 0, rows, 1024, words, ORC_BATCH_WORDS) == 0
+ *            && words[ORC_CASE] == ORC_CASE_READ) {
+ *         use(rows, words[ORC_BATCH_ROWS]);
+ *         run = words[ORC_BATCH_NEXT_RUN];
+ *         skip = words[ORC_BATCH_NEXT_SKIP];
+ *     }
+ */
+uint64_t orc_read_rows(const uint8_t *input, size_t input_len, uint64_t run, uint64_t skip, uint64_t flag,
+                       int64_t *rows, size_t rows_len, uint64_t *words, size_t words_len);
+
+/* Flags in batches. Reads the n booleans after a position into the first n bytes of out, each as 0 or 1. A
+ * position is what ORC's row index holds for a flag column: run is the byte where a byte run begins, bytes
+ * the bytes to skip from there, of those that the runs stand for, and bits the bits of the next byte to skip.
+ * The next batch begins at ORC_FLAGS_NEXT_RUN, ORC_FLAGS_NEXT_BYTES, ORC_FLAGS_NEXT_BITS. All or nothing:
+ * refused as orc_read_booleans refuses all that is skipped and the n together, then with ORC_TOO_FEW_PLACES;
+ * the place of either is run. */
+uint64_t orc_read_flags(const uint8_t *input, size_t input_len, uint64_t run, uint64_t bytes, uint64_t bits,
+                        uint64_t n, uint8_t *out, size_t out_len, uint64_t *words, size_t words_len);
+
+/* Bytes in batches: the same with n of the bytes that the byte runs stand for, as tinyint columns have them,
+ * and orc_count_true wants them. */
+uint64_t orc_read_bytes(const uint8_t *input, size_t input_len, uint64_t run, uint64_t bytes, uint64_t n,
+                        uint8_t *out, size_t out_len, uint64_t *words, size_t words_len);
+
+/* Rows that are missing. flags has a byte for each row of a column, and rows a row for each flag that is not
+ * 0: place i of out gets the next row if flag i is not 0, and fill otherwise. Refused in this order, with no
+ * place touched, at place 0: ORC_NOT_LINED_UP, ORC_TOO_FEW_PLACES if there are fewer places than flags. */
+uint64_t orc_spread(const uint8_t *flags, size_t flags_len, const int64_t *rows, size_t rows_len,
+                    int64_t fill, int64_t *out, size_t out_len, uint64_t *words, size_t words_len);
+
+/* All labels in one pass: for each row what orc_label says, in time linear in rows and dictionary. offsets[j]
+ * becomes the byte of the block where name j begins; starts[i] and sizes[i] where the name of row i begins
+ * and how long it is, 0 and 0 if its flag is 0. Refused in this order, with no place touched, at place 0:
+ * ORC_LENGTHS_NOT_THE_BLOCK (also if there are no rows), ORC_NO_SUCH_NAME with the first such row in
+ * ORC_LABELS_REFUSED_ROW, ORC_TOO_FEW_PLACES if offsets has fewer places than there are lengths, or starts or
+ * sizes fewer than there are flags. Numbers after those of the rows with a name are not looked at. */
+uint64_t orc_label_column(const uint8_t *flags, size_t flags_len, const int64_t *numbers,
+                          size_t numbers_len, const int64_t *lengths, size_t lengths_len,
+                          uint64_t block_len, uint64_t *offsets, size_t offsets_len, uint64_t *starts,
+                          size_t starts_len, uint64_t *sizes, size_t sizes_len, uint64_t *words,
+                          size_t words_len);
 
 /* Reads the run at the start of input, and answers by one number: an orc_answer, or, from ORC_RUN on,
  * a run. Rows are laid into out as eight bytes each, lowest first; a trailing part of fewer than eight

@@ -4,6 +4,7 @@ pub mod Repeat
 pub mod Room
 pub mod Reading
 pub mod Telling
+pub mod BatchTelling
 pub mod FormNumbers
 pub mod PartWords
 pub mod Outcomes

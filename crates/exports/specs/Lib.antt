@@ -12,4 +12,6 @@ pub mod Index
 pub mod Salvage
 pub mod Converting
 pub mod Columns
+pub mod Batches
+pub mod LinedUp
 pub mod Outcomes

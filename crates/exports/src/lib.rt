@@ -12,6 +12,8 @@ ghost use Rattle.exports.specs.Counts.{CountTold};
 use format::ByteOffset;
 use format::RowNumber;
 
+pub mod batch_calls;
+mod batch_words;
 mod bytes;
 pub mod column_calls;
 mod column_words;
@@ -21,6 +23,8 @@ mod forms;
 pub mod index_calls;
 mod index_words;
 mod label_words;
+pub mod lined_up_calls;
+mod lined_up_words;
 pub mod part_calls;
 mod salvage_words;
 
@@ -29,7 +33,7 @@ mod salvage_words;
 pub extern "C" fn orc_version() -> u64
     ensures { λ r. ⌜ r ≡ faceVersion ⌝ }
 {
-    11
+    12
 }
 
 // One run at the start of the input, its rows as eight bytes each, lowest first. The flag is 0 for unsigned, and any other number for signed.

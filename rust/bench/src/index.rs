@@ -27,7 +27,7 @@ pub fn build(cases: &[&Case], samples: usize) -> Vec<Built> {
     let timed = |case: &Case| {
         let mut rows = vec![0; case.rows.len()];
         let index = Index::build(&case.bytes).expect("a case is whole runs");
-        assert_eq!(index.rows(), RowNumber(rows.len()), "{}", case.name);
+        assert_eq!(index.row_count(), RowNumber(rows.len()), "{}", case.name);
         let mut build = || drop(black_box(Index::build(black_box(&case.bytes))));
         let mut stream = || crate::ours::stream_into(black_box(case), black_box(&mut rows));
         let times = take_turns(case.rows.len(), 1, samples, &mut [&mut build, &mut stream]);

@@ -3,6 +3,8 @@
 //! writes nothing; `--smoke` takes three samples of some cases, and writes nothing).
 #![forbid(unsafe_code)]
 
+#[cfg(feature = "ours")]
+mod batches;
 mod booleans;
 mod cases;
 #[cfg(feature = "ours")]
@@ -32,7 +34,8 @@ Nanoseconds a row, the least of 31 samples, the candidates taking turns; less is
 - **Ours**: one call of `orc_read_run` a run, through the safe wrapper `menakovitsy`, into bytes; of
   whole streams one call of `orc_read_stream`, and of booleans one of `orc_read_booleans`; of a column in
   parts the calls of `orc_part_take` that its parts need, the runs used where they are handed out; of a
-  column that is written one call of `orc_plan` and one of `orc_write_column`.
+  column in batches a call of `orc_read_rows` or `orc_read_flags` a batch; of a column that is written one
+  call of `orc_plan` and one of `orc_write_column`.
 - **Rust**: the decoders of WenyXu/orc-rs at 3a197fa636, unchanged, through their iterators, as a
   loader calls them. They have not written the widths 26, 28 and 30, and of booleans they agree with
   the rules within the first run only: so that is what is timed of them.
@@ -107,8 +110,13 @@ fn main() -> ExitCode {
         eprintln!("the index");
         let cases: Vec<_> = rows.iter().map(|row| &row.case).collect();
         let index = index::markdown(&index::build(&cases, samples), &index::end(samples));
+        eprintln!("batches");
+        let flags: Vec<_> = flags.iter().map(|(case, _)| case).collect();
+        let times =
+            (batches::rows(&cases, samples), batches::flags(&flags, samples), batches::labels(samples));
+        let batches = batches::markdown(&times.0, &times.1, times.2);
         eprintln!("columns written");
-        tables + &index + &planned::markdown(&planned::measure(samples))
+        tables + &batches + &index + &planned::markdown(&planned::measure(samples))
     };
     println!("{tables}");
     if mode != Mode::Write {

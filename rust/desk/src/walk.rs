@@ -122,7 +122,7 @@ fn passed(window: &[u8], row: u64) -> Passed {
             bytes: entry.at.0 as u64,
         },
         Err(_) => {
-            Passed { runs: firsts.len() as u64, rows: index.rows().0 as u64, bytes: whole.len() as u64 }
+            Passed { runs: firsts.len() as u64, rows: index.row_count().0 as u64, bytes: whole.len() as u64 }
         }
     }
 }

@@ -13,5 +13,6 @@ pub mod ours;
 pub mod probe;
 pub mod program;
 pub mod random;
+pub mod said;
 pub mod stages;
 pub mod tally;

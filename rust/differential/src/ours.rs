@@ -1,4 +1,5 @@
 //! The proved functions, linked: held to the model's answers, every place included.
+pub mod batches;
 mod columns;
 
 use menakovitsy::{

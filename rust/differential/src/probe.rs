@@ -9,15 +9,16 @@ use std::{env, thread};
 
 use model::{Answer, Booleans, Dictionary, Form, Info, Kind, Label, Ones, Refusal, Stream, Value, Written};
 
+use crate::said::{said, Expected};
 use crate::tally::{Hex, Tally};
 
 /// How many lines one child process is given.
 const BATCH: usize = 20_000;
 
-/// Lines for the program, each with the line that the rules answer by the model.
+/// Lines for the program, each with what the rules answer by the model.
 #[derive(Default)]
 pub struct Requests {
-    lines: Vec<(String, String)>,
+    lines: Vec<(String, Expected)>,
 }
 
 /// The program, and the lines that wait for it.
@@ -138,12 +139,18 @@ impl Requests {
 
     /// A line, and the line that answers it.
     pub(crate) fn ask(&mut self, line: String, expected: String) {
+        self.lines.push((line, Expected::Text(expected)));
+    }
+
+    /// A line from 11 to 19, or a bad one: the model reads the line itself.
+    pub fn said(&mut self, line: String) {
+        let expected = said(&line);
         self.lines.push((line, expected));
     }
 
-    /// Every line, and the line that answers it.
+    /// Every line that has one answer, and that answer.
     pub fn lines(&self) -> impl Iterator<Item = (&str, &str)> {
-        self.lines.iter().map(|(line, answer)| (line.as_str(), answer.as_str()))
+        self.lines.iter().filter_map(|(line, expected)| Some((line.as_str(), expected.text()?)))
     }
 }
 
@@ -185,9 +192,8 @@ impl Probe {
         };
         let mut answers = answers.lines();
         for (line, expected) in &lines {
-            // A part that is empty leaves a space at the end of its line, or does not.
             let answer = answers.next();
-            if answer.map(str::trim_end) == Some(expected.trim_end()) {
+            if answer.is_some_and(|answer| expected.takes(answer)) {
                 tally.probe();
             } else {
                 let answer = answer.unwrap_or("no line");
@@ -199,7 +205,7 @@ impl Probe {
         }
     }
 
-    fn answers(&self, lines: &[(String, String)]) -> io::Result<String> {
+    fn answers(&self, lines: &[(String, Expected)]) -> io::Result<String> {
         let mut child = Command::new(&self.program).stdin(Stdio::piped()).stdout(Stdio::piped()).spawn()?;
         let mut stdin = child.stdin.take().expect("stdin is piped");
         let text: String = lines.iter().flat_map(|(line, _)| [line, "\n"]).collect();

@@ -1,16 +1,20 @@
 //! What is compared, stage by stage.
+pub mod batches;
 pub mod column_lines;
 pub mod columns;
 pub mod convert;
 pub mod count;
 mod cuts;
+mod in_batches;
 pub mod index;
 pub mod labels;
+pub mod lined_up;
 mod lines;
 pub mod parts;
 pub mod patched_runs;
 mod patches;
 pub mod plans;
+pub mod rescue;
 pub mod salvage;
 mod varints;
 mod written_streams;
@@ -77,6 +81,7 @@ impl Session {
         self.random_frames();
         self.streams();
         self.booleans();
+        self.in_batches();
         self.values();
         self.written();
         self.patched_runs();

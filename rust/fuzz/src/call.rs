@@ -1,4 +1,5 @@
 //! A call, and what the model of the rules answers it.
+pub mod batched;
 mod indexed;
 mod outcome;
 mod planned;
@@ -49,6 +50,7 @@ pub enum Call {
     Column(columns::Asked),
     CheckColumn(columns::Asked, u64),
     Plan { rows: Vec<i64>, flag: u64, lent: [usize; 5] },
+    Batched(batched::Asked),
 }
 
 impl Call {
@@ -56,7 +58,7 @@ impl Call {
     pub fn any(random: &mut Random) -> Self {
         let flag = if random.once_in(8) { random.any() } else { random.below(2) as u64 };
         let places = random.pick(&[0, 1, 5, 12, 64, 512, 1000]);
-        match random.below(36) {
+        match random.below(44) {
             0..=1 => {
                 let bytes = 8 * places + if random.once_in(2) { random.below(8) } else { 0 };
                 Call::Run { input: frames::any_frame(random), flag, bytes: bytes.min(MOST) }
@@ -95,6 +97,7 @@ impl Call {
             27..=28 => whole::any_salvage(flag, random),
             29..=30 => Call::Convert(convert::Asked { flag, ..convert::any(random) }),
             31..=34 => planned::any(flag, random),
+            35..=42 => Call::Batched(batched::any(flag, random)),
             _ => {
                 let shift = random.below(64);
                 Call::Narrowest { number: random.any() >> shift }
@@ -123,6 +126,7 @@ impl Call {
             Call::Column(_) => "orc_write_column",
             Call::CheckColumn(..) => "orc_check_column",
             Call::Plan { .. } => "orc_plan",
+            Call::Batched(asked) => asked.function().0,
         }
     }
 
@@ -139,6 +143,7 @@ impl Call {
             Call::Convert(_) => CONVERT_WORDS,
             Call::Column(_) => COLUMN_WORDS,
             Call::CheckColumn(..) => CHECK_WORDS,
+            Call::Batched(asked) => asked.function().1,
             _ => WORDS,
         }
     }
@@ -193,6 +198,7 @@ impl Call {
             }
             Call::CheckColumn(asked, _) => Lending { given: &asked.rows, columns: asked.lent(), ..none },
             Call::Plan { rows, lent, .. } => Lending { given: rows, lent_columns: *lent, ..none },
+            Call::Batched(asked) => asked.lending(),
         }
     }
 
@@ -227,6 +233,7 @@ impl Call {
             Call::Convert(asked) => whole::converted(asked),
             Call::Column(asked) => planned::written(asked),
             Call::CheckColumn(asked, room) => planned::checked(asked, *room),
+            Call::Batched(asked) => asked.outcome(),
             // What it proposes has no one right value: `Session` holds it to its safety.
             Call::Plan { .. } => Outcome::default(),
             Call::Narrowest { number } => {

@@ -12,6 +12,7 @@ pub mod watch;
 use std::collections::BTreeMap;
 use std::ptr;
 
+use call::batched::Asked;
 use call::{Call, Lending, Outcome, MOST};
 use differential::random::Random;
 use differential::stages::index::What;
@@ -25,7 +26,7 @@ const LONGEST: usize = 1 << 16;
 pub struct Session {
     input: Fenced<u8>,
     given: Fenced<i64>,
-    /// What only a label is asked of, beside the lengths and the block.
+    /// What only labels are asked of, beside the lengths and the block; and the flags of rows to spread.
     numbers: Fenced<i64>,
     flags: Fenced<u8>,
     fallback: Fenced<u8>,
@@ -159,6 +160,35 @@ impl Session {
                 Call::CheckColumn(ref asked, room) => exported::orc_check_column(
                     g, gl, asked.flag, x, xl, y, yl, z, zl, u, ul, v, vl, room, w, wl,
                 ),
+                Call::Batched(ref asked) => match *asked {
+                    Asked::Rows { at, .. } => {
+                        exported::orc_read_rows(i, il, at.run, at.skip, at.flag, r, rl, w, wl)
+                    }
+                    Asked::Flags { n, position: [run, bytes, bits], .. } => {
+                        exported::orc_read_flags(i, il, run, bytes, bits, n, b, bl, w, wl)
+                    }
+                    Asked::Bytes { n, position: [run, bytes], .. } => {
+                        exported::orc_read_bytes(i, il, run, bytes, n, b, bl, w, wl)
+                    }
+                    Asked::Spread(ref asked) => exported::orc_spread(f, fl, g, gl, asked.fill, r, rl, w, wl),
+                    Asked::Labels(ref asked) => exported::orc_label_column(
+                        f,
+                        fl,
+                        n,
+                        nl,
+                        g,
+                        gl,
+                        asked.block_length,
+                        x,
+                        xl,
+                        y,
+                        yl,
+                        z,
+                        zl,
+                        w,
+                        wl,
+                    ),
+                },
                 Call::Plan { flag, .. } => exported::orc_plan(g, gl, flag, x, xl, y, yl, z, zl, u, ul, v, vl),
                 Call::Run { flag, .. } => exported::orc_read_run(i, il, b, bl, flag),
                 Call::RunAt { at, flag, .. } => exported::orc_read_run_at(i, il, at, flag, r, rl, w, wl),

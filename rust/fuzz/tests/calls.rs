@@ -16,7 +16,7 @@ fn a_million_calls(seed: u64) {
     // Each function gave each answer that it can give.
     let readers = [0, 1, 2, 3, 4, 5, 6, 7, 8, 12, 13, 14];
     let too_few = u64::MAX;
-    let answers: [(&str, &[u64]); 21] = [
+    let answers: [(&str, &[u64]); 26] = [
         ("orc_read_run", &readers),
         ("orc_read_run_at", &[&readers[..], &[too_few]].concat()),
         ("orc_read_stream", &[&readers[..], &[too_few]].concat()),
@@ -38,6 +38,12 @@ fn a_million_calls(seed: u64) {
         ("orc_write_column", &[0, 8, too_few]),
         ("orc_check_column", &[0, too_few]),
         ("orc_plan", &[0]),
+        // Of the readers' refusals all but the want of places: a batch has as many rows as there are places.
+        ("orc_read_rows", &[0, 1, 2, 3, 4, 5, 6, 7, 12, 13, 14, 16, too_few]),
+        ("orc_read_flags", &[0, 6, 8, 13, too_few]),
+        ("orc_read_bytes", &[0, 6, 8, 13, too_few]),
+        ("orc_spread", &[0, 8, 21, too_few]),
+        ("orc_label_column", &[0, 8, 18, 19, too_few]),
     ];
     for (function, numbers) in answers {
         let given: Vec<u64> =

@@ -1,7 +1,7 @@
 //! A chunk table of an audio source splitter: for each window of half a second the sample that it
 //! begins at, whether it is normalised already, and its name, by a dictionary. It is written, read
-//! back, and asked: is window 24 already normalised, where does it begin, and what is it called? Then
-//! the same of damaged copies and of cut ones.
+//! back, and asked: is window 24 already normalised, where does it begin, and what is it called? Each
+//! answer is read by a batch that begins at the window. Then the same of damaged copies and of cut ones.
 //!
 //! ```text
 //! cargo run --offline -p menakovitsy --example chunk_table
@@ -10,8 +10,8 @@ use std::error::Error;
 use std::fmt::{self, Write};
 
 use menakovitsy::{
-    label, narrowest_code, read_booleans, read_stream, write_run, ByteOffset, Dictionary, Form, Label,
-    RowNumber, Sign, MAX_WRITTEN,
+    narrowest_code, write_run, ByteOffset, Column, Dictionary, FlagPosition, Flags, Form, Labels, RowNumber,
+    RowPosition, Sign, MAX_WRITTEN,
 };
 
 /// How many windows the table has. The first 24 are normalised.
@@ -95,26 +95,36 @@ fn write_table() -> Result<Table, Told> {
     })
 }
 
-/// A column of so many rows.
+/// All rows of a column that has this many.
 fn rows(bytes: &[u8], column: &'static str, many: usize) -> Result<Vec<i64>, Told> {
-    let mut rows = vec![0; many];
-    let read = read_stream(bytes, ByteOffset(0), Sign::Unsigned, &mut rows).map_err(of(column))?;
-    if read.rows == RowNumber(many) {
+    let rows = Column::new(bytes, Sign::Unsigned).to_vec().map_err(of(column))?;
+    if rows.len() == many {
         return Ok(rows);
     }
-    Err(Told { column, why: format!("{} rows, for {many}", read.rows.0).into() })
+    Err(Told { column, why: format!("{} rows, for {many}", rows.len()).into() })
 }
 
-/// A flag for each window.
-fn flags(bytes: &[u8], column: &'static str) -> Result<[u8; WINDOWS], Told> {
+/// The row of a window: a batch of one place that begins there. The rows before it are passed over.
+fn row(bytes: &[u8], column: &'static str, number: usize) -> Result<i64, Told> {
+    let position = RowPosition { run: ByteOffset(0), skip: RowNumber(number) };
+    let mut place = [0];
+    match Column::new(bytes, Sign::Unsigned).read_at(position, &mut place).map_err(of(column))? {
+        Some(_) => Ok(place[0]),
+        None => Err(Told { column, why: format!("no row {number}").into() }),
+    }
+}
+
+/// The flag of a window: a batch of one that begins inside a byte run, and inside a byte of it.
+fn flag(bytes: &[u8], column: &'static str, number: usize) -> Result<bool, Told> {
+    let position = FlagPosition { run: ByteOffset(0), bytes: ByteOffset(number / 8), bits: number % 8 };
+    let flags = Flags::new(bytes).starting_at(position).next(RowNumber(1)).map_err(of(column))?;
+    Ok(flags == [true])
+}
+
+/// What a window is called: a part of the names, or the fallback.
+fn name(table: &Table, number: usize) -> Result<&[u8], Told> {
     let mut flags = [0; WINDOWS];
-    read_booleans(bytes, ByteOffset(0), RowNumber(WINDOWS), &mut flags).map_err(of(column))?;
-    Ok(flags)
-}
-
-/// What a window is called: from the bytes of the columns to a part of the names, or the fallback.
-fn name(table: &Table, number: usize) -> Result<Label<'_>, Told> {
-    let flags = flags(&table.named, "named")?;
+    Flags::new(&table.named).read_into(&mut flags).map_err(of("named"))?;
     let named = flags.iter().filter(|flag| **flag != 0).count();
     let dictionary = Dictionary {
         block: &table.names,
@@ -122,13 +132,14 @@ fn name(table: &Table, number: usize) -> Result<Label<'_>, Told> {
         numbers: &rows(&table.numbers, "numbers", named)?,
         flags: &flags,
     };
-    label(dictionary, RowNumber(number), FALLBACK).map_err(of("names"))
+    let labels = Labels::new(dictionary).map_err(of("names"))?;
+    Ok(labels.get(RowNumber(number)).flatten().unwrap_or(FALLBACK))
 }
 
 fn window(table: &Table, number: usize) -> Result<Window, Told> {
-    let begins = rows(&table.offsets, "offsets", WINDOWS)?[number];
-    let normalised = flags(&table.flags, "flags")?[number] == 1;
-    let label = String::from_utf8_lossy(name(table, number)?.bytes()).into_owned();
+    let begins = row(&table.offsets, "offsets", number)?;
+    let normalised = flag(&table.flags, "flags", number)?;
+    let label = String::from_utf8_lossy(name(table, number)?).into_owned();
     Ok(Window { begins, normalised, label })
 }
 
@@ -169,11 +180,13 @@ pub fn report() -> String {
     let mut damaged = table.clone();
     damaged.names.pop();
     say(format!("damaged: {}", answer(&damaged, 28)));
-    // The last byte of the flags was not copied. The first 24 flags are there, and window 23 is one
-    // of them; but the table says 32.
+    // The last byte of the flags was not copied. The first 24 flags are there, and window 23 is the last
+    // of them; the flag of window 24 is not.
     let mut cut = table.clone();
     cut.flags.pop();
-    say(format!("cut: {}", answer(&cut, 23)));
+    for number in [23, 24] {
+        say(format!("cut: {}", answer(&cut, number)));
+    }
     let mut cut = table.clone();
     cut.offsets.truncate(40);
     say(format!("cut: {}", answer(&cut, 23)));

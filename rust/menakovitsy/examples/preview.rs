@@ -38,7 +38,7 @@ pub fn report() -> Result<String, Refused> {
          chunk 2000: {none}\n",
         column.len(),
         index.columns()[0].len(),
-        index.rows().0,
+        index.row_count().0,
         entry.at,
         entry.first.0,
         begins.len()

@@ -1,9 +1,10 @@
-//! A column of integer rows: all at once, by runs, or by rows.
+//! A column of integer rows: all at once, in batches, by runs, or by rows.
 use std::fmt;
 use std::iter::FusedIterator;
 
-use crate::{read_run, read_stream, MAX_ROWS};
-use crate::{ByteOffset, Refusal, Refused, RowNumber, Run, Sign, Stream, StreamRefused};
+use crate::{read_rows, read_run, read_stream, MAX_ROWS};
+use crate::{Batch, Batches, ByteOffset, Refusal, Refused, RowNumber, RowPosition};
+use crate::{Run, Sign, Stream, StreamRefused};
 
 /// The bytes of an integer column, from a position on, and whether its rows are signed.
 ///
@@ -84,6 +85,54 @@ impl<'a> Column<'a> {
                 }
             }
         }
+    }
+
+    /// Reads the rows from a position on into `rows`, as many as there are places; nothing at the end:
+    /// [`read_rows`]. The position counts from the first of the column's bytes, wherever the column starts.
+    ///
+    /// ```
+    /// use menakovitsy::{ByteOffset, Column, RowNumber, RowPosition, Sign};
+    ///
+    /// // Five rows of 300; 1, 2, 3; then 10, 12, 14, 16, 18.
+    /// let bytes = [0x0A, 0x01, 0x2C, 0x46, 0x02, 0x12, 0x30, 0xC0, 0x04, 0x0A, 0x04];
+    /// let column = Column::new(&bytes, Sign::Unsigned);
+    ///
+    /// // A row index says: two rows after the first of the run at byte 3.
+    /// let position = RowPosition { run: ByteOffset(3), skip: RowNumber(2) };
+    /// let mut rows = [0; 4];
+    /// let batch = column.read_at(position, &mut rows)?.expect("there are rows");
+    /// assert_eq!((batch.rows, rows), (RowNumber(4), [3, 10, 12, 14]));
+    ///
+    /// // The rows after these: only two are left.
+    /// let last = column.read_at(batch.next, &mut rows)?.expect("there are rows");
+    /// assert_eq!((last.rows, &rows[..2]), (RowNumber(2), &[16, 18][..]));
+    /// assert_eq!(column.read_at(last.next, &mut rows)?, None);
+    /// # Ok::<(), menakovitsy::Refused>(())
+    /// ```
+    pub fn read_at(&self, position: RowPosition, rows: &mut [i64]) -> Result<Option<Batch>, Refused> {
+        read_rows(self.bytes, position, self.sign, rows)
+    }
+
+    /// The position of its first row.
+    #[must_use]
+    pub fn start(&self) -> RowPosition {
+        RowPosition { run: self.at, skip: RowNumber(0) }
+    }
+
+    /// The rows in batches of `size` rows each, the last of as many as are left. (A size of 0 is taken as
+    /// 1.)
+    pub fn batches(&self, size: RowNumber) -> Batches<'a> {
+        Batches::new(*self, size)
+    }
+
+    /// The bytes, all of them.
+    pub(crate) fn bytes(&self) -> &'a [u8] {
+        self.bytes
+    }
+
+    /// The bytes from its start on, and whether its rows are signed.
+    pub(crate) fn runs_and_sign(&self) -> (&'a [u8], Sign) {
+        (self.bytes.get(self.at.0..).unwrap_or_default(), self.sign)
     }
 
     /// The runs, one after another.

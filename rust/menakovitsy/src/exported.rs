@@ -13,16 +13,18 @@
 //! The reader in parts keeps nothing either: its state stands in the first [`STATE_WORDS`] of the words
 //! that the caller keeps for it, and the bytes of the unfinished run in the [`MAX_RUN_BYTES`] lent.
 
+mod batches;
 mod columns;
 mod functions;
 
+pub use batches::*;
 pub use columns::{
     check_word, column_word, orc_check_column, orc_plan, orc_write_column, CHECK_WORDS, COLUMN_WORDS,
 };
 pub use functions::*;
 
 /// The version of these functions that this crate is written for.
-pub const VERSION: u64 = 11;
+pub const VERSION: u64 = 12;
 
 /// How many words an answer has; the stream reader's has [`STREAM_WORDS`].
 pub const WORDS: usize = 9;
@@ -172,7 +174,8 @@ pub mod convert_word {
 
 /// What the word `CASE` may hold.
 pub mod case {
-    /// The input is empty; of the reader in parts: it is closed, and the column has ended.
+    /// The input is empty; of the reader in parts: it is closed, and the column has ended; of a batch of
+    /// rows: there are no more.
     pub const END: u64 = 0;
     /// Of the check of a proposal alone: it is not accepted.
     pub const NOT_ACCEPTED: u64 = 0;

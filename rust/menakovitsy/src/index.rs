@@ -1,7 +1,9 @@
 //! The index beside an integer column: where each run begins, in rows and in bytes.
+use std::ops::Range;
+
 use crate::answers::Words;
 use crate::exported::{self, entry_word, index_word, rows_from_word, word};
-use crate::{ByteOffset, Refusal, Refused, RowNumber, Sign, MAX_ROWS};
+use crate::{ByteOffset, Column, Refusal, Refused, RowNumber, RowPosition, Sign, MAX_ROWS};
 
 /// So many bytes a run are reckoned with at first: a direct run of 512 rows of 8 bits has a few more. A
 /// short column pays little for as many places as runs of one bit need, which have 66.
@@ -21,7 +23,7 @@ const LEAST_BYTES: usize = 2;
 /// be used as it comes.
 ///
 /// ```
-/// use menakovitsy::{ByteOffset, Entry, Index, Refusal, RowNumber, Sign};
+/// use menakovitsy::{ByteOffset, Column, Index, Refusal, RowNumber, Sign};
 ///
 /// // Five rows of 300; 1, 2, 3; then 10, 12, 14, 16, 18.
 /// let column = [0x0A, 0x01, 0x2C, 0x46, 0x02, 0x12, 0x30, 0xC0, 0x04, 0x0A, 0x04];
@@ -31,6 +33,8 @@ const LEAST_BYTES: usize = 2;
 /// let entry = index.look_up(&column, RowNumber(9))?;
 /// assert_eq!((entry.first, entry.at, entry.rows), (RowNumber(8), ByteOffset(7), RowNumber(5)));
 /// assert_eq!(index.rows_from(&column, RowNumber(7), Sign::Unsigned)?, [3, 10, 12, 14, 16, 18]);
+/// let rows = Column::new(&column, Sign::Unsigned);
+/// assert_eq!(index.rows(rows, RowNumber(7)..RowNumber(10))?, [3, 10, 12]);
 ///
 /// // The index of another column.
 /// let other = index.look_up(&column[..7], RowNumber(0)).unwrap_err();
@@ -123,7 +127,7 @@ impl Index {
 
     /// How many rows its entries have together, as they stand.
     #[must_use]
-    pub fn rows(&self) -> RowNumber {
+    pub fn row_count(&self) -> RowNumber {
         match (self.first.last(), self.counts.last()) {
             (Some(first), Some(count)) => RowNumber(first.saturating_add(*count) as usize),
             _ => RowNumber(0),
@@ -213,5 +217,43 @@ impl Index {
         let given = self.read_from(input, row, sign, &mut rows)?;
         rows.truncate(given.0);
         Ok(rows)
+    }
+
+    /// The position of a row in a column, for [`Column::read_at`] and
+    /// [`Batches::starting_at`](crate::Batches::starting_at). The column's bytes are those from its start on.
+    ///
+    /// Refusals: those of [`look_up`](Index::look_up).
+    pub fn position(&self, column: Column, row: RowNumber) -> Result<RowPosition, Refused> {
+        let (input, _) = column.runs_and_sign();
+        let Entry { first, at, .. } = self.look_up(input, row)?;
+        let skip = RowNumber(row.0.saturating_sub(first.0));
+        Ok(RowPosition { run: column.start().run + at, skip })
+    }
+
+    /// The rows of a range of a column. Only the runs that hold them are decoded.
+    ///
+    /// Refusals, in this order: [`WrongIndex`](Refusal::WrongIndex) unless this is the column's index;
+    /// [`NoSuchRow`](Refusal::NoSuchRow) if the range begins or ends after the column's last row. A range
+    /// that ends where it begins, or before, has no rows.
+    pub fn rows(&self, column: Column, range: Range<RowNumber>) -> Result<Vec<i64>, Refused> {
+        let Range { start, end } = range;
+        let position = match self.position(column, start) {
+            // The row after the last begins a range of no rows.
+            Err(refused) if refused.refusal == Refusal::NoSuchRow && start == self.row_count() => {
+                return if end <= start { Ok(Vec::new()) } else { Err(refused) };
+            }
+            answer => answer?,
+        };
+        // The index is the column's: so its count of rows is, too.
+        if end > self.row_count() {
+            return Err(Refused::whole(Refusal::NoSuchRow, ByteOffset(0)));
+        }
+        let mut rows = vec![0; end.0.saturating_sub(start.0)];
+        let given = column.read_at(position, &mut rows)?.map_or(RowNumber(0), |batch| batch.rows);
+        // Whatever library is linked, these are all of them.
+        match given == RowNumber(rows.len()) {
+            true => Ok(rows),
+            false => Err(Refused::whole(Refusal::Unknown(0), position.run)),
+        }
     }
 }

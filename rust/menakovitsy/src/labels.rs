@@ -1,7 +1,11 @@
 //! The names of rows: a dictionary, and the columns that say which of its names a row has.
+mod column;
+
 use crate::answers::Words;
 use crate::exported::{self, case};
 use crate::{Refused, RowNumber};
+
+pub use column::{label_column, LabelIter, Labels, LabelsRefused};
 
 /// A dictionary of names, and the columns that say what each row is called, all of them borrowed: the
 /// block may live longer than the columns, and the names are parts of it.
@@ -38,7 +42,7 @@ impl<'a> Label<'a> {
 }
 
 /// What a row is called: its name in the dictionary, or the fallback where it has none. Nothing is
-/// copied.
+/// copied. For many rows of one column use [`Labels`], which takes all in one pass.
 ///
 /// Refusals, in this order: [`NoSuchRow`](crate::Refusal::NoSuchRow) where the row has no flag;
 /// [`LengthsNotTheBlock`](crate::Refusal::LengthsNotTheBlock), for rows without a name too;

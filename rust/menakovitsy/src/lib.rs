@@ -8,13 +8,17 @@
 //! | What | Functions |
 //! |---|---|
 //! | a column of integers | [`Column`]: [`read_into`](Column::read_into), [`rows`](Column::rows), [`runs`](Column::runs) |
+//! | the same in batches, or from a position that a row index gives | [`batches`](Column::batches), [`read_at`](Column::read_at), [`RowPosition`], [`read_rows`] |
 //! | a column that arrives in parts | [`PartReader`]: [`next_run`](PartReader::next_run), [`close`](PartReader::close) |
 //! | one integer run, or all to the end | [`read_run`], [`read_stream`] |
-//! | a column of flags | [`read_booleans`] |
+//! | a column of flags, all at once | [`read_booleans`] |
+//! | the same in batches, or from a position | [`Flags`], [`FlagPosition`], [`read_flags`] |
+//! | bytes of byte runs in batches, or from a position | [`Bytes`], [`BytePosition`], [`read_bytes`] |
+//! | a column with rows that are missing | [`Nullable`], [`spread`] |
 //! | how many flags are true, packed eight to a byte | [`count_true`] |
 //! | a byte value, as a part of the input | [`byte_value`] |
-//! | an index beside a column, to start at any row | [`Index`]: [`build`](Index::build), [`look_up`](Index::look_up), [`rows_from`](Index::rows_from) |
-//! | the name of a row, by a dictionary | [`label`] |
+//! | an index beside a column, to start at any row | [`Index`]: [`build`](Index::build), [`look_up`](Index::look_up), [`rows`](Index::rows), [`rows_from`](Index::rows_from) |
+//! | the names of all rows, by a dictionary, or of one | [`Labels`], [`label_column`], [`label`] |
 //! | a damaged column salvaged, by its row groups | [`salvage()`] |
 //! | a column's odd widths retired | [`convert()`] |
 //! | a column written, cut into runs by the planner | [`write_column`], [`column_room`] |
@@ -49,13 +53,17 @@ compile_error!(
 );
 
 mod answers;
+mod batches;
+mod bytes;
 mod column;
 mod columns;
 mod convert;
 pub mod exported;
+mod flags;
 mod index;
 mod labels;
 mod library;
+mod nullable;
 mod ones;
 mod parts;
 mod patched;
@@ -65,6 +73,8 @@ mod units;
 mod version;
 
 pub use answers::{Kind, Refused, Run, Stream, StreamRefused};
+pub use batches::{read_rows, Batch, Batches, RowPosition};
+pub use bytes::{read_bytes, BytePosition, Bytes};
 pub use column::{Column, Rows, RunAt, Runs};
 pub use columns::{
     check_column, column_room, plan, plan_into, write_column, write_proposed, Proposal, Segment,
@@ -72,12 +82,14 @@ pub use columns::{
 };
 pub use convert::{convert, Converted};
 pub use exported::{MAX_ROWS, MAX_RUN_BYTES};
+pub use flags::{read_flags, FlagPosition, Flags};
 pub use index::{Entry, Index};
-pub use labels::{label, Dictionary, Label};
+pub use labels::{label, label_column, Dictionary, Label, LabelIter, Labels, LabelsRefused};
 pub use library::{
     byte_value, library_version, narrowest_code, read_booleans, read_run, read_run_bytes, read_stream,
     unpack, write_run, Counts,
 };
+pub use nullable::{spread, Nullable};
 pub use ones::count_true;
 pub use parts::{PartReader, PartRun};
 pub use patched::write_patched;

@@ -68,6 +68,12 @@ pub fn read_stream(
 /// Reads `n` booleans from byte `at` of `input` on, each as a byte of 0 or 1, into the first bytes
 /// of `out`. A refused call leaves every byte as it was.
 ///
+/// Byte runs are taken whole: [`Run::bytes`] counts all of the last one that is needed, also if not all of
+/// its flags were asked for. So a call at the byte after it does not go on with the next flag: of
+/// `00 FF 00 00`, 10 flags and then 10 more at byte 2 are ten that are true and ten that are not, though the
+/// column's first 24 are true. To read a column in batches use [`Flags`](crate::Flags), which keeps the
+/// position inside a run.
+///
 /// A flag column of 32 rows, the first 24 of them true:
 ///
 /// ```

@@ -3,7 +3,8 @@ use std::error::Error;
 use std::fmt;
 
 /// A refusal, by its number. Readers give 1 to 8 and 12 to 14; 9 to 11 are the run writer's; a caller's
-/// index is refused with 15, a row with 16, row groups with 17; labels with 16, 18 and 19.
+/// index is refused with 15, a row with 16, row groups with 17; labels with 16, 18 and 19; flags and rows
+/// that are not lined up with 21. (20 is of the program that adds up totals.)
 #[derive(Debug, Clone, Copy, PartialEq, Eq, Hash)]
 #[non_exhaustive]
 pub enum Refusal {
@@ -46,6 +47,8 @@ pub enum Refusal {
     LengthsNotTheBlock,
     /// 19: the row's number is outside the dictionary, or the numbers end before its entry.
     NoSuchName,
+    /// 21: there are not exactly as many rows as flags that say a row is present.
+    NotLinedUp,
     /// A number that this version of the wrapper does not know: a later library is linked, or
     /// another one than the proved one.
     Unknown(u64),
@@ -53,7 +56,7 @@ pub enum Refusal {
 
 impl Refusal {
     /// All that have a number of their own, in the order of the numbers.
-    pub const ALL: [Refusal; 19] = [
+    pub const ALL: [Refusal; 20] = [
         Refusal::HeaderCut,
         Refusal::EntryOver64,
         Refusal::PatchTooLarge,
@@ -73,6 +76,7 @@ impl Refusal {
         Refusal::WrongStarts,
         Refusal::LengthsNotTheBlock,
         Refusal::NoSuchName,
+        Refusal::NotLinedUp,
     ];
 
     /// Its number.
@@ -98,6 +102,7 @@ impl Refusal {
             Refusal::WrongStarts => 17,
             Refusal::LengthsNotTheBlock => 18,
             Refusal::NoSuchName => 19,
+            Refusal::NotLinedUp => 21,
             Refusal::Unknown(number) => number,
         }
     }
@@ -141,6 +146,9 @@ impl Refusal {
             }
             Refusal::NoSuchName => {
                 "dictionary: the row's number is outside it, or the numbers end before the row's entry"
+            }
+            Refusal::NotLinedUp => {
+                "flags and rows are not lined up: there are more or fewer rows than flags that are set"
             }
             Refusal::Unknown(_) => "a number that this wrapper does not know",
         }
@@ -203,6 +211,10 @@ impl Refusal {
             Refusal::NoSuchName => {
                 "give the numbers of the same rows as the flags, and the dictionary that they are for; if they \
                  are, the file is damaged"
+            }
+            Refusal::NotLinedUp => {
+                "give the flags and the rows of the same column, from the same row on; if they are, the file is \
+                 damaged"
             }
             Refusal::Unknown(_) => "link the library of the wrapper's own revision; check_version compares",
         }

@@ -12,13 +12,14 @@ written: offsets 66 bytes, flags 4, named 4, numbers 9, lengths 4, names 20
 window 23 (vocals) is already normalised, and begins at sample 507300
 window 24 (other) is not normalised yet, and begins at sample 529350
 window 28 (unnamed) is not normalised yet, and begins at sample 617550
-damaged: column offsets: the run at byte 0, after 0 rows: refusal 4: delta: packed magnitudes announced for a \
+damaged: column offsets: at byte 0: refusal 4: delta: packed magnitudes announced for a \
 single row (no run begins like this: the bytes are damaged, or the offset is not a run's first byte)
 damaged: column names: at byte 0: refusal 18: dictionary: a length is below 0, or the lengths do not add up to \
 the block (give the lengths and the block of one dictionary, both whole; if they are, the file is damaged)
+cut: window 23 (vocals) is already normalised, and begins at sample 507300
 cut: column flags: at byte 0: refusal 13: the block of packed rows or of bytes that begins at byte 3 is cut \
 (call again with more bytes; if there are none, the stream is cut or the offset is wrong)
-cut: column offsets: the run at byte 0, after 0 rows: refusal 13: the block of packed rows or of bytes that \
+cut: column offsets: at byte 0: refusal 13: the block of packed rows or of bytes that \
 begins at byte 6 is cut (call again with more bytes; if there are none, the stream is cut or the offset is \
 wrong)
 ";

@@ -5,8 +5,9 @@ use std::process::Command;
 use std::{env, fs};
 
 use menakovitsy::exported::{
-    self, case, check_word, column_word, convert_word, count_word, entry_word, index_word, kind, label_word,
-    part_word, rows_from_word, salvage_word, word,
+    self, batch_word, bytes_word, case, check_word, column_word, convert_word, count_word, entry_word,
+    flags_word, index_word, kind, label_word, labels_word, part_word, rows_from_word, salvage_word,
+    spread_word, word,
 };
 use menakovitsy::Refusal;
 
@@ -44,6 +45,11 @@ fn the_header_has_the_same_numbers() {
     has(&format!("#define ORC_CONVERT_WORDS {}\n", exported::CONVERT_WORDS));
     has(&format!("#define ORC_CHECK_WORDS {}\n", exported::CHECK_WORDS));
     has(&format!("#define ORC_COLUMN_WORDS {}\n", exported::COLUMN_WORDS));
+    has(&format!("#define ORC_BATCH_WORDS {}\n", exported::BATCH_WORDS));
+    has(&format!("#define ORC_FLAGS_WORDS {}\n", exported::FLAGS_WORDS));
+    has(&format!("#define ORC_BYTES_WORDS {}\n", exported::BYTES_WORDS));
+    has(&format!("#define ORC_SPREAD_WORDS {}\n", exported::SPREAD_WORDS));
+    has(&format!("#define ORC_LABELS_WORDS {}\n", exported::LABELS_WORDS));
     has("#define ORC_TOO_FEW_WORDS UINT64_MAX\n");
     has(&format!("#define ORC_MAX_ROWS {}\n", exported::MAX_ROWS));
     has(&format!("#define ORC_MAX_RUN_BYTES {}\n", exported::MAX_RUN_BYTES));
@@ -86,6 +92,25 @@ fn the_header_has_the_same_numbers() {
         ("COLUMN_RUNS", column_word::RUNS),
         ("COLUMN_ROWS", column_word::ROWS),
         ("COLUMN_BYTES", column_word::BYTES),
+        ("BATCH_ROWS", batch_word::ROWS),
+        ("BATCH_NEXT_RUN", batch_word::NEXT_RUN),
+        ("BATCH_NEXT_SKIP", batch_word::NEXT_SKIP),
+        ("BATCH_CUT", batch_word::CUT),
+        ("BATCH_CUT_AT", batch_word::CUT_AT),
+        ("FLAGS_GIVEN", flags_word::GIVEN),
+        ("FLAGS_NEXT_RUN", flags_word::NEXT_RUN),
+        ("FLAGS_NEXT_BYTES", flags_word::NEXT_BYTES),
+        ("FLAGS_NEXT_BITS", flags_word::NEXT_BITS),
+        ("FLAGS_CUT", flags_word::CUT),
+        ("FLAGS_CUT_AT", flags_word::CUT_AT),
+        ("BYTES_GIVEN", bytes_word::GIVEN),
+        ("BYTES_NEXT_RUN", bytes_word::NEXT_RUN),
+        ("BYTES_NEXT_BYTES", bytes_word::NEXT_BYTES),
+        ("BYTES_CUT", bytes_word::CUT),
+        ("BYTES_CUT_AT", bytes_word::CUT_AT),
+        ("SPREAD_ROWS", spread_word::ROWS),
+        ("LABELS_ROWS", labels_word::ROWS),
+        ("LABELS_REFUSED_ROW", labels_word::REFUSED_ROW),
     ] {
         has(&format!("    ORC_{name} = {place}"));
     }
@@ -117,7 +142,8 @@ fn compiled(source: &Path, language: &[&str]) -> PathBuf {
     let here = Path::new(env!("CARGO_MANIFEST_DIR"));
     let folder = Path::new(env!("CARGO_TARGET_TMPDIR"));
     fs::create_dir_all(folder).unwrap();
-    let program = folder.join(format!("flags-{}", language.join("")));
+    let name = source.file_stem().unwrap().to_string_lossy();
+    let program = folder.join(format!("{name}-{}", language.join("")));
     let output = Command::new(env::var_os("CC").unwrap_or_else(|| "cc".into()))
         .args(language)
         .args(["-Wall", "-Wextra", "-Werror", "-pedantic", "-I"])
@@ -133,19 +159,42 @@ fn compiled(source: &Path, language: &[&str]) -> PathBuf {
     program
 }
 
-#[test]
-fn the_example_in_c() {
-    let source = Path::new(env!("CARGO_MANIFEST_DIR")).join("examples/flags.c");
+/// What an example in C writes, compiled as C99 and as C11.
+fn writes(example: &str, expected: &str) {
+    let source = Path::new(env!("CARGO_MANIFEST_DIR")).join("examples").join(example);
     for language in [["-x", "c", "-std=c99"], ["-x", "c", "-std=c11"]] {
         let output = Command::new(compiled(&source, &language)).output().unwrap();
-        assert!(output.status.success());
-        assert_eq!(
-            String::from_utf8_lossy(&output.stdout),
-            "flag 23 is 1, flag 24 is 0\n\
-             8 rows from 7 bytes: 300 300 300 300 300 1 2 3\n\
-             the last run is direct: 3 rows of 4 bits in 4 bytes\n\
-             cut: the run at byte 3 lacks its packed rows, from byte 5 on; 5 rows are read\n\
-             a stream's answer has 14 words\n"
-        );
+        assert!(output.status.success(), "{example}");
+        assert_eq!(String::from_utf8_lossy(&output.stdout), expected, "{example}");
     }
+}
+
+#[test]
+fn the_example_in_c() {
+    writes(
+        "flags.c",
+        "flag 23 is 1, flag 24 is 0\n\
+         8 rows from 7 bytes: 300 300 300 300 300 1 2 3\n\
+         the last run is direct: 3 rows of 4 bits in 4 bytes\n\
+         cut: the run at byte 3 lacks its packed rows, from byte 5 on; 5 rows are read\n\
+         a stream's answer has 14 words\n",
+    );
+}
+
+/// Ten flags and then ten, all true; rows in batches; rows that are missing; the names of all rows.
+#[test]
+fn batches_in_c() {
+    writes(
+        "batches.c",
+        "flags: 1111111111, next at byte 0, byte 1, bit 2\n\
+         flags: 1111111111, next at byte 0, byte 2, bit 4\n\
+         24 of 32 flags are true\n\
+         3 rows: 300 300 300, next at byte 0, 3 to skip\n\
+         3 rows: 300 300 1, next at byte 3, 1 to skip\n\
+         2 rows: 2 3, next at byte 7, 0 to skip\n\
+         the column has ended\n\
+         with the missing ones: 300 -1 300 300\n\
+         refusal 21: flags and rows are not lined up\n\
+         names: vocals, none, drums\n",
+    );
 }

@@ -1,5 +1,5 @@
 //! FORMAT.md, "Index": the index beside a column, by the wrapper. Lines written out by hand.
-use menakovitsy::{ByteOffset, Index, Refusal, Refused, RowNumber, Sign};
+use menakovitsy::{ByteOffset, Column, Index, Refusal, Refused, RowNumber, RowPosition, Sign};
 
 /// Five rows 300, then 1, 2, 3, then 10, 12, 14, 16, 18.
 const THREE: [u8; 11] = [0x0A, 0x01, 0x2C, 0x46, 0x02, 0x12, 0x30, 0xC0, 0x04, 0x0A, 0x04];
@@ -23,9 +23,9 @@ fn refused<T: std::fmt::Debug>(answer: Result<T, Refused>, refusal: Refusal) {
 #[test]
 fn built() {
     assert_eq!(Index::build(&THREE), Ok(right()));
-    assert_eq!(right().rows(), RowNumber(13));
+    assert_eq!(right().row_count(), RowNumber(13));
     assert_eq!(Index::build(&[]), Ok(Index::default()));
-    assert_eq!(Index::default().rows(), RowNumber(0));
+    assert_eq!(Index::default().row_count(), RowNumber(0));
     // The stream's own refusals, with their places and cut fields.
     let cut = Index::build(&THREE[..6]).unwrap_err();
     assert_eq!((cut.refusal, cut.at, cut.cut), (Refusal::RowsCut, ByteOffset(3), Some(ByteOffset(5))));
@@ -43,7 +43,7 @@ fn many_entries() {
             let expected: Vec<u64> = (0..runs as u64).collect();
             let times = |by: usize| expected.iter().map(|k| k * by as u64).collect::<Vec<_>>();
             assert_eq!(built.columns(), [&times(rows)[..], &times(run.len()), &vec![rows as u64; runs]]);
-            assert_eq!(built.rows(), RowNumber(rows * runs));
+            assert_eq!(built.row_count(), RowNumber(rows * runs));
             let last = built.rows_from(&column, RowNumber(rows * runs - 1), Sign::Unsigned).unwrap();
             assert_eq!(last.len(), 1);
         }
@@ -115,4 +115,57 @@ fn read_from_a_row() {
             assert_eq!(places, vec![7777; 12 - row]);
         }
     }
+}
+
+/// Every range, under both flags, and of a column that starts after other bytes.
+#[test]
+fn ranges() {
+    let after = [&[0xC2, 0x00, 0x46][..], &THREE].concat();
+    for (sign, rows) in [(Sign::Unsigned, ROWS), (Sign::Signed, SIGNED)] {
+        for column in [Column::new(&THREE, sign), Column::new(&after, sign).starting_at(ByteOffset(3))] {
+            for start in 0..=13 {
+                for end in start..=13 {
+                    let range = RowNumber(start)..RowNumber(end);
+                    assert_eq!(right().rows(column, range).as_deref(), Ok(&rows[start..end]));
+                }
+                // A range that ends before it begins has no rows.
+                assert_eq!(right().rows(column, RowNumber(start)..RowNumber(0)).as_deref(), Ok(&[][..]));
+                refused(right().rows(column, RowNumber(start)..RowNumber(14)), Refusal::NoSuchRow);
+            }
+            for start in [14, usize::MAX] {
+                refused(right().rows(column, RowNumber(start)..RowNumber(start)), Refusal::NoSuchRow);
+            }
+            let all = RowNumber(0)..RowNumber(usize::MAX);
+            refused(right().rows(column, all), Refusal::NoSuchRow);
+        }
+    }
+    // Of no rows, the index is looked at, too.
+    let column = Column::new(&THREE, Sign::Unsigned);
+    for range in [RowNumber(0)..RowNumber(0), RowNumber(13)..RowNumber(13), RowNumber(2)..RowNumber(4)] {
+        refused(Index::default().rows(column, range), Refusal::WrongIndex);
+    }
+    let none = Column::new(&[], Sign::Unsigned);
+    assert_eq!(Index::default().rows(none, RowNumber(0)..RowNumber(0)).as_deref(), Ok(&[][..]));
+    refused(Index::default().rows(none, RowNumber(0)..RowNumber(1)), Refusal::NoSuchRow);
+}
+
+/// The position of each row reads the rows from there on.
+#[test]
+fn positions() {
+    let column = Column::new(&THREE, Sign::Signed);
+    for row in 0..13 {
+        let position = right().position(column, RowNumber(row)).unwrap();
+        let (first, run) = if row < 5 {
+            (0, 0)
+        } else if row < 8 {
+            (5, 3)
+        } else {
+            (8, 7)
+        };
+        assert_eq!(position, RowPosition { run: ByteOffset(run), skip: RowNumber(row - first) });
+        let batches: Result<Vec<_>, _> = column.batches(RowNumber(3)).starting_at(position).collect();
+        assert_eq!(batches.unwrap().concat(), SIGNED[row..]);
+    }
+    refused(right().position(column, RowNumber(13)), Refusal::NoSuchRow);
+    refused(Index::default().position(column, RowNumber(0)), Refusal::WrongIndex);
 }

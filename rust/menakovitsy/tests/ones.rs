@@ -1,5 +1,5 @@
 //! The count of true booleans, against bits counted one by one.
-use menakovitsy::{count_true, ByteOffset, Refusal};
+use menakovitsy::{count_true, ByteOffset, Bytes, Refusal};
 
 /// Bytes that are like no pattern.
 fn bytes(count: usize) -> Vec<u8> {
@@ -29,4 +29,12 @@ fn more_than_the_bytes_hold() {
         assert_eq!((refused.refusal, refused.at), (Refusal::ValueCut, ByteOffset(0)), "{count} {n}");
         assert_eq!(refused.cut, Some(ByteOffset(0)));
     }
+}
+
+/// The README's own column: 24 of its 32 flags are true, and its own four bytes have 16 ones.
+#[test]
+fn the_bytes_and_not_the_column() {
+    let column = [0x00, 0xFF, 0xFF, 0x00];
+    let packed = Bytes::new(&column).next(ByteOffset(4)).unwrap();
+    assert_eq!((count_true(&packed, 32), count_true(&column, 32)), (Ok(24), Ok(16)));
 }

@@ -14,35 +14,47 @@
 //! ```
 #![forbid(unsafe_code)]
 
+mod batches;
 mod bits;
 mod booleans;
+mod byte_runs;
 mod convert;
+mod flags;
 mod index;
+mod label_column;
 mod labels;
 mod optimum;
 mod parts;
 mod patched_writer;
 mod planner;
+mod rescue;
 mod runs;
 mod salvage;
 mod sizes;
+mod spread;
 mod streams;
 mod totals;
 mod values;
 mod writer;
 
+pub use batches::{read_rows, Batch, RowPosition};
 pub use bits::{zigzag, WIDTHS};
 pub use booleans::{first_run, read_booleans, Booleans};
+pub use byte_runs::{least_size, packed_flags, plain_byte_runs, runs_stand_for};
 pub use convert::{convert, Converted};
+pub use flags::{read_bytes, read_flags, BytePosition, Bytes, FlagPosition, Flags};
 pub use index::{build_index, look_up, read_from, Columns, Entry, Index, Lookup, Rows};
+pub use label_column::{label_column, LabelPlaces, Labels, Names, Part};
 pub use labels::{label, Dictionary, Label};
 pub use optimum::{optimum, Lists};
 pub use parts::{read_parts, Parts};
 pub use patched_writer::write_patched;
 pub use planner::{check_proposal, proposal_of, write_column, write_direct, Column, Segment};
+pub use rescue::{rescue, Positions, Rescued};
 pub use runs::{list_faults, read_run, Faults};
 pub use salvage::{salvage, Groups, Salvaged};
 pub use sizes::{direct_size, fixed_delta_size, packed_delta_size, patched_size, short_repeat_size};
+pub use spread::{spread, Spread};
 pub use streams::{read_stream, Stream};
 pub use totals::{count_true, Ones, Totals, MOST};
 pub use values::{read_value, Value};

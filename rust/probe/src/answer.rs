@@ -2,13 +2,16 @@
 use std::fmt::Write as _;
 
 use menakovitsy::exported::{
-    case, kind, label_word, part_word, word, LABEL_WORDS, PART_WORDS, STREAM_WORDS, WORDS,
+    case, kind, label_word, labels_word, part_word, word, LABEL_WORDS, PART_WORDS, STREAM_WORDS, WORDS,
 };
 
 use crate::lent::Lent;
 
 /// How many words are lent beyond those of an answer: they must keep their mark.
 const MORE: usize = 4;
+
+/// The refusal that names a row: no such name.
+pub const NO_SUCH_NAME: u64 = 19;
 
 /// What a call returned, and the words that it was lent; how many of them are its answer's.
 pub struct Answer {
@@ -177,6 +180,34 @@ impl Answer {
         fits && self.returned == self.word(word::NUMBER) && self.cut_fits()
     }
 
+    /// The same of an answer that may be the end, too: then all words are 0.
+    pub fn own_or_end_fits(&self) -> bool {
+        match self.case() {
+            case::END => self.returns(0) && (0..self.own).all(|place| self.word(place) == 0),
+            _ => self.own_fits(),
+        }
+    }
+
+    /// The same of all labels: the place is 0, a row is named for refusal 19 alone, and there are as many
+    /// rows as flags.
+    pub fn labels_fits(&self, all: bool) -> bool {
+        let fits = match self.case() {
+            case::READ => all && self.zero(&[word::NUMBER, labels_word::REFUSED_ROW]),
+            case::REFUSED => {
+                !self.zero(&[word::NUMBER])
+                    && self.zero(&[labels_word::ROWS])
+                    && (self.refuses(NO_SUCH_NAME) || self.zero(&[labels_word::REFUSED_ROW]))
+            }
+            _ => false,
+        };
+        fits && self.zero(&[word::PLACE]) && self.returned == self.word(word::NUMBER)
+    }
+
+    /// Whether it is this refusal.
+    pub fn refuses(&self, number: u64) -> bool {
+        self.refused() && self.word(word::NUMBER) == number
+    }
+
     /// The same of a written column, which may be direct, too.
     pub fn column_fits(&self) -> bool {
         match self.case() {
@@ -248,146 +279,4 @@ pub fn hex(bytes: &[u8]) -> String {
 }
 
 #[cfg(test)]
-mod tests {
-    use super::*;
-
-    fn answer(returned: u64, words: &[u64]) -> Answer {
-        Answer::of(|lent| {
-            lent[..WORDS].fill(0);
-            lent[..words.len()].copy_from_slice(words);
-            returned
-        })
-    }
-
-    fn stream(last: &[u64]) -> Answer {
-        Answer::of_stream(|lent| {
-            lent[..STREAM_WORDS].fill(0);
-            lent[..6].copy_from_slice(&[1, 0, 0, 0, 8, 7]);
-            lent[word::LAST..][..last.len()].copy_from_slice(last);
-            0
-        })
-    }
-
-    #[test]
-    fn labels_that_contradict_themselves_are_odd() {
-        let label = |returned, words: [u64; LABEL_WORDS]| {
-            Answer::of_label(|lent| {
-                lent[..LABEL_WORDS].copy_from_slice(&words);
-                returned
-            })
-        };
-        for (returned, words) in [(0, [1, 0, 0, 3, 2]), (0, [3, 0, 0, 0, 2]), (18, [2, 18, 0, 0, 0])] {
-            assert!(label(returned, words).label_fits(), "{words:?}");
-            assert!(!label(returned + 1, words).label_fits(), "{words:?}");
-        }
-        for words in [[0; 5], [1, 0, 1, 3, 2], [3, 0, 0, 1, 2], [2, 0, 0, 0, 0], [4, 0, 0, 0, 0]] {
-            assert!(!label(0, words).label_fits(), "{words:?}");
-        }
-        for words in [[2, 18, 1, 0, 0], [2, 18, 0, 1, 0], [2, 18, 0, 0, 1], [1, 18, 0, 3, 2]] {
-            assert!(!label(18, words).label_fits(), "{words:?}");
-        }
-        let name = |start, size| label(0, [1, 0, 0, start, size]);
-        assert_eq!(name(3, 2).part_of(b"drums"), Some(&b"ms"[..]));
-        for (start, size) in [(3, 3), (6, 0), (u64::MAX, 1), (1, u64::MAX)] {
-            assert_eq!(name(start, size).part_of(b"drums"), None);
-        }
-        assert_eq!(label(19, [2, 19, 0, 0, 0]).say_other(), "refused 19 0");
-    }
-
-    #[test]
-    fn calls_with_parts_that_contradict_themselves_are_odd() {
-        let part = |returned, words: [u64; PART_WORDS]| {
-            Answer::of_part(|lent| {
-                lent[..PART_WORDS].copy_from_slice(&words);
-                returned
-            })
-        };
-        let fits = [
-            (0, [0; PART_WORDS]),
-            (0, [1, 0, 0, 1, 3, 4, 0, 0, 4, 9, 2]),
-            (13, [2, 13, 9, 0, 0, 0, 1, 11, 0, 0, 0]),
-            (0, [3, 0, 0, 0, 0, 0, 0, 0, 0, 0, 100]),
-        ];
-        for (returned, words) in fits {
-            assert!(part(returned, words).part_fits(), "{words:?}");
-            assert!(!part(returned + 1, words).part_fits(), "{words:?}");
-        }
-        assert_eq!(part(0, fits[1].1).say_run(), "direct/4/3/4");
-        for words in [
-            [0, 0, 0, 0, 0, 0, 0, 0, 0, 0, 1],
-            [0, 0, 0, 0, 0, 0, 0, 0, 0, 1, 0],
-            [3, 0, 0, 0, 1, 0, 0, 0, 0, 0, 1],
-            [3, 0, 0, 0, 0, 0, 0, 0, 0, 1, 1],
-            [4, 0, 0, 0, 0, 0, 0, 0, 0, 0, 0],
-        ] {
-            assert!(!part(0, words).part_fits(), "{words:?}");
-        }
-        assert!(!part(5, [2, 5, 9, 0, 0, 0, 0, 0, 0, 0, 1]).part_fits());
-        assert!(!part(5, [2, 5, 9, 0, 0, 0, 0, 0, 0, 1, 0]).part_fits());
-    }
-
-    #[test]
-    fn words_of_its_own_that_contradict_each_other_are_odd() {
-        let own = |returned, words: [u64; 7]| {
-            Answer::of_words(7, Some(5), |lent| {
-                lent[..7].copy_from_slice(&words);
-                returned
-            })
-        };
-        for (returned, words) in
-            [(0, [1, 0, 0, 3, 9, 0, 0]), (8, [2, 8, 0, 0, 0, 0, 0]), (13, [2, 13, 4, 0, 0, 1, 6])]
-        {
-            assert!(own(returned, words).own_fits(), "{words:?}");
-            assert!(!own(returned + 1, words).own_fits(), "{words:?}");
-        }
-        // A case that is none, a place or a cut field where there is none, counts of what is refused.
-        for words in [[0; 7], [3, 0, 0, 0, 0, 0, 0], [1, 0, 1, 3, 9, 0, 0], [1, 0, 0, 3, 9, 0, 1], [2; 7]] {
-            assert!(!own(words[1], words).own_fits(), "{words:?}");
-        }
-        for words in
-            [[2, 8, 0, 1, 0, 0, 0], [2, 8, 0, 0, 1, 0, 0], [2, 8, 0, 0, 0, 1, 6], [2, 13, 4, 0, 0, 0, 0]]
-        {
-            assert!(!own(words[1], words).own_fits(), "{words:?}");
-        }
-        assert_eq!(own(13, [2, 13, 4, 0, 0, 1, 6]).say_other(), "refused 13 4 cut 6");
-    }
-
-    /// What a wrong library could answer shows.
-    #[test]
-    fn words_that_contradict_each_other_are_odd() {
-        let fits: [(u64, &[u64]); 4] =
-            [(0, &[0]), (0, &[1, 0, 0, 3, 5, 4]), (4, &[2, 4, 9]), (13, &[2, 13, 3, 0, 0, 0, 1, 5])];
-        for (returned, words) in fits {
-            assert!(answer(returned, words).fits(), "{words:?}");
-        }
-        let odd: [(u64, &[u64]); 12] = [
-            // A case that is none; another number returned; counts, a kind or a place where there is none.
-            (0, &[3]),
-            (1, &[0]),
-            (0, &[0, 0, 0, 0, 1]),
-            (0, &[1, 0, 7, 3, 5, 4]),
-            (0, &[2]),
-            (4, &[2, 4, 9, 1]),
-            (4, &[2, 4, 9, 0, 1]),
-            (4, &[2, 4, 9, 0, 0, 0, 0, 0, 8]),
-            // A cut field with a number that has none, none with one that has, a byte without a field.
-            (5, &[2, 5, 3, 0, 0, 0, 1, 5]),
-            (13, &[2, 13, 3]),
-            (0, &[1, 0, 0, 3, 5, 4, 0, 5]),
-            (14, &[2, 14, 3, 0, 0, 0, 2, 5]),
-        ];
-        for (returned, words) in odd {
-            assert!(!answer(returned, words).fits(), "{words:?}");
-        }
-        // A stream of 8 rows and 7 bytes has a last run, of so many at most.
-        assert!(stream(&[1, 1, 4, 3, 4]).fits());
-        assert_eq!(stream(&[1, 1, 4, 3, 4]).say_last(), "direct/4/3/4");
-        for last in
-            [[0; 5], [2, 1, 4, 3, 4], [1, 1, 4, 9, 4], [1, 1, 4, 3, 8], [1, 1, 4, 0, 4], [0, 1, 4, 3, 4]]
-        {
-            assert!(!stream(&last).fits(), "{last:?}");
-        }
-        assert_eq!(answer(13, &[2, 13, 3, 0, 0, 0, 1, 5]).say_other(), "refused 13 3 cut 5");
-        assert_eq!(answer(5, &[2, 5, 3]).say_other(), "refused 5 3");
-    }
-}
+mod tests;

@@ -3,6 +3,8 @@
 //! SAFETY, of every call below: each pointer is of a live slice of the length beside it, those that
 //! are written are borrowed exclusively, and the function is proved to stay within them. Where it did
 //! not, it would stay within the guards of `Lent`, or be found by the fences of the crate `fuzz`.
+pub mod batches;
+
 use menakovitsy::exported;
 
 pub fn read_run_at(input: &[u8], at: u64, flag: u64, rows: &mut [i64], words: &mut [u64]) -> u64 {

@@ -1,7 +1,7 @@
 //! Every public function through the probe program.
 use super::{
-    column_lines, columns, convert, count, cuts, index, labels, parts, patched_runs, patches, plans, salvage,
-    varints, Session,
+    batches, column_lines, columns, convert, count, cuts, index, labels, lined_up, parts, patched_runs,
+    patches, plans, salvage, varints, Session,
 };
 use crate::frames;
 use crate::listed::{Call, LIST};
@@ -47,6 +47,8 @@ impl Session {
         salvage::damaged_tables(requests, tables, step, &mut self.random);
         convert::fixed_lines(requests, &mut self.random);
         column_lines::fixed_lines(requests);
+        batches::fixed_lines(requests);
+        lined_up::fixed_lines(requests);
         for turn in 0..self.size.pick(1_000, 100_000, 1_000_000) {
             probe_line(&mut probe.requests, &mut self.random);
             patched_runs::probe_line(&mut probe.requests, &mut self.random);
@@ -56,6 +58,8 @@ impl Session {
             index::probe_line(&mut probe.requests, &mut self.random);
             salvage::probe_line(&mut probe.requests, &mut self.random);
             convert::probe_line(&mut probe.requests, &mut self.random);
+            batches::probe_line(&mut probe.requests, &mut self.random);
+            lined_up::probe_line(&mut probe.requests, &mut self.random);
             // Their answers take the model long.
             if turn % 3 == 0 {
                 columns::probe_line(&mut probe.requests, &mut self.random);

@@ -97,6 +97,14 @@ impl Words {
         }
     }
 
+    /// The same of an answer that may be the end, too: whether it is not.
+    pub fn accepted_or_end(&self, cut: usize) -> Result<bool, Refused> {
+        if self.lent[word::CASE] == case::END && self.number == 0 {
+            return Ok(false);
+        }
+        self.accepted(Some(cut)).map(|()| true)
+    }
+
     /// What an answer is that contradicts itself, or what was lent.
     pub fn unknown(&self) -> Refused {
         Refused::whole(Refusal::Unknown(self.number), ByteOffset(self.lent[word::PLACE] as usize))
@@ -207,6 +215,13 @@ mod tests {
             [(0, &[0][..]), (0, &[3]), (4, &[1]), (TOO_FEW_WORDS, &[]), (TOO_FEW_WORDS, &[2])]
         {
             let refusal = words(number, first).accepted(None).unwrap_err().refusal;
+            assert_eq!(refusal, Refusal::Unknown(number));
+        }
+        assert_eq!(words(0, &[0]).accepted_or_end(5), Ok(false));
+        assert_eq!(words(0, &[1, 0, 0, 7]).accepted_or_end(5), Ok(true));
+        assert_eq!(refused.accepted_or_end(5), Err(cut));
+        for number in [7, TOO_FEW_WORDS] {
+            let refusal = words(number, &[0]).accepted_or_end(5).unwrap_err().refusal;
             assert_eq!(refusal, Refusal::Unknown(number));
         }
     }

@@ -27,7 +27,7 @@ pub fn booleans(mut fields: Fields) -> Option<String> {
 }
 
 /// A byte that is neither 0 nor 1 shows.
-fn bit(byte: u8) -> char {
+pub fn bit(byte: u8) -> char {
     match byte {
         0 => '0',
         1 => '1',

@@ -1,12 +1,14 @@
 //! The kinds of lines: a frame's fields, the call that they ask for, and what it answers.
 //!
 //! A further kind is a function and a line of the table.
+mod batches;
 mod booleans;
 mod columns;
 mod convert;
 mod count;
 mod index;
 mod labels;
+mod lined_up;
 mod parts;
 mod runs;
 mod salvage;
@@ -18,7 +20,7 @@ use crate::line::Fields;
 /// Takes the fields behind the first byte, and answers the line. Nothing for a bad line.
 type Kind = fn(Fields) -> Option<String>;
 
-const KINDS: [(u64, Kind); 16] = [
+const KINDS: [(u64, Kind); 22] = [
     (0x01, runs::run),
     (0x02, runs::stream),
     (0x03, booleans::booleans),
@@ -35,6 +37,12 @@ const KINDS: [(u64, Kind); 16] = [
     (0x0E, convert::convert),
     (0x0F, labels::label),
     (0x10, count::count),
+    (0x11, batches::rows),
+    (0x12, batches::batches),
+    (0x13, batches::flags),
+    (0x14, batches::bytes),
+    (0x15, lined_up::spread),
+    (0x16, lined_up::labels),
 ];
 
 /// The answer to a frame. Nothing for a bad line.

@@ -18,7 +18,8 @@ use differential::listed::{self, Call, LIST};
 use differential::probe::Requests;
 use differential::random::Random;
 use differential::stages::{
-    column_lines, columns, convert, count, index, labels, parts, patched_runs, probe_line, salvage,
+    batches, column_lines, columns, convert, count, index, labels, lined_up, parts, patched_runs, probe_line,
+    salvage,
 };
 use model::Form;
 
@@ -336,6 +337,12 @@ fn list() -> Requests {
     column_lines::fixed_lines(&mut requests);
     for _ in 0..200 {
         columns::listed_line(&mut requests, &mut random);
+    }
+    batches::fixed_lines(&mut requests);
+    lined_up::fixed_lines(&mut requests);
+    for _ in 0..150 {
+        batches::probe_line(&mut requests, &mut random);
+        lined_up::probe_line(&mut requests, &mut random);
     }
     requests
 }
