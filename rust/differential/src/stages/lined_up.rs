@@ -184,4 +184,15 @@ pub fn fixed_written(requests: &mut Requests) {
             }
         }
     }
+    // Flags whose bytes are stretches about the ends of a run, and the last of them not whole.
+    for count in [7, 8, 9, 16, 17, 23, 24, 25, 1032, 1033, 1040, 1041, 1048, 1049, 1056, 1057, 1064] {
+        let last: Vec<u8> = (0..count).map(|k| u8::from(k + 1 == count)).collect();
+        let alternating: Vec<u8> = (0..count).map(|k| 2 * (k % 2) as u8).collect();
+        for flags in [vec![1; count], vec![0; count], last, alternating] {
+            let least = model::least_size(&model::packed_flags(&flags));
+            for places in [least - 1, least] {
+                requests.said(write_line(0x17, &flags, places));
+            }
+        }
+    }
 }
