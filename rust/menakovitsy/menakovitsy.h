@@ -581,8 +581,8 @@ uint64_t orc_write_bytes(const uint8_t *bytes, size_t bytes_len, uint8_t *out, s
 uint64_t orc_size_of_booleans(const uint8_t *flags, size_t flags_len);
 uint64_t orc_size_of_bytes(const uint8_t *bytes, size_t bytes_len);
 
-/* The bytes that hold byte runs of so many bytes, and a column of so many flags, whatever they are: as many
- * bytes as there are, or one for every eight flags begun, and one more for every 128 of these begun. */
+/* The room that is always enough, whatever the bytes or flags are. For bytes: as many, and one more for every
+ * 128 begun. For flags: that of one byte for every eight flags begun. */
 static inline size_t orc_byte_room(size_t bytes)
 {
     return bytes + bytes / 128 + (bytes % 128 != 0);

@@ -35,7 +35,7 @@ pub struct Written {
     bar: Option<f64>,
 }
 
-/// Stretches of equal values, each of 1 to so many.
+/// Stretches of equal values, each of 1 to `most` of them.
 fn stretches(most: usize, random: &mut Random) -> Vec<u8> {
     let mut given = Vec::with_capacity(COUNT);
     for value in [0, 1].into_iter().cycle() {

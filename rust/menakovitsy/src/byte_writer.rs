@@ -33,8 +33,8 @@ mod sealed {
     }
 }
 
-/// The bytes that hold a column of so many flags, whatever they are: one for every eight flags begun, and one
-/// more for every 128 of these begun.
+/// The bytes that always hold a column of this number of flags: one for every eight flags begun, and one more
+/// for every 128 of these begun.
 ///
 /// ```
 /// use menakovitsy::boolean_room;
@@ -46,8 +46,7 @@ pub fn boolean_room(flags: usize) -> usize {
     byte_room(flags.div_ceil(8))
 }
 
-/// The bytes that hold byte runs of so many bytes, whatever they are: as many, and one more for every 128
-/// begun.
+/// The bytes that always hold the byte runs of this number of bytes: as many, and one more for every 128 begun.
 #[must_use]
 pub fn byte_room(bytes: usize) -> usize {
     bytes.saturating_add(bytes.div_ceil(MOST_LITERALS))

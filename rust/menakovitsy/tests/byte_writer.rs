@@ -103,7 +103,7 @@ fn chosen_runs() {
     assert_eq!(written(&[5; 3]), [0x00, 5]);
     assert_eq!(written(&[5; 130]), [0x7F, 5]);
     assert_eq!(written(&[5; 131]), [0x7F, 5, 0xFF, 5]);
-    // 129 and 3, where 130 and two literals are five bytes.
+    // 129 and 3: 130 and two literals are five bytes.
     assert_eq!(written(&[5; 132]), [0x7E, 5, 0x00, 5]);
     assert_eq!(written(&[5; 133]), [0x7F, 5, 0x00, 5]);
     // The byte that repeats of 130 would leave alone joins the literal before it.

@@ -33,7 +33,7 @@ fn random(name: &'static str, mut flag: impl FnMut(usize, &mut Dice) -> bool) ->
     NamedFlags { name, flags: (0..FLAGS).map(|at| u8::from(flag(at, &mut dice))).collect() }
 }
 
-/// Stretches of flags that are equal, of 1 to so many.
+/// Stretches of equal flags, each of 1 to `most` of them.
 fn stretches(name: &'static str, most: i64) -> NamedFlags {
     let (mut left, mut value) = (0, false);
     random(name, move |_, dice| {
@@ -70,7 +70,7 @@ fn usual() -> Vec<NamedFlags> {
     ]
 }
 
-/// Columns at the ends of runs: so many packed bytes that are equal, or different, or both.
+/// Columns at the ends of runs: packed bytes that are equal, or different, or both.
 fn edges() -> Vec<NamedFlags> {
     let equal = |count: usize| vec![0xFF; count];
     let different = |count: usize| (0..count).map(|k| (k % 251) as u8).collect::<Vec<u8>>();

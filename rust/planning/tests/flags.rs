@@ -68,8 +68,8 @@ fn never_more() {
     assert_eq!(table(&figures), TABLE);
 }
 
-/// The Apache model's runs, by hand; and where they are others than the plain choice's: it does not look
-/// ahead, so that a stretch that begins in the last bytes of full literals loses these.
+/// The Apache model's runs, by hand. They differ from the plain choice's if a stretch begins in the last bytes of
+/// full literals: the model does not look ahead, so the stretch loses these.
 #[test]
 fn the_apache_model() {
     for (given, runs) in [
