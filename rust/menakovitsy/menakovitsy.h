@@ -1,4 +1,4 @@
-/* Proved readers and a writer for the integer runs (RLEv2), booleans and byte values of Apache ORC
+/* Proved readers and writers for the integer runs (RLEv2), booleans and byte values of Apache ORC
  * files.
  *
  * Link libmenakovitsy.a of a release, which stands beside this header there (x86-64, little endian,
@@ -34,7 +34,7 @@ extern "C" {
 
 /* The version of these functions: each change of them makes it one more. A program compares what
  * orc_version answers with the header that it was compiled with. */
-#define ORC_VERSION UINT64_C(12)
+#define ORC_VERSION UINT64_C(13)
 
 uint64_t orc_version(void);
 
@@ -69,6 +69,8 @@ uint64_t orc_version(void);
 /* orc_spread, orc_label_column. */
 #define ORC_SPREAD_WORDS 4
 #define ORC_LABELS_WORDS 5
+/* orc_write_bytes. */
+#define ORC_BYTES_WRITTEN_WORDS 5
 
 /* What it returns where it was lent fewer: then it has touched nothing, no word, row or byte. */
 #define ORC_TOO_FEW_WORDS UINT64_MAX
@@ -242,6 +244,13 @@ enum orc_labels_word {
     ORC_LABELS_REFUSED_ROW = 4
 };
 
+/* The words of written bytes after ORC_CASE, ORC_NUMBER and ORC_PLACE; 0 if it is refused. */
+enum orc_bytes_written_word {
+    /* How many bytes were taken, which is all of them, and how many were written. */
+    ORC_BYTES_WRITTEN_TAKEN = 3,
+    ORC_BYTES_WRITTEN_SIZE = 4
+};
+
 enum orc_case {
     /* The input is empty: there is no run. orc_read_run_at only; of the reader in parts, once it is
      * closed: the column has ended; and of orc_read_rows: there are no more rows. */
@@ -292,8 +301,8 @@ enum orc_answer {
     ORC_VALUE_CUT = 6,
     /* Patched base: a patch is outside the run or at another's place, or the list ends with a skip. */
     ORC_PATCH_OUT_OF_PLACE = 7,
-    /* The output has too few places. Lend more: 512 rows hold any run, 4108 bytes any that is
-     * written. */
+    /* The output has too few places. Lend more: 512 rows hold any run, 4108 bytes any run that is
+     * written; orc_write_column and orc_write_booleans say what holds a column. */
     ORC_TOO_FEW_PLACES = 8,
     /* Writer: the form does not allow this many rows. */
     ORC_ROW_COUNT = 9,
@@ -552,6 +561,37 @@ uint64_t orc_label_column(const uint8_t *flags, size_t flags_len, const int64_t 
                           uint64_t block_len, uint64_t *offsets, size_t offsets_len, uint64_t *starts,
                           size_t starts_len, uint64_t *sizes, size_t sizes_len, uint64_t *words,
                           size_t words_len);
+
+/* Flags written. Writes a flag column into the first bytes of out: the flags of a boolean column, or which
+ * rows of any column are present (ORC's PRESENT). flags has a byte for each row, and any but 0 is true. They
+ * are packed eight to a byte, the highest bit first, the bits after the last 0, and the bytes are written as
+ * byte runs. ORC_BYTES bytes were written, with ORC_WORDS words as orc_write_run has them (ORC_KIND is
+ * ORC_BOOLEANS, ORC_WIDTH 1, ORC_ROWS flags_len): no byte runs that stand for the same bytes have fewer.
+ * Nothing is written for no flags. Refused with nothing written, at place 0: ORC_TOO_FEW_PLACES.
+ * orc_boolean_room(flags_len) bytes are always enough. */
+uint64_t orc_write_booleans(const uint8_t *flags, size_t flags_len, uint8_t *out, size_t out_len,
+                            uint64_t *words, size_t words_len);
+
+/* Bytes written: the same with bytes as they are, for tinyint columns, and with words of its own.
+ * orc_byte_room(bytes_len) places are always enough. */
+uint64_t orc_write_bytes(const uint8_t *bytes, size_t bytes_len, uint8_t *out, size_t out_len,
+                         uint64_t *words, size_t words_len);
+
+/* How many bytes each of the two would write, exactly. Nothing is written, and nothing is refused. */
+uint64_t orc_size_of_booleans(const uint8_t *flags, size_t flags_len);
+uint64_t orc_size_of_bytes(const uint8_t *bytes, size_t bytes_len);
+
+/* The room that is always enough, whatever the bytes or flags are. For bytes: as many, and one more for every
+ * 128 begun. For flags: that of one byte for every eight flags begun. */
+static inline size_t orc_byte_room(size_t bytes)
+{
+    return bytes + bytes / 128 + (bytes % 128 != 0);
+}
+
+static inline size_t orc_boolean_room(size_t flags)
+{
+    return orc_byte_room(flags / 8 + (flags % 8 != 0));
+}
 
 /* Reads the run at the start of input, and answers by one number: an orc_answer, or, from ORC_RUN on,
  * a run. Rows are laid into out as eight bytes each, lowest first; a trailing part of fewer than eight

@@ -25,7 +25,7 @@ use Rattle.exports.specs.LinedUp.{spreadWords, spreadWordCount, labelsWo
 use Rattle.exports.proofs.Telling.{told}
 
 -- a promise with words and other places allows one outcome
-told-of-one : {B A : Type 0} {wordsOf : B → List ℕ} {numberOf : B → ℕ} {b : B} {words words′ words″ : List ℕ} {r r′ : ℕ} {done places places′ places″ : List A}
+pub told-of-one : {B A : Type 0} {wordsOf : B → List ℕ} {numberOf : B → ℕ} {b : B} {words words′ words″ : List ℕ} {r r′ : ℕ} {done places places′ places″ : List A}
     → ToldOf wordsOf numberOf b words words′ r done places places′ → ToldOf wordsOf numberOf b words words″ r′ done places places″
     → (places′ ≡ places″) × (words′ ≡ words″) × (r ≡ r′)
 told-of-one p q = (p .places-are ∙ sym (q .places-are), p .told .words-are ∙ sym (q .told .words-are), p .told .number-is ∙ sym (q .told .number-is))

@@ -14,4 +14,5 @@ pub mod Converting
 pub mod Columns
 pub mod Batches
 pub mod LinedUp
+pub mod ByteRuns
 pub mod Outcomes

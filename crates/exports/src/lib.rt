@@ -14,6 +14,7 @@ use format::RowNumber;
 
 pub mod batch_calls;
 mod batch_words;
+pub mod byte_calls;
 mod bytes;
 pub mod column_calls;
 mod column_words;
@@ -33,7 +34,7 @@ mod salvage_words;
 pub extern "C" fn orc_version() -> u64
     ensures { λ r. ⌜ r ≡ faceVersion ⌝ }
 {
-    12
+    13
 }
 
 // One run at the start of the input, its rows as eight bytes each, lowest first. The flag is 0 for unsigned, and any other number for signed.

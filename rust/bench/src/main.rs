@@ -17,6 +17,8 @@ mod parts;
 mod planned;
 mod plot;
 mod table;
+#[cfg(feature = "ours")]
+mod written;
 
 use std::path::Path;
 use std::process::ExitCode;
@@ -35,7 +37,7 @@ Nanoseconds a row, the least of 31 samples, the candidates taking turns; less is
   whole streams one call of `orc_read_stream`, and of booleans one of `orc_read_booleans`; of a column in
   parts the calls of `orc_part_take` that its parts need, the runs used where they are handed out; of a
   column in batches a call of `orc_read_rows` or `orc_read_flags` a batch; of a column that is written one
-  call of `orc_plan` and one of `orc_write_column`.
+  call of `orc_plan` and one of `orc_write_column`, and of flags one of `orc_write_booleans`.
 - **Rust**: the decoders of WenyXu/orc-rs at 3a197fa636, unchanged, through their iterators, as a
   loader calls them. They have not written the widths 26, 28 and 30, and of booleans they agree with
   the rules within the first run only: so that is what is timed of them.
@@ -115,8 +117,10 @@ fn main() -> ExitCode {
         let times =
             (batches::rows(&cases, samples), batches::flags(&flags, samples), batches::labels(samples));
         let batches = batches::markdown(&times.0, &times.1, times.2);
+        eprintln!("flags and bytes written");
+        let written = written::markdown(&written::flags(samples), &written::bytes(samples));
         eprintln!("columns written");
-        tables + &batches + &index + &planned::markdown(&planned::measure(samples))
+        tables + &batches + &index + &planned::markdown(&planned::measure(samples)) + &written
     };
     println!("{tables}");
     if mode != Mode::Write {

@@ -1,5 +1,6 @@
 //! The proved functions, linked: held to the model's answers, every place included.
 pub mod batches;
+pub mod byte_writer;
 mod columns;
 
 use menakovitsy::{

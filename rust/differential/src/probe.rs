@@ -1,6 +1,7 @@
 //! The probe program: every public function, a line in and a line out, held to the model.
 //!
 //! Each batch of lines is one child process, so that it does not matter when the program writes.
+use std::borrow::Cow;
 use std::fmt::Write as _;
 use std::io::{self, Write as _};
 use std::path::PathBuf;
@@ -148,9 +149,9 @@ impl Requests {
         self.lines.push((line, expected));
     }
 
-    /// Every line that has one answer, and that answer.
-    pub fn lines(&self) -> impl Iterator<Item = (&str, &str)> {
-        self.lines.iter().filter_map(|(line, expected)| Some((line.as_str(), expected.text()?)))
+    /// Every line, and its answer; of written runs that with the runs which the page says are chosen.
+    pub fn lines(&self) -> impl Iterator<Item = (&str, Cow<'_, str>)> {
+        self.lines.iter().map(|(line, expected)| (line.as_str(), expected.text()))
     }
 }
 

@@ -3,6 +3,7 @@
 //!
 //! The line is read here once more, from the words of the page, so that a line that does not fit its form
 //! is found to be bad without the probe.
+use std::borrow::Cow;
 use std::fmt::{self, Display};
 
 use model::{
@@ -51,11 +52,14 @@ impl Expected {
         }
     }
 
-    /// The text, if there is one only.
-    pub fn text(&self) -> Option<&str> {
+    /// The text; of written runs, that of the runs which the page says are chosen.
+    pub fn text(&self) -> Cow<'_, str> {
         match self {
-            Expected::Text(text) => Some(text),
-            Expected::Written { .. } => None,
+            Expected::Text(text) => text.into(),
+            Expected::Written { things, bytes } => {
+                let runs = model::chosen_byte_runs(bytes);
+                format!("written {things} {} {}", runs.len(), Hex(&runs)).to_lowercase().into()
+            }
         }
     }
 }

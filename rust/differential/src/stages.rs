@@ -1,5 +1,6 @@
 //! What is compared, stage by stage.
 pub mod batches;
+mod byte_runs;
 pub mod column_lines;
 pub mod columns;
 pub mod convert;
@@ -82,6 +83,7 @@ impl Session {
         self.streams();
         self.booleans();
         self.in_batches();
+        self.byte_runs();
         self.values();
         self.written();
         self.patched_runs();

@@ -111,6 +111,7 @@ fn made_lines() {
         "bytes",
         "spread",
         "labels",
+        "written",
         "rescued",
         "refused 6",
         "refused 8",
@@ -138,7 +139,7 @@ fn made_lines() {
     for lines in [&any, &fixed] {
         let kinds = kinds(lines);
         assert!(all.iter().all(|kind| kinds.get(*kind).is_some_and(|count| *count > 5)), "{kinds:?}");
-        assert!(lines.lines().all(|(line, answer)| said(line).takes(answer)));
+        assert!(lines.lines().all(|(line, answer)| said(line).takes(&answer)));
     }
     assert_eq!(kinds(&any).get("bad"), None);
 }

@@ -1,5 +1,6 @@
 //! A call, and what the model of the rules answers it.
 pub mod batched;
+pub mod byte_runs;
 mod indexed;
 mod outcome;
 mod planned;
@@ -51,6 +52,7 @@ pub enum Call {
     CheckColumn(columns::Asked, u64),
     Plan { rows: Vec<i64>, flag: u64, lent: [usize; 5] },
     Batched(batched::Asked),
+    ByteRuns(byte_runs::Asked),
 }
 
 impl Call {
@@ -58,7 +60,7 @@ impl Call {
     pub fn any(random: &mut Random) -> Self {
         let flag = if random.once_in(8) { random.any() } else { random.below(2) as u64 };
         let places = random.pick(&[0, 1, 5, 12, 64, 512, 1000]);
-        match random.below(44) {
+        match random.below(47) {
             0..=1 => {
                 let bytes = 8 * places + if random.once_in(2) { random.below(8) } else { 0 };
                 Call::Run { input: frames::any_frame(random), flag, bytes: bytes.min(MOST) }
@@ -98,6 +100,7 @@ impl Call {
             29..=30 => Call::Convert(convert::Asked { flag, ..convert::any(random) }),
             31..=34 => planned::any(flag, random),
             35..=42 => Call::Batched(batched::any(flag, random)),
+            43..=45 => Call::ByteRuns(byte_runs::any(random)),
             _ => {
                 let shift = random.below(64);
                 Call::Narrowest { number: random.any() >> shift }
@@ -127,6 +130,7 @@ impl Call {
             Call::CheckColumn(..) => "orc_check_column",
             Call::Plan { .. } => "orc_plan",
             Call::Batched(asked) => asked.function().0,
+            Call::ByteRuns(asked) => asked.function().0,
         }
     }
 
@@ -144,6 +148,7 @@ impl Call {
             Call::Column(_) => COLUMN_WORDS,
             Call::CheckColumn(..) => CHECK_WORDS,
             Call::Batched(asked) => asked.function().1,
+            Call::ByteRuns(asked) => asked.function().1,
             _ => WORDS,
         }
     }
@@ -199,6 +204,7 @@ impl Call {
             Call::CheckColumn(asked, _) => Lending { given: &asked.rows, columns: asked.lent(), ..none },
             Call::Plan { rows, lent, .. } => Lending { given: rows, lent_columns: *lent, ..none },
             Call::Batched(asked) => asked.lending(),
+            Call::ByteRuns(asked) => asked.lending(),
         }
     }
 
@@ -234,6 +240,7 @@ impl Call {
             Call::Column(asked) => planned::written(asked),
             Call::CheckColumn(asked, room) => planned::checked(asked, *room),
             Call::Batched(asked) => asked.outcome(),
+            Call::ByteRuns(asked) => asked.outcome(),
             // What it proposes has no one right value: `Session` holds it to its safety.
             Call::Plan { .. } => Outcome::default(),
             Call::Narrowest { number } => {

@@ -13,9 +13,10 @@ use std::collections::BTreeMap;
 use std::ptr;
 
 use call::batched::Asked;
+use call::byte_runs::What;
 use call::{Call, Lending, Outcome, MOST};
 use differential::random::Random;
-use differential::stages::index::What;
+use differential::stages::index;
 use fence::{Fenced, Side};
 use menakovitsy::exported::{self, STATE_WORDS, STREAM_WORDS};
 
@@ -87,7 +88,10 @@ impl Session {
         let returned = self.made(&call, words, &state, &mut random);
         watch::end();
         let tallied = if returned < 65_536 || returned == u64::MAX { returned } else { 0 };
-        let counts = matches!(call.function(), "orc_narrowest_code" | "orc_plan");
+        let counts = matches!(
+            call.function(),
+            "orc_narrowest_code" | "orc_plan" | "orc_size_of_booleans" | "orc_size_of_bytes"
+        );
         let tallied = if counts { 0 } else { tallied };
         *self.tally.entry((call.function(), tallied)).or_default() += 1;
         self.held(&call, returned, &expected, &state_after).map_err(|wrong| {
@@ -144,9 +148,11 @@ impl Session {
                 Call::Part(ref asked) => exported::orc_part_close(s, sl, b, bl, asked.flag, r, rl, w, wl),
                 Call::PartStart { .. } => exported::orc_part_start(s, sl),
                 Call::Index(ref asked) => match asked.what {
-                    What::Build(_) => exported::orc_build_index(i, il, x, xl, y, yl, z, zl, w, wl),
-                    What::LookUp { row } => exported::orc_look_up(i, il, x, xl, y, yl, z, zl, row, w, wl),
-                    What::ReadFrom { row, flag, .. } => {
+                    index::What::Build(_) => exported::orc_build_index(i, il, x, xl, y, yl, z, zl, w, wl),
+                    index::What::LookUp { row } => {
+                        exported::orc_look_up(i, il, x, xl, y, yl, z, zl, row, w, wl)
+                    }
+                    index::What::ReadFrom { row, flag, .. } => {
                         exported::orc_read_from(i, il, x, xl, y, yl, z, zl, row, flag, r, rl, w, wl)
                     }
                 },
@@ -188,6 +194,12 @@ impl Session {
                         w,
                         wl,
                     ),
+                },
+                Call::ByteRuns(ref asked) => match asked.what {
+                    What::WriteBooleans => exported::orc_write_booleans(i, il, b, bl, w, wl),
+                    What::WriteBytes => exported::orc_write_bytes(i, il, b, bl, w, wl),
+                    What::SizeOfBooleans => exported::orc_size_of_booleans(i, il),
+                    What::SizeOfBytes => exported::orc_size_of_bytes(i, il),
                 },
                 Call::Plan { flag, .. } => exported::orc_plan(g, gl, flag, x, xl, y, yl, z, zl, u, ul, v, vl),
                 Call::Run { flag, .. } => exported::orc_read_run(i, il, b, bl, flag),

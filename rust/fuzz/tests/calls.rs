@@ -16,7 +16,7 @@ fn a_million_calls(seed: u64) {
     // Each function gave each answer that it can give.
     let readers = [0, 1, 2, 3, 4, 5, 6, 7, 8, 12, 13, 14];
     let too_few = u64::MAX;
-    let answers: [(&str, &[u64]); 26] = [
+    let answers: [(&str, &[u64]); 30] = [
         ("orc_read_run", &readers),
         ("orc_read_run_at", &[&readers[..], &[too_few]].concat()),
         ("orc_read_stream", &[&readers[..], &[too_few]].concat()),
@@ -44,6 +44,10 @@ fn a_million_calls(seed: u64) {
         ("orc_read_bytes", &[0, 6, 8, 13, too_few]),
         ("orc_spread", &[0, 8, 21, too_few]),
         ("orc_label_column", &[0, 8, 18, 19, too_few]),
+        ("orc_write_booleans", &[0, 8, too_few]),
+        ("orc_write_bytes", &[0, 8, too_few]),
+        ("orc_size_of_booleans", &[0]),
+        ("orc_size_of_bytes", &[0]),
     ];
     for (function, numbers) in answers {
         let given: Vec<u64> =

@@ -1,7 +1,8 @@
 //! A chunk table of an audio source splitter: for each window of half a second the sample that it
-//! begins at, whether it is normalised already, and its name, by a dictionary. It is written, read
-//! back, and asked: is window 24 already normalised, where does it begin, and what is it called? Each
-//! answer is read by a batch that begins at the window. Then the same of damaged copies and of cut ones.
+//! begins at, whether it is normalised already, and its name, by a dictionary. It is written, all of it by
+//! the library: offsets, lengths and numbers by the planner, and both flag columns by `write_booleans`. Then
+//! it is read back, and asked: is window 24 already normalised, where does it begin, and what is it called?
+//! Each answer is read by a batch that begins at the window. Then the same of damaged copies and of cut ones.
 //!
 //! ```text
 //! cargo run --offline -p menakovitsy --example chunk_table
@@ -10,12 +11,13 @@ use std::error::Error;
 use std::fmt::{self, Write};
 
 use menakovitsy::{
-    narrowest_code, write_run, ByteOffset, Column, Dictionary, FlagPosition, Flags, Form, Labels, RowNumber,
-    RowPosition, Sign, MAX_WRITTEN,
+    boolean_room, column_room, write_booleans, write_column, ByteOffset, Column, Dictionary, FlagPosition,
+    Flags, Labels, Refused, RowNumber, RowPosition, Sign,
 };
 
-/// How many windows the table has. The first 24 are normalised.
+/// How many windows the table has, and how many of them, the first, are normalised.
 const WINDOWS: usize = 32;
+const NORMALISED: usize = 24;
 
 /// The names of the stems. The first eight windows have the first, and so on; the last four have none.
 const STEMS: [&str; 4] = ["drums", "bass", "vocals", "other"];
@@ -67,30 +69,36 @@ fn of<E: Error + 'static>(column: &'static str) -> impl Fn(E) -> Told {
     move |why| Told { column, why: Box::new(why) }
 }
 
-/// The writer's bytes for some rows.
-fn written(rows: &[i64], form: Form, width: u8) -> Result<Vec<u8>, menakovitsy::Refused> {
-    let mut out = vec![0; MAX_WRITTEN];
-    let run = write_run(rows, Sign::Unsigned, form, width, &mut out)?;
-    out.truncate(run.bytes.0);
+/// The bytes of a column of rows, in the runs that the planner proposes.
+fn column(rows: &[i64]) -> Result<Vec<u8>, Refused> {
+    let mut out = vec![0; column_room(rows.len())];
+    let written = write_column(rows, Sign::Unsigned, &mut out)?;
+    out.truncate(written.bytes.0);
+    Ok(out)
+}
+
+/// The bytes of a flag column: which windows are normalised, or which have a name.
+fn flag_column(flags: &[bool]) -> Result<Vec<u8>, Refused> {
+    let mut out = vec![0; boolean_room(flags.len())];
+    let written = write_booleans(flags, &mut out)?;
+    out.truncate(written.bytes.0);
     Ok(out)
 }
 
 fn write_table() -> Result<Table, Told> {
-    // Each window begins half a second after the one before, but window 20, which begins 150
-    // samples late: so the steps are packed.
+    // Each window begins half a second after the one before, but window 20, which begins 150 samples late.
     let late = |window: usize| if window < 20 { 0 } else { 150 };
     let begins: Vec<i64> = (0..WINDOWS).map(|window| HALF_SECOND * window as i64 + late(window)).collect();
-    let width = narrowest_code(HALF_SECOND as u64 + 150);
+    let normalised: Vec<bool> = (0..WINDOWS).map(|window| window < NORMALISED).collect();
+    let named: Vec<bool> = (0..WINDOWS).map(|window| window < NAMED).collect();
     let numbers: Vec<i64> = (0..NAMED).map(|window| window as i64 / 8).collect();
     let lengths = STEMS.map(|name| name.len() as i64);
     Ok(Table {
-        offsets: written(&begins, Form::PackedDelta, width).map_err(of("offsets"))?,
-        // Byte runs, by hand: a repeat of 3 times FF, 24 flags that are true; then one literal byte.
-        flags: vec![0x00, 0xFF, 0xFF, 0x00],
-        // The same, with four more that are true.
-        named: vec![0x00, 0xFF, 0xFF, 0xF0],
-        numbers: written(&numbers, Form::Direct, narrowest_code(3)).map_err(of("numbers"))?,
-        lengths: written(&lengths, Form::Direct, narrowest_code(6)).map_err(of("lengths"))?,
+        offsets: column(&begins).map_err(of("offsets"))?,
+        flags: flag_column(&normalised).map_err(of("flags"))?,
+        named: flag_column(&named).map_err(of("named"))?,
+        numbers: column(&numbers).map_err(of("numbers"))?,
+        lengths: column(&lengths).map_err(of("lengths"))?,
         names: STEMS.concat().into_bytes(),
     })
 }
@@ -172,9 +180,9 @@ pub fn report() -> String {
     for number in [23, 24, 28] {
         say(answer(&table, number));
     }
-    // The header's second byte reads 0: one row and packed steps, which no run has.
+    // The header reads one row and packed steps, which no run has.
     let mut damaged = table.clone();
-    damaged.offsets[1] = 0;
+    damaged.offsets[..2].copy_from_slice(&[0xC2, 0x00]);
     say(format!("damaged: {}", answer(&damaged, 24)));
     // The names lost their last byte: the lengths show it, for a window without a name too.
     let mut damaged = table.clone();
@@ -187,9 +195,12 @@ pub fn report() -> String {
     for number in [23, 24] {
         say(format!("cut: {}", answer(&cut, number)));
     }
+    // The last byte of the offsets was not copied: the run of window 23 is cut, and not that of window 19.
     let mut cut = table.clone();
-    cut.offsets.truncate(40);
-    say(format!("cut: {}", answer(&cut, 23)));
+    cut.offsets.pop();
+    for number in [19, 23] {
+        say(format!("cut: {}", answer(&cut, number)));
+    }
     report
 }
 

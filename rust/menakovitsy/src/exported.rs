@@ -14,17 +14,19 @@
 //! that the caller keeps for it, and the bytes of the unfinished run in the [`MAX_RUN_BYTES`] lent.
 
 mod batches;
+mod byte_writer;
 mod columns;
 mod functions;
 
 pub use batches::*;
+pub use byte_writer::*;
 pub use columns::{
     check_word, column_word, orc_check_column, orc_plan, orc_write_column, CHECK_WORDS, COLUMN_WORDS,
 };
 pub use functions::*;
 
 /// The version of these functions that this crate is written for.
-pub const VERSION: u64 = 12;
+pub const VERSION: u64 = 13;
 
 /// How many words an answer has; the stream reader's has [`STREAM_WORDS`].
 pub const WORDS: usize = 9;

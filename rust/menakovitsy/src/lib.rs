@@ -1,6 +1,6 @@
 //! Reads and writes the integer runs (RLEv2), booleans and byte values of Apache ORC files.
 //!
-//! The readers and the writer are proved, in the crate `exports` of the same repository, and linked
+//! The readers and the writers are proved, in the crate `exports` of the same repository, and linked
 //! from a static library; this crate is the safe way to them. Every call is answered: an input that
 //! is none of the format's is a [`Refused`], with its number, its place, the byte of the field that is
 //! cut, if one is, and a text that says what to do. A refused call leaves every lent place as it was.
@@ -23,6 +23,7 @@
 //! | a column's odd widths retired | [`convert()`] |
 //! | a column written, cut into runs by the planner | [`write_column`], [`column_room`] |
 //! | the same by a proposal of one's own | [`Proposal`], [`plan`], [`check_column`], [`write_proposed`] |
+//! | flags or bytes written, in the fewest bytes | [`write_booleans`], [`boolean_room`], [`write_bytes`], [`byte_room`] |
 //! | a run written | [`write_run`], [`write_patched`], [`narrowest_code`] |
 //! | the library that is linked | [`check_version`], [`library_version`] |
 //!
@@ -54,6 +55,7 @@ compile_error!(
 
 mod answers;
 mod batches;
+mod byte_writer;
 mod bytes;
 mod column;
 mod columns;
@@ -74,6 +76,9 @@ mod version;
 
 pub use answers::{Kind, Refused, Run, Stream, StreamRefused};
 pub use batches::{read_rows, Batch, Batches, RowPosition};
+pub use byte_writer::{
+    boolean_room, byte_room, size_of_booleans, size_of_bytes, write_booleans, write_bytes, Flag,
+};
 pub use bytes::{read_bytes, BytePosition, Bytes};
 pub use column::{Column, Rows, RunAt, Runs};
 pub use columns::{

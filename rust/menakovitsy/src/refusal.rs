@@ -193,7 +193,8 @@ impl Refusal {
                 "no run begins like this: the bytes are damaged, or the offset is not a run's first byte"
             }
             Refusal::TooFewPlaces => {
-                "lend more places; 512 rows hold any run, 4,108 bytes any that is written"
+                "lend more places; 512 rows hold any run, 4,108 bytes any run that is written; column_room and \
+                 boolean_room say what holds a column"
             }
             Refusal::RowCount => {
                 "give the rows in runs of a length that the form holds, or choose another form"

@@ -2,13 +2,13 @@
 #[path = "../examples/chunk_table.rs"]
 mod chunk_table;
 
-/// Window 24 begins 24 times 22,050 samples on, and 150 late: 529,350. The offsets: two bytes of
-/// header, one of the first row, three of the first step, and 30 steps of 16 bits, in 60 bytes: so
-/// these begin at byte 6. The flag byte that is lost is the one behind the control byte at byte 2. The
-/// numbers: two bytes of header and 28 of 2 bits; the lengths: 4 of 4 bits. Window 28 begins 28 times
-/// 22,050 samples on, and 150 late.
+/// Window 24 begins 24 times 22,050 samples on, and 150 late: 529,350. The offsets: a fixed delta of windows 0
+/// to 19 in six bytes (two of header, one of the first row, three of the step), and one of windows 20 to 31 in
+/// eight, whose first row, 441,150, has three and whose step begins at byte 11. The flag byte that is lost is
+/// the one after the control byte at byte 2. The numbers: four short repeats; the lengths: 4 of 4 bits. Window
+/// 28 begins 28 times 22,050 samples on, and 150 late; window 19 begins in time.
 const EXPECTED: &str = "\
-written: offsets 66 bytes, flags 4, named 4, numbers 9, lengths 4, names 20
+written: offsets 14 bytes, flags 4, named 4, numbers 8, lengths 4, names 20
 window 23 (vocals) is already normalised, and begins at sample 507300
 window 24 (other) is not normalised yet, and begins at sample 529350
 window 28 (unnamed) is not normalised yet, and begins at sample 617550
@@ -19,9 +19,9 @@ the block (give the lengths and the block of one dictionary, both whole; if they
 cut: window 23 (vocals) is already normalised, and begins at sample 507300
 cut: column flags: at byte 0: refusal 13: the block of packed rows or of bytes that begins at byte 3 is cut \
 (call again with more bytes; if there are none, the stream is cut or the offset is wrong)
-cut: column offsets: at byte 0: refusal 13: the block of packed rows or of bytes that \
-begins at byte 6 is cut (call again with more bytes; if there are none, the stream is cut or the offset is \
-wrong)
+cut: window 19 (vocals) is already normalised, and begins at sample 418950
+cut: column offsets: at byte 6: refusal 12: the varint that begins at byte 11 is cut (call again with more bytes; \
+if there are none, the stream is cut or the offset is wrong)
 ";
 
 #[test]

@@ -5,9 +5,9 @@ use std::process::Command;
 use std::{env, fs};
 
 use menakovitsy::exported::{
-    self, batch_word, bytes_word, case, check_word, column_word, convert_word, count_word, entry_word,
-    flags_word, index_word, kind, label_word, labels_word, part_word, rows_from_word, salvage_word,
-    spread_word, word,
+    self, batch_word, bytes_word, bytes_written_word, case, check_word, column_word, convert_word,
+    count_word, entry_word, flags_word, index_word, kind, label_word, labels_word, part_word, rows_from_word,
+    salvage_word, spread_word, word,
 };
 use menakovitsy::Refusal;
 
@@ -50,6 +50,7 @@ fn the_header_has_the_same_numbers() {
     has(&format!("#define ORC_BYTES_WORDS {}\n", exported::BYTES_WORDS));
     has(&format!("#define ORC_SPREAD_WORDS {}\n", exported::SPREAD_WORDS));
     has(&format!("#define ORC_LABELS_WORDS {}\n", exported::LABELS_WORDS));
+    has(&format!("#define ORC_BYTES_WRITTEN_WORDS {}\n", exported::BYTES_WRITTEN_WORDS));
     has("#define ORC_TOO_FEW_WORDS UINT64_MAX\n");
     has(&format!("#define ORC_MAX_ROWS {}\n", exported::MAX_ROWS));
     has(&format!("#define ORC_MAX_RUN_BYTES {}\n", exported::MAX_RUN_BYTES));
@@ -111,6 +112,8 @@ fn the_header_has_the_same_numbers() {
         ("SPREAD_ROWS", spread_word::ROWS),
         ("LABELS_ROWS", labels_word::ROWS),
         ("LABELS_REFUSED_ROW", labels_word::REFUSED_ROW),
+        ("BYTES_WRITTEN_TAKEN", bytes_written_word::TAKEN),
+        ("BYTES_WRITTEN_SIZE", bytes_written_word::SIZE),
     ] {
         has(&format!("    ORC_{name} = {place}"));
     }
@@ -196,5 +199,17 @@ fn batches_in_c() {
          with the missing ones: 300 -1 300 300\n\
          refusal 21: flags and rows are not lined up\n\
          names: vocals, none, drums\n",
+    );
+}
+
+/// Flags written and read back, the bytes that they take, and what is refused.
+#[test]
+fn flags_written_in_c() {
+    writes(
+        "write_flags.c",
+        "32 flags in 4 of 5 bytes: 00 ff ff 00\n\
+         flag 23 is 1, flag 24 is 0\n\
+         refused: the flags want 4 bytes\n\
+         132 levels in 4 bytes: 7e 05 00 05\n",
     );
 }

@@ -1,7 +1,8 @@
-//! Flags and bytes written: byte runs that a writer may choose from, and how few bytes they can take.
+//! Flags and bytes written: byte runs that a writer may choose from, how few bytes they can take, and those
+//! that are chosen.
 //!
-//! Which runs the proved writers choose is theirs: what they write is held to what it reads as and to
-//! its size.
+//! What the proved writers write is held to what it reads as and to its size. Which of the shortest runs they
+//! choose, the page says too: the probe's fixed list has those, and the random calls are held to them.
 use crate::bits::Put;
 use crate::first_run;
 
@@ -44,6 +45,42 @@ pub fn plain_byte_runs(bytes: &[u8]) -> Vec<u8> {
         runs.extend(literals(&bytes[begin..at]));
     }
     runs
+}
+
+/// The runs that are written. "The next run is a function of the bytes that are left."
+pub fn chosen_byte_runs(bytes: &[u8]) -> Vec<u8> {
+    let (mut runs, mut left) = (Vec::new(), bytes);
+    while let Some(first) = left.first() {
+        let copies = chosen_copies(stretch(left));
+        let taken = if copies >= LEAST_REPEAT {
+            runs.extend(repeat(*first, copies));
+            copies
+        } else {
+            let count = chosen_literals(left);
+            runs.extend(literals(&left[..count]));
+            count
+        };
+        left = &left[taken..];
+    }
+    runs
+}
+
+/// "A stretch of three or more, counted from the first byte left, is a repeat of as many, at most 130. Of
+/// exactly 132 it has 129, so that three are left for another repeat."
+fn chosen_copies(equal: usize) -> usize {
+    match equal {
+        132 => 129,
+        _ => equal.min(MOST_REPEAT),
+    }
+}
+
+/// "Otherwise come literals up to the next stretch of three or more, at most 128. If that stretch has 131, 261,
+/// .. bytes .., the literals take its first byte too, if they have room for it."
+fn chosen_literals(left: &[u8]) -> usize {
+    let up_to = (0..left.len()).find(|at| stretch(&left[*at..]) >= LEAST_REPEAT).unwrap_or(left.len());
+    let next = stretch(&left[up_to..]);
+    let alone = next > MOST_REPEAT && next % MOST_REPEAT == 1;
+    (up_to + usize::from(alone)).min(MOST_LITERALS)
 }
 
 /// The fewest bytes of runs that stand for these bytes, over every way to cut them into valid runs.

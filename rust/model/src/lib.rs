@@ -40,7 +40,7 @@ mod writer;
 pub use batches::{read_rows, Batch, RowPosition};
 pub use bits::{zigzag, WIDTHS};
 pub use booleans::{first_run, read_booleans, Booleans};
-pub use byte_runs::{least_size, packed_flags, plain_byte_runs, runs_stand_for};
+pub use byte_runs::{chosen_byte_runs, least_size, packed_flags, plain_byte_runs, runs_stand_for};
 pub use convert::{convert, Converted};
 pub use flags::{read_bytes, read_flags, BytePosition, Bytes, FlagPosition, Flags};
 pub use index::{build_index, look_up, read_from, Columns, Entry, Index, Lookup, Rows};

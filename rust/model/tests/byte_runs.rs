@@ -1,4 +1,5 @@
-//! Flags and bytes written: the plain choice, and the least size. Lines written out by hand.
+//! Flags and bytes written: the plain choice, the least size, and the runs that are chosen. Lines written out
+//! by hand.
 use model::*;
 
 fn bytes(hex: &str) -> Vec<u8> {
@@ -113,8 +114,74 @@ fn short_texts() {
             let plain = plain_byte_runs(&given);
             assert_eq!(least_size(&given), tried(&given), "{given:?}");
             assert!(least_size(&given) <= plain.len(), "{given:?}");
+            assert_eq!(chosen_byte_runs(&given).len(), least_size(&given), "{given:?}");
             assert_eq!(runs_stand_for(&plain), Some(given));
         }
+    }
+}
+
+#[test]
+fn chosen_runs() {
+    for (given, runs) in [
+        ("", ""),
+        ("05", "FF05"),
+        ("0505", "FE0505"),
+        ("050505", "0005"),
+        ("0705050508", "FF07 0005 FF08"),
+        ("0705050807", "FB0705050807"),
+        ("050505060606", "0005 0006"),
+    ] {
+        assert_eq!(chosen_byte_runs(&bytes(given)), bytes(runs), "{given}");
+    }
+    for (count, runs) in [
+        (129, "7E05"),
+        (130, "7F05"),
+        (131, "7F05 FF05"),
+        (132, "7E05 0005"),
+        (133, "7F05 0005"),
+        (261, "7F05 7F05 FF05"),
+        (262, "7F05 7E05 0005"),
+        (263, "7F05 7F05 0005"),
+    ] {
+        assert_eq!(chosen_byte_runs(&vec![5; count]), bytes(runs), "{count}");
+    }
+    // The byte that would be left alone joins the literals before it, if they are not 128.
+    let given = [vec![9], vec![5; 131]].concat();
+    assert_eq!(chosen_byte_runs(&given), bytes("FE0905 7F05"));
+    let given = [vec![9], vec![5; 132]].concat();
+    assert_eq!(chosen_byte_runs(&given), bytes("FF09 7E05 0005"));
+    for (before, first) in [(126, 0x81), (127, 0x80), (128, 0x80), (129, 0x80)] {
+        let chosen = chosen_byte_runs(&[different(before), vec![255; 131]].concat());
+        assert_eq!(usize::from(chosen[0]), first, "{before}");
+    }
+}
+
+/// Of pieces of every length that matters, one after the other, the chosen runs stand for the bytes, and no
+/// runs are shorter; so the plain choice is not.
+#[test]
+fn chosen_runs_are_the_fewest_bytes() {
+    const PIECES: [usize; 12] = [1, 2, 3, 4, 127, 128, 129, 130, 131, 132, 133, 261];
+    let mut lists = vec![vec![]];
+    for _ in 0..3 {
+        lists = lists
+            .iter()
+            .flat_map(|list: &Vec<u8>| {
+                // The next piece is of another byte, or of different ones.
+                let other = list.last().map_or(1, |last| last.wrapping_add(1));
+                let equal = PIECES.map(|count| [&list[..], &vec![other; count]].concat());
+                let unlike = [1, 2, 126, 127, 128, 129].map(|count| {
+                    let unlike: Vec<u8> = (0..count).map(|k| other.wrapping_add(k as u8)).collect();
+                    [&list[..], &unlike].concat()
+                });
+                equal.into_iter().chain(unlike).collect::<Vec<_>>()
+            })
+            .collect();
+    }
+    for given in lists {
+        let chosen = chosen_byte_runs(&given);
+        assert_eq!(chosen.len(), least_size(&given), "{given:?}");
+        assert!(chosen.len() <= plain_byte_runs(&given).len(), "{given:?}");
+        assert_eq!(runs_stand_for(&chosen), Some(given));
     }
 }
 

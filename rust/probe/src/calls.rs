@@ -4,6 +4,7 @@
 //! are written are borrowed exclusively, and the function is proved to stay within them. Where it did
 //! not, it would stay within the guards of `Lent`, or be found by the fences of the crate `fuzz`.
 pub mod batches;
+pub mod byte_writer;
 
 use menakovitsy::exported;
 

@@ -85,21 +85,28 @@ fn stretches(random: &mut Random) -> Vec<u8> {
     bytes
 }
 
-fn any_written(random: &mut Random) -> String {
-    let mut bytes = stretches(random);
+/// Flags or bytes to write as byte runs.
+#[derive(Debug, Clone, PartialEq, Eq)]
+pub struct ToWrite {
+    pub flags: bool,
+    pub given: Vec<u8>,
+    pub places: usize,
+}
+
+/// Any flags or bytes to write: most of them with the places that they need.
+pub fn any_to_write(random: &mut Random) -> ToWrite {
+    let mut given = stretches(random);
     let flags = random.once_in(2);
     if flags && random.once_in(2) {
         // Eight flags for each byte, so that the bytes have stretches, and now and then some more.
-        bytes.truncate(400);
-        bytes = bytes.iter().flat_map(|byte| (0..8).map(move |k| byte >> k & 1)).collect();
-        bytes.extend(vec![random.byte(); random.below(9)]);
+        given.truncate(400);
+        given = given.iter().flat_map(|byte| (0..8).map(move |k| byte >> k & 1)).collect();
+        given.extend(vec![random.byte(); random.below(9)]);
     }
-    let least = match flags {
-        true => model::least_size(&model::packed_flags(&bytes)),
-        false => model::least_size(&bytes),
-    };
-    let places = random.pick(&[least, least, least + 1, least + 40, least.saturating_sub(1), 0]);
-    write_line(if flags { 0x17 } else { 0x18 }, &bytes, places.min(8_192))
+    let needed =
+        model::chosen_byte_runs(&if flags { model::packed_flags(&given) } else { given.clone() }).len();
+    let places = random.pick(&[needed, needed, needed + 1, needed + 40, needed.saturating_sub(1), 0]);
+    ToWrite { flags, given, places }
 }
 
 /// Any line of 15 and 16.
@@ -115,7 +122,8 @@ pub fn probe_line(requests: &mut Requests, random: &mut Random) {
 
 /// Any line of 17 and 18.
 pub fn written_line(requests: &mut Requests, random: &mut Random) {
-    requests.said(any_written(random));
+    let ToWrite { flags, given, places } = any_to_write(random);
+    requests.said(write_line(if flags { 0x17 } else { 0x18 }, &given, places.min(8_192)));
 }
 
 /// Of 15 and 16 each answer and each refusal, the refusals' order, and places about those that are needed.
@@ -181,6 +189,17 @@ pub fn fixed_written(requests: &mut Requests) {
             let least = model::least_size(&model::packed_flags(bytes));
             for places in [least.saturating_sub(1), least, 8_192] {
                 requests.said(write_line(0x17, bytes, places));
+            }
+        }
+    }
+    // Flags whose bytes are stretches about the ends of a run, and the last of them not whole.
+    for count in [7, 8, 9, 16, 17, 23, 24, 25, 1032, 1033, 1040, 1041, 1048, 1049, 1056, 1057, 1064] {
+        let last: Vec<u8> = (0..count).map(|k| u8::from(k + 1 == count)).collect();
+        let alternating: Vec<u8> = (0..count).map(|k| 2 * (k % 2) as u8).collect();
+        for flags in [vec![1; count], vec![0; count], last, alternating] {
+            let least = model::least_size(&model::packed_flags(&flags));
+            for places in [least - 1, least] {
+                requests.said(write_line(0x17, &flags, places));
             }
         }
     }

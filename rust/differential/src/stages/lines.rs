@@ -49,6 +49,7 @@ impl Session {
         column_lines::fixed_lines(requests);
         batches::fixed_lines(requests);
         lined_up::fixed_lines(requests);
+        lined_up::fixed_written(requests);
         for turn in 0..self.size.pick(1_000, 100_000, 1_000_000) {
             probe_line(&mut probe.requests, &mut self.random);
             patched_runs::probe_line(&mut probe.requests, &mut self.random);
@@ -64,6 +65,7 @@ impl Session {
             if turn % 3 == 0 {
                 columns::probe_line(&mut probe.requests, &mut self.random);
                 plans::probe_line(&mut probe.requests, &mut self.random);
+                lined_up::written_line(&mut probe.requests, &mut self.random);
             }
             probe.batch(&mut self.tally);
         }

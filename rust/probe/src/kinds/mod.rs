@@ -3,6 +3,7 @@
 //! A further kind is a function and a line of the table.
 mod batches;
 mod booleans;
+mod byte_writer;
 mod columns;
 mod convert;
 mod count;
@@ -20,7 +21,7 @@ use crate::line::Fields;
 /// Takes the fields behind the first byte, and answers the line. Nothing for a bad line.
 type Kind = fn(Fields) -> Option<String>;
 
-const KINDS: [(u64, Kind); 22] = [
+const KINDS: [(u64, Kind); 24] = [
     (0x01, runs::run),
     (0x02, runs::stream),
     (0x03, booleans::booleans),
@@ -43,6 +44,8 @@ const KINDS: [(u64, Kind); 22] = [
     (0x14, batches::bytes),
     (0x15, lined_up::spread),
     (0x16, lined_up::labels),
+    (0x17, byte_writer::booleans),
+    (0x18, byte_writer::bytes),
 ];
 
 /// The answer to a frame. Nothing for a bad line.

@@ -344,6 +344,10 @@ fn list() -> Requests {
         batches::probe_line(&mut requests, &mut random);
         lined_up::probe_line(&mut requests, &mut random);
     }
+    lined_up::fixed_written(&mut requests);
+    for _ in 0..150 {
+        lined_up::written_line(&mut requests, &mut random);
+    }
     requests
 }
 
@@ -356,7 +360,7 @@ fn main() -> ExitCode {
     let (mut asked, mut answered) = (String::new(), String::new());
     for (line, answer) in requests.lines() {
         asked.extend([line, "\n"]);
-        answered.extend([answer, "\n"]);
+        answered.extend([&answer, "\n"]);
     }
     for (name, text) in [("list.in", asked), ("list.out", answered)] {
         if let Err(error) = fs::write(Path::new(&folder).join(name), text) {
