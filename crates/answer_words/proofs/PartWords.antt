@@ -64,7 +64,7 @@ module _ {step : PartStep} {state words : List ℕ} where
     pub step-done : PartPut step state state′ words words′ r → StepTold step state state′ words words′ r
     step-done p = record { number-is = rw e (p .told .number-is); words-are = rw e (rw (part-long step) at (p .told .words-are)); state-is = rw e (p .left) }
 
-    -- as the loader's promises have it
+    -- as the promises of the exported functions have it
     pub step-put : StepTold step state state′ words words′ r → PartPut step state state′ words words′ r
     step-put t = record { told = record { number-is = rw e at (t .number-is); words-are = rw (part-long step) (rw e at (t .words-are)) }; left = rw e at (t .state-is) }
 

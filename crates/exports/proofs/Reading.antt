@@ -1,4 +1,4 @@
--- What the run reader gives in the first of the rows, as the loader's number and bytes. Assumes nothing.
+-- What the run reader gives in the first of the rows, as `orc_read_run`'s number and bytes. Assumes nothing.
 use mathlib.Core.Path.{_≡_, refl}
 use Prim.Native.Nat.{ℕ, _*_, _≤_, min}
 use native.Mathlib.Nat.{sub-zero}

@@ -1,4 +1,4 @@
--- A short repeat as the loader's number and bytes, by what its measure named. Assumes nothing.
+-- A short repeat as `orc_read_run`'s number and bytes, by what its measure named. Assumes nothing.
 use mathlib.Core.Path.{_≡_, refl, sym, ap, _∙_}
 use Prim.Native.Nat.{ℕ, _+_, _*_, _/_, _%_, _-_, _<_, _≤_}
 use native.Mathlib.Nat.{sub-zero}

@@ -1,4 +1,4 @@
--- The answers, case by case (FORMAT.md, "Answers"): the number and values of each (number, place, cut field, width, rows, bytes, the loader's packed
+-- The answers, case by case (FORMAT.md, "Answers"): the number and values of each (number, place, cut field, width, rows, bytes, the packed
 -- number), and the case that stands for each thing that a call can answer.
 -- Assumes nothing.
 use Prim.Native.Nat.{ℕ, _+_, _-_, _*_}
@@ -84,7 +84,7 @@ answerBytes End = 0
 answerBytes (Run r) = r .consumed .bytes
 answerBytes (Refused f) = 0
 
--- the loader's one number: 0 for end, 1 to 14 for a refusal, else 65,536·consumed + rows
+-- an answer as one number: 0 for end, 1 to 14 for a refusal, else 65,536·consumed + rows
 abbrev pub answerPacked : Answer → ℕ
 answerPacked End = 0
 answerPacked (Run r) = 65536 * (r .consumed .bytes) + r .rows .rows

@@ -289,7 +289,7 @@ impl Answer {
         }
     }
 
-    // The loader's one number.
+    // The answer as one number.
     pub fn packed(self) -> u64
         requires { ⌜ (answerRows self < 65536) × (answerBytes self < 281474976710656) ⌝ }
         ensures { λ r. ⌜ r ≡ answerPacked self ⌝ }

@@ -1,4 +1,4 @@
--- The loader's function keeps its promise: there are rows enough for the run that is read, ten for a short one and 512 for any. Assumes nothing.
+-- `orc_read_run` keeps its promise: there are rows enough for the run that is read, ten for a short one and 512 for any. Assumes nothing.
 use mathlib.Core.Path.{_≡_}
 use native.Mathlib.Omega.{arith}
 use lib.ListN.{length}

@@ -1,4 +1,4 @@
--- `Answer::packed` is the loader's one number: the bounds on rows and bytes keep it below 2^64. Assumes nothing.
+-- `Answer::packed` is an answer as one number: the bounds on rows and bytes keep it below 2^64. Assumes nothing.
 use borrow.Author.Needs.{needs}
 use native.Mathlib.Omega.{arith}
 use Rattle.format.proofs.Answer.packed.Statement.{statement}
