@@ -8,6 +8,7 @@ pub mod BatchSeries
 pub mod IndexPositions
 pub mod SeekWalk
 pub mod PartOfRun
+pub mod PartInPlaces
 pub mod BatchReads
 pub mod RunsWalk
 pub mod WithinRun

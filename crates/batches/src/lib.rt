@@ -13,6 +13,8 @@ use format::Kind;
 use format::Refusal;
 use format::RowNumber;
 use format::Run;
+use rle_v2::part;
+use rle_v2::part::DirectPart;
 use util::rows;
 
 // Where a row stands: the byte where a run begins, and how many rows to skip from there.
@@ -140,7 +142,7 @@ fn lay_part(run: Run, held: &[i64], from: RowPosition, out: &mut [i64]) -> Batch
 }
 
 // The rows of one run, from a position within it on, as many as there are places. It is read aside, into few places if they are enough.
-fn read_part(input: &[u8], from: RowPosition, signed: bool, out: &mut [i64]) -> BatchRead
+fn read_aside(input: &[u8], from: RowPosition, signed: bool, out: &mut [i64]) -> BatchRead
     requires { ⌜ RunHolds (now input) from ⌝ }
     ensures { λ r. ⌜ RunPart (now (input .entry)) from signed (now (out .entry)) (now (out .exit)) r ⌝ }
 {
@@ -160,8 +162,36 @@ fn read_part(input: &[u8], from: RowPosition, signed: bool, out: &mut [i64]) -> 
     }
 }
 
+// The same, for a run of any kind. Of a direct run only those rows are unpacked, into their places; another run is read aside.
+fn read_part(input: &[u8], from: RowPosition, signed: bool, out: &mut [i64]) -> BatchRead
+    requires { ⌜ RunHolds (now input) from ⌝ }
+    ensures { λ r. ⌜ RunPart (now (input .entry)) from signed (now (out .entry)) (now (out .exit)) r ⌝ }
+{
+    let at = from.run;
+    let skip = from.skip;
+    let room = out.len();
+    match part::read(input, at, skip, signed, out) {
+        DirectPart::Read(run) => {
+            let rows = run.rows;
+            let consumed = run.consumed;
+            let left = rows.rows - skip.rows;
+            if room < left {
+                let next = RowNumber {
+                    rows: skip.rows + room,
+                };
+                return BatchRead::new(RowNumber { rows: room }, at, next);
+            }
+            let end = ByteOffset {
+                bytes: at.bytes + consumed.bytes,
+            };
+            BatchRead::up_to(RowNumber { rows: left }, end)
+        }
+        DirectPart::NotRead => read_aside(input, from, signed, out),
+    }
+}
+
 // The rows of the runs from a byte on, as many as there are places. A run that fits is read into its places, and one that is cut by
-// the batch's end is read aside; no run after it is looked at.
+// the batch's end is read in part; no run after it is looked at.
 fn read_runs(input: &[u8], at: ByteOffset, signed: bool, out: &mut [i64]) -> BatchRead
     ensures { λ r. ⌜ BatchFrom (now (input .entry)) (record { run = at .bytes; skip = 0 }) signed
         (now (out .entry)) (now (out .exit)) r ⌝ }

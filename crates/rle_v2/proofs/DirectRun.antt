@@ -74,6 +74,11 @@ module _ (s : List ℕ) (at : ℕ) where
   pub rows-there : (r : Run) → Measured r → bytesFor (r .rows .rows * r .width) ≤ length s - (at + 2)
   rows-there r m = rw (m .width-is, m .rows-are) (m .there)
 
+  -- what stands there then
+  pub found : (r : Run) → Measured r
+      → (rest : List ℕ) × (run ≡ got (direct (codeOf (getD s at 0)) (blockAt s (at + 2) (r .width) (r .rows .rows))) rest)
+  found r m = (drop (at + 2 + bytesFor (count * bits)) s, rw (m .width-is, m .rows-are) (is-run (m .head) (m .there)))
+
   module _ (signed : Bool) (out : List ℤ) (r : Run) (e : answer.Run r ≡ answerOf at (length s - at) run) (m : Measured r) where
     pub no-room : length out < r .rows .rows → Gives at (length s - at) signed run out out (refusedAt 8 at)
     no-room h = gives-8 at (length s - at) signed run out _ _ (is-run (m .head) (m .there)) (rw (block-count s (at + 2) bits count) (rw (m .rows-are) at h))

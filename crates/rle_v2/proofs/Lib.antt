@@ -2,6 +2,7 @@ pub mod PatchRefusals
 pub mod PatchRows
 pub mod Pass
 pub mod Blocks
+pub mod PartFields
 pub mod RefusedBy
 pub mod DeltaStart
 pub mod DirectRun
@@ -13,6 +14,7 @@ pub mod DeltaRun
 pub mod PatchedRun
 pub mod PatchedFound
 pub mod ByKind
+pub mod PartRun
 pub mod OneRun
 pub mod StreamWalk
 pub mod StreamPlaces

@@ -5,3 +5,4 @@ pub mod RunAt
 pub mod DeltaStart
 pub mod PatchedHead
 pub mod PatchList
+pub mod Part

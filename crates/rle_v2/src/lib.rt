@@ -13,6 +13,7 @@ use format::Stream;
 mod delta;
 mod direct;
 mod header;
+pub mod part;
 mod patch_list;
 mod patched_base;
 mod refusal;
