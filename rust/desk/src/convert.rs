@@ -74,11 +74,11 @@ fn run(arguments: Vec<OsString>) -> Result<Ended, Failure> {
 
 /// A refusal, and what a support desk does about it.
 fn told(refused: &Refused) -> String {
+    let at = refused.at.map(|byte| format!("breaks off at byte {byte}: ")).unwrap_or_default();
     format!(
-        "breaks off at {}: refusal {}: {}; nothing is written\nwhat to do: only a whole stream is converted. \
+        "{at}refusal {}: {}; nothing is written\nwhat to do: only a whole stream is converted. \
          menakovitsy annotate says what can be read of it; take the file from a copy that is good, or salvage it \
          first",
-        refused.at,
         refused.refusal.number(),
         refused.meaning()
     )

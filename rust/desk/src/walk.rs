@@ -109,7 +109,7 @@ fn passed(window: &[u8], row: u64) -> Passed {
     let (whole, index) = match Index::build(window) {
         Ok(index) => (window, Ok(index)),
         Err(refused) => {
-            let before = window.get(..refused.at.0).unwrap_or_default();
+            let before = refused.at.and_then(|at| window.get(..at.0)).unwrap_or_default();
             (before, Index::build(before))
         }
     };
@@ -130,7 +130,7 @@ fn passed(window: &[u8], row: u64) -> Passed {
 /// A refusal in the window, as one in the file.
 fn in_file(mut refused: Refused, before: u64) -> Refused {
     let before = ByteOffset(before as usize);
-    refused.at = before + refused.at;
+    refused.at = refused.at.map(|byte| before + byte);
     refused.cut = refused.cut.map(|byte| before + byte);
     refused
 }

@@ -102,7 +102,7 @@ mod ours {
     }
 
     pub fn byte_value(bytes: &[u8], n: usize) -> String {
-        match menakovitsy::byte_value(bytes, START, n) {
+        match menakovitsy::byte_value(bytes, START, n.into()) {
             Ok(part) => value(part),
             Err(refused) => format!("refused {}", refused.refusal.number()),
         }

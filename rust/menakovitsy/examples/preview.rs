@@ -33,14 +33,14 @@ pub fn report() -> Result<String, Refused> {
     let none = preview(&column, 2_000).map_or_else(|refused| refused.to_string(), |_| String::new());
     Ok(format!(
         "{} bytes, {} runs, {} chunks\n\
-         chunk 1234 is in the run at {}, whose first is chunk {}\n\
+         chunk 1234 is in the run at byte {}, whose first is chunk {}\n\
          the preview begins at sample {first}: {} chunks are left\n\
          chunk 2000: {none}\n",
         column.len(),
         index.columns()[0].len(),
-        index.row_count().0,
+        index.row_count(),
         entry.at,
-        entry.first.0,
+        entry.first,
         begins.len()
     ))
 }

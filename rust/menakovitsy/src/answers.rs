@@ -3,7 +3,7 @@
 mod words;
 
 use std::error::Error;
-use std::fmt;
+use std::{fmt, io};
 
 use crate::exported::kind;
 use crate::{ByteOffset, Refusal, RowNumber};
@@ -88,30 +88,42 @@ pub struct Stream {
 }
 
 impl Stream {
-    /// The same, with a run behind it.
+    /// The same, with a run after it.
     pub(crate) fn and(self, run: Run) -> Self {
-        Stream { rows: self.rows + run.rows, bytes: self.bytes + run.bytes, last: Some(run) }
+        self.then(Stream { rows: run.rows, bytes: run.bytes, last: Some(run) })
+    }
+
+    /// The same, with more runs after it.
+    pub(crate) fn then(self, more: Stream) -> Self {
+        Stream { rows: self.rows + more.rows, bytes: self.bytes + more.bytes, last: more.last.or(self.last) }
     }
 }
 
 /// A refused call. No lent place has changed.
+///
+/// As text it says where, what and what to do. It becomes an [`io::Error`] by [`From`]:
+/// [`UnexpectedEof`](io::ErrorKind::UnexpectedEof) if the input is cut ([`Refusal::is_cut`]),
+/// [`InvalidInput`](io::ErrorKind::InvalidInput) for what the caller chose (8 to 11, 16 and 17),
+/// [`Other`](io::ErrorKind::Other) for a number that the wrapper does not know, and
+/// [`InvalidData`](io::ErrorKind::InvalidData) for all else.
 #[derive(Debug, Clone, Copy, PartialEq, Eq, Hash)]
 #[non_exhaustive]
 pub struct Refused {
     /// Why it is refused.
     pub refusal: Refusal,
-    /// The byte where the refused run begins (booleans and byte values: the call's position; the
-    /// writer: 0).
-    pub at: ByteOffset,
+    /// The byte where the refused run begins, counted from the input's first byte; of booleans, byte values and
+    /// byte runs the call's position. Nothing if no byte of an input is refused: of writers, of 15 to 21, and of
+    /// 8 if the places are not a reader's.
+    pub at: Option<ByteOffset>,
     /// The byte where the field begins that the input's end cuts: for 6, 12, 13 and 14, and for no
     /// other refusal. It counts from the input's first byte, like the place.
     pub cut: Option<ByteOffset>,
 }
 
 impl Refused {
-    /// A refusal that no cut field goes with.
-    pub(crate) fn whole(refusal: Refusal, at: ByteOffset) -> Self {
-        Refused { refusal, at, cut: None }
+    /// A refusal that is of no byte of an input.
+    pub(crate) fn nowhere(refusal: Refusal) -> Self {
+        Refused { refusal, at: None, cut: None }
     }
 
     /// What the number means here: a cut field by the byte that it begins at.
@@ -120,7 +132,7 @@ impl Refused {
         match self.cut {
             Some(byte) => {
                 let field = self.refusal.cut_field().unwrap_or("field");
-                format!("the {field} that begins at {byte} is cut")
+                format!("the {field} that begins at byte {byte} is cut")
             }
             None => self.refusal.meaning().into(),
         }
@@ -134,6 +146,9 @@ impl Refused {
 
 /// A refused run of a stream. The runs before it were read, and their rows stand in the first lent
 /// places.
+///
+/// For callers that do not ask what came before it, it becomes a [`Refused`] by [`From`], and an
+/// [`io::Error`] of the same kind.
 #[derive(Debug, Clone, Copy, PartialEq, Eq, Hash)]
 #[non_exhaustive]
 pub struct StreamRefused {
@@ -145,25 +160,42 @@ pub struct StreamRefused {
 
 impl fmt::Display for Refused {
     fn fmt(&self, f: &mut fmt::Formatter) -> fmt::Result {
-        write!(f, "at {}: {}", self.at, self.told())
+        match self.at {
+            Some(at) => write!(f, "at byte {at}: {}", self.told()),
+            None => f.write_str(&self.told()),
+        }
     }
 }
 
-impl Error for Refused {
-    fn source(&self) -> Option<&(dyn Error + 'static)> {
-        Some(&self.refusal)
-    }
-}
+// The text says all that the refusal itself would: so there is no source to print once more.
+impl Error for Refused {}
 
 impl fmt::Display for StreamRefused {
     fn fmt(&self, f: &mut fmt::Formatter) -> fmt::Result {
-        let refused = self.refused;
-        write!(f, "the run at {}, after {} rows: {}", refused.at, self.before.rows.0, refused.told())
+        let (rows, told) = (self.before.rows, self.refused.told());
+        match self.refused.at {
+            Some(at) => write!(f, "the run at byte {at}, after {rows} rows: {told}"),
+            None => write!(f, "after {rows} rows: {told}"),
+        }
     }
 }
 
-impl Error for StreamRefused {
-    fn source(&self) -> Option<&(dyn Error + 'static)> {
-        Some(&self.refused)
+impl Error for StreamRefused {}
+
+impl From<StreamRefused> for Refused {
+    fn from(stream: StreamRefused) -> Self {
+        stream.refused
+    }
+}
+
+impl From<Refused> for io::Error {
+    fn from(refused: Refused) -> Self {
+        io::Error::new(refused.refusal.io_kind(), refused)
+    }
+}
+
+impl From<StreamRefused> for io::Error {
+    fn from(stream: StreamRefused) -> Self {
+        io::Error::new(stream.refused.refusal.io_kind(), stream)
     }
 }

@@ -38,7 +38,9 @@ pub struct Batch {
 /// costs none of the rows before it. The call after that gives the end, or the refusal of that run. Runs
 /// that are skipped are measured and not decoded. Places after the rows keep their content.
 ///
-/// Refusals: the run's own, and [`NoSuchRow`](crate::Refusal::NoSuchRow) if the position skips more rows
+/// # Errors
+///
+/// The run's own refusal, and [`NoSuchRow`](crate::Refusal::NoSuchRow) if the position skips more rows
 /// than there are. A refused call changes no place.
 pub fn read_rows(
     input: &[u8],
@@ -46,7 +48,7 @@ pub fn read_rows(
     sign: Sign,
     rows: &mut [i64],
 ) -> Result<Option<Batch>, Refused> {
-    let mut words = Words::lent(0, 0);
+    let mut words = Words::lent(0, 0).reading();
     // SAFETY: each pointer is of a live slice of this length, those that are written are lent exclusively,
     // and the function is proved to stay within them and to keep none.
     words.number = unsafe {
@@ -96,7 +98,7 @@ pub fn read_rows(
 /// loop {
 ///     let position = batches.position();
 ///     let Some(rows) = batches.next_batch() else { break };
-///     println!("{}, {} rows to skip: {:?}", position.run, position.skip.0, rows?);
+///     println!("byte {}, {} rows to skip: {:?}", position.run, position.skip, rows?);
 /// }
 /// # Ok::<(), menakovitsy::Refused>(())
 /// ```
@@ -135,8 +137,11 @@ impl<'a> Batches<'a> {
         Batches { given: RowNumber(0), ended: false, held: 0, handed: 0, next: position, ..self }
     }
 
-    /// The next batch; nothing at the end. A refusal is given once, and ends the batches; the rows before
-    /// it were given.
+    /// The next batch; nothing at the end.
+    ///
+    /// # Errors
+    ///
+    /// Those of [`read_rows`]. A refusal is given once, and ends the batches; the rows before it were given.
     pub fn next_batch(&mut self) -> Option<Result<&[i64], Refused>> {
         if self.handed == self.held {
             match self.read()? {

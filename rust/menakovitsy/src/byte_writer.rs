@@ -33,8 +33,8 @@ mod sealed {
     }
 }
 
-/// The bytes that always hold a column of this number of flags: one for every eight flags begun, and one more
-/// for every 128 of these begun.
+/// The length of a buffer that always holds a column of this number of flags: a byte for every eight flags begun,
+/// and one more for every 128 of these begun. (A slice's length will do for the flags.)
 ///
 /// ```
 /// use menakovitsy::boolean_room;
@@ -42,13 +42,15 @@ mod sealed {
 /// assert_eq!([0, 1, 8, 9, 1024, 1025].map(boolean_room), [0, 2, 2, 3, 129, 131]);
 /// ```
 #[must_use]
-pub fn boolean_room(flags: usize) -> usize {
-    byte_room(flags.div_ceil(8))
+pub fn boolean_room(flags: impl Into<RowNumber>) -> usize {
+    byte_room(flags.into().0.div_ceil(8))
 }
 
-/// The bytes that always hold the byte runs of this number of bytes: as many, and one more for every 128 begun.
+/// The length of a buffer that always holds the byte runs of this number of bytes: as many, and one more for every
+/// 128 begun.
 #[must_use]
-pub fn byte_room(bytes: usize) -> usize {
+pub fn byte_room(bytes: impl Into<ByteOffset>) -> usize {
+    let ByteOffset(bytes) = bytes.into();
     bytes.saturating_add(bytes.div_ceil(MOST_LITERALS))
 }
 
@@ -78,9 +80,7 @@ pub fn size_of_bytes(bytes: &[u8]) -> usize {
 /// after the last 0, and the bytes are written as byte runs. [`Run::bytes`] says how many bytes were written:
 /// no byte runs that stand for the same bytes have fewer.
 ///
-/// With [`boolean_room`] lent it is never refused; otherwise with
-/// [`TooFewPlaces`](crate::Refusal::TooFewPlaces), every byte being as it was. Nothing is written for no
-/// flags.
+/// Nothing is written for no flags.
 ///
 /// ```
 /// use menakovitsy::{boolean_room, write_booleans, Flags, RowNumber};
@@ -99,6 +99,11 @@ pub fn size_of_bytes(bytes: &[u8]) -> usize {
 /// assert_eq!((written.rows, column), (RowNumber(3), [0xFF, 0b1010_0000]));
 /// # Ok::<(), menakovitsy::Refused>(())
 /// ```
+///
+/// # Errors
+///
+/// [`TooFewPlaces`](crate::Refusal::TooFewPlaces), every byte being as it was. With [`boolean_room`] lent there is
+/// no error.
 pub fn write_booleans<F: Flag>(flags: &[F], out: &mut [u8]) -> Result<Run, Refused> {
     let flags = F::bytes(flags);
     let mut words = Words::lent(flags.len(), out.len());
@@ -124,9 +129,7 @@ pub fn write_booleans<F: Flag>(flags: &[F], out: &mut [u8]) -> Result<Run, Refus
 /// Writes bytes as byte runs into the first places of `out`, as tinyint columns have them: how many were
 /// written. No byte runs that stand for the same bytes have fewer.
 ///
-/// With [`byte_room`] lent it is never refused; otherwise with
-/// [`TooFewPlaces`](crate::Refusal::TooFewPlaces), every byte being as it was. Nothing is written for no
-/// bytes.
+/// Nothing is written for no bytes.
 ///
 /// ```
 /// use menakovitsy::{byte_room, size_of_bytes, write_bytes, ByteOffset, Bytes};
@@ -141,6 +144,11 @@ pub fn write_booleans<F: Flag>(flags: &[F], out: &mut [u8]) -> Result<Run, Refus
 /// assert_eq!(Bytes::new(&column).next(ByteOffset(6))?, levels);
 /// # Ok::<(), menakovitsy::Refused>(())
 /// ```
+///
+/// # Errors
+///
+/// [`TooFewPlaces`](crate::Refusal::TooFewPlaces), every byte being as it was. With [`byte_room`] lent there is no
+/// error.
 pub fn write_bytes(bytes: &[u8], out: &mut [u8]) -> Result<ByteOffset, Refused> {
     let mut words = Words::lent(0, 0);
     // SAFETY: as in `write_booleans`.

@@ -16,16 +16,18 @@ pub struct BytePosition {
 }
 
 /// Reads the `n` bytes after a position, of those that byte runs stand for, into the first places of `out`:
-/// the position after them.
+/// the position after them. All or nothing.
 ///
-/// All or nothing, with the refusals of [`read_flags`](crate::read_flags) for eight flags a byte.
+/// # Errors
+///
+/// Those of [`read_flags`](crate::read_flags) for eight flags a byte.
 pub fn read_bytes(
     input: &[u8],
     position: BytePosition,
     n: ByteOffset,
     out: &mut [u8],
 ) -> Result<BytePosition, Refused> {
-    let mut words = Words::lent(0, 0);
+    let mut words = Words::lent(0, 0).reading();
     // SAFETY: each pointer is of a live slice of this length, those that are written are lent exclusively,
     // and the function is proved to stay within them and to keep none.
     words.number = unsafe {
@@ -55,7 +57,7 @@ pub fn read_bytes(
 /// byte, as [`count_true`](crate::count_true) wants them.
 ///
 /// ```
-/// use menakovitsy::{count_true, ByteOffset, Bytes};
+/// use menakovitsy::{count_true, ByteOffset, Bytes, RowNumber};
 ///
 /// // A flag column of 32 rows: three bytes FF, and one 00.
 /// let column = [0x00, 0xFF, 0xFF, 0x00];
@@ -65,7 +67,7 @@ pub fn read_bytes(
 ///
 /// // How many of the 32 are true: count the bytes, not the column.
 /// let packed = Bytes::new(&column).next(ByteOffset(4))?;
-/// assert_eq!(count_true(&packed, 32)?, 24);
+/// assert_eq!(count_true(&packed, RowNumber(32))?, RowNumber(24));
 /// # Ok::<(), menakovitsy::Refused>(())
 /// ```
 #[must_use]
@@ -92,14 +94,22 @@ impl<'a> Bytes<'a> {
         self.position
     }
 
-    /// Reads the next bytes, one a place. All or nothing: if there are fewer bytes than places, the call is
-    /// refused as [`read_bytes`] refuses it, no place has changed, and the reader is where it was.
+    /// Reads the next bytes, one a place. All or nothing.
+    ///
+    /// # Errors
+    ///
+    /// If there are fewer bytes than places, the call is refused as [`read_bytes`] refuses it, no place has
+    /// changed, and the reader is where it was.
     pub fn read_into(&mut self, bytes: &mut [u8]) -> Result<(), Refused> {
         self.position = read_bytes(self.bytes, self.position, ByteOffset(bytes.len()), bytes)?;
         Ok(())
     }
 
-    /// The next `n` bytes. All or nothing, like [`read_into`](Bytes::read_into).
+    /// The next `n` bytes. All or nothing.
+    ///
+    /// # Errors
+    ///
+    /// Those of [`read_into`](Bytes::read_into).
     pub fn next(&mut self, n: ByteOffset) -> Result<Vec<u8>, Refused> {
         // Of more bytes than the runs can stand for, the refusal comes before the want of places.
         let mut bytes = vec![0; n.0.min(self.bytes.len().saturating_mul(MOST_A_BYTE))];

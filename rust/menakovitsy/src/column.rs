@@ -27,12 +27,12 @@ use crate::{Run, Sign, Stream, StreamRefused};
 /// let mut runs = column.runs();
 /// while let Some(run) = runs.next_run() {
 ///     let run = run?;
-///     println!("{}, {}, {} of {} bits: {:?}", run.at, run.first, run.run.kind, run.run.width, run.rows);
+///     println!("byte {}, row {}, {}: {:?}", run.at, run.first, run.run.kind, run.rows);
 /// }
 ///
 /// // A column that is cut is refused, and never taken for a shorter one.
 /// let cut = Column::new(&bytes[..5], Sign::Unsigned).read_into(&mut rows).unwrap_err();
-/// assert_eq!((cut.refused.refusal, cut.refused.at), (Refusal::RowsCut, ByteOffset(3)));
+/// assert_eq!((cut.refused.refusal, cut.refused.at), (Refusal::RowsCut, Some(ByteOffset(3))));
 /// assert_eq!(cut.refused.cut, Some(ByteOffset(5)));
 /// assert_eq!((cut.before.rows, cut.before.last.map(|run| run.width)), (RowNumber(5), Some(16)));
 /// # Ok::<(), menakovitsy::StreamRefused>(())
@@ -58,33 +58,68 @@ impl<'a> Column<'a> {
     }
 
     /// Reads all rows to the end of the bytes into `rows`: [`read_stream`].
+    ///
+    /// # Errors
+    ///
+    /// The refusal of the first run that is refused. The rows of the runs before it stand in the first places.
     pub fn read_into(&self, rows: &mut [i64]) -> Result<Stream, StreamRefused> {
         read_stream(self.bytes, self.at, self.sign, rows)
     }
 
-    /// All rows, in places that are made as they are needed.
-    pub fn to_vec(&self) -> Result<Vec<i64>, StreamRefused> {
-        let mut rows = Vec::new();
+    /// Reads all rows to the end of the bytes, and adds them to `rows`, which grows as it needs to. How many were
+    /// added.
+    ///
+    /// ```
+    /// use menakovitsy::{Column, Refusal, RowNumber, Sign};
+    ///
+    /// // Five rows of 300; then 1, 2, 3.
+    /// let bytes = [0x0A, 0x01, 0x2C, 0x46, 0x02, 0x12, 0x30];
+    /// let mut rows = vec![7];
+    /// assert_eq!(Column::new(&bytes, Sign::Unsigned).read_to_end(&mut rows)?, RowNumber(8));
+    /// assert_eq!(rows, [7, 300, 300, 300, 300, 300, 1, 2, 3]);
+    ///
+    /// // The last two bytes are lost: the rows before them are kept.
+    /// let mut rows = Vec::new();
+    /// let refused = Column::new(&bytes[..5], Sign::Unsigned).read_to_end(&mut rows).unwrap_err();
+    /// assert_eq!((refused.refused.refusal, refused.before.rows), (Refusal::RowsCut, RowNumber(5)));
+    /// assert_eq!(rows, [300; 5]);
+    /// # Ok::<(), menakovitsy::StreamRefused>(())
+    /// ```
+    ///
+    /// # Errors
+    ///
+    /// The refusal of the first run that is refused. The rows of the runs before it were added to `rows`, and
+    /// are counted in [`StreamRefused::before`].
+    pub fn read_to_end(&self, rows: &mut Vec<i64>) -> Result<RowNumber, StreamRefused> {
+        let held = rows.len();
         let mut read = Stream::default();
         loop {
             // At least a run's more, and twice as many as before.
-            rows.resize(read.rows.0 + read.rows.0.max(MAX_ROWS), 0);
-            let places = rows.get_mut(read.rows.0..).unwrap_or_default();
-            match read_stream(self.bytes, self.at + read.bytes, self.sign, places) {
-                Ok(rest) => {
-                    rows.truncate((read.rows + rest.rows).0);
-                    return Ok(rows);
-                }
-                Err(StreamRefused { refused, before }) => {
-                    read.rows += before.rows;
-                    read.bytes += before.bytes;
-                    read.last = before.last.or(read.last);
-                    if refused.refusal != Refusal::TooFewPlaces || before.rows.0 == 0 {
-                        return Err(StreamRefused { refused, before: read });
-                    }
-                }
+            let filled = held + read.rows.0;
+            rows.resize(filled + read.rows.0.max(MAX_ROWS), 0);
+            let places = rows.get_mut(filled..).unwrap_or_default();
+            let answer = read_stream(self.bytes, self.at + read.bytes, self.sign, places);
+            let (Ok(more) | Err(StreamRefused { before: more, .. })) = answer;
+            read = read.then(more);
+            let refused = answer.err().map(|stream| stream.refused);
+            if refused.is_some_and(|refused| refused.refusal == Refusal::TooFewPlaces) && more.rows.0 > 0 {
+                continue;
             }
+            rows.truncate(held + read.rows.0);
+            return refused.map_or(Ok(read.rows), |refused| Err(StreamRefused { refused, before: read }));
         }
+    }
+
+    /// All rows, in a list of their own.
+    ///
+    /// # Errors
+    ///
+    /// The refusal of the first run that is refused. No row is given then: [`read_to_end`](Column::read_to_end)
+    /// keeps those before it.
+    pub fn to_vec(&self) -> Result<Vec<i64>, StreamRefused> {
+        let mut rows = Vec::new();
+        self.read_to_end(&mut rows)?;
+        Ok(rows)
     }
 
     /// Reads the rows from a position on into `rows`, as many as there are places; nothing at the end:
@@ -109,6 +144,10 @@ impl<'a> Column<'a> {
     /// assert_eq!(column.read_at(last.next, &mut rows)?, None);
     /// # Ok::<(), menakovitsy::Refused>(())
     /// ```
+    ///
+    /// # Errors
+    ///
+    /// Those of [`read_rows`].
     pub fn read_at(&self, position: RowPosition, rows: &mut [i64]) -> Result<Option<Batch>, Refused> {
         read_rows(self.bytes, position, self.sign, rows)
     }
@@ -158,7 +197,7 @@ impl<'a> IntoIterator for Column<'a> {
 impl fmt::Debug for Column<'_> {
     fn fmt(&self, f: &mut fmt::Formatter) -> fmt::Result {
         let Column { bytes, at, sign } = self;
-        write!(f, "Column({} bytes, from {at}, {sign:?})", bytes.len())
+        write!(f, "Column({} bytes, from byte {at}, {sign:?})", bytes.len())
     }
 }
 
@@ -189,6 +228,10 @@ pub struct RunAt<'r> {
 
 impl Runs<'_> {
     /// The next run; nothing at the end. A refusal is given once, and ends the walk.
+    ///
+    /// # Errors
+    ///
+    /// The run's own refusal, with the runs before it.
     pub fn next_run(&mut self) -> Option<Result<RunAt<'_>, StreamRefused>> {
         if self.ended {
             return None;
@@ -202,7 +245,7 @@ impl Runs<'_> {
                     return Some(Ok(RunAt { at, first, run, rows }));
                 }
                 // Counts that no run has: not the proved library's.
-                _ => Refused::whole(Refusal::Unknown(0), at),
+                _ => Refused::nowhere(Refusal::Unknown(0)),
             },
             Ok(None) => {
                 self.ended = true;

@@ -1,7 +1,7 @@
 //! Columns, written: cut into runs by the planner or by whoever proposes, checked, and written.
 use crate::answers::Words;
 use crate::exported::{self, case, check_word, column_word, word};
-use crate::{ByteOffset, Refused, RowNumber, Sign, MAX_ROWS};
+use crate::{ByteOffset, Form, Refused, RowNumber, Sign, MAX_ROWS};
 
 /// A run that is proposed for some rows of a column.
 #[derive(Debug, Clone, Copy, PartialEq, Eq, Hash, Default)]
@@ -10,8 +10,8 @@ pub struct Segment {
     pub first: RowNumber,
     /// How many rows it has.
     pub rows: RowNumber,
-    /// 0 short repeat, 1 direct, 2 fixed delta, 3 packed delta, 4 patched; no other is accepted.
-    pub form: u64,
+    /// The form that it is written in. An unknown one is not accepted.
+    pub form: Form,
     /// As [`write_run`](crate::write_run) has it: bytes of a short repeat, otherwise a code; and of a
     /// patched run the bits, as [`write_patched`](crate::write_patched) has them.
     pub width: u64,
@@ -50,7 +50,7 @@ impl Proposal {
         places.map(|((((first, rows), form), width), base)| Segment {
             first: RowNumber(*first as usize),
             rows: RowNumber(*rows as usize),
-            form: *form,
+            form: Form::of_number(*form),
             width: *width,
             base: *base as i64,
         })
@@ -61,7 +61,7 @@ impl FromIterator<Segment> for Proposal {
     fn from_iter<T: IntoIterator<Item = Segment>>(segments: T) -> Self {
         let mut columns: [Vec<u64>; 5] = Default::default();
         for Segment { first, rows, form, width, base } in segments {
-            let numbers = [first.0 as u64, rows.0 as u64, form, width, base as u64];
+            let numbers = [first.0 as u64, rows.0 as u64, form.number(), width, base as u64];
             columns.iter_mut().zip(numbers).for_each(|(column, number)| column.push(number));
         }
         Proposal { columns }
@@ -84,17 +84,15 @@ pub struct WrittenColumn {
     pub bytes: ByteOffset,
 }
 
-/// The bytes that hold a column of so many rows, whatever they are: direct runs of 64 bits, which the
-/// planner's proposals are never above.
+/// The length of a buffer that holds a column of this many rows, whatever they are: direct runs of 64 bits, which
+/// the planner's proposals are never above. (A slice's length will do for the rows.)
 #[must_use]
-pub fn column_room(rows: usize) -> usize {
+pub fn column_room(rows: impl Into<RowNumber>) -> usize {
+    let RowNumber(rows) = rows.into();
     rows.saturating_mul(8).saturating_add(rows.div_ceil(MAX_ROWS).saturating_mul(2))
 }
 
 /// Writes a column into the first bytes of `out`, cut into runs by the planner.
-///
-/// With [`column_room`] lent it is never refused; otherwise with
-/// [`TooFewPlaces`](crate::Refusal::TooFewPlaces), every byte being as it was.
 ///
 /// ```
 /// use menakovitsy::{column_room, read_stream, write_column, ByteOffset, RowNumber, Sign};
@@ -112,6 +110,11 @@ pub fn column_room(rows: usize) -> usize {
 /// assert_eq!(back, rows);
 /// # Ok::<(), menakovitsy::Refused>(())
 /// ```
+///
+/// # Errors
+///
+/// [`TooFewPlaces`](crate::Refusal::TooFewPlaces), every byte being as it was. With [`column_room`] lent there is
+/// no error.
 pub fn write_column(rows: &[i64], sign: Sign, out: &mut [u8]) -> Result<WrittenColumn, Refused> {
     with_plan(rows, sign, |columns| write_by(rows, sign, columns, out))
 }
@@ -168,11 +171,13 @@ pub fn plan_into(rows: &[i64], sign: Sign, columns: [&mut [u64]; 5]) -> usize {
     usize::try_from(segments).ok().filter(|segments| *segments <= lent).unwrap_or(0)
 }
 
-/// What [`write_proposed`] would write by a proposal, with so many bytes of room; nothing where it is not
+/// What [`write_proposed`] would write by a proposal into a buffer of `room` bytes; nothing if it is not
 /// accepted. It is, exactly if its segments cover all rows in order with no overlap and no gap, each run's
 /// writer accepts its segment, and there is room for all.
 ///
-/// An error is of a library that answers what this wrapper does not know, and of no other.
+/// # Errors
+///
+/// [`Unknown`](crate::Refusal::Unknown), of a library that answers what this wrapper does not know, and no other.
 pub fn check_column(
     rows: &[i64],
     sign: Sign,
@@ -214,11 +219,8 @@ pub fn check_column(
 /// [`check_column`]), as direct runs of 64 bits, 512 rows each and the rest last. Whatever the proposal is,
 /// what is written reads back as the rows.
 ///
-/// Refused with [`TooFewPlaces`](crate::Refusal::TooFewPlaces) where these have no room either; then every
-/// byte is as it was.
-///
 /// ```
-/// use menakovitsy::{write_proposed, Proposal, RowNumber, Segment, Sign};
+/// use menakovitsy::{write_proposed, Form, Proposal, RowNumber, Segment, Sign};
 ///
 /// let segment = |first, rows, form, width| Segment {
 ///     first: RowNumber(first),
@@ -229,18 +231,25 @@ pub fn check_column(
 /// };
 /// let rows = [300, 300, 300, 300, 300, 1, 2, 3];
 /// // A short repeat of 2 bytes, then direct at 4 bits.
-/// let proposal: Proposal = [segment(0, 5, 0, 2), segment(5, 3, 1, 3)].into_iter().collect();
+/// let proposal: Proposal =
+///     [segment(0, 5, Form::ShortRepeat, 2), segment(5, 3, Form::Direct, 3)].into_iter().collect();
 /// let mut out = [0; 66];
 /// let written = write_proposed(&rows, Sign::Unsigned, &proposal, &mut out)?;
 /// assert!(written.planned);
 /// assert_eq!(out[..written.bytes.0], [0x0A, 0x01, 0x2C, 0x46, 0x02, 0x12, 0x30]);
 ///
 /// // Row 5 is in no run: direct, at 64 bits.
-/// let gap: Proposal = [segment(0, 5, 0, 2), segment(6, 2, 1, 3)].into_iter().collect();
+/// let gap: Proposal =
+///     [segment(0, 5, Form::ShortRepeat, 2), segment(6, 2, Form::Direct, 3)].into_iter().collect();
 /// let written = write_proposed(&rows, Sign::Unsigned, &gap, &mut out)?;
 /// assert_eq!((written.planned, written.runs, written.bytes.0), (false, 1, 66));
 /// # Ok::<(), menakovitsy::Refused>(())
 /// ```
+///
+/// # Errors
+///
+/// [`TooFewPlaces`](crate::Refusal::TooFewPlaces) if the direct runs have no room either; then every byte is as it
+/// was.
 pub fn write_proposed(
     rows: &[i64],
     sign: Sign,

@@ -18,8 +18,6 @@ pub struct Converted {
 /// but 1, 2, 4, 8, 16, 24, 32, 40, 48, 56 and 64 bits) becomes the writer's run of the same rows at the next
 /// width that it does; every other run is copied, byte for byte.
 ///
-/// A column that cannot be read whole is refused as the stream reader refuses it.
-///
 /// ```
 /// use menakovitsy::{convert, Column, Sign};
 ///
@@ -32,6 +30,10 @@ pub struct Converted {
 /// assert_eq!(convert(&converted.bytes, Sign::Unsigned)?.altered, 0);
 /// # Ok::<(), menakovitsy::Refused>(())
 /// ```
+///
+/// # Errors
+///
+/// A column that cannot be read whole is refused as [`read_stream`](crate::read_stream) refuses it.
 pub fn convert(input: &[u8], sign: Sign) -> Result<Converted, Refused> {
     // The next width that is kept is less than twice as wide, and nothing else grows.
     let mut bytes = vec![0; input.len().saturating_mul(2)];

@@ -20,6 +20,8 @@ pub struct FlagPosition {
 /// Reads the `n` flags after a position into the first bytes of `out`, each as 0 or 1: the position after
 /// them.
 ///
+/// # Errors
+///
 /// All or nothing. Refusals, in this order: those of [`read_booleans`](crate::read_booleans) for all that
 /// is skipped and the `n` together; [`TooFewPlaces`](crate::Refusal::TooFewPlaces). A refused call changes
 /// no byte.
@@ -29,7 +31,7 @@ pub fn read_flags(
     n: RowNumber,
     out: &mut [u8],
 ) -> Result<FlagPosition, Refused> {
-    let mut words = Words::lent(0, 0);
+    let mut words = Words::lent(0, 0).reading();
     // SAFETY: each pointer is of a live slice of this length, those that are written are lent exclusively,
     // and the function is proved to stay within them and to keep none.
     words.number = unsafe {
@@ -103,15 +105,22 @@ impl<'a> Flags<'a> {
         self.position
     }
 
-    /// Reads the next flags, one a place, each as 0 or 1. All or nothing: if there are fewer flags than
-    /// places, the call is refused as [`read_flags`] refuses it, no place has changed, and the reader is
-    /// where it was.
+    /// Reads the next flags, one a place, each as 0 or 1. All or nothing.
+    ///
+    /// # Errors
+    ///
+    /// If there are fewer flags than places, the call is refused as [`read_flags`] refuses it, no place has
+    /// changed, and the reader is where it was.
     pub fn read_into(&mut self, flags: &mut [u8]) -> Result<(), Refused> {
         self.position = read_flags(self.bytes, self.position, RowNumber(flags.len()), flags)?;
         Ok(())
     }
 
-    /// The next `n` flags. All or nothing, like [`read_into`](Flags::read_into).
+    /// The next `n` flags. All or nothing.
+    ///
+    /// # Errors
+    ///
+    /// Those of [`read_into`](Flags::read_into).
     pub fn next(&mut self, n: RowNumber) -> Result<Vec<bool>, Refused> {
         let mut flags = Vec::new();
         self.next_into(n, &mut flags)?;

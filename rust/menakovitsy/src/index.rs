@@ -64,7 +64,10 @@ pub struct Entry {
 impl Index {
     /// The index of a column, from its first byte to its last. No row is read.
     ///
-    /// A column that cannot be read whole has none: its own refusal, as the stream reader gives it.
+    /// # Errors
+    ///
+    /// A column that cannot be read whole has none: its own refusal, as [`read_stream`](crate::read_stream) gives
+    /// it.
     pub fn build(input: &[u8]) -> Result<Self, Refused> {
         let most = input.len() / LEAST_BYTES;
         let few = (input.len() / FEW_BYTES).min(FEW_PLACES);
@@ -136,7 +139,9 @@ impl Index {
 
     /// The entry that holds a row.
     ///
-    /// Refusals, in this order: [`WrongIndex`](Refusal::WrongIndex) unless this is the column's index (a
+    /// # Errors
+    ///
+    /// In this order: [`WrongIndex`](Refusal::WrongIndex) unless this is the column's index (a
     /// column that is refused has none); [`NoSuchRow`](Refusal::NoSuchRow).
     pub fn look_up(&self, input: &[u8], row: RowNumber) -> Result<Entry, Refused> {
         let mut words = Words::lent(0, 0);
@@ -168,8 +173,10 @@ impl Index {
     /// Reads all rows of a column from a row on into the first places of `rows`: how many they are. The
     /// runs before the one that holds the row are passed over.
     ///
-    /// Refusals, in this order: those of [`look_up`](Index::look_up);
-    /// [`TooFewPlaces`](Refusal::TooFewPlaces), with no place touched.
+    /// # Errors
+    ///
+    /// In this order: those of [`look_up`](Index::look_up); [`TooFewPlaces`](Refusal::TooFewPlaces), with no place
+    /// touched.
     pub fn read_from(
         &self,
         input: &[u8],
@@ -207,7 +214,9 @@ impl Index {
 
     /// All rows of a column from a row on.
     ///
-    /// Refusals: those of [`look_up`](Index::look_up).
+    /// # Errors
+    ///
+    /// Those of [`look_up`](Index::look_up).
     pub fn rows_from(&self, input: &[u8], row: RowNumber, sign: Sign) -> Result<Vec<i64>, Refused> {
         // Only a right index is asked how many there are; and a run has no more than 512, whatever one says.
         let entry = self.look_up(input, row)?;
@@ -222,7 +231,9 @@ impl Index {
     /// The position of a row in a column, for [`Column::read_at`] and
     /// [`Batches::starting_at`](crate::Batches::starting_at). The column's bytes are those from its start on.
     ///
-    /// Refusals: those of [`look_up`](Index::look_up).
+    /// # Errors
+    ///
+    /// Those of [`look_up`](Index::look_up).
     pub fn position(&self, column: Column, row: RowNumber) -> Result<RowPosition, Refused> {
         let (input, _) = column.runs_and_sign();
         let Entry { first, at, .. } = self.look_up(input, row)?;
@@ -230,11 +241,13 @@ impl Index {
         Ok(RowPosition { run: column.start().run + at, skip })
     }
 
-    /// The rows of a range of a column. Only the runs that hold them are decoded.
+    /// The rows of a range of a column. Only the runs that hold them are decoded. A range that ends where it
+    /// begins, or before, has no rows.
     ///
-    /// Refusals, in this order: [`WrongIndex`](Refusal::WrongIndex) unless this is the column's index;
-    /// [`NoSuchRow`](Refusal::NoSuchRow) if the range begins or ends after the column's last row. A range
-    /// that ends where it begins, or before, has no rows.
+    /// # Errors
+    ///
+    /// In this order: [`WrongIndex`](Refusal::WrongIndex) unless this is the column's index;
+    /// [`NoSuchRow`](Refusal::NoSuchRow) if the range begins or ends after the column's last row.
     pub fn rows(&self, column: Column, range: Range<RowNumber>) -> Result<Vec<i64>, Refused> {
         let Range { start, end } = range;
         let position = match self.position(column, start) {
@@ -246,14 +259,14 @@ impl Index {
         };
         // The index is the column's: so its count of rows is, too.
         if end > self.row_count() {
-            return Err(Refused::whole(Refusal::NoSuchRow, ByteOffset(0)));
+            return Err(Refused::nowhere(Refusal::NoSuchRow));
         }
         let mut rows = vec![0; end.0.saturating_sub(start.0)];
         let given = column.read_at(position, &mut rows)?.map_or(RowNumber(0), |batch| batch.rows);
         // Whatever library is linked, these are all of them.
         match given == RowNumber(rows.len()) {
             true => Ok(rows),
-            false => Err(Refused::whole(Refusal::Unknown(0), position.run)),
+            false => Err(Refused::nowhere(Refusal::Unknown(0))),
         }
     }
 }

@@ -11,7 +11,7 @@ pub use column::{label_column, LabelIter, Labels, LabelsRefused};
 /// block may live longer than the columns, and the names are parts of it.
 #[derive(Debug, Clone, Copy)]
 pub struct Dictionary<'a, 'c> {
-    /// The names, one behind the other.
+    /// The names, one after another.
     pub block: &'a [u8],
     /// How many bytes each name has.
     pub lengths: &'c [i64],
@@ -44,10 +44,6 @@ impl<'a> Label<'a> {
 /// What a row is called: its name in the dictionary, or the fallback where it has none. Nothing is
 /// copied. For many rows of one column use [`Labels`], which takes all in one pass.
 ///
-/// Refusals, in this order: [`NoSuchRow`](crate::Refusal::NoSuchRow) where the row has no flag;
-/// [`LengthsNotTheBlock`](crate::Refusal::LengthsNotTheBlock), for rows without a name too;
-/// [`NoSuchName`](crate::Refusal::NoSuchName), by the asked row's number alone.
-///
 /// ```
 /// use menakovitsy::{label, Dictionary, Label, Refusal, RowNumber};
 ///
@@ -59,6 +55,12 @@ impl<'a> Label<'a> {
 /// assert_eq!(label(stems, RowNumber(3), b"unnamed").unwrap_err().refusal, Refusal::NoSuchRow);
 /// # Ok::<(), menakovitsy::Refused>(())
 /// ```
+///
+/// # Errors
+///
+/// In this order: [`NoSuchRow`](crate::Refusal::NoSuchRow) if the row has no flag;
+/// [`LengthsNotTheBlock`](crate::Refusal::LengthsNotTheBlock), for rows without a name too;
+/// [`NoSuchName`](crate::Refusal::NoSuchName), by the asked row's number alone.
 pub fn label<'a>(
     dictionary: Dictionary<'a, '_>,
     row: RowNumber,

@@ -3,11 +3,15 @@
 //! The readers and the writers are proved, in the crate `exports` of the same repository, and linked
 //! from a static library; this crate is the safe way to them. Every call is answered: an input that
 //! is none of the format's is a [`Refused`], with its number, its place, the byte of the field that is
-//! cut, if one is, and a text that says what to do. A refused call leaves every lent place as it was.
+//! cut, if one is, and a text that says what to do. A refused call leaves every lent place as it was. Every error
+//! becomes an [`io::Error`](std::io::Error) by `?`.
+//!
+//! Rows are counted by [`RowNumber`] and bytes of a stream by [`ByteOffset`]; the length of a slice or of a buffer
+//! is a `usize`, and both are made of it by [`From`].
 //!
 //! | What | Functions |
 //! |---|---|
-//! | a column of integers | [`Column`]: [`read_into`](Column::read_into), [`rows`](Column::rows), [`runs`](Column::runs) |
+//! | a column of integers | [`Column`]: [`read_into`](Column::read_into), [`read_to_end`](Column::read_to_end), [`rows`](Column::rows), [`runs`](Column::runs) |
 //! | the same in batches, or from a position that a row index gives | [`batches`](Column::batches), [`read_at`](Column::read_at), [`RowPosition`], [`read_rows`] |
 //! | a column that arrives in parts | [`PartReader`]: [`next_run`](PartReader::next_run), [`close`](PartReader::close) |
 //! | one integer run, or all to the end | [`read_run`], [`read_stream`] |
@@ -45,7 +49,7 @@
 //! proves and builds it in its own output folder (`rt staticlib exports`). Where `MENAKOVITSY_LIB_DIR` is set, it
 //! takes what that folder holds, of a release or of `target/staticlib`, and runs nothing. The library is for x86-64.
 //! Programs in C link the same one, by `menakovitsy.h`.
-#![warn(missing_docs)]
+#![warn(missing_docs, clippy::missing_errors_doc)]
 
 // Which processor the library is for, the build script finds in it.
 #[cfg(not(all(target_endian = "little", target_pointer_width = "64")))]
@@ -62,6 +66,7 @@ mod columns;
 mod convert;
 pub mod exported;
 mod flags;
+mod form;
 mod index;
 mod labels;
 mod library;
@@ -88,6 +93,7 @@ pub use columns::{
 pub use convert::{convert, Converted};
 pub use exported::{MAX_ROWS, MAX_RUN_BYTES};
 pub use flags::{read_flags, FlagPosition, Flags};
+pub use form::Form;
 pub use index::{Entry, Index};
 pub use labels::{label, label_column, Dictionary, Label, LabelIter, Labels, LabelsRefused};
 pub use library::{
@@ -122,32 +128,6 @@ impl Sign {
         match self {
             Sign::Unsigned => 0,
             Sign::Signed => 1,
-        }
-    }
-}
-
-/// The form that rows are written in.
-#[derive(Debug, Clone, Copy, PartialEq, Eq, Hash)]
-#[non_exhaustive]
-pub enum Form {
-    /// 3 to 10 equal rows.
-    ShortRepeat,
-    /// 1 to 512 rows, packed.
-    Direct,
-    /// 1 to 512 rows with one step.
-    FixedDelta,
-    /// 2 to 512 rows, whatever they are, by steps that are packed. A step against the direction of the first
-    /// counts modulo 2^64, so that it needs 64 bits.
-    PackedDelta,
-}
-
-impl Form {
-    fn number(self) -> u64 {
-        match self {
-            Form::ShortRepeat => 0,
-            Form::Direct => 1,
-            Form::FixedDelta => 2,
-            Form::PackedDelta => 3,
         }
     }
 }

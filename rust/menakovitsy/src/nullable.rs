@@ -1,14 +1,11 @@
 //! Columns with rows that are missing: flags that say which rows are present, and the rows of those.
 use crate::answers::Words;
 use crate::exported::{self, spread_word};
-use crate::{ByteOffset, Column, FlagPosition, Flags, Refusal, Refused, RowNumber, RowPosition};
+use crate::{Column, FlagPosition, Flags, Refusal, Refused, RowNumber, RowPosition};
 
 /// Lays the rows that are present at their places: place i gets the next row if flag i is not 0, and `fill`
 /// otherwise. How many rows the column has: as many as there are flags. Places after them keep their
 /// content.
-///
-/// Refusals, in this order: [`NotLinedUp`](Refusal::NotLinedUp) if there are not exactly as many rows as
-/// flags that are not 0; [`TooFewPlaces`](Refusal::TooFewPlaces). A refused call changes no place.
 ///
 /// ```
 /// use menakovitsy::{spread, Refusal, RowNumber};
@@ -20,6 +17,11 @@ use crate::{ByteOffset, Column, FlagPosition, Flags, Refusal, Refused, RowNumber
 /// assert_eq!(refused.refusal, Refusal::NotLinedUp);
 /// # Ok::<(), menakovitsy::Refused>(())
 /// ```
+///
+/// # Errors
+///
+/// In this order: [`NotLinedUp`](Refusal::NotLinedUp) if there are not exactly as many rows as flags that are not 0;
+/// [`TooFewPlaces`](Refusal::TooFewPlaces). A refused call changes no place.
 pub fn spread(flags: &[u8], rows: &[i64], fill: i64, out: &mut [i64]) -> Result<RowNumber, Refused> {
     let mut words = Words::lent(0, 0);
     // SAFETY: each pointer is of a live slice of this length, those that are written are lent exclusively,
@@ -102,7 +104,9 @@ impl<'a> Nullable<'a> {
 
     /// The next `n` rows, nothing for each that is missing.
     ///
-    /// Refusals: the flags' as [`Flags`] has them; the rows' own;
+    /// # Errors
+    ///
+    /// The flags' as [`Flags`] has them; the rows' own;
     /// [`NotLinedUp`](Refusal::NotLinedUp) if the rows end before a flag that is set.
     pub fn next(&mut self, n: RowNumber) -> Result<Vec<Option<i64>>, Refused> {
         let (flags, position) = self.read(n)?;
@@ -114,7 +118,9 @@ impl<'a> Nullable<'a> {
 
     /// Reads the next rows, one a place, and `fill` for each that is missing.
     ///
-    /// Refusals: those of [`next`](Nullable::next).
+    /// # Errors
+    ///
+    /// Those of [`next`](Nullable::next).
     pub fn read_into(&mut self, fill: i64, rows: &mut [i64]) -> Result<(), Refused> {
         let (flags, position) = self.read(RowNumber(rows.len()))?;
         spread(&self.set, &self.present, fill, rows)?;
@@ -122,12 +128,16 @@ impl<'a> Nullable<'a> {
         Ok(())
     }
 
-    /// All rows of the column were read: [`NotLinedUp`](Refusal::NotLinedUp) if a row is left that no flag
-    /// said is present, and the refusal of a run that is damaged.
+    /// All rows of the column were read, and none is left.
+    ///
+    /// # Errors
+    ///
+    /// [`NotLinedUp`](Refusal::NotLinedUp) if a row is left that no flag said is present, and the refusal of a run
+    /// that is damaged.
     pub fn finish(self) -> Result<(), Refused> {
         match self.column.read_at(self.position, &mut [])? {
             None => Ok(()),
-            Some(_) => Err(Refused::whole(Refusal::NotLinedUp, ByteOffset(0))),
+            Some(_) => Err(Refused::nowhere(Refusal::NotLinedUp)),
         }
     }
 
@@ -145,7 +155,7 @@ impl<'a> Nullable<'a> {
                     position = batch.next;
                     rest = rest.get_mut(batch.rows.0..).unwrap_or_default();
                 }
-                None => return Err(Refused::whole(Refusal::NotLinedUp, ByteOffset(0))),
+                None => return Err(Refused::nowhere(Refusal::NotLinedUp)),
             }
         }
         Ok((flags, position))

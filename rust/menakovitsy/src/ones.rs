@@ -1,7 +1,7 @@
 //! How many booleans are true, of booleans packed eight to a byte.
 use crate::answers::Words;
 use crate::exported::{self, count_word};
-use crate::Refused;
+use crate::{Refused, RowNumber};
 
 /// How many of the first n booleans are true, packed eight to a byte, the highest bit first. Ones are
 /// counted a byte at a time, and of the last byte only the bits that are asked for.
@@ -10,22 +10,25 @@ use crate::Refused;
 /// counts the 16 ones of the runs themselves. [`Bytes`](crate::Bytes) reads the bytes that a column stands
 /// for.
 ///
-/// Refused with [`ValueCut`](crate::Refusal::ValueCut) where the bytes hold fewer than n.
-///
 /// ```
-/// use menakovitsy::{count_true, ByteOffset, Bytes, Refusal};
+/// use menakovitsy::{count_true, ByteOffset, Bytes, Refusal, RowNumber};
 ///
 /// let column = [0x00, 0xFF, 0xFF, 0x00];
-/// assert_eq!(count_true(&Bytes::new(&column).next(ByteOffset(4))?, 32)?, 24);
-/// assert_eq!(count_true(&column, 32)?, 16);
+/// let packed = Bytes::new(&column).next(ByteOffset(4))?;
+/// assert_eq!(count_true(&packed, RowNumber(32))?, RowNumber(24));
+/// assert_eq!(count_true(&column, RowNumber(32))?, RowNumber(16));
 ///
-/// // Eight booleans and two, and the padding behind them, which is not counted.
+/// // Eight booleans and two, and the padding after them, which is not counted.
 /// let packed = [0b1010_0001, 0b0111_1111];
-/// assert_eq!(count_true(&packed, 10)?, 4);
-/// assert_eq!(count_true(&packed, 17).unwrap_err().refusal, Refusal::ValueCut);
+/// assert_eq!(count_true(&packed, RowNumber(10))?, RowNumber(4));
+/// assert_eq!(count_true(&packed, RowNumber(17)).unwrap_err().refusal, Refusal::ValueCut);
 /// # Ok::<(), menakovitsy::Refused>(())
 /// ```
-pub fn count_true(packed: &[u8], n: usize) -> Result<usize, Refused> {
+///
+/// # Errors
+///
+/// [`ValueCut`](crate::Refusal::ValueCut) if the bytes hold fewer than n.
+pub fn count_true(packed: &[u8], n: RowNumber) -> Result<RowNumber, Refused> {
     let mut words = Words::lent(0, 0);
     // SAFETY: each pointer is of a live slice of this length, the words are lent exclusively, and the
     // function is proved to stay within them and to keep none.
@@ -33,13 +36,14 @@ pub fn count_true(packed: &[u8], n: usize) -> Result<usize, Refused> {
         exported::orc_count_true(
             packed.as_ptr(),
             packed.len(),
-            n as u64,
+            n.0 as u64,
             words.lent.as_mut_ptr(),
             words.lent.len(),
         )
     };
-    words.accepted(Some(count_word::CUT))?;
-    let count = words.lent[count_word::TRUE] as usize;
+    // What is cut is the bytes themselves: no run of them has a place.
+    words.accepted(Some(count_word::CUT)).map_err(|refused| Refused { at: None, ..refused })?;
+    let count = RowNumber(words.lent[count_word::TRUE] as usize);
     // Whatever library is linked, no more are true than were asked of.
     if count > n {
         return Err(words.unknown());

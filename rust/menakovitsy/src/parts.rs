@@ -18,7 +18,7 @@ use crate::{ByteOffset, Refusal, Refused, Run, Sign, MAX_ROWS, MAX_RUN_BYTES};
 /// let mut rows: Vec<i64> = Vec::new();
 /// for mut part in column.chunks(2) {
 ///     while let Some(run) = reader.next_run(&mut part)? {
-///         println!("a run of {} rows starts at {}", run.rows.len(), run.at);
+///         println!("a run of {} rows starts at byte {}", run.rows.len(), run.at);
 ///         rows.extend(run.rows);
 ///     }
 /// }
@@ -56,13 +56,17 @@ impl PartReader {
         // SAFETY: the words are lent exclusively, and the function is proved to stay within them. It
         // answers 0, since they are as many as a state has.
         unsafe { exported::orc_part_start(state.as_mut_ptr(), state.len()) };
-        let words = Words::lent(MAX_ROWS, MAX_RUN_BYTES);
+        let words = Words::lent(MAX_ROWS, MAX_RUN_BYTES).reading();
         PartReader { sign, state, words, held: [0; MAX_RUN_BYTES], places: [0; MAX_ROWS] }
     }
 
-    /// The next run. The part becomes what is left of it: all behind the run's end, or, where no run ends
+    /// The next run. The part becomes what is left of it: all after the run's end, or, if no run ends
     /// in it, nothing. So ask again until there is no run, and then give the next part. After
     /// [`close`](Self::close) there is no run, and nothing is taken.
+    ///
+    /// # Errors
+    ///
+    /// The run's own refusal, as soon as no further byte can change it; and one that was given before, once more.
     // A run can be of three rows: inlined, the answer and what is left of the part stay in registers.
     #[inline]
     pub fn next_run(&mut self, part: &mut &[u8]) -> Result<Option<PartRun<'_>>, Refused> {
@@ -101,7 +105,11 @@ impl PartReader {
         }
     }
 
-    /// There are no more parts: the column has ended, unless a run of it is unfinished, which is refused.
+    /// There are no more parts: the column has ended.
+    ///
+    /// # Errors
+    ///
+    /// The refusal of a run that is unfinished; and one that was given before, once more.
     pub fn close(&mut self) -> Result<(), Refused> {
         let words = &mut self.words;
         // SAFETY: as above.
@@ -129,5 +137,5 @@ impl PartReader {
 
 #[cold]
 fn unknown() -> Refused {
-    Refused::whole(Refusal::Unknown(0), ByteOffset(0))
+    Refused::nowhere(Refusal::Unknown(0))
 }

@@ -10,12 +10,6 @@ use crate::{Refused, Run};
 /// The base takes up as few bytes as hold it, the patches and their gaps as few bits; so the smallest
 /// row is a good base, and a good width is one that all but a few differences fit.
 ///
-/// Refusals, in this order: [`RowCount`](crate::Refusal::RowCount);
-/// [`NotTheForm`](crate::Refusal::NotTheForm) where no patched run has those rows with that base and
-/// width (a list of more than 31 entries, a patch of more than 56 bits, a base of -2^63, a width that
-/// the specification does not keep); [`TooFewPlaces`](crate::Refusal::TooFewPlaces). A refused call leaves every
-/// byte as it was.
-///
 /// ```
 /// use menakovitsy::write_patched;
 ///
@@ -24,6 +18,13 @@ use crate::{Refused, Run};
 /// assert_eq!(out[..run.bytes.0], [0x86, 0x03, 0x02, 0x21, 0x64, 0x12, 0x34, 0xA8]);
 /// # Ok::<(), menakovitsy::Refused>(())
 /// ```
+///
+/// # Errors
+///
+/// In this order: [`RowCount`](crate::Refusal::RowCount); [`NotTheForm`](crate::Refusal::NotTheForm) if no patched
+/// run has those rows with that base and width (a list of more than 31 entries, a patch of more than 56 bits, a
+/// base of -2^63, a width that the specification does not keep); [`TooFewPlaces`](crate::Refusal::TooFewPlaces). A
+/// refused call leaves every byte as it was.
 pub fn write_patched(rows: &[i64], base: i64, width: u8, out: &mut [u8]) -> Result<Run, Refused> {
     let mut words = Words::lent(rows.len(), out.len());
     // SAFETY: each pointer is of a live slice of this length, those that are written are lent

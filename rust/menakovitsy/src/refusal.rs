@@ -1,6 +1,6 @@
 //! Why a call is refused.
 use std::error::Error;
-use std::fmt;
+use std::{fmt, io};
 
 /// A refusal, by its number. Readers give 1 to 8 and 12 to 14; 9 to 11 are the run writer's; a caller's
 /// index is refused with 15, a row with 16, row groups with 17; labels with 16, 18 and 19; flags and rows
@@ -161,6 +161,35 @@ impl Refusal {
         self == Refusal::HeaderCut || self.cut_field().is_some()
     }
 
+    /// Whether it is of a byte of the input, or, by its number alone, may be: 8 is of a reader's input, and of
+    /// nothing where a writer or a tool lacks places.
+    pub(crate) fn has_place(self) -> bool {
+        let damaged = matches!(
+            self,
+            Refusal::EntryOver64
+                | Refusal::PatchTooLarge
+                | Refusal::OneRowDelta
+                | Refusal::VarintTooLong
+                | Refusal::PatchOutOfPlace
+        );
+        damaged || self.is_cut() || matches!(self, Refusal::TooFewPlaces | Refusal::Unknown(_))
+    }
+
+    /// What it is among the errors of input and output.
+    pub(crate) fn io_kind(self) -> io::ErrorKind {
+        match self {
+            cut if cut.is_cut() => io::ErrorKind::UnexpectedEof,
+            Refusal::TooFewPlaces
+            | Refusal::RowCount
+            | Refusal::NotTheForm
+            | Refusal::TooNarrow
+            | Refusal::NoSuchRow
+            | Refusal::WrongStarts => io::ErrorKind::InvalidInput,
+            Refusal::Unknown(_) => io::ErrorKind::Other,
+            _ => io::ErrorKind::InvalidData,
+        }
+    }
+
     /// The field that is cut, in words, for the refusals that name one: 6, 12, 13 and 14. Their
     /// answers carry the byte that it begins at.
     #[must_use]
@@ -229,3 +258,9 @@ impl fmt::Display for Refusal {
 }
 
 impl Error for Refusal {}
+
+impl From<Refusal> for io::Error {
+    fn from(refusal: Refusal) -> Self {
+        io::Error::new(refusal.io_kind(), refusal)
+    }
+}

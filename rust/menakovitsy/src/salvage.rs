@@ -48,7 +48,9 @@ const LONGEST_LINE: usize = "replaced 18446744073709551615 18446744073709551615\
 /// exactly its rows is kept, byte for byte; any other is replaced by runs of the fill row, as many rows as
 /// it lists.
 ///
-/// Refusals, in this order: [`WrongStarts`](crate::Refusal::WrongStarts) where the starts do not begin at
+/// # Errors
+///
+/// In this order: [`WrongStarts`](crate::Refusal::WrongStarts) where the starts do not begin at
 /// 0, do not rise strictly or pass the end (no groups at all are those of an empty column);
 /// [`TooFewPlaces`](crate::Refusal::TooFewPlaces) where the fills take more than [`MOST_FILL`] bytes.
 ///

@@ -1,6 +1,6 @@
 //! Whether the library that is linked is the one that this crate is written for.
 use std::error::Error;
-use std::fmt;
+use std::{fmt, io};
 
 use crate::exported::VERSION;
 use crate::library_version;
@@ -22,6 +22,10 @@ pub struct OtherVersion {
 /// menakovitsy::check_version()?;
 /// # Ok::<(), menakovitsy::OtherVersion>(())
 /// ```
+///
+/// # Errors
+///
+/// Both versions, if they are not the same.
 pub fn check_version() -> Result<(), OtherVersion> {
     compared(library_version())
 }
@@ -46,6 +50,12 @@ impl fmt::Display for OtherVersion {
 
 impl Error for OtherVersion {}
 
+impl From<OtherVersion> for io::Error {
+    fn from(other: OtherVersion) -> Self {
+        io::Error::new(io::ErrorKind::Unsupported, other)
+    }
+}
+
 #[cfg(test)]
 mod tests {
     use super::*;
@@ -55,6 +65,7 @@ mod tests {
         assert_eq!(check_version(), Ok(()));
         let other = compared(VERSION + 1).unwrap_err();
         assert_eq!((other.wrapper, other.library), (VERSION, VERSION + 1));
+        assert_eq!(io::Error::from(other).kind(), io::ErrorKind::Unsupported);
         assert!(other.to_string().starts_with(&format!("libmenakovitsy.a is of version {}, ", VERSION + 1)));
     }
 }

@@ -50,7 +50,7 @@ fn every_position() {
             for more in [14 - before, usize::MAX] {
                 let (refused, rows) = read(WHOLE, at(run, more), places);
                 let refused = refused.unwrap_err();
-                assert_eq!((refused.refusal, refused.at), (Refusal::NoSuchRow, ByteOffset(0)));
+                assert_eq!((refused.refusal, refused.at), (Refusal::NoSuchRow, None));
                 assert_eq!(rows, vec![7777; places]);
             }
         }
@@ -108,7 +108,7 @@ fn a_damaged_run() {
             }
         };
         assert_eq!(rows, ROWS);
-        assert_eq!((refused.refusal, refused.at), (Refusal::OneRowDelta, ByteOffset(11)));
+        assert_eq!((refused.refusal, refused.at), (Refusal::OneRowDelta, Some(ByteOffset(11))));
         assert_eq!((batches.given(), batches.position()), (RowNumber(13), at(11, 0)));
         assert!(batches.next().is_none());
     }
@@ -116,7 +116,7 @@ fn a_damaged_run() {
     for (skip, places) in [(8, 0), (8, 3), (9, 3), (usize::MAX, 1)] {
         let (refused, rows) = read(&FOUR[..10], at(0, skip), places);
         let refused = refused.unwrap_err();
-        assert_eq!((refused.refusal, refused.at), (Refusal::VarintCut, ByteOffset(7)));
+        assert_eq!((refused.refusal, refused.at), (Refusal::VarintCut, Some(ByteOffset(7))));
         assert_eq!((refused.cut, rows), (Some(ByteOffset(10)), vec![7777; places]));
     }
     assert_eq!(read(&FOUR[..10], at(0, 6), 9).1[..3], [2, 3, 7777]);
@@ -157,7 +157,10 @@ fn long_columns() {
                     }
                     (Some(Err(refused)), None) => {
                         assert!(damaged && batches.next_batch().is_none());
-                        assert_eq!((refused.refusal, refused.at), (Refusal::OneRowDelta, ByteOffset(36)));
+                        assert_eq!(
+                            (refused.refusal, refused.at),
+                            (Refusal::OneRowDelta, Some(ByteOffset(36)))
+                        );
                         break;
                     }
                     (given, expected) => panic!("{size}: {given:?} for {expected:?}"),

@@ -45,10 +45,7 @@ fn bytes_read_back() {
         if size > 0 {
             let mut out = vec![77; size - 1];
             let refused = write_bytes(&bytes, &mut out).unwrap_err();
-            assert_eq!(
-                (refused.refusal, refused.at, refused.cut),
-                (Refusal::TooFewPlaces, ByteOffset(0), None)
-            );
+            assert_eq!((refused.refusal, refused.at, refused.cut), (Refusal::TooFewPlaces, None, None));
             assert!(out.iter().all(|byte| *byte == 77));
         }
     }
@@ -83,7 +80,7 @@ fn flags_read_back() {
         if size > 0 {
             let mut few = vec![77; size - 1];
             let refused = write_booleans(&flags, &mut few).unwrap_err();
-            assert_eq!((refused.refusal, refused.at), (Refusal::TooFewPlaces, ByteOffset(0)));
+            assert_eq!((refused.refusal, refused.at), (Refusal::TooFewPlaces, None));
             assert!(few.iter().all(|byte| *byte == 77));
         }
     }

@@ -39,7 +39,7 @@ fn cut() -> Column<'static> {
 }
 
 fn is_the_cut(refused: StreamRefused) {
-    assert_eq!((refused.refused.refusal, refused.refused.at), (Refusal::RowsCut, ByteOffset(7)));
+    assert_eq!((refused.refused.refusal, refused.refused.at), (Refusal::RowsCut, Some(ByteOffset(7))));
     assert_eq!(refused.refused.cut, Some(ByteOffset(9)));
     assert_eq!((refused.before.rows, refused.before.bytes), (RowNumber(8), ByteOffset(7)));
     assert_eq!(refused.before.last.map(|run| (run.kind, run.width)), Some((Kind::Direct, 4)));
@@ -60,6 +60,11 @@ fn all_at_once() {
     is_the_cut(cut().read_into(&mut rows).unwrap_err());
     assert_eq!((&rows[..8], &rows[8..]), (&ROWS[..], &[7777; 2][..]));
     is_the_cut(cut().to_vec().unwrap_err());
+    let mut kept = vec![7777];
+    is_the_cut(cut().read_to_end(&mut kept).unwrap_err());
+    assert_eq!((kept[0], &kept[1..]), (7777, &ROWS[..]));
+    assert_eq!(whole().read_to_end(&mut kept), Ok(RowNumber(8)));
+    assert_eq!((kept.len(), &kept[9..]), (17, &ROWS[..]));
     // Too few places: the run that has none is refused, those before it stand.
     let mut rows = [7777; 7];
     let refused = whole().read_into(&mut rows).unwrap_err();
@@ -75,6 +80,14 @@ fn long_columns() {
     let rows = Column::new(&bytes, Sign::Unsigned).to_vec().unwrap();
     assert_eq!(rows.len(), 51_200);
     assert!(rows.iter().enumerate().all(|(k, row)| *row == (k % 512) as i64));
+    // Damage after so many rows costs none of them, nor those that the list had before.
+    let damaged = [&bytes[..], &CUT[7..]].concat();
+    let mut kept = vec![7777; 3];
+    let refused = Column::new(&damaged, Sign::Unsigned).read_to_end(&mut kept).unwrap_err();
+    assert_eq!((refused.refused.refusal, refused.refused.at), (Refusal::RowsCut, Some(ByteOffset(400))));
+    assert_eq!((refused.before.rows, refused.before.bytes), (RowNumber(51_200), ByteOffset(400)));
+    assert_eq!(refused.before.last.map(|run| (run.kind, run.rows)), Some((Kind::Delta, RowNumber(512))));
+    assert_eq!((&kept[..3], &kept[3..]), (&[7777; 3][..], &rows[..]));
 }
 
 #[test]

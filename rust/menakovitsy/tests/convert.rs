@@ -60,9 +60,9 @@ fn room_for_every_run() {
 fn refusals() {
     let column = [0x44, 0x02, 0x29, 0x80, 0x46, 0x02, 0x12];
     let cut = convert(&column, Sign::Unsigned).unwrap_err();
-    assert_eq!((cut.refusal, cut.at, cut.cut), (Refusal::RowsCut, ByteOffset(4), Some(ByteOffset(6))));
+    assert_eq!((cut.refusal, cut.at, cut.cut), (Refusal::RowsCut, Some(ByteOffset(4)), Some(ByteOffset(6))));
     let damaged = convert(&[0x44, 0x02, 0x29, 0x80, 0xC2, 0x00], Sign::Unsigned).unwrap_err();
-    assert_eq!((damaged.refusal, damaged.at, damaged.cut), (Refusal::OneRowDelta, ByteOffset(4), None));
+    assert_eq!((damaged.refusal, damaged.at, damaged.cut), (Refusal::OneRowDelta, Some(ByteOffset(4)), None));
     let empty = convert(&[], Sign::Signed).unwrap();
     assert_eq!((empty.altered, empty.bytes.len()), (0, 0));
 }

@@ -14,7 +14,7 @@ window 24 (other) is not normalised yet, and begins at sample 529350
 window 28 (unnamed) is not normalised yet, and begins at sample 617550
 damaged: column offsets: at byte 0: refusal 4: delta: packed magnitudes announced for a \
 single row (no run begins like this: the bytes are damaged, or the offset is not a run's first byte)
-damaged: column names: at byte 0: refusal 18: dictionary: a length is below 0, or the lengths do not add up to \
+damaged: column names: refusal 18: dictionary: a length is below 0, or the lengths do not add up to \
 the block (give the lengths and the block of one dictionary, both whole; if they are, the file is damaged)
 cut: window 23 (vocals) is already normalised, and begins at sample 507300
 cut: column flags: at byte 0: refusal 13: the block of packed rows or of bytes that begins at byte 3 is cut \
@@ -39,7 +39,7 @@ const PREVIEW: &str = "\
 33 bytes, 4 runs, 2000 chunks
 chunk 1234 is in the run at byte 15, whose first is chunk 1000
 the preview begins at sample 27209700: 766 chunks are left
-chunk 2000: at byte 0: refusal 16: there is no such row (ask for a row below the number of rows (of labels: of \
+chunk 2000: refusal 16: there is no such row (ask for a row below the number of rows (of labels: of \
 flags))
 ";
 

@@ -102,7 +102,7 @@ fn every_position() {
                 }
                 let mut reader = Flags::new(&COLUMN).starting_at(position);
                 let refused = reader.next(RowNumber(rest.len() + 1)).unwrap_err();
-                assert_eq!((refused.refusal, refused.at), (Refusal::ValueCut, ByteOffset(run)));
+                assert_eq!((refused.refusal, refused.at), (Refusal::ValueCut, Some(ByteOffset(run))));
                 assert_eq!((refused.cut, reader.position()), (Some(ByteOffset(7)), position));
             }
         }
@@ -125,17 +125,20 @@ fn refusals() {
     assert_eq!(flags.next(RowNumber(24)).unwrap(), [true; 24]);
     let mut places = [7; 1];
     let refused = flags.read_into(&mut places).unwrap_err();
-    assert_eq!((refused.refusal, refused.at), (Refusal::RowsCut, ByteOffset(2)));
+    assert_eq!((refused.refusal, refused.at), (Refusal::RowsCut, Some(ByteOffset(2))));
     assert_eq!((refused.cut, places, flags.position()), (Some(ByteOffset(3)), [7], at(2, 0, 0)));
     // The place is the position's run, though the cut run comes after it.
     let refused = Flags::new(&cut).next(RowNumber(25)).unwrap_err();
-    assert_eq!((refused.refusal, refused.at), (Refusal::RowsCut, ByteOffset(0)));
+    assert_eq!((refused.refusal, refused.at), (Refusal::RowsCut, Some(ByteOffset(0))));
 
     let mut places = [7; 3];
     let refused = read_flags(&COLUMN, at(2, 0, 3), RowNumber(4), &mut places).unwrap_err();
-    assert_eq!((refused.refusal, refused.at, refused.cut), (Refusal::TooFewPlaces, ByteOffset(2), None));
+    assert_eq!(
+        (refused.refusal, refused.at, refused.cut),
+        (Refusal::TooFewPlaces, Some(ByteOffset(2)), None)
+    );
     let refused = read_bytes(&COLUMN, byte_at(5, 0), ByteOffset(4), &mut places).unwrap_err();
-    assert_eq!((refused.refusal, refused.at, places), (Refusal::TooFewPlaces, ByteOffset(5), [7; 3]));
+    assert_eq!((refused.refusal, refused.at, places), (Refusal::TooFewPlaces, Some(ByteOffset(5)), [7; 3]));
 
     // Numbers that no machine has the memory for, and sums that pass 64 bits.
     for n in [usize::MAX, 1 << 61, 73] {
@@ -144,7 +147,7 @@ fn refusals() {
     }
     for position in [at(0, usize::MAX, 0), at(0, 1 << 61, 0), at(0, 0, usize::MAX), at(usize::MAX, 0, 1)] {
         let refused = Flags::new(&COLUMN).starting_at(position).next(RowNumber(0)).unwrap_err();
-        assert_eq!((refused.refusal, refused.at), (Refusal::ValueCut, position.run));
+        assert_eq!((refused.refusal, refused.at), (Refusal::ValueCut, Some(position.run)));
     }
     // Nothing of nothing is looked at, wherever it is.
     let nowhere = at(usize::MAX, 0, 0);

@@ -17,7 +17,7 @@ fn right() -> Index {
 
 fn refused<T: std::fmt::Debug>(answer: Result<T, Refused>, refusal: Refusal) {
     let said = answer.unwrap_err();
-    assert_eq!((said.refusal, said.at, said.cut), (refusal, ByteOffset(0), None));
+    assert_eq!((said.refusal, said.at, said.cut), (refusal, None, None));
 }
 
 #[test]
@@ -28,9 +28,12 @@ fn built() {
     assert_eq!(Index::default().row_count(), RowNumber(0));
     // The stream's own refusals, with their places and cut fields.
     let cut = Index::build(&THREE[..6]).unwrap_err();
-    assert_eq!((cut.refusal, cut.at, cut.cut), (Refusal::RowsCut, ByteOffset(3), Some(ByteOffset(5))));
+    assert_eq!((cut.refusal, cut.at, cut.cut), (Refusal::RowsCut, Some(ByteOffset(3)), Some(ByteOffset(5))));
     let damaged = Index::build(&[&THREE[..], &[0xC2, 0x00]].concat()).unwrap_err();
-    assert_eq!((damaged.refusal, damaged.at, damaged.cut), (Refusal::OneRowDelta, ByteOffset(11), None));
+    assert_eq!(
+        (damaged.refusal, damaged.at, damaged.cut),
+        (Refusal::OneRowDelta, Some(ByteOffset(11)), None)
+    );
 }
 
 /// However short the runs are, the index finds room: two bytes each, and 4,099 bytes each.

@@ -13,7 +13,7 @@ const FALLBACK: &[u8] = b"(none)";
 
 fn refused(dictionary: Dictionary, row: usize, refusal: Refusal) {
     let said = label(dictionary, RowNumber(row), FALLBACK).unwrap_err();
-    assert_eq!((said.refusal, said.at.0, said.cut), (refusal, 0, None), "{dictionary:?}, row {row}");
+    assert_eq!((said.refusal, said.at, said.cut), (refusal, None, None), "{dictionary:?}, row {row}");
 }
 
 /// Names by named row, not by row; flag 2 is a name, and so is one of no bytes. The parts are borrowed.
@@ -67,7 +67,7 @@ fn refusals_in_their_order() {
     }
     assert_eq!(
         label(STEMS, RowNumber(7), FALLBACK).unwrap_err().to_string(),
-        "at byte 0: refusal 16: there is no such row (ask for a row below the number of rows (of labels: of \
+        "refusal 16: there is no such row (ask for a row below the number of rows (of labels: of \
          flags))"
     );
 }
@@ -114,7 +114,7 @@ fn refused_columns_of_names() {
     use Refusal::*;
     let refused = |dictionary: Dictionary, refusal: Refusal, row: Option<usize>| {
         let LabelsRefused { refused, row: named, .. } = Labels::new(dictionary).unwrap_err();
-        assert_eq!((refused.refusal, refused.at.0, refused.cut), (refusal, 0, None), "{dictionary:?}");
+        assert_eq!((refused.refusal, refused.at, refused.cut), (refusal, None, None), "{dictionary:?}");
         assert_eq!(named, row.map(RowNumber), "{dictionary:?}");
     };
     for lengths in [&[-1][..], &[], &[5, 0, 4], &[i64::MAX, i64::MAX, 14], &[5, -1, 5, 3]] {
@@ -136,7 +136,7 @@ fn refused_columns_of_names() {
          they are, the file is damaged)"
     );
     let refused = Labels::new(Dictionary { lengths: &[], ..STEMS }).unwrap_err();
-    assert!(refused.to_string().starts_with("at byte 0: refusal 18: dictionary: "));
+    assert!(refused.to_string().starts_with("refusal 18: dictionary: "));
 }
 
 /// Into lists of the caller's: the places after the rows keep their content, and with one too few nothing is

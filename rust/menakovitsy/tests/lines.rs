@@ -39,7 +39,7 @@ fn refused(hex: &str, refusal: Refusal, cut: Option<usize>) {
         let (at, cut) = (ByteOffset(before), cut.map(|byte| ByteOffset(before + byte)));
         let mut rows = [7777; 512];
         let refused = read_run(&input, at, sign, &mut rows).unwrap_err();
-        assert_eq!((refused.refusal, refused.at, refused.cut), (refusal, at, cut), "{hex}");
+        assert_eq!((refused.refusal, refused.at, refused.cut), (refusal, Some(at), cut), "{hex}");
         let stream = read_stream(&input, at, sign, &mut rows).unwrap_err();
         assert_eq!((stream.refused, stream.before), (refused, Stream::default()), "{hex}");
         assert_eq!(rows, [7777; 512], "{hex}: a refused call changed a place");
@@ -210,7 +210,7 @@ fn booleans_of_document_01() {
     for (at, n, places, refusal, cut) in cases {
         let mut out = [77; 40];
         let refused = read_booleans(&line, ByteOffset(at), RowNumber(n), &mut out[..places]).unwrap_err();
-        assert_eq!((refused.refusal, refused.at, refused.cut), (refusal, ByteOffset(at), cut));
+        assert_eq!((refused.refusal, refused.at, refused.cut), (refusal, Some(ByteOffset(at)), cut));
         assert_eq!(out, [77; 40]);
     }
 }
@@ -240,13 +240,13 @@ fn the_last_run_of_a_stream() {
 #[test]
 fn byte_values_are_parts_of_the_input() {
     let input = b"drumsvocals";
-    let part = byte_value(input, ByteOffset(5), 6).unwrap();
+    let part = byte_value(input, ByteOffset(5), ByteOffset(6)).unwrap();
     assert_eq!(part.as_ptr_range(), input[5..].as_ptr_range());
-    assert_eq!(byte_value(input, ByteOffset(11), 0), Ok(&[][..]));
-    assert_eq!(byte_value(input, ByteOffset(usize::MAX), 0), Ok(&[][..]));
+    assert_eq!(byte_value(input, ByteOffset(11), ByteOffset(0)), Ok(&[][..]));
+    assert_eq!(byte_value(input, ByteOffset(usize::MAX), ByteOffset(0)), Ok(&[][..]));
     for (at, n) in [(5, 7), (11, 1), (usize::MAX, 1), (1, usize::MAX)] {
-        let refused = byte_value(input, ByteOffset(at), n).unwrap_err();
-        assert_eq!((refused.refusal, refused.at), (Refusal::ValueCut, ByteOffset(at)));
+        let refused = byte_value(input, ByteOffset(at), ByteOffset(n)).unwrap_err();
+        assert_eq!((refused.refusal, refused.at), (Refusal::ValueCut, Some(ByteOffset(at))));
         assert_eq!(refused.cut, Some(ByteOffset(at)));
     }
 }
@@ -272,6 +272,11 @@ fn what_is_written_reads_back() {
         (&[300, 300, 301], ShortRepeat, 2, Refusal::NotTheForm),
         (&[300; 3], ShortRepeat, 9, Refusal::NotTheForm),
         (&[300; 3], ShortRepeat, 1, Refusal::TooNarrow),
+        // A patched run wants a base, and an unknown form has none, whatever the rows and the width are.
+        (&[300; 3], Patched, 4, Refusal::NotTheForm),
+        (&[], Patched, 4, Refusal::NotTheForm),
+        (&[300; 3], Unknown(5), 1, Refusal::NotTheForm),
+        (&[300; 3], Unknown(u64::MAX), 1, Refusal::NotTheForm),
     ] {
         assert_eq!(written(rows, Unsigned, form, width).unwrap_err().refusal, refusal);
     }

@@ -21,7 +21,7 @@ fn column() -> Nullable<'static> {
 
 fn refused<T: std::fmt::Debug>(answer: Result<T, Refused>, refusal: Refusal) {
     let said = answer.unwrap_err();
-    assert_eq!((said.refusal, said.at, said.cut), (refusal, ByteOffset(0), None));
+    assert_eq!((said.refusal, said.at, said.cut), (refusal, None, None));
 }
 
 /// However it is cut into batches, the rows are the column's; and a reader that starts at the positions
@@ -76,10 +76,10 @@ fn damaged() {
     rows[7..9].copy_from_slice(&[0xC2, 0x00]);
     let mut damaged = Nullable::new(Flags::new(&FLAGS), Column::new(&rows, Sign::Unsigned));
     let said = damaged.next(RowNumber(24)).unwrap_err();
-    assert_eq!((said.refusal, said.at), (Refusal::OneRowDelta, ByteOffset(7)));
+    assert_eq!((said.refusal, said.at), (Refusal::OneRowDelta, Some(ByteOffset(7))));
     assert_eq!(damaged.next(RowNumber(11)).unwrap(), expected()[..11]);
     let said = damaged.next(RowNumber(1)).unwrap_err();
-    assert_eq!((said.refusal, said.at), (Refusal::OneRowDelta, ByteOffset(7)));
+    assert_eq!((said.refusal, said.at), (Refusal::OneRowDelta, Some(ByteOffset(7))));
     assert_eq!(damaged.finish().unwrap_err().refusal, Refusal::OneRowDelta);
 
     let mut cut = Nullable::new(Flags::new(&FLAGS[..3]), Column::new(&ROWS, Sign::Unsigned));

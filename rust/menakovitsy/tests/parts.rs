@@ -99,7 +99,7 @@ fn an_unfinished_run_is_refused_by_the_closing_call_alone() {
     assert_eq!((reader.next_run(&mut part), part.len()), (Ok(None), 0));
     let refused = reader.clone().close().unwrap_err();
     assert_eq!(refused.refusal, Refusal::RowsCut);
-    assert_eq!((refused.at, refused.cut), (ByteOffset(3), Some(ByteOffset(5))));
+    assert_eq!((refused.at, refused.cut), (Some(ByteOffset(3)), Some(ByteOffset(5))));
     // The reader that was not closed goes on.
     let run = reader.next_run(&mut &[0x30][..]).unwrap().map(|run| run.rows.to_vec());
     assert_eq!((run, reader.close()), (Some(vec![1, 2, 3]), Ok(())));

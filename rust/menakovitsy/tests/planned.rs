@@ -11,8 +11,9 @@ const PLANNED: [u8; 24] = [
     0x34, 0xA8, 0xC6, 0x03, 0x64, 0x05, 0x14,
 ];
 
+/// By the number of its form.
 fn segment(first: usize, rows: usize, form: u64, width: u64, base: i64) -> Segment {
-    Segment { first: RowNumber(first), rows: RowNumber(rows), form, width, base }
+    Segment { first: RowNumber(first), rows: RowNumber(rows), form: Form::of_number(form), width, base }
 }
 
 /// A run of each form.
@@ -58,7 +59,7 @@ fn accepted() {
         assert_eq!((column.planned, column.runs, column.rows.0, column.bytes.0), (true, 5, 21, 24));
     }
     let refused = written(&ROWS, &proposal, 23).unwrap_err();
-    assert_eq!((refused.refusal, refused.at, refused.cut), (Refusal::TooFewPlaces, ByteOffset(0), None));
+    assert_eq!((refused.refusal, refused.at, refused.cut), (Refusal::TooFewPlaces, None, None));
 }
 
 #[test]
@@ -83,7 +84,8 @@ fn not_accepted() {
     changed(&|plan| plan[4].rows = RowNumber(usize::MAX));
     changed(&|plan| plan[4].first = RowNumber(usize::MAX));
     changed(&|plan| plan.push(segment(21, 0, 1, 31, 0)));
-    changed(&|plan| plan[1].form = 5);
+    changed(&|plan| plan[1].form = Form::Unknown(5));
+    changed(&|plan| plan[1].form = Form::Unknown(u64::MAX));
     changed(&|plan| plan[1].width = 256 + 3);
     changed(&|plan| plan[3].width = (1 << 32) + 4);
     changed(&|plan| plan[3].base = i64::MIN);

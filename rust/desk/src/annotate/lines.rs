@@ -84,7 +84,7 @@ fn broke_off(
     from: u64,
     all: u64,
 ) -> io::Result<()> {
-    writeln!(output, "breaks off at {}, where row {} would begin", refused.at, walked.rows)?;
+    writeln!(output, "breaks off at byte {}, where row {} would begin", walked.bytes, walked.rows)?;
     writeln!(output, "  refusal {}: {}", refused.refusal.number(), refused.meaning())?;
     let read = if walked.passed.runs == 0 { "read" } else { "read or passed over" };
     writeln!(output, "  before it:  {}, all {read}", good(walked))?;

@@ -78,7 +78,7 @@ impl Picture<'_> {
         let Walked { runs, rows, .. } = self.walked;
         let end = match &self.walked.refused {
             None => "read whole".into(),
-            Some(refused) => format!("breaks off at {}", refused.at),
+            Some(_) => format!("breaks off at byte {}", self.walked.bytes),
         };
         text(svg, 16.0, 28.0, "font-size=\"16\" font-weight=\"bold\"", self.name);
         let about = format!("{} bytes; {runs} runs, {rows} rows; {end}", self.all);
@@ -177,7 +177,7 @@ impl Picture<'_> {
             text(svg, x, y, &style, what);
         };
         let number = refused.refusal.number();
-        label(svg, from, top + 4.0, &format!("refusal {number} at {}", refused.at));
+        label(svg, from, top + 4.0, &format!("refusal {number} at byte {}", self.walked.bytes));
         if let Some(byte) = refused.cut {
             let x = self.x((byte.0 as u64).min(self.all)).clamp(from, RIGHT);
             let style = format!("stroke=\"{DAMAGE}\" stroke-width=\"1.5\" stroke-dasharray=\"5 3\"");

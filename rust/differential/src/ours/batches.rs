@@ -2,12 +2,12 @@
 use menakovitsy::{read_flags, ByteOffset, Column, RowNumber};
 use model::{Batch, FlagPosition, Flags, Refusal, RowPosition, Stream};
 
-use super::{sign, BEFORE, ROW_BEFORE};
+use super::{place, sign, BEFORE, ROW_BEFORE};
 
 /// Whether a refusal of the wrapper's is the model's.
 fn same(refused: &menakovitsy::Refused, paper: &Refusal) -> bool {
     let cut = refused.cut.map(|byte| byte.0);
-    (refused.refusal.number(), refused.at.0, cut) == (paper.number.into(), paper.place, paper.cut)
+    (refused.refusal.number(), place(refused), cut) == (paper.number.into(), paper.place, paper.cut)
 }
 
 /// Holds one batch of rows to the model, every place.

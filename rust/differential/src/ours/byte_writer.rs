@@ -36,8 +36,8 @@ pub fn check(flags: bool, given: &[u8], bytes: &[u8]) -> Result<Vec<u8>, String>
     }
     if let Some(few) = size.checked_sub(1) {
         let mut places = vec![BEFORE; few];
-        let refused = write(flags, given, &mut places).err().map(|refused| (refused.refusal, refused.at.0));
-        if refused != Some((Refusal::TooFewPlaces, 0)) || places.iter().any(|byte| *byte != BEFORE) {
+        let refused = write(flags, given, &mut places).err().map(|refused| (refused.refusal, refused.at));
+        if refused != Some((Refusal::TooFewPlaces, None)) || places.iter().any(|byte| *byte != BEFORE) {
             return Err(format!("with {few} places: {refused:?}, {places:02x?}"));
         }
     }

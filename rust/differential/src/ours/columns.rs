@@ -2,7 +2,7 @@
 use menakovitsy::{check_column, plan_into, write_column, write_proposed, Proposal, WrittenColumn};
 use model::{Column, Segment};
 
-use super::{sign, Ours, BEFORE};
+use super::{place, sign, Ours, BEFORE};
 use crate::stages::columns::{direct_bytes, planned_in, Asked};
 
 /// What a place of a lent column holds before a call.
@@ -33,7 +33,7 @@ impl Ours {
         let counts = counts.map(|(planned, runs)| (planned, [runs, rows.len(), bytes.len()]));
         let right = match (&answer, &paper) {
             (Err(refused), Column::Refused(paper)) => {
-                (refused.refusal.number(), refused.at.0, refused.cut)
+                (refused.refusal.number(), place(refused), refused.cut)
                     == (paper.number.into(), paper.place, None)
             }
             (Ok(written), _) => Some(told(written)) == counts,

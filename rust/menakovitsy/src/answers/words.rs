@@ -13,11 +13,20 @@ pub(crate) struct Words {
     /// The most rows and bytes that an answer may count: what was lent. So whatever library is
     /// linked, its counts are within the caller's slices.
     most: (usize, usize),
+    /// Whether the call reads an input: its want of places is then of the run that lacks them.
+    reads: bool,
 }
 
 impl Words {
+    /// For an answer that counts no more than these. (One with words of its own has its counts looked at where
+    /// it is made.)
     pub fn lent(most_rows: usize, most_bytes: usize) -> Self {
-        Words { lent: [0; 16], number: 0, most: (most_rows, most_bytes) }
+        Words { lent: [0; 16], number: 0, most: (most_rows, most_bytes), reads: false }
+    }
+
+    /// The same for a call that reads an input.
+    pub fn reading(self) -> Self {
+        Words { reads: true, ..self }
     }
 
     /// The answer of a run reader.
@@ -74,10 +83,7 @@ impl Words {
             case @ (case::READ | case::FALLBACK) if self.number == 0 => {
                 Ok((case, self.lent[label_word::START] as usize, self.lent[label_word::SIZE] as usize))
             }
-            case::REFUSED if self.number != TOO_FEW_WORDS => {
-                let at = ByteOffset(self.lent[word::PLACE] as usize);
-                Err(Refused::whole(Refusal::of_number(self.lent[word::NUMBER]), at))
-            }
+            case::REFUSED if self.number != TOO_FEW_WORDS => Err(self.refused_at(None)),
             _ => Err(self.unknown()),
         }
     }
@@ -90,8 +96,7 @@ impl Words {
             case::READ if self.number == 0 => Ok(()),
             case::REFUSED if self.number != TOO_FEW_WORDS => {
                 let cut = cut.filter(|cut| at(*cut) == 1).map(|cut| ByteOffset(at(cut + 1) as usize));
-                let refusal = Refusal::of_number(at(word::NUMBER));
-                Err(Refused { refusal, at: ByteOffset(at(word::PLACE) as usize), cut })
+                Err(self.refused_at(cut))
             }
             _ => Err(self.unknown()),
         }
@@ -107,7 +112,7 @@ impl Words {
 
     /// What an answer is that contradicts itself, or what was lent.
     pub fn unknown(&self) -> Refused {
-        Refused::whole(Refusal::Unknown(self.number), ByteOffset(self.lent[word::PLACE] as usize))
+        Refused::nowhere(Refusal::Unknown(self.number))
     }
 
     /// The case. None where the library wants more words than were lent, and so wrote none, or counts
@@ -152,12 +157,19 @@ impl Words {
 
     /// The refusal; a case that is none, too, by whatever number came with it.
     fn refused(&self) -> Refused {
-        let at = ByteOffset(self.lent[word::PLACE] as usize);
         if self.case() != Some(case::REFUSED) {
             return self.unknown();
         }
-        let cut = (self.lent[word::CUT] == 1).then_some(ByteOffset(self.lent[word::CUT_AT] as usize));
-        Refused { refusal: Refusal::of_number(self.lent[word::NUMBER]), at, cut }
+        self.refused_at((self.lent[word::CUT] == 1).then_some(ByteOffset(self.lent[word::CUT_AT] as usize)))
+    }
+
+    /// The refusal that the words name, with a cut field. Its place is 0 where it means nothing (FORMAT.md,
+    /// "Places and cut bytes"): then there is none.
+    fn refused_at(&self, cut: Option<ByteOffset>) -> Refused {
+        let refusal = Refusal::of_number(self.lent[word::NUMBER]);
+        let placed = refusal.has_place() && (self.reads || refusal != Refusal::TooFewPlaces);
+        let at = placed.then_some(ByteOffset(self.lent[word::PLACE] as usize));
+        Refused { refusal, at, cut }
     }
 }
 
@@ -166,7 +178,7 @@ mod tests {
     use super::*;
 
     fn words(number: u64, first: &[u64]) -> Words {
-        let mut words = Words { number, ..Words::lent(2, 3) };
+        let mut words = Words { number, ..Words::lent(2, 3).reading() };
         words.lent[..first.len()].copy_from_slice(first);
         words
     }
@@ -174,13 +186,14 @@ mod tests {
     /// What a later library may answer is an answer here, too.
     #[test]
     fn a_later_library() {
-        let refused = |refusal, at| Refused::whole(refusal, ByteOffset(at));
+        let unknown = |number| Refused::nowhere(Refusal::Unknown(number));
         let later = words(40, &[2, 40, 9]);
-        assert_eq!(later.one_run().unwrap_err(), refused(Refusal::Unknown(40), 9));
+        let at = Some(ByteOffset(9));
+        assert_eq!(later.one_run().unwrap_err(), Refused { at, ..unknown(40) });
         let case = words(0, &[3]);
-        assert_eq!(case.run_or_end().unwrap_err(), refused(Refusal::Unknown(0), 0));
+        assert_eq!(case.run_or_end().unwrap_err(), unknown(0));
         let wants_more = words(TOO_FEW_WORDS, &[]);
-        assert_eq!(wants_more.run_or_end().unwrap_err(), refused(Refusal::Unknown(TOO_FEW_WORDS), 0));
+        assert_eq!(wants_more.run_or_end().unwrap_err(), unknown(TOO_FEW_WORDS));
         assert_eq!(wants_more.stream().unwrap_err().refused.refusal, Refusal::Unknown(TOO_FEW_WORDS));
         let run = Run { kind: Kind::Unknown(6), width: 7, rows: RowNumber(2), bytes: ByteOffset(3) };
         assert_eq!(words(0, &[1, 0, 0, 6, 2, 3, 0, 0, 7]).one_run(), Ok(run));
@@ -203,12 +216,28 @@ mod tests {
         assert_eq!((none.cut, none.meaning().as_str()), (None, Refusal::VarintTooLong.meaning()));
     }
 
+    /// A place is of an input: by the number, and of 8 if an input is read.
+    #[test]
+    fn places() {
+        for number in (1..=21).filter(|number| *number != 20) {
+            let refused = words(number, &[2, number, 5]);
+            let reader = refused.one_run().unwrap_err();
+            let writer = Words { reads: false, ..refused }.one_run().unwrap_err();
+            let (of_run, of_places) = (matches!(number, 1..=7 | 12..=14), number == 8);
+            assert_eq!(reader.at, (of_run || of_places).then_some(ByteOffset(5)), "{number}");
+            assert_eq!(writer.at, of_run.then_some(ByteOffset(5)), "{number}");
+            assert_eq!(reader.to_string().starts_with("at byte 5: refusal "), reader.at.is_some());
+            assert_eq!(writer.to_string().starts_with("refusal "), writer.at.is_none());
+        }
+    }
+
     /// An answer with words of its own: accepted, refused with a cut field and without, and what is none.
     #[test]
     fn words_of_its_own() {
         assert_eq!(words(0, &[1, 0, 0, 7]).accepted(None), Ok(()));
         let refused = words(13, &[2, 13, 4, 0, 0, 1, 6]);
-        let cut = Refused { refusal: Refusal::RowsCut, at: ByteOffset(4), cut: Some(ByteOffset(6)) };
+        let [at, cut] = [4, 6].map(|byte| Some(ByteOffset(byte)));
+        let cut = Refused { refusal: Refusal::RowsCut, at, cut };
         assert_eq!(refused.accepted(Some(5)), Err(cut));
         assert_eq!(refused.accepted(None), Err(Refused { cut: None, ..cut }));
         for (number, first) in
@@ -237,7 +266,7 @@ mod tests {
             assert_eq!(words(number, &[case::READ, 0, 0, 0, rows, bytes]).part_case(), None);
         }
         let refused = words(13, &[2, 13, 9, 0, 0, 0, 1, 11, 0, 1, 5]).part_refused();
-        assert_eq!((refused.refusal, refused.at), (Refusal::RowsCut, ByteOffset(9)));
+        assert_eq!((refused.refusal, refused.at), (Refusal::RowsCut, Some(ByteOffset(9))));
         assert_eq!(refused.cut, Some(ByteOffset(11)));
     }
 

@@ -1,12 +1,12 @@
 //! The names of all rows of a column, in one pass.
 use std::error::Error;
-use std::fmt;
 use std::iter::FusedIterator;
+use std::{fmt, io};
 
 use super::Dictionary;
 use crate::answers::Words;
 use crate::exported::{self, labels_word};
-use crate::{ByteOffset, Refusal, Refused, RowNumber};
+use crate::{Refusal, Refused, RowNumber};
 
 /// The names of all rows of a column. They are found in one pass, in time linear in the rows and in the
 /// dictionary, and each is what [`label`](super::label) says of its row. The names are parts of the block:
@@ -44,11 +44,13 @@ pub struct LabelsRefused {
 }
 
 impl<'a, 'c> Labels<'a, 'c> {
-    /// The names of all rows that the dictionary has flags for.
+    /// The names of all rows that the dictionary has flags for. Numbers after those of the rows with a name are
+    /// not looked at.
     ///
-    /// Refusals, in this order: [`LengthsNotTheBlock`](Refusal::LengthsNotTheBlock), also if there are no
-    /// rows; [`NoSuchName`](Refusal::NoSuchName), with the first row that has a flag and no name. Numbers
-    /// after those of the rows with a name are not looked at.
+    /// # Errors
+    ///
+    /// In this order: [`LengthsNotTheBlock`](Refusal::LengthsNotTheBlock), also if there are no rows;
+    /// [`NoSuchName`](Refusal::NoSuchName), with the first row that has a flag and no name.
     pub fn new(dictionary: Dictionary<'a, 'c>) -> Result<Self, LabelsRefused> {
         let Dictionary { block, lengths, flags, .. } = dictionary;
         let mut offsets = vec![0; lengths.len()];
@@ -58,7 +60,7 @@ impl<'a, 'c> Labels<'a, 'c> {
         let within = |(start, size): (&u64, &u64)| part(block, *start, *size).is_some();
         match starts.iter().zip(&sizes).all(within) {
             true => Ok(Labels { block, flags, starts, sizes }),
-            false => Err(Refused::whole(Refusal::Unknown(0), ByteOffset(0)).into()),
+            false => Err(Refused::nowhere(Refusal::Unknown(0)).into()),
         }
     }
 
@@ -86,7 +88,9 @@ impl<'a, 'c> Labels<'a, 'c> {
 /// name j begins; `starts[i]` and `sizes[i]` where the name of row i begins and how long it is, 0 and 0 if it
 /// has none. How many rows there are; places after them keep their content.
 ///
-/// Refusals: those of [`Labels::new`], and then [`TooFewPlaces`](Refusal::TooFewPlaces) if `offsets` has fewer
+/// # Errors
+///
+/// Those of [`Labels::new`], and then [`TooFewPlaces`](Refusal::TooFewPlaces) if `offsets` has fewer
 /// places than there are lengths, or `starts` or `sizes` fewer than there are flags. A refused call changes no
 /// place.
 pub fn label_column(
@@ -182,14 +186,22 @@ impl<'l, 'a, 'c> IntoIterator for &'l Labels<'a, 'c> {
 impl fmt::Display for LabelsRefused {
     fn fmt(&self, f: &mut fmt::Formatter) -> fmt::Result {
         match self.row {
-            Some(row) => write!(f, "at {row}: {}", self.refused.refusal),
+            Some(row) => write!(f, "at row {row}: {}", self.refused.refusal),
             None => self.refused.fmt(f),
         }
     }
 }
 
-impl Error for LabelsRefused {
-    fn source(&self) -> Option<&(dyn Error + 'static)> {
-        Some(&self.refused)
+impl Error for LabelsRefused {}
+
+impl From<LabelsRefused> for Refused {
+    fn from(labels: LabelsRefused) -> Self {
+        labels.refused
+    }
+}
+
+impl From<LabelsRefused> for io::Error {
+    fn from(labels: LabelsRefused) -> Self {
+        io::Error::new(labels.refused.refusal.io_kind(), labels)
     }
 }

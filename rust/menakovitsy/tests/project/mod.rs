@@ -1,4 +1,6 @@
 //! A project of a user of the crate, in a temporary folder.
+#![allow(dead_code)] // each test takes what it needs of it
+
 use std::path::{Path, PathBuf};
 use std::process::{Command, Output};
 use std::{env, fs, process};
@@ -53,7 +55,7 @@ impl Project {
         let folder = Path::new("target").join(env::var_os("CARGO_BUILD_TARGET").unwrap_or_default());
         let name = self.0.file_name().unwrap().to_str().unwrap().split('-').nth(1).unwrap();
         let ran = Command::new(self.0.join(folder).join("debug").join(name)).output().unwrap();
-        assert!(ran.status.success());
+        assert!(ran.status.success(), "{}", String::from_utf8_lossy(&ran.stderr));
         String::from_utf8(ran.stdout).unwrap()
     }
 
