@@ -34,7 +34,7 @@ extern "C" {
 
 /* The version of these functions: each change of them makes it one more. A program compares what
  * orc_version answers with the header that it was compiled with. */
-#define ORC_VERSION UINT64_C(13)
+#define ORC_VERSION UINT64_C(14)
 
 uint64_t orc_version(void);
 
@@ -71,6 +71,8 @@ uint64_t orc_version(void);
 #define ORC_LABELS_WORDS 5
 /* orc_write_bytes. */
 #define ORC_BYTES_WRITTEN_WORDS 5
+/* orc_rescue. */
+#define ORC_RESCUE_WORDS 5
 
 /* What it returns where it was lent fewer: then it has touched nothing, no word, row or byte. */
 #define ORC_TOO_FEW_WORDS UINT64_MAX
@@ -251,6 +253,13 @@ enum orc_bytes_written_word {
     ORC_BYTES_WRITTEN_SIZE = 4
 };
 
+/* The words of rescued rows after ORC_CASE, ORC_NUMBER and ORC_PLACE; 0 if it is refused. */
+enum orc_rescue_word {
+    /* How many rows were written, which is the sum of the counts, and how many groups were kept. */
+    ORC_RESCUE_ROWS = 3,
+    ORC_RESCUE_KEPT = 4
+};
+
 enum orc_case {
     /* The input is empty: there is no run. orc_read_run_at only; of the reader in parts, once it is
      * closed: the column has ended; and of orc_read_rows: there are no more rows. */
@@ -324,7 +333,8 @@ enum orc_answer {
      * flags. */
     ORC_NO_SUCH_ROW = 16,
     /* Row groups: the starts do not begin at 0, do not rise strictly or pass the stream's end, or the two
-     * columns have unequal lengths. Give those of this stream, all of them and in order. */
+     * columns have unequal lengths; of orc_rescue: the positions are not in order, as it says there. Give
+     * those of this stream, all of them and in order. */
     ORC_WRONG_STARTS = 17,
     /* Dictionary: a length is below 0, or they do not add up to the block (as whole numbers, never
      * modulo 2^64). Give the lengths and the block of one dictionary, both whole. */
@@ -468,6 +478,26 @@ uint64_t orc_salvage(const uint8_t *input, size_t input_len, const uint64_t *sta
                      const uint64_t *counts, size_t counts_len, int64_t fill, uint64_t flag,
                      uint8_t *out, size_t out_len, uint8_t *report, size_t report_len,
                      uint64_t *words, size_t words_len);
+
+/* Rescues the rows of a damaged stream by the positions of its row groups, as ORC's row index lists them:
+ * runs[k] is the byte where a run begins, skips[k] the rows to skip from there, and counts[k] the rows of the
+ * group. Unlike those of orc_salvage, groups need not begin where runs begin. A group is kept exactly if all
+ * its rows can be read from its position, and the row after them is where the next group begins, or the end
+ * of input after the last group. In any other each row is fill. So with the positions that a writer lists, a
+ * damaged run costs the groups that have rows of it, and no other. Damage that leaves a group readable, with
+ * its number of rows, is not seen.
+ *
+ * The rows of all groups stand in the first places of rows, one group after the other, as many as the counts
+ * add up to; in the first bytes of verdicts stands 1 for a group that was kept and 0 for one that was
+ * replaced. orc_write_column makes a stream of the rows again. Refused in this order, with no place touched,
+ * at place 0: ORC_WRONG_STARTS if the three columns have unequal lengths, the first position is not byte 0
+ * with nothing to skip, a byte is below the one before it or above input_len, or of two groups at one byte
+ * the later skips less (no groups at all are those of an empty input); ORC_TOO_FEW_PLACES if there are fewer
+ * rows than the counts add up to, or fewer verdicts than groups. */
+uint64_t orc_rescue(const uint8_t *input, size_t input_len, const uint64_t *runs, size_t runs_len,
+                    const uint64_t *skips, size_t skips_len, const uint64_t *counts, size_t counts_len,
+                    int64_t fill, uint64_t flag, int64_t *rows, size_t rows_len, uint8_t *verdicts,
+                    size_t verdicts_len, uint64_t *words, size_t words_len);
 
 /* Converts a stream: each direct or packed delta run of an odd width (all but 1, 2, 4, 8, 16, 24, 32, 40,
  * 48, 56 and 64 bits) becomes the writer's run of the same rows at the next kept width, and every other

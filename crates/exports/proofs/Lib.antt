@@ -5,6 +5,7 @@ pub mod Room
 pub mod Reading
 pub mod Telling
 pub mod BatchTelling
+pub mod RescueTelling
 pub mod ByteTelling
 pub mod FormNumbers
 pub mod PartWords

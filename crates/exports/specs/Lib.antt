@@ -13,6 +13,7 @@ pub mod Salvage
 pub mod Converting
 pub mod Columns
 pub mod Batches
+pub mod Rescue
 pub mod LinedUp
 pub mod ByteRuns
 pub mod Outcomes

@@ -3,4 +3,4 @@ use Prim.Native.Nat.{ℕ}
 
 -- one more with each change of what they take or answer
 abbrev pub faceVersion : ℕ
-faceVersion = 13
+faceVersion = 14

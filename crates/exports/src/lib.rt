@@ -27,6 +27,8 @@ mod label_words;
 pub mod lined_up_calls;
 mod lined_up_words;
 pub mod part_calls;
+pub mod rescue_calls;
+mod rescue_words;
 mod salvage_words;
 
 // The version of these functions: one more with each change of what they take or answer.
@@ -34,7 +36,7 @@ mod salvage_words;
 pub extern "C" fn orc_version() -> u64
     ensures { λ r. ⌜ r ≡ faceVersion ⌝ }
 {
-    13
+    14
 }
 
 // One run at the start of the input, its rows as eight bytes each, lowest first. The flag is 0 for unsigned, and any other number for signed.

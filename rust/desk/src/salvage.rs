@@ -1,14 +1,21 @@
 //! `salvage STREAM`: the good row groups of a damaged stream file, and a fill row in the place of the others.
+mod groups;
+mod lists;
+mod options;
+mod positions;
+
 use std::ffi::OsString;
-use std::fs;
-use std::path::PathBuf;
+use std::io::{self, Write};
+use std::path::Path;
 
-use menakovitsy::{salvage, ByteOffset, Group, Refusal, Refused, RowNumber, Sign};
+use menakovitsy::{Column, Refused, RowNumber, RowPosition, Sign};
 
-use crate::arguments::Arguments;
 use crate::ended::{self, Ended, Failure};
 use crate::files;
 use crate::Word;
+
+use lists::List;
+use options::{Form, Options};
 
 pub const WORD: Word = Word {
     name: "salvage",
@@ -17,108 +24,154 @@ pub const WORD: Word = Word {
     run,
 };
 
-const HELP: &str = "usage: menakovitsy salvage STREAM --groups FILE --fill ROW [--signed] --out FILE
+const HELP: &str = "usage: menakovitsy salvage [OPTION].. --positions FILE --fill ROW --out FILE STREAM
+       menakovitsy salvage [OPTION].. --groups FILE --fill ROW --out FILE STREAM
 
 STREAM holds the bytes of one integer column (a stream of RLE version 2 runs, uncompressed); - is
-standard input. It is read whole.
+standard input. It is read whole. Its row groups are listed in one of two ways:
 
-  --groups FILE  the row groups, as the file's own index lists them: a line each, the byte that the
-                 group starts at in STREAM and its rows, two numbers with a space between them
-  --fill ROW     the row that stands for each row of a group that is not good
-  --signed       the rows are signed (zigzag), the fill row too
-  --out FILE     where the new stream goes. It is never STREAM, and is written in one step: whatever
-                 happens, FILE is the old one or the new one, whole
+  --positions FILE  as the row index of an ORC file lists them: a line each, with the byte of a run in
+                    STREAM, the rows to skip from there, and the rows of the group. A group may begin
+                    inside a run, as most groups of the Apache writers do
+  --groups FILE     groups that begin where runs begin: a line each, with the byte that the group starts
+                    at in STREAM, and its rows. A group that begins inside a run is not one of these: it
+                    is replaced, also if STREAM is whole
 
-A group is good if its bytes, up to the next start or the end, read whole with exactly its rows: it is
-kept, byte for byte. Any other is replaced by as many fill rows. A line for each group, in order, on
-standard output: kept or replaced, its number from 0, its rows. The new stream reads whole.
+Bytes count in STREAM, not in the chunks of a compressed file. Rows that are missing (null) are not in
+STREAM, and are not counted.
+
+  --fill ROW        the row that stands for each row of a group that is not good
+  --signed          the rows are signed (zigzag), the fill row too
+  --out FILE        where the new stream goes. It is never STREAM, and is written in one step: whatever
+                    happens, FILE is the old one or the new one, whole. - is standard output, and the
+                    lines go to standard error then
+  --new-positions FILE
+                    where the groups begin in the new stream: lines like those of --positions, or of
+                    --groups. It is written like the new stream, and after it
+
+With --positions a group is good if all its rows can be read from its position, and the next group
+begins after them; after the last group, STREAM ends. Good groups keep their rows, and all rows are
+written anew. With --groups a group is good if its bytes, up to the next start or the end, read whole
+with exactly its rows: it is kept, byte for byte. Every row of any other group becomes the fill row. The
+new stream reads whole, with as many rows as are listed. Damage that leaves a group good is not seen.
+
+A line for each group, in order, on standard output: kept or replaced, its number from 0, its rows. The
+last line says how many rows were kept, and how many were lost; with --groups it goes to standard error.
+If STREAM is whole, with as many rows as are listed, and groups are replaced all the same, standard error
+says so: the list is not right, and the new stream, which is written, is worse than STREAM.
 
 Status: 0 it is written, 1 it is refused and nothing is written, 2 bad usage, or a file cannot be read
 or written.
 ";
 
-struct Options {
-    stream: OsString,
-    groups: PathBuf,
-    fill: i64,
-    sign: Sign,
-    out: PathBuf,
-}
-
-fn options(arguments: Vec<OsString>) -> Result<Options, Failure> {
-    let mut arguments = Arguments::new(arguments);
-    let mut wanted =
-        |name: &str| arguments.value(name)?.ok_or_else(|| Failure::Usage(format!("{name} is missing")));
-    let (groups, out) = (PathBuf::from(wanted("--groups")?), PathBuf::from(wanted("--out")?));
-    let fill = row(&wanted("--fill")?.to_string_lossy())?;
-    let sign = if arguments.flag("--signed") { Sign::Signed } else { Sign::Unsigned };
-    let stream = arguments.name("STREAM")?;
-    if files::same(&out, stream.as_ref()) {
-        return Err(Failure::Usage("the new stream would be written over STREAM".into()));
-    }
-    if files::same(&out, &groups) {
-        return Err(Failure::Usage("the new stream would be written over the groups".into()));
-    }
-    Ok(Options { stream, groups, fill, sign, out })
-}
-
-/// A row: one at or above 2^63 is the one with the same bits.
-fn row(text: &str) -> Result<i64, Failure> {
-    let row = text.parse().or_else(|_| text.parse().map(|row: u64| row as i64));
-    row.map_err(|_| {
-        Failure::Usage(format!("--fill wants a row, a whole number of 64 bits, and {text} is none"))
-    })
-}
-
-/// The groups of a file, a line each.
-fn groups(path: &PathBuf) -> Result<Vec<Group>, Failure> {
-    let name = path.to_string_lossy();
-    let text = fs::read_to_string(path).map_err(Failure::unreadable(&name))?;
-    let group = |line: &str| {
-        let mut numbers = line.split_ascii_whitespace().map(str::parse);
-        match (numbers.next(), numbers.next(), numbers.next()) {
-            (Some(Ok(start)), Some(Ok(rows)), None) => {
-                Some(Group { start: ByteOffset(start), rows: RowNumber(rows) })
-            }
-            _ => None,
-        }
-    };
-    let lines = text.lines().enumerate().filter(|(_, line)| !line.trim().is_empty());
-    let told = |number: usize| {
-        format!("{name}, line {}: two numbers are wanted, a group's start and its rows", number + 1)
-    };
-    lines.map(|(number, line)| group(line).ok_or_else(|| Failure::Told(told(number)))).collect()
+/// What a salvage comes to.
+struct Salvage {
+    /// The new stream.
+    bytes: Vec<u8>,
+    /// A line a group.
+    report: String,
+    /// The groups of the new stream, a line each.
+    new_positions: String,
+    kept_rows: RowNumber,
+    lost_rows: RowNumber,
+    replaced_groups: usize,
 }
 
 fn run(arguments: Vec<OsString>) -> Result<Ended, Failure> {
-    let Options { stream, groups: listed, fill, sign, out } = options(arguments)?;
-    let listed = groups(&listed)?;
-    let input = files::read(&stream)?;
-    match salvage(&input, &listed, fill, sign) {
-        Ok(salvaged) => {
-            files::replace(&out, &salvaged.bytes)?;
-            ended::say(&salvaged.report)
+    let options = Options::new(arguments)?;
+    let list = List::read(&options.list, options.form)?;
+    let input = files::read(&options.stream)?;
+    let salvaged = match &list {
+        List::Groups(groups) => groups::salvaged(&input, groups, options.fill, options.sign),
+        List::Positions(groups) => positions::salvaged(&input, groups, options.fill, options.sign),
+    };
+    match salvaged {
+        Ok(salvage) => {
+            write(&salvage, &options)?;
+            say(&salvage, &options, &input)
         }
         Err(refused) => {
-            eprintln!("menakovitsy: {}", told(&refused, input.len()));
+            eprintln!("menakovitsy: {}", told(&refused, &list, input.len()));
             Ok(Ended::Refused)
         }
     }
 }
 
-/// A refusal, and what a support desk does about it.
-fn told(refused: &Refused, length: usize) -> String {
-    let advice = match refused.refusal {
-        Refusal::WrongStarts => format!(
-            "the starts must begin at 0, rise from line to line, and none may be above {length}, the length of \
-             the stream: compare the groups with the file's index, and the stream's length with the file's"
+/// The new stream, and then the new positions, which are nothing without it.
+fn write(salvage: &Salvage, options: &Options) -> Result<(), Failure> {
+    put(&options.out, &salvage.bytes)?;
+    let Some(path) = &options.new_positions else { return Ok(()) };
+    put(path, salvage.new_positions.as_bytes()).map_err(|failure| match failure {
+        Failure::Told(what) => Failure::Told(format!("{what}; {} is written", options.out.display())),
+        other => other,
+    })
+}
+
+/// Writes a file in one step, or standard output.
+fn put(path: &Path, bytes: &[u8]) -> Result<(), Failure> {
+    if path.as_os_str() != "-" {
+        return files::replace(path, bytes);
+    }
+    let mut output = io::stdout().lock();
+    output.write_all(bytes).and_then(|()| output.flush()).map_err(Failure::output)
+}
+
+/// The report, and the last line. Of `--groups` standard output has exactly a line a group. What is said on
+/// standard error is said also if nobody reads the report.
+fn say(salvage: &Salvage, options: &Options, input: &[u8]) -> Result<Ended, Failure> {
+    let Salvage { report, kept_rows, lost_rows, replaced_groups, .. } = salvage;
+    let last = format!("rows: {kept_rows} kept, {lost_rows} lost\n");
+    let (report, beside) = match options.form {
+        Form::Positions => (format!("{report}{last}"), String::new()),
+        Form::Groups => (report.clone(), last),
+    };
+    let said = if options.take_standard_output() {
+        eprint!("{report}");
+        Ok(Ended::Well)
+    } else {
+        ended::say(&report)
+    };
+    eprint!("{beside}");
+    if *replaced_groups > 0 && is_whole(input, options.sign, *kept_rows + *lost_rows) {
+        eprintln!("menakovitsy: {}", not_damaged(salvage, options));
+    }
+    said
+}
+
+/// Whether a stream reads to its end, with exactly this many rows.
+fn is_whole(input: &[u8], sign: Sign, rows: RowNumber) -> bool {
+    let end = RowPosition { skip: rows, ..RowPosition::default() };
+    Column::new(input, sign).read_at(end, &mut []) == Ok(None)
+}
+
+/// What is said if a stream is whole, and groups of it are replaced all the same.
+fn not_damaged(salvage: &Salvage, options: &Options) -> String {
+    let Salvage { kept_rows, lost_rows, replaced_groups, .. } = salvage;
+    let (why, instead) = match options.form {
+        Form::Groups => (
+            "the groups do not begin where runs begin, as those of --groups must",
+            "If the file's row index has rows to skip beside each byte, list byte, rows to skip and rows of \
+             each group, and use --positions instead of --groups",
         ),
-        Refusal::TooFewPlaces => {
-            "the groups that are not good list more rows than there is room for: a count of theirs is wrong. \
-             Compare them with the file's index"
-                .into()
-        }
-        other => other.advice().into(),
+        Form::Positions => (
+            "the positions are not those of its groups",
+            "Compare them with the file's row index: the byte, the rows to skip and the rows of each group",
+        ),
+    };
+    format!(
+        "the column is whole: STREAM reads to its end, with the {} rows that are listed. Groups that are \
+         replaced: {replaced_groups}, only because {why}\nwhat to do: keep STREAM, and do not use {}, which is \
+         written but lacks good rows. {instead}",
+        *kept_rows + *lost_rows,
+        options.out.display()
+    )
+}
+
+/// A refusal, and what a support desk does about it.
+fn told(refused: &Refused, list: &List, length: usize) -> String {
+    let advice = match list {
+        List::Groups(_) => groups::advice(refused.refusal, length),
+        List::Positions(groups) => positions::advice(refused.refusal, groups, length),
     };
     format!(
         "refusal {}: {}; nothing is written\nwhat to do: {advice}",

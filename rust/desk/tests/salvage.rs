@@ -41,7 +41,9 @@ fn the_sample() {
     );
     let folder = scratch("salvage");
     let said = salvaged(&folder, DAMAGED, "-1");
-    assert_eq!(said, Ran { status: 0, output: report(Some(groups::DAMAGED)), error: String::new() });
+    // Standard output has exactly a line a group; what it comes to is said beside it.
+    let last = "rows: 475 kept, 25 lost\n";
+    assert_eq!(said, Ran { status: 0, output: report(Some(groups::DAMAGED)), error: last.into() });
     let (whole, new) = (rows(&groups::sample().0), rows(&fs::read(folder.path("new")).unwrap()));
     assert_eq!((new.len(), &new[..175], &new[200..]), (500, &whole[..175], &whole[200..]));
     assert_eq!(new[175..200], [-1; 25]);
@@ -50,7 +52,7 @@ fn the_sample() {
     assert_eq!(fs::read_dir(folder.path("")).unwrap().count(), 3);
     // A whole stream comes out byte for byte, over an older file, too; and from standard input.
     let said = salvaged(&folder, &groups::sample().0, "7");
-    assert_eq!((said.status, said.output), (0, report(None)));
+    assert_eq!(said, Ran { status: 0, output: report(None), error: "rows: 500 kept, 0 lost\n".into() });
     assert_eq!(fs::read(folder.path("new")).unwrap(), groups::sample().0);
     let arguments =
         ["salvage", "-", "--groups", &folder.path("groups"), "--fill", "7", "--out", &folder.path("new")];
@@ -69,13 +71,35 @@ fn damaged_bytes() {
         let mut damaged = column.clone();
         damaged[at] ^= 1 << (at % 8) | 0x40;
         let said = salvaged(&folder, &damaged, "0");
-        assert_eq!((said.status, said.error.as_str()), (0, ""));
         let may = [report(None), report(Some(holder))];
         assert!(may.contains(&said.output), "byte {at}: {}", said.output);
-        replaced += usize::from(said.output == may[1]);
+        let lost = said.output == may[1];
+        replaced += usize::from(lost);
+        let last = if lost { "rows: 475 kept, 25 lost\n" } else { "rows: 500 kept, 0 lost\n" };
+        assert_eq!((said.status, said.error.as_str()), (0, last));
         assert_eq!(rows(&fs::read(folder.path("new")).unwrap()).len(), 500);
     }
     assert!(replaced > 15, "{replaced} of {} damages are seen", column.len());
+}
+
+/// The new starts, which are elsewhere after a group that was replaced: the new stream is good by them.
+#[test]
+fn new_starts() {
+    let folder = scratch("salvage-starts");
+    let (stream, groups) = (folder.holding("stream", DAMAGED), folder.holding("groups", GROUPS.as_bytes()));
+    let (new, starts) = (folder.path("new"), folder.path("starts"));
+    let arguments = ["salvage", &stream, "--groups", &groups, "--fill", "7", "--out", &new];
+    let said = menakovitsy(&[&arguments[..], &["--new-positions", &starts]].concat(), &[]);
+    assert_eq!((said.status, said.output), (0, report(Some(groups::DAMAGED))));
+    // A group of 77 bytes became a fixed delta of four.
+    let (_, listed) = groups::sample();
+    let end = listed[groups::DAMAGED + 1].0;
+    let moved = |(start, rows): &(usize, usize)| (if *start < end { *start } else { start - 77 + 4 }, *rows);
+    assert_eq!(end - listed[groups::DAMAGED].0, 77);
+    assert_eq!(folder.text("starts"), groups::lines(&listed.iter().map(moved).collect::<Vec<_>>()));
+    let arguments = ["salvage", &new, "--groups", &starts, "--fill", "7", "--out", &folder.path("again")];
+    assert_eq!(menakovitsy(&arguments, &[]).output, report(None));
+    assert_eq!(fs::read(folder.path("again")).unwrap(), fs::read(new).unwrap());
 }
 
 #[test]

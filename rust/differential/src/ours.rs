@@ -2,6 +2,7 @@
 pub mod batches;
 pub mod byte_writer;
 mod columns;
+pub mod rescue;
 
 use menakovitsy::{
     read_run, read_run_bytes, write_patched, ByteOffset, Column, Refusal, Refused, Sign, MAX_ROWS,

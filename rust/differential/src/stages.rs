@@ -84,6 +84,8 @@ impl Session {
         self.booleans();
         self.in_batches();
         self.byte_runs();
+        #[cfg(feature = "ours")]
+        self.rescued();
         self.values();
         self.written();
         self.patched_runs();

@@ -6,6 +6,7 @@ mod outcome;
 mod planned;
 mod questions;
 mod reading;
+mod rescued;
 mod whole;
 mod writing;
 
@@ -16,10 +17,11 @@ use differential::stages::convert;
 use differential::stages::count;
 use differential::stages::index;
 use differential::stages::labels::{self, Asked};
+use differential::stages::rescue;
 use differential::stages::salvage;
 use menakovitsy::exported::{
-    CHECK_WORDS, COLUMN_WORDS, CONVERT_WORDS, COUNT_WORDS, LABEL_WORDS, PART_WORDS, SALVAGE_WORDS,
-    STATE_WORDS, STREAM_WORDS, TOO_FEW_WORDS, WORDS,
+    CHECK_WORDS, COLUMN_WORDS, CONVERT_WORDS, COUNT_WORDS, LABEL_WORDS, PART_WORDS, RESCUE_WORDS,
+    SALVAGE_WORDS, STATE_WORDS, STREAM_WORDS, TOO_FEW_WORDS, WORDS,
 };
 
 use crate::parts;
@@ -53,6 +55,7 @@ pub enum Call {
     Plan { rows: Vec<i64>, flag: u64, lent: [usize; 5] },
     Batched(batched::Asked),
     ByteRuns(byte_runs::Asked),
+    Rescue(rescue::Asked),
 }
 
 impl Call {
@@ -60,7 +63,7 @@ impl Call {
     pub fn any(random: &mut Random) -> Self {
         let flag = if random.once_in(8) { random.any() } else { random.below(2) as u64 };
         let places = random.pick(&[0, 1, 5, 12, 64, 512, 1000]);
-        match random.below(47) {
+        match random.below(49) {
             0..=1 => {
                 let bytes = 8 * places + if random.once_in(2) { random.below(8) } else { 0 };
                 Call::Run { input: frames::any_frame(random), flag, bytes: bytes.min(MOST) }
@@ -101,6 +104,7 @@ impl Call {
             31..=34 => planned::any(flag, random),
             35..=42 => Call::Batched(batched::any(flag, random)),
             43..=45 => Call::ByteRuns(byte_runs::any(random)),
+            46..=47 => rescued::any(flag, random),
             _ => {
                 let shift = random.below(64);
                 Call::Narrowest { number: random.any() >> shift }
@@ -131,6 +135,7 @@ impl Call {
             Call::Plan { .. } => "orc_plan",
             Call::Batched(asked) => asked.function().0,
             Call::ByteRuns(asked) => asked.function().0,
+            Call::Rescue(_) => "orc_rescue",
         }
     }
 
@@ -149,6 +154,7 @@ impl Call {
             Call::CheckColumn(..) => CHECK_WORDS,
             Call::Batched(asked) => asked.function().1,
             Call::ByteRuns(asked) => asked.function().1,
+            Call::Rescue(_) => RESCUE_WORDS,
             _ => WORDS,
         }
     }
@@ -205,6 +211,7 @@ impl Call {
             Call::Plan { rows, lent, .. } => Lending { given: rows, lent_columns: *lent, ..none },
             Call::Batched(asked) => asked.lending(),
             Call::ByteRuns(asked) => asked.lending(),
+            Call::Rescue(asked) => rescued::lending(asked),
         }
     }
 
@@ -241,6 +248,7 @@ impl Call {
             Call::CheckColumn(asked, room) => planned::checked(asked, *room),
             Call::Batched(asked) => asked.outcome(),
             Call::ByteRuns(asked) => asked.outcome(),
+            Call::Rescue(asked) => rescued::outcome(asked),
             // What it proposes has no one right value: `Session` holds it to its safety.
             Call::Plan { .. } => Outcome::default(),
             Call::Narrowest { number } => {

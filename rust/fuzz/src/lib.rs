@@ -201,6 +201,9 @@ impl Session {
                     What::SizeOfBooleans => exported::orc_size_of_booleans(i, il),
                     What::SizeOfBytes => exported::orc_size_of_bytes(i, il),
                 },
+                Call::Rescue(ref asked) => exported::orc_rescue(
+                    i, il, x, xl, y, yl, z, zl, asked.fill, asked.flag, r, rl, b, bl, w, wl,
+                ),
                 Call::Plan { flag, .. } => exported::orc_plan(g, gl, flag, x, xl, y, yl, z, zl, u, ul, v, vl),
                 Call::Run { flag, .. } => exported::orc_read_run(i, il, b, bl, flag),
                 Call::RunAt { at, flag, .. } => exported::orc_read_run_at(i, il, at, flag, r, rl, w, wl),

@@ -16,7 +16,7 @@ fn a_million_calls(seed: u64) {
     // Each function gave each answer that it can give.
     let readers = [0, 1, 2, 3, 4, 5, 6, 7, 8, 12, 13, 14];
     let too_few = u64::MAX;
-    let answers: [(&str, &[u64]); 30] = [
+    let answers: [(&str, &[u64]); 31] = [
         ("orc_read_run", &readers),
         ("orc_read_run_at", &[&readers[..], &[too_few]].concat()),
         ("orc_read_stream", &[&readers[..], &[too_few]].concat()),
@@ -48,6 +48,7 @@ fn a_million_calls(seed: u64) {
         ("orc_write_bytes", &[0, 8, too_few]),
         ("orc_size_of_booleans", &[0]),
         ("orc_size_of_bytes", &[0]),
+        ("orc_rescue", &[0, 8, 17, too_few]),
     ];
     for (function, numbers) in answers {
         let given: Vec<u64> =

@@ -17,6 +17,7 @@ mod batches;
 mod byte_writer;
 mod columns;
 mod functions;
+mod rescue;
 
 pub use batches::*;
 pub use byte_writer::*;
@@ -24,9 +25,10 @@ pub use columns::{
     check_word, column_word, orc_check_column, orc_plan, orc_write_column, CHECK_WORDS, COLUMN_WORDS,
 };
 pub use functions::*;
+pub use rescue::*;
 
 /// The version of these functions that this crate is written for.
-pub const VERSION: u64 = 13;
+pub const VERSION: u64 = 14;
 
 /// How many words an answer has; the stream reader's has [`STREAM_WORDS`].
 pub const WORDS: usize = 9;

@@ -23,7 +23,8 @@
 //! | a byte value, as a part of the input | [`byte_value`] |
 //! | an index beside a column, to start at any row | [`Index`]: [`build`](Index::build), [`look_up`](Index::look_up), [`rows`](Index::rows), [`rows_from`](Index::rows_from) |
 //! | the names of all rows, by a dictionary, or of one | [`Labels`], [`label_column`], [`label`] |
-//! | a damaged column salvaged, by its row groups | [`salvage()`] |
+//! | a damaged column salvaged, by row groups that begin where runs begin | [`salvage()`] |
+//! | its rows rescued, by the positions that its row index lists | [`rescue()`], [`rescue_into`] |
 //! | a column's odd widths retired | [`convert()`] |
 //! | a column written, cut into runs by the planner | [`write_column`], [`column_room`] |
 //! | the same by a proposal of one's own | [`Proposal`], [`plan`], [`check_column`], [`write_proposed`] |
@@ -75,6 +76,7 @@ mod ones;
 mod parts;
 mod patched;
 mod refusal;
+mod rescue;
 mod salvage;
 mod units;
 mod version;
@@ -105,6 +107,7 @@ pub use ones::count_true;
 pub use parts::{PartReader, PartRun};
 pub use patched::write_patched;
 pub use refusal::Refusal;
+pub use rescue::{rescue, rescue_into, PositionedGroup, Rescued, RescuedInto, Verdict, MOST_LOST};
 pub use salvage::{salvage, Group, Salvaged, MOST_FILL};
 pub use units::{ByteOffset, RowNumber};
 pub use version::{check_version, OtherVersion};

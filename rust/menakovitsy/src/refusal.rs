@@ -41,7 +41,8 @@ pub enum Refusal {
     WrongIndex,
     /// 16: there is no such row.
     NoSuchRow,
-    /// 17: the starts of row groups do not begin at 0, do not rise strictly or pass the end.
+    /// 17: the starts of row groups do not begin at 0, do not rise strictly or pass the end; or the positions
+    /// of row groups are not in order.
     WrongStarts,
     /// 18: a length of the dictionary is below 0, or they do not add up to its block.
     LengthsNotTheBlock,
@@ -139,7 +140,7 @@ impl Refusal {
             Refusal::WrongIndex => "the index is not this column's, or its columns have unequal lengths",
             Refusal::NoSuchRow => "there is no such row",
             Refusal::WrongStarts => {
-                "row groups: the starts do not begin at 0, do not rise strictly or pass the column's end"
+                "row groups: their starts or positions do not begin at 0, are not in order or pass the column's end"
             }
             Refusal::LengthsNotTheBlock => {
                 "dictionary: a length is below 0, or the lengths do not add up to the block"
@@ -233,7 +234,8 @@ impl Refusal {
             Refusal::WrongIndex => "build the index again; where that is refused, the column is damaged",
             Refusal::NoSuchRow => "ask for a row below the number of rows (of labels: of flags)",
             Refusal::WrongStarts => {
-                "give the starts and rows of this column's groups, from 0 on, all of them and in order"
+                "give the starts or positions and the rows of this column's groups, from 0 on, all of them and \
+                 in order"
             }
             Refusal::LengthsNotTheBlock => {
                 "give the lengths and the block of one dictionary, both whole; if they are, the file is damaged"

@@ -3,7 +3,8 @@ use crate::answers::Words;
 use crate::exported::{self, salvage_word};
 use crate::{write_run, ByteOffset, Form, Refused, RowNumber, Sign, MAX_ROWS};
 
-/// A row group, as a file's index lists it.
+/// A row group that begins where a run begins. (If runs go on across groups, as in files of the Apache writers,
+/// their row index lists rows to skip as well: see [`PositionedGroup`](crate::PositionedGroup).)
 #[derive(Debug, Clone, Copy, PartialEq, Eq, Hash)]
 pub struct Group {
     /// The byte of the column that it starts at.
@@ -46,7 +47,8 @@ const LONGEST_LINE: usize = "replaced 18446744073709551615 18446744073709551615\
 
 /// Salvages a column: each group whose bytes, up to the next start or the end, read as a whole column of
 /// exactly its rows is kept, byte for byte; any other is replaced by runs of the fill row, as many rows as
-/// it lists.
+/// it lists. A group that begins or ends inside a run is replaced, also if the column is whole: for such
+/// groups there is [`rescue`](crate::rescue()).
 ///
 /// # Errors
 ///

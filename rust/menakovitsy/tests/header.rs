@@ -6,8 +6,8 @@ use std::{env, fs};
 
 use menakovitsy::exported::{
     self, batch_word, bytes_word, bytes_written_word, case, check_word, column_word, convert_word,
-    count_word, entry_word, flags_word, index_word, kind, label_word, labels_word, part_word, rows_from_word,
-    salvage_word, spread_word, word,
+    count_word, entry_word, flags_word, index_word, kind, label_word, labels_word, part_word, rescue_word,
+    rows_from_word, salvage_word, spread_word, word,
 };
 use menakovitsy::Refusal;
 
@@ -51,6 +51,7 @@ fn the_header_has_the_same_numbers() {
     has(&format!("#define ORC_SPREAD_WORDS {}\n", exported::SPREAD_WORDS));
     has(&format!("#define ORC_LABELS_WORDS {}\n", exported::LABELS_WORDS));
     has(&format!("#define ORC_BYTES_WRITTEN_WORDS {}\n", exported::BYTES_WRITTEN_WORDS));
+    has(&format!("#define ORC_RESCUE_WORDS {}\n", exported::RESCUE_WORDS));
     has("#define ORC_TOO_FEW_WORDS UINT64_MAX\n");
     has(&format!("#define ORC_MAX_ROWS {}\n", exported::MAX_ROWS));
     has(&format!("#define ORC_MAX_RUN_BYTES {}\n", exported::MAX_RUN_BYTES));
@@ -114,6 +115,8 @@ fn the_header_has_the_same_numbers() {
         ("LABELS_REFUSED_ROW", labels_word::REFUSED_ROW),
         ("BYTES_WRITTEN_TAKEN", bytes_written_word::TAKEN),
         ("BYTES_WRITTEN_SIZE", bytes_written_word::SIZE),
+        ("RESCUE_ROWS", rescue_word::ROWS),
+        ("RESCUE_KEPT", rescue_word::KEPT),
     ] {
         has(&format!("    ORC_{name} = {place}"));
     }
@@ -211,5 +214,16 @@ fn flags_written_in_c() {
          flag 23 is 1, flag 24 is 0\n\
          refused: the flags want 4 bytes\n\
          132 levels in 4 bytes: 7e 05 00 05\n",
+    );
+}
+
+/// Rows rescued by positions: of a whole column, of a damaged one, and of one that ends too early.
+#[test]
+fn rescue_in_c() {
+    writes(
+        "rescue.c",
+        "whole: 3 of 3 groups kept: kept 300 300 300 kept 300 300 1 2 kept 3 10 12 14 16 18\n\
+         the last run damaged: 2 of 3 groups kept: kept 300 300 300 kept 300 300 1 2 replaced -1 -1 -1 -1 -1 -1\n\
+         cut before the last group begins: refusal 17\n",
     );
 }

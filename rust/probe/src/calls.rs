@@ -5,6 +5,7 @@
 //! not, it would stay within the guards of `Lent`, or be found by the fences of the crate `fuzz`.
 pub mod batches;
 pub mod byte_writer;
+pub mod rescue;
 
 use menakovitsy::exported;
 

@@ -5,7 +5,7 @@ use model::{Batch, FlagPosition, Flags, Refusal, RowPosition, Stream};
 use super::{place, sign, BEFORE, ROW_BEFORE};
 
 /// Whether a refusal of the wrapper's is the model's.
-fn same(refused: &menakovitsy::Refused, paper: &Refusal) -> bool {
+pub(super) fn same(refused: &menakovitsy::Refused, paper: &Refusal) -> bool {
     let cut = refused.cut.map(|byte| byte.0);
     (refused.refusal.number(), place(refused), cut) == (paper.number.into(), paper.place, paper.cut)
 }

@@ -1,7 +1,7 @@
 //! Every public function through the probe program.
 use super::{
     batches, column_lines, columns, convert, count, cuts, index, labels, lined_up, parts, patched_runs,
-    patches, plans, salvage, varints, Session,
+    patches, plans, rescue, salvage, varints, Session,
 };
 use crate::frames;
 use crate::listed::{Call, LIST};
@@ -50,6 +50,7 @@ impl Session {
         batches::fixed_lines(requests);
         lined_up::fixed_lines(requests);
         lined_up::fixed_written(requests);
+        rescue::fixed_lines(requests);
         for turn in 0..self.size.pick(1_000, 100_000, 1_000_000) {
             probe_line(&mut probe.requests, &mut self.random);
             patched_runs::probe_line(&mut probe.requests, &mut self.random);
@@ -61,6 +62,7 @@ impl Session {
             convert::probe_line(&mut probe.requests, &mut self.random);
             batches::probe_line(&mut probe.requests, &mut self.random);
             lined_up::probe_line(&mut probe.requests, &mut self.random);
+            rescue::probe_line(&mut probe.requests, &mut self.random);
             // Their answers take the model long.
             if turn % 3 == 0 {
                 columns::probe_line(&mut probe.requests, &mut self.random);

@@ -1,7 +1,11 @@
 //! Rows rescued by positions, in lines for the probe: 19.
-use model::Answer;
+use model::{Answer, Positions, Rescued};
 
+#[cfg(feature = "ours")]
+use super::Session;
 use crate::frames;
+#[cfg(feature = "ours")]
+use crate::listed::Call;
 use crate::probe::Requests;
 use crate::random::Random;
 use crate::tally::Hex;
@@ -17,6 +21,13 @@ pub struct Asked {
 }
 
 impl Asked {
+    /// What the model answers.
+    pub fn answer(&self) -> Rescued {
+        let [runs, skips, counts] = self.columns.each_ref().map(Vec::as_slice);
+        let groups = Positions { runs, skips, counts };
+        model::rescue(&self.input, self.flag != 0, groups, self.fill, self.places)
+    }
+
     /// As a line of the probe.
     pub fn line(&self) -> String {
         let Asked { input, flag, fill, columns, places } = self;
@@ -118,6 +129,28 @@ pub fn any(random: &mut Random) -> Asked {
             random.pick(&[*places, *places, *places, *places + 1, *places + 20, places.saturating_sub(1)]);
     }
     asked
+}
+
+#[cfg(feature = "ours")]
+impl Session {
+    /// Rescues through the wrapper. The Rust has no counterpart.
+    pub(super) fn rescued(&mut self) {
+        if self.ours.is_none() {
+            return;
+        }
+        self.tally.stage("rows rescued by positions");
+        for _ in 0..self.size.pick(2_000, 100_000, 1_000_000) {
+            let asked = any(&mut self.random);
+            let paper = asked.answer();
+            match crate::ours::rescue::check(&asked, &paper) {
+                Ok(answers) => self.tally.ours(answers),
+                Err(answer) => {
+                    let call = Call::Stream { signed: asked.flag != 0 };
+                    self.tally.differs(&asked.input, call, &format!("{paper:?}"), "ours", &answer);
+                }
+            }
+        }
+    }
 }
 
 /// Any rescue, as a line for the probe.

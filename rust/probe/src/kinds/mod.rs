@@ -11,6 +11,7 @@ mod index;
 mod labels;
 mod lined_up;
 mod parts;
+mod rescue;
 mod runs;
 mod salvage;
 mod value;
@@ -21,7 +22,7 @@ use crate::line::Fields;
 /// Takes the fields behind the first byte, and answers the line. Nothing for a bad line.
 type Kind = fn(Fields) -> Option<String>;
 
-const KINDS: [(u64, Kind); 24] = [
+const KINDS: [(u64, Kind); 25] = [
     (0x01, runs::run),
     (0x02, runs::stream),
     (0x03, booleans::booleans),
@@ -46,6 +47,7 @@ const KINDS: [(u64, Kind); 24] = [
     (0x16, lined_up::labels),
     (0x17, byte_writer::booleans),
     (0x18, byte_writer::bytes),
+    (0x19, rescue::rescue),
 ];
 
 /// The answer to a frame. Nothing for a bad line.

@@ -19,7 +19,7 @@ use differential::probe::Requests;
 use differential::random::Random;
 use differential::stages::{
     batches, column_lines, columns, convert, count, index, labels, lined_up, parts, patched_runs, probe_line,
-    salvage,
+    rescue, salvage,
 };
 use model::Form;
 
@@ -347,6 +347,10 @@ fn list() -> Requests {
     lined_up::fixed_written(&mut requests);
     for _ in 0..150 {
         lined_up::written_line(&mut requests, &mut random);
+    }
+    rescue::fixed_lines(&mut requests);
+    for _ in 0..150 {
+        rescue::probe_line(&mut requests, &mut random);
     }
     requests
 }
