@@ -7,8 +7,9 @@
  *
  * Slices. A slice is a pointer, and after it the length in elements (bytes, int64_t or uint64_t). If the
  * length is 0, the pointer may be null. A slice with a const pointer is read. Any other is a buffer that the
- * call writes to: its elements are called places, what is written is in the first of them, and every place
- * after that keeps its content. Pointers to int64_t and uint64_t are aligned as C aligns them.
+ * call writes to. Its elements are called places. What is written is in the first of them, and the places after
+ * that keep their content, unless the function says otherwise. Pointers to int64_t and uint64_t are aligned as
+ * C aligns them.
  *
  * Overlap. A buffer that is written must not overlap any other argument. Two slices that are only read may
  * overlap.
@@ -18,15 +19,15 @@
  * the buffers that the caller keeps for it.
  *
  * Arguments. Positions, counts and n are uint64_t, and every number is answered. A position is a byte of the
- * input, counted from 0; one past the end is empty input. flag says how rows are stored: 0 if they are
+ * input, counted from 0; one past the end is empty input. `flag` says how rows are stored: 0 if they are
  * unsigned, any other number if they are signed (zigzag). An unsigned row of 2^63 or more is the int64_t with
  * the same bits.
  *
  * Answers. A function that takes words writes its answer into them and returns the refusal's number, 0 if
  * nothing is refused. How many words an answer has and what each of them means depends on the function.
- * Functions whose answers are alike are a family, and a family's names have its name in them: a program lends
- * orc_convert ORC_CONVERT_WORDS words and then reads words[ORC_CONVERT_BYTES]. Words after the answer's keep
- * their content. A later version may append words to a family; none changes its meaning.
+ * Functions whose answers are alike are a family, and a family's names have its name in them: a program calls
+ * orc_convert with ORC_CONVERT_WORDS words, and then reads words[ORC_CONVERT_BYTES]. A later version may append
+ * words to a family; none changes its meaning.
  *
  * Refusals. Every call returns, whatever the bytes are. A refused call writes its words and changes nothing
  * else; for the two exceptions see orc_read_stream and orc_part_take. orc_refusal_text says what a number
@@ -122,7 +123,7 @@ enum orc_answer {
     ORC_VALUE_CUT = 6,
     /* Patched base: a patch is outside the run or at the place of another, or the list ends with a skip. */
     ORC_PATCH_OUT_OF_PLACE = 7,
-    /* A buffer has too few places. Lend a larger one: the sizes above say what is always enough. */
+    /* A buffer has too few places. Call again with a larger one: the sizes above say what is always enough. */
     ORC_TOO_FEW_PLACES = 8,
     /* Writer: the form does not allow this many rows. */
     ORC_ROW_COUNT = 9,
@@ -159,8 +160,8 @@ enum orc_answer {
     ORC_RUN = 65536
 };
 
-/* What a function returns if it is lent fewer words than its answer has. It has then touched nothing: no
- * word, row or byte. */
+/* What a function returns if words_len is below the number of words of its answer. It has then touched nothing:
+ * no word, row or byte. */
 #define ORC_TOO_FEW_WORDS UINT64_MAX
 
 /* What a refusal's number means, and, in parentheses, what to do. Every number has a text. */
@@ -215,7 +216,7 @@ static inline const char *orc_refusal_text(uint64_t number)
                "offset is wrong)";
     case ORC_WRONG_INDEX:
         return "the index is not this column's, or its columns have unequal lengths (build the index again; "
-               "where that is refused, the column is damaged)";
+               "if that is refused, the column is damaged)";
     case ORC_NO_SUCH_ROW:
         return "there is no such row (ask for a row below the number of rows (of labels: of flags))";
     case ORC_WRONG_STARTS:
@@ -333,13 +334,13 @@ enum orc_run_word {
     ORC_RUN_WIDTH = 8
 };
 
-/* Reads the run that begins at byte at of input into the first places of rows. ORC_CASE_END if there is no
+/* Reads the run that begins at byte `at` of input into the first places of rows. ORC_CASE_END if there is no
  * byte there. Refused with 1 to 7 or 12 to 14, as the bytes are; then with ORC_TOO_FEW_PLACES if the run has
  * more than rows_len rows. */
 uint64_t orc_read_run_at(const uint8_t *input, size_t input_len, uint64_t at, uint64_t flag,
                          int64_t *rows, size_t rows_len, uint64_t *words, size_t words_len);
 
-/* Reads n booleans from byte at of input on into the first n bytes of out, each as 0 or 1. Byte runs are
+/* Reads n booleans from byte `at` of input on into the first n bytes of out, each as 0 or 1. Byte runs are
  * taken whole: ORC_RUN_BYTES counts all of the last one that is needed, also if not all of its booleans were
  * asked for. So a call at the byte after it does not go on with the next boolean. To read a column in batches
  * use orc_read_flags. Refused with ORC_VALUE_CUT (a control byte is missing) or ORC_ROWS_CUT (a byte run is
@@ -347,24 +348,25 @@ uint64_t orc_read_run_at(const uint8_t *input, size_t input_len, uint64_t at, ui
 uint64_t orc_read_booleans(const uint8_t *input, size_t input_len, uint64_t at, uint64_t n,
                            uint8_t *out, size_t out_len, uint64_t *words, size_t words_len);
 
-/* The byte value of length n at byte at of input. It is not copied: if nothing is refused, it is the bytes
+/* The byte value of length n at byte `at` of input. It is not copied: if nothing is refused, it is the bytes
  * input[at] to input[at + n - 1]. A value of length 0 has no bytes, and is never refused, also past the end.
  * Refused with ORC_VALUE_CUT if the input ends before the value does. */
 uint64_t orc_byte_value(const uint8_t *input, size_t input_len, uint64_t at, uint64_t n,
                         uint64_t *words, size_t words_len);
 
-/* Writes rows as one run of an orc_form into the first bytes of out. orc_form says which rows and which width
- * a form has. ORC_MAX_WRITTEN bytes hold any run. Refused in this order: ORC_ROW_COUNT, ORC_NOT_THE_FORM,
- * ORC_TOO_NARROW, ORC_TOO_FEW_PLACES. */
+/* Writes rows as one run into the first bytes of out. `form` is an orc_form, which says what rows a form takes
+ * and what `width` is. ORC_MAX_WRITTEN bytes hold any run. Refused in this order: ORC_ROW_COUNT,
+ * ORC_NOT_THE_FORM, ORC_TOO_NARROW, ORC_TOO_FEW_PLACES. */
 uint64_t orc_write_run(const int64_t *rows, size_t rows_len, uint64_t flag, uint64_t form,
                        uint64_t width, uint8_t *out, size_t out_len, uint64_t *words,
                        size_t words_len);
 
 /* Writes rows, 1 to ORC_MAX_ROWS of them, as one patched run into the first bytes of out. Each row is stored
- * as its difference from base: the low width bits are packed, and what is above them becomes a patch. width is
- * in bits and must be a kept one. The run reads back as the rows under either flag. Refused in this order:
- * ORC_ROW_COUNT; ORC_NOT_THE_FORM if the width is not kept, the list would have more than ORC_MAX_PATCHES
- * entries, a patch needs more than ORC_MAX_PATCH_BITS bits, or base is -2^63; ORC_TOO_FEW_PLACES. */
+ * as its difference from `base`: the low `width` bits are packed, and what is above them becomes a patch. The
+ * width is in bits and must be a kept one: 1, 2, 4, 8, 16, 24, 32, 40, 48, 56 or 64. The run reads back as the
+ * rows under either flag. Refused in this order: ORC_ROW_COUNT; ORC_NOT_THE_FORM if the width is not kept, the
+ * list would have more than ORC_MAX_PATCHES entries, a patch needs more than ORC_MAX_PATCH_BITS bits, or `base`
+ * is -2^63; ORC_TOO_FEW_PLACES. */
 uint64_t orc_write_patched(const int64_t *rows, size_t rows_len, int64_t base, uint64_t width,
                            uint8_t *out, size_t out_len, uint64_t *words, size_t words_len);
 
@@ -398,7 +400,7 @@ enum orc_stream_word {
     ORC_STREAM_LAST_BYTES = 13
 };
 
-/* Reads all runs from byte at of input to its end into rows, one after the other. If there are no bytes, that
+/* Reads all runs from byte `at` of input to its end into rows, one after the other. If there are no bytes, that
  * is a whole stream of no rows. It stops at the first run that is refused, with ORC_TOO_FEW_PLACES if the run
  * has more rows than there are places left. The rows of the runs before it are in the first places, and
  * ORC_STREAM_ROWS and ORC_STREAM_BYTES count them; the places after these are as they were. */
@@ -436,12 +438,12 @@ enum orc_part_word {
 };
 
 /* Makes the state of a new reader, in the first ORC_STATE_WORDS of state, and returns 0. The calls below keep
- * it up to date. Beside it the caller keeps held, a buffer of ORC_MAX_RUN_BYTES bytes, for the bytes of the
+ * it up to date. Beside it the caller keeps `held`, a buffer of ORC_MAX_RUN_BYTES bytes, for the bytes of the
  * one run that is unfinished. Every state is answered, also one that no start led to. With fewer than
  * ORC_STATE_WORDS words in state: ORC_TOO_FEW_WORDS. */
 uint64_t orc_part_start(uint64_t *state, size_t state_len);
 
-/* Takes a part of the column. Parts may have any size, and may be empty.
+/* Takes `part`, the next bytes of the column. Parts may have any size, and may be empty.
  *
  * If a run ends in the part (ORC_CASE_READ), its rows are in the first places of rows, and the part is taken
  * up to the run's end: call again with the bytes after the first ORC_PART_TAKEN. Otherwise (ORC_CASE_MORE) all
@@ -486,14 +488,14 @@ enum orc_batch_word {
 };
 
 /* Reads the rows from a position on into rows, as many as there are places. A position is what ORC's row index
- * holds for an integer column: run is the byte where a run begins, and skip the rows to skip from there. Runs
- * that are skipped are measured and not decoded.
+ * holds for an integer column: `run` is the byte where a run begins, and `skip` the rows to skip from there.
+ * Runs that are skipped are measured and not decoded.
  *
  * ORC_CASE_READ: ORC_BATCH_ROWS rows are in the first places, and the next batch begins at the position
  * ORC_BATCH_NEXT_RUN, ORC_BATCH_NEXT_SKIP. There are fewer rows than places at the column's end, and before a
  * run that is refused: a damaged run costs none of the rows before it. The call after that answers
- * ORC_CASE_END, or that run's refusal. ORC_NO_SUCH_ROW if skip is more than the rows that there are. A column
- * is read whole by
+ * ORC_CASE_END, or that run's refusal. ORC_NO_SUCH_ROW if `skip` is more than the rows that there are. A
+ * column is read whole by
  *
  *     uint64_t run = 0, skip = 0;
  *     while (orc_read_rows(input, input_len, run, skip, 0, rows, 1024, words, ORC_BATCH_WORDS) == 0
@@ -516,7 +518,7 @@ enum orc_flags_word {
     ORC_FLAGS_CASE = 0,
     /* The refusal's number, an orc_answer; 0 unless refused. */
     ORC_FLAGS_NUMBER = 1,
-    /* The argument run; 0 unless refused. */
+    /* The argument `run`; 0 unless refused. */
     ORC_FLAGS_PLACE = 2,
     /* How many flags there are, in the first bytes: n. This word and the next three are 0 if refused. */
     ORC_FLAGS_GIVEN = 3,
@@ -530,10 +532,11 @@ enum orc_flags_word {
 };
 
 /* Reads the n flags after a position into the first n bytes of out, each as 0 or 1. A position is what ORC's
- * row index holds for a flag column: run is the byte where a byte run begins, bytes the bytes to skip from
- * there, of those that the runs stand for, and bits the bits of the next byte to skip. The next batch begins at
- * ORC_FLAGS_NEXT_RUN, ORC_FLAGS_NEXT_BYTES, ORC_FLAGS_NEXT_BITS. All or nothing: refused as orc_read_booleans
- * refuses all that is skipped and the n together, then with ORC_TOO_FEW_PLACES if out_len is below n. */
+ * row index holds for a flag column: `run` is the byte where a byte run begins, `bytes` the bytes to skip from
+ * there, of those that the runs stand for, and `bits` the bits of the next byte to skip. The next batch begins
+ * at ORC_FLAGS_NEXT_RUN, ORC_FLAGS_NEXT_BYTES, ORC_FLAGS_NEXT_BITS. All or nothing: refused as
+ * orc_read_booleans refuses all that is skipped and the n together, then with ORC_TOO_FEW_PLACES if out_len is
+ * below n. */
 uint64_t orc_read_flags(const uint8_t *input, size_t input_len, uint64_t run, uint64_t bytes, uint64_t bits,
                         uint64_t n, uint8_t *out, size_t out_len, uint64_t *words, size_t words_len);
 
@@ -545,7 +548,7 @@ enum orc_bytes_word {
     ORC_BYTES_CASE = 0,
     /* The refusal's number, an orc_answer; 0 unless refused. */
     ORC_BYTES_NUMBER = 1,
-    /* The argument run; 0 unless refused. */
+    /* The argument `run`; 0 unless refused. */
     ORC_BYTES_PLACE = 2,
     /* How many bytes there are, in the first places: n. This word and the next two are 0 if refused. */
     ORC_BYTES_GIVEN = 3,
@@ -603,8 +606,8 @@ enum orc_spread_word {
 };
 
 /* Makes a column with its missing rows filled. flags has a byte for each row of the column, and rows a row for
- * each flag that is not 0: place i of out gets the next of rows if flag i is not 0, and fill otherwise. Refused
- * in this order: ORC_NOT_LINED_UP, ORC_TOO_FEW_PLACES if out_len is below flags_len. */
+ * each flag that is not 0: place i of out gets the next of rows if flag i is not 0, and `fill` otherwise.
+ * Refused in this order: ORC_NOT_LINED_UP, ORC_TOO_FEW_PLACES if out_len is below flags_len. */
 uint64_t orc_spread(const uint8_t *flags, size_t flags_len, const int64_t *rows, size_t rows_len,
                     int64_t fill, int64_t *out, size_t out_len, uint64_t *words, size_t words_len);
 
@@ -629,9 +632,9 @@ enum orc_label_word {
 /* What a row is called. The dictionary is a block of names, one after the other, and the length of each.
  * flags has a byte for each row: any but 0 means that the row has a name. numbers has an entry for each row
  * that has a name and for no other: which name it is, counted from 0. The name is the ORC_LABEL_SIZE bytes of
- * block from ORC_LABEL_START on. A row without one is called by fallback, all of it.
+ * block from ORC_LABEL_START on. A row without one is called by `fallback`, all of it.
  *
- * Refused in this order: ORC_NO_SUCH_ROW if row is not below flags_len, ORC_LENGTHS_NOT_THE_BLOCK (also for a
+ * Refused in this order: ORC_NO_SUCH_ROW if `row` is not below flags_len, ORC_LENGTHS_NOT_THE_BLOCK (also for a
  * row without a name), ORC_NO_SUCH_NAME (only the entry of the row that is asked for counts). */
 uint64_t orc_label(const int64_t *lengths, size_t lengths_len, const int64_t *numbers,
                    size_t numbers_len, const uint8_t *flags, size_t flags_len, const uint8_t *block,
@@ -670,10 +673,10 @@ uint64_t orc_label_column(const uint8_t *flags, size_t flags_len, const int64_t 
 
 /* ---- The index of a stream ---- */
 
-/* The index beside a stream is three columns with an entry for each run: in first the number of the run's first
- * row, in at the byte where it begins, in counts how many rows it has. The stream is all of input. An index is
- * not trusted: each call compares it with the stream, without decoding rows for that. Columns of unequal length
- * are ORC_WRONG_INDEX before all else, in building too.
+/* The index beside a stream is three columns with an entry for each run: in `first` the number of the run's
+ * first row, in `at` the byte where it begins, in `counts` how many rows it has. The stream is all of input.
+ * An index is not trusted: each call compares it with the stream, without decoding rows for that. Columns of
+ * unequal length are ORC_WRONG_INDEX before all else, in building too.
  *
  * The family of orc_build_index. */
 #define ORC_INDEX_WORDS 8
@@ -697,10 +700,10 @@ enum orc_index_word {
     ORC_INDEX_CUT_AT = 7
 };
 
-/* Builds the index, in the first places of first, at and counts. ORC_INDEX_ROOM(input_len) places are always
- * enough. Refused in this order: ORC_WRONG_INDEX if the three have unequal lengths; the stream's own refusal;
- * ORC_TOO_FEW_PLACES if an entry lacks a place, or if the stream has 2^64 rows or more, for which no number of
- * places is enough. */
+/* Builds the index, in the first places of `first`, `at` and `counts`. ORC_INDEX_ROOM(input_len) places are
+ * always enough. Refused in this order: ORC_WRONG_INDEX if the three have unequal lengths; the stream's own
+ * refusal; ORC_TOO_FEW_PLACES if an entry lacks a place, or if the stream has 2^64 rows or more, for which no
+ * number of places is enough. */
 uint64_t orc_build_index(const uint8_t *input, size_t input_len, uint64_t *first, size_t first_len,
                          uint64_t *at, size_t at_len, uint64_t *counts, size_t counts_len,
                          uint64_t *words, size_t words_len);
@@ -721,7 +724,8 @@ enum orc_entry_word {
     ORC_ENTRY_ROWS = 5
 };
 
-/* Finds the entry of the run that holds a row. Refused in this order: ORC_WRONG_INDEX, ORC_NO_SUCH_ROW. */
+/* Finds the entry of the run that holds `row`, counted from 0. Refused in this order: ORC_WRONG_INDEX,
+ * ORC_NO_SUCH_ROW. */
 uint64_t orc_look_up(const uint8_t *input, size_t input_len, const uint64_t *first, size_t first_len,
                      const uint64_t *at, size_t at_len, const uint64_t *counts, size_t counts_len,
                      uint64_t row, uint64_t *words, size_t words_len);
@@ -740,7 +744,7 @@ enum orc_rows_from_word {
     ORC_ROWS_FROM_ROWS = 3
 };
 
-/* Reads all rows from a row to the stream's end into the first places of rows. Refused in this order:
+/* Reads all rows from number `row` to the stream's end into the first places of rows. Refused in this order:
  * ORC_WRONG_INDEX, ORC_NO_SUCH_ROW, ORC_TOO_FEW_PLACES. */
 uint64_t orc_read_from(const uint8_t *input, size_t input_len, const uint64_t *first, size_t first_len,
                        const uint64_t *at, size_t at_len, const uint64_t *counts, size_t counts_len,
@@ -764,11 +768,11 @@ enum orc_salvage_word {
     ORC_SALVAGE_REPORT = 4
 };
 
-/* Salvages a damaged stream by its row groups: starts has the byte where each begins, and counts its rows. A
+/* Salvages a damaged stream by its row groups: `starts` has the byte where each begins, `counts` its rows. A
  * group is kept, byte for byte, exactly if its bytes up to the next start (or the end) read as a whole stream
- * of exactly its rows. Otherwise it is replaced by fixed delta runs of the row fill, ORC_MAX_ROWS rows each and
- * the rest last (a group of 0 rows by nothing). The new stream is in the first bytes of out. It reads whole,
- * and has as many rows as counts lists. The report is in the first bytes of report, with no 0 at its end: a
+ * of exactly its rows. Otherwise it is replaced by fixed delta runs of `fill`, ORC_MAX_ROWS rows each and the
+ * rest last (a group of 0 rows by nothing). The new stream is in the first bytes of out. It reads whole,
+ * and has as many rows as `counts` lists. The report is in the first bytes of report, with no 0 at its end: a
  * line for each group, in order, with "kept" or "replaced", the group's number from 0 and its rows, a space
  * between them, and a newline.
  *
@@ -872,8 +876,8 @@ enum orc_check_word {
 };
 
 /* Checks a proposal, whoever made it. It is accepted exactly if its columns have one length, its segments cover
- * all rows in order with no overlap and no gap, the writer of each run accepts its segment, and room bytes hold
- * all runs. A column of no rows has the empty proposal, and no bytes. Returns 0, or ORC_TOO_FEW_WORDS. */
+ * all rows in order with no overlap and no gap, the writer of each run accepts its segment, and `room` bytes
+ * hold all runs. A column of no rows has the empty proposal, and no bytes. Returns 0, or ORC_TOO_FEW_WORDS. */
 uint64_t orc_check_column(const int64_t *rows, size_t rows_len, uint64_t flag, const uint64_t *first,
                           size_t first_len, const uint64_t *counts, size_t counts_len,
                           const uint64_t *forms, size_t forms_len, const uint64_t *widths,
