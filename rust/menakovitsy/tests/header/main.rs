@@ -9,5 +9,6 @@ mod declarations;
 mod declared;
 mod from_c;
 mod numbers;
+mod pages;
 mod sizes;
 mod texts;
