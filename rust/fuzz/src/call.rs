@@ -20,8 +20,8 @@ use differential::stages::labels::{self, Asked};
 use differential::stages::rescue;
 use differential::stages::salvage;
 use menakovitsy::exported::{
-    CHECK_WORDS, COLUMN_WORDS, CONVERT_WORDS, COUNT_WORDS, LABEL_WORDS, PART_WORDS, RESCUE_WORDS,
-    SALVAGE_WORDS, STATE_WORDS, STREAM_WORDS, TOO_FEW_WORDS, WORDS,
+    CHECK_WORDS, COLUMN_WORDS, CONVERT_WORDS, COUNT_WORDS, LABEL_WORDS, PART_WORDS, RESCUE_WORDS, RUN_WORDS,
+    SALVAGE_WORDS, STATE_WORDS, STREAM_WORDS, TOO_FEW_WORDS,
 };
 
 use crate::parts;
@@ -155,7 +155,7 @@ impl Call {
             Call::Batched(asked) => asked.function().1,
             Call::ByteRuns(asked) => asked.function().1,
             Call::Rescue(_) => RESCUE_WORDS,
-            _ => WORDS,
+            _ => RUN_WORDS,
         }
     }
 

@@ -35,14 +35,14 @@ static int flags_in_batches(void)
 static int count_flags(void)
 {
     static const uint8_t column[] = {0x00, 0xFF, 0xFF, 0x00};
-    uint64_t words[ORC_BYTES_WORDS];
+    uint64_t words[ORC_BYTES_WORDS], counted[ORC_COUNT_WORDS];
     uint8_t packed[4];
 
     if (orc_read_bytes(column, sizeof column, 0, 0, 4, packed, sizeof packed, words, ORC_BYTES_WORDS) != 0)
         return 1;
-    if (orc_count_true(packed, sizeof packed, 32, words, ORC_COUNT_WORDS) != 0)
+    if (orc_count_true(packed, words[ORC_BYTES_GIVEN], 32, counted, ORC_COUNT_WORDS) != 0)
         return 1;
-    printf("%" PRIu64 " of 32 flags are true\n", words[ORC_COUNT_TRUE]);
+    printf("%" PRIu64 " of 32 flags are true\n", counted[ORC_COUNT_TRUE]);
     return 0;
 }
 
@@ -55,7 +55,7 @@ static int rows_in_batches(void)
     int64_t rows[3];
 
     while (orc_read_rows(column, sizeof column, run, skip, 0, rows, 3, words, ORC_BATCH_WORDS) == 0
-           && words[ORC_CASE] == ORC_CASE_READ) {
+           && words[ORC_BATCH_CASE] == ORC_CASE_READ) {
         printf("%" PRIu64 " rows:", words[ORC_BATCH_ROWS]);
         for (uint64_t k = 0; k < words[ORC_BATCH_ROWS]; k++)
             printf(" %" PRId64, rows[k]);
@@ -63,7 +63,7 @@ static int rows_in_batches(void)
         skip = words[ORC_BATCH_NEXT_SKIP];
         printf(", next at byte %" PRIu64 ", %" PRIu64 " to skip\n", run, skip);
     }
-    if (words[ORC_CASE] != ORC_CASE_END)
+    if (words[ORC_BATCH_CASE] != ORC_CASE_END)
         return 1;
     printf("the column has ended\n");
     return 0;
@@ -84,7 +84,7 @@ static int rows_that_are_missing(void)
         printf(" %" PRId64, column[k]);
     printf("\n");
     if (orc_spread(flags, 4, rows, 2, -1, column, 4, words, ORC_SPREAD_WORDS) == ORC_NOT_LINED_UP)
-        printf("refusal %" PRIu64 ": flags and rows are not lined up\n", words[ORC_NUMBER]);
+        printf("refusal %" PRIu64 ": flags and rows are not lined up\n", words[ORC_SPREAD_NUMBER]);
     return 0;
 }
 

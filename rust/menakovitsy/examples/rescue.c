@@ -24,7 +24,7 @@ static int rescue(const char *what, const uint8_t *column, size_t length)
 
     if (orc_rescue(column, length, runs, GROUPS, skips, GROUPS, counts, GROUPS, -1, 0, rows, ROWS, verdicts,
                    GROUPS, words, ORC_RESCUE_WORDS) != 0) {
-        printf("%s: refusal %" PRIu64 "\n", what, words[ORC_NUMBER]);
+        printf("%s: refusal %" PRIu64 "\n", what, words[ORC_RESCUE_NUMBER]);
         return 0;
     }
     printf("%s: %" PRIu64 " of %d groups kept:", what, words[ORC_RESCUE_KEPT], GROUPS);

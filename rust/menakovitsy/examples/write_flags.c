@@ -19,7 +19,7 @@ static void print_bytes(const uint8_t *bytes, uint64_t count)
 /* 32 windows, the first 24 of them normalised. */
 static int write_flags(void)
 {
-    uint64_t words[ORC_WORDS];
+    uint64_t words[ORC_RUN_WORDS];
     uint8_t flags[32], back[32];
 
     for (size_t k = 0; k < sizeof flags; k++)
@@ -28,17 +28,17 @@ static int write_flags(void)
     uint8_t *column = malloc(room);
     if (column == NULL)
         return 1;
-    if (orc_write_booleans(flags, sizeof flags, column, room, words, ORC_WORDS) != 0) {
+    if (orc_write_booleans(flags, sizeof flags, column, room, words, ORC_RUN_WORDS) != 0) {
         free(column);
         return 1;
     }
-    uint64_t written = words[ORC_BYTES];
-    printf("%" PRIu64 " flags in %" PRIu64 " of %zu bytes:", words[ORC_ROWS], written, room);
+    uint64_t written = words[ORC_RUN_BYTES];
+    printf("%" PRIu64 " flags in %" PRIu64 " of %zu bytes:", words[ORC_RUN_ROWS], written, room);
     print_bytes(column, written);
-    if (orc_read_booleans(column, written, 0, sizeof back, back, sizeof back, words, ORC_WORDS) == 0)
+    if (orc_read_booleans(column, written, 0, sizeof back, back, sizeof back, words, ORC_RUN_WORDS) == 0)
         printf("flag 23 is %d, flag 24 is %d\n", back[23], back[24]);
     /* A byte too few: nothing is written, and the size says how many are wanted. */
-    if (orc_write_booleans(flags, sizeof flags, column, 3, words, ORC_WORDS) == ORC_TOO_FEW_PLACES)
+    if (orc_write_booleans(flags, sizeof flags, column, 3, words, ORC_RUN_WORDS) == ORC_TOO_FEW_PLACES)
         printf("refused: the flags want %" PRIu64 " bytes\n", orc_size_of_booleans(flags, sizeof flags));
     free(column);
     return 0;
@@ -48,12 +48,10 @@ static int write_flags(void)
 static int write_levels(void)
 {
     uint64_t words[ORC_BYTES_WRITTEN_WORDS];
-    uint8_t levels[132], column[134];
+    uint8_t levels[132], column[ORC_BYTE_ROOM(132)];
 
     for (size_t k = 0; k < sizeof levels; k++)
         levels[k] = 5;
-    if (orc_byte_room(sizeof levels) != sizeof column)
-        return 1;
     if (orc_write_bytes(levels, sizeof levels, column, sizeof column, words, ORC_BYTES_WRITTEN_WORDS) != 0)
         return 1;
     if (words[ORC_BYTES_WRITTEN_SIZE] != orc_size_of_bytes(levels, sizeof levels))

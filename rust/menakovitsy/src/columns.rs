@@ -1,6 +1,6 @@
 //! Columns, written: cut into runs by the planner or by whoever proposes, checked, and written.
 use crate::answers::Words;
-use crate::exported::{self, case, check_word, column_word, word};
+use crate::exported::{self, case, check_word, column_word};
 use crate::{ByteOffset, Form, Refused, RowNumber, Sign, MAX_ROWS};
 
 /// A run that is proposed for some rows of a column.
@@ -208,7 +208,7 @@ pub fn check_column(
         )
     };
     let counts = [check_word::RUNS, check_word::ROWS, check_word::BYTES];
-    match (words.number, words.lent[word::CASE]) {
+    match (words.number, words.lent[check_word::CASE]) {
         (0, case::NOT_ACCEPTED) => Ok(None),
         (0, case::READ) => counted(&words, true, counts, rows.len(), room).map(Some),
         _ => Err(words.unknown()),
@@ -290,7 +290,7 @@ fn write_by(
             words.lent.len(),
         )
     };
-    let direct = words.number == 0 && words.lent[word::CASE] == case::DIRECT;
+    let direct = words.number == 0 && words.lent[column_word::CASE] == case::DIRECT;
     if !direct {
         words.accepted(None)?;
     }

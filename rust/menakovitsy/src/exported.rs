@@ -4,14 +4,16 @@
 //! A slice passes as its pointer, then its length in elements; a null pointer with length 0 is
 //! allowed. Nothing that is written may overlap another argument. Calls share no state.
 //!
-//! A function that takes words writes its whole answer into the first [`WORDS`] of them, the stream
-//! reader into the first [`STREAM_WORDS`], and those with words of their own into as many as their
-//! constants say ([`LABEL_WORDS`] of `orc_label`, and so on). It leaves the others as they were, and
-//! returns the refusal's number, 0 where nothing is refused; lent fewer, it returns [`TOO_FEW_WORDS`] and
-//! touches nothing. What each word means stands in [`word`], and of those in the modules beside it.
+//! A function that takes words writes its answer into the first of them, leaves the others as they were,
+//! and returns the refusal's number, 0 if nothing is refused. How many words an answer has and what each
+//! means depends on the function. Functions whose answers are alike are a family, with a constant for the
+//! number of words and a module for their places: [`CONVERT_WORDS`] and [`convert_word`] for `orc_convert`.
+//! Lent fewer, a function returns [`TOO_FEW_WORDS`] and touches nothing.
 //!
-//! The reader in parts keeps nothing either: its state stands in the first [`STATE_WORDS`] of the words
-//! that the caller keeps for it, and the bytes of the unfinished run in the [`MAX_RUN_BYTES`] lent.
+//! The reader in parts keeps nothing either: its state is in the first [`STATE_WORDS`] of the words that
+//! the caller keeps for it, and the bytes of the unfinished run are in the [`MAX_RUN_BYTES`] lent.
+//!
+//! The names are those of `menakovitsy.h`: `convert_word::BYTES` is `ORC_CONVERT_BYTES` there.
 
 mod batches;
 mod byte_writer;
@@ -30,8 +32,9 @@ pub use rescue::*;
 /// The version of these functions that this crate is written for.
 pub const VERSION: u64 = 14;
 
-/// How many words an answer has; the stream reader's has [`STREAM_WORDS`].
-pub const WORDS: usize = 9;
+/// How many words the family of `orc_read_run_at`, `orc_read_booleans`, `orc_byte_value`, `orc_write_run`,
+/// `orc_write_patched` and `orc_write_booleans` has.
+pub const RUN_WORDS: usize = 9;
 
 /// How many words an answer of the stream reader has.
 pub const STREAM_WORDS: usize = 14;
@@ -61,17 +64,20 @@ pub const SALVAGE_WORDS: usize = 5;
 /// How many words an answer of `orc_convert` has.
 pub const CONVERT_WORDS: usize = 7;
 
+/// The most words of any answer.
+pub const MAX_WORDS: usize = STREAM_WORDS;
+
 /// What a function returns that was lent fewer words than its answer has.
 pub const TOO_FEW_WORDS: u64 = u64::MAX;
 
-/// The most rows that one run holds: with so many places, no run is refused for want of them.
+/// The most rows that one run holds: with this many places, no run is refused for want of them.
 pub const MAX_ROWS: usize = 512;
 
 /// The most bytes that one run takes up, of those that are read: a patched run of 512 rows of 64 bits
 /// with a base of 8 bytes and 31 entries of 64 bits.
 pub const MAX_RUN_BYTES: usize = 4356;
 
-/// The words of an answer, by their place. Later versions append words; none changes its meaning.
+/// The first three words of every family but [`check_word`]'s, for code that handles the answers of several.
 pub mod word {
     /// The case: see [`case`](super::case).
     pub const CASE: usize = 0;
@@ -79,21 +85,37 @@ pub mod word {
     pub const NUMBER: usize = 1;
     /// The byte where what is refused begins, 0 unless refused.
     pub const PLACE: usize = 2;
-    /// The kind of a run: see [`kind`](super::kind). 0 where there is none, and for a stream.
+}
+
+/// The words of one run, of booleans or of a byte value, by their place. Later versions append words; none
+/// changes its meaning.
+pub mod run_word {
+    pub use super::word::{CASE, NUMBER, PLACE};
+    /// The kind of the run: see [`kind`](super::kind). 0 if there is none.
     pub const KIND: usize = 3;
-    /// Rows: of the run; of a stream, in both its cases, of the runs that were read.
+    /// The rows of the run; of booleans and byte values, n.
     pub const ROWS: usize = 4;
-    /// Bytes, likewise: consumed, or written by the writer.
+    /// The bytes that were consumed, or, of a writer, written.
     pub const BYTES: usize = 5;
-    /// 1 where the refusal has a cut field, otherwise 0.
+    /// 1 if the refusal has a cut field, otherwise 0.
     pub const CUT: usize = 6;
-    /// The byte where the cut field begins, 0 where there is none.
+    /// The byte where the cut field begins, 0 if there is none.
     pub const CUT_AT: usize = 7;
-    /// The width of a run's values in bits (booleans 1, byte values 8, a fixed delta 0). 0 where there
-    /// is no run, and for a stream.
+    /// The width of the run's values in bits (booleans 1, byte values 8, a fixed delta 0). 0 if there is no
+    /// run.
     pub const WIDTH: usize = 8;
-    /// Of a stream, in both its cases: 1 where a run was read, otherwise 0. The words behind it are of
-    /// the last that was, and 0 where there is none.
+}
+
+/// The words of a stream. Words 3 and 8 are 0.
+pub mod stream_word {
+    pub use super::run_word::{CUT, CUT_AT};
+    pub use super::word::{CASE, NUMBER, PLACE};
+    /// The rows of the runs that were read, also if the next one is refused.
+    pub const ROWS: usize = 4;
+    /// The bytes of the runs that were read, likewise.
+    pub const BYTES: usize = 5;
+    /// 1 if a run was read, otherwise 0. The words after it are of the last that was, and 0 if there is
+    /// none.
     pub const LAST: usize = 9;
     /// Its kind.
     pub const LAST_KIND: usize = 10;
@@ -105,74 +127,84 @@ pub mod word {
     pub const LAST_BYTES: usize = 13;
 }
 
-/// The words of a label behind the case, the refusal's number and its place, which are those of
-/// [`word`].
+/// The words of a label.
 pub mod label_word {
+    pub use super::word::{CASE, NUMBER, PLACE};
     /// The byte of the block where the name begins, 0 unless it is a name.
     pub const START: usize = 3;
-    /// How many bytes the name or the fallback has, 0 where refused.
+    /// How many bytes the name or the fallback has, 0 if refused.
     pub const SIZE: usize = 4;
 }
 
-/// The words of a call of the reader in parts behind those of [`word`] up to the width.
+/// The words of a call of the reader in parts: those of a run, and two more.
 pub mod part_word {
+    pub use super::run_word::{BYTES, CASE, CUT, CUT_AT, KIND, NUMBER, PLACE, ROWS, WIDTH};
     /// The byte where the run starts, counted from the first part modulo 2^64; 0 unless there is a run.
     pub const START: usize = 9;
     /// How many of the part's bytes the call took.
     pub const TAKEN: usize = 10;
 }
 
-/// The words of a count behind the case, the refusal's number and its place, which are those of
-/// [`word`].
+/// The words of a count.
 pub mod count_word {
-    /// How many booleans are true, 0 where refused.
+    pub use super::word::{CASE, NUMBER, PLACE};
+    /// How many booleans are true, 0 if refused.
     pub const TRUE: usize = 3;
-    /// 1 where the refusal has a cut field, otherwise 0.
+    /// 1 if the refusal has a cut field, otherwise 0.
     pub const CUT: usize = 4;
-    /// The byte where the cut field begins, 0 where there is none.
+    /// The byte where the cut field begins, 0 if there is none.
     pub const CUT_AT: usize = 5;
 }
 
-/// The word of a built index that is none of [`word`]: the others, rows and bytes and the cut field
-/// among them, are.
+/// The words of a built index.
 pub mod index_word {
-    /// How many entries there are, in the first places of each column; 0 where refused.
+    pub use super::run_word::{CUT, CUT_AT};
+    pub use super::word::{CASE, NUMBER, PLACE};
+    /// How many entries there are, in the first places of each column; 0 if refused.
     pub const ENTRIES: usize = 3;
+    /// The rows of the whole stream, 0 if refused.
+    pub const ROWS: usize = 4;
+    /// The bytes of the whole stream, 0 if refused.
+    pub const BYTES: usize = 5;
 }
 
-/// The words of a looked-up entry behind the case, the refusal's number and its place.
+/// The words of a looked-up entry.
 pub mod entry_word {
-    /// The number of its run's first row, 0 where refused.
+    pub use super::word::{CASE, NUMBER, PLACE};
+    /// The number of its run's first row, 0 if refused.
     pub const FIRST: usize = 3;
-    /// The byte that the run begins at, 0 where refused.
+    /// The byte that the run begins at, 0 if refused.
     pub const AT: usize = 4;
-    /// How many rows it has, 0 where refused.
+    /// How many rows it has, 0 if refused.
     pub const ROWS: usize = 5;
 }
 
-/// The word of `orc_read_from` behind the case, the refusal's number and its place.
+/// The words of `orc_read_from`.
 pub mod rows_from_word {
-    /// How many rows there are, in the first places; 0 where refused.
+    pub use super::word::{CASE, NUMBER, PLACE};
+    /// How many rows there are, in the first places; 0 if refused.
     pub const ROWS: usize = 3;
 }
 
-/// The words of a salvage behind the case, the refusal's number and its place.
+/// The words of a salvage.
 pub mod salvage_word {
-    /// How many bytes the new stream has, 0 where refused.
+    pub use super::word::{CASE, NUMBER, PLACE};
+    /// How many bytes the new stream has, 0 if refused.
     pub const BYTES: usize = 3;
-    /// How many bytes the report has, 0 where refused.
+    /// How many bytes the report has, 0 if refused.
     pub const REPORT: usize = 4;
 }
 
-/// The words of a conversion behind the case, the refusal's number and its place.
+/// The words of a conversion.
 pub mod convert_word {
-    /// How many runs were altered, 0 where refused.
+    pub use super::word::{CASE, NUMBER, PLACE};
+    /// How many runs were altered, 0 if refused.
     pub const ALTERED: usize = 3;
-    /// How many bytes the new stream has, 0 where refused.
+    /// How many bytes the new stream has, 0 if refused.
     pub const BYTES: usize = 4;
-    /// 1 where the refusal has a cut field, otherwise 0.
+    /// 1 if the refusal has a cut field, otherwise 0.
     pub const CUT: usize = 5;
-    /// The byte where the cut field begins, 0 where there is none.
+    /// The byte where the cut field begins, 0 if there is none.
     pub const CUT_AT: usize = 6;
 }
 
@@ -183,8 +215,8 @@ pub mod case {
     pub const END: u64 = 0;
     /// Of the check of a proposal alone: it is not accepted.
     pub const NOT_ACCEPTED: u64 = 0;
-    /// A run, booleans or a byte value; of the stream reader: the whole stream was read; of a label: a
-    /// name; of any other: it was done.
+    /// It was done: read, written, found or counted. Of the stream reader: the whole stream was read; of a
+    /// label: a name.
     pub const READ: u64 = 1;
     /// A refusal.
     pub const REFUSED: u64 = 2;

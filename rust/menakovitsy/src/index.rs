@@ -2,7 +2,7 @@
 use std::ops::Range;
 
 use crate::answers::Words;
-use crate::exported::{self, entry_word, index_word, rows_from_word, word};
+use crate::exported::{self, entry_word, index_word, rows_from_word};
 use crate::{ByteOffset, Column, Refusal, Refused, RowNumber, RowPosition, Sign, MAX_ROWS};
 
 /// So many bytes a run are reckoned with at first: a direct run of 512 rows of 8 bits has a few more. A
@@ -102,7 +102,7 @@ impl Index {
                 words.lent.len(),
             )
         };
-        words.accepted(Some(word::CUT))?;
+        words.accepted(Some(index_word::CUT))?;
         // Whatever library is linked, there are no more than were lent.
         let entries = words.lent[index_word::ENTRIES] as usize;
         if entries > places {

@@ -47,9 +47,10 @@
 //! # Building
 //!
 //! In a release's folder the build script takes the library that stands there, `libmenakovitsy.a`. In a checkout it
-//! proves and builds it in its own output folder (`rt staticlib exports`). Where `MENAKOVITSY_LIB_DIR` is set, it
-//! takes what that folder holds, of a release or of `target/staticlib`, and runs nothing. The library is for x86-64.
-//! Programs in C link the same one, by `menakovitsy.h`.
+//! takes what `rt staticlib exports` left in `target/staticlib`, if no source has changed since; otherwise it proves
+//! and builds the library in its own output folder, over what `target` has proved, and cargo shows that it does. If
+//! `MENAKOVITSY_LIB_DIR` is set, it takes what that folder holds, of a release or of `target/staticlib`, and runs
+//! nothing. The library is for x86-64. Programs in C link the same one, by `menakovitsy.h`.
 #![warn(missing_docs, clippy::missing_errors_doc)]
 
 // Which processor the library is for, the build script finds in it.

@@ -231,7 +231,7 @@ impl Refusal {
             }
             Refusal::NotTheForm => "choose another form or width",
             Refusal::TooNarrow => "choose a wider width",
-            Refusal::WrongIndex => "build the index again; where that is refused, the column is damaged",
+            Refusal::WrongIndex => "build the index again; if that is refused, the column is damaged",
             Refusal::NoSuchRow => "ask for a row below the number of rows (of labels: of flags)",
             Refusal::WrongStarts => {
                 "give the starts or positions and the rows of this column's groups, from 0 on, all of them and \

@@ -2,7 +2,8 @@
 use std::fmt::Write as _;
 
 use menakovitsy::exported::{
-    case, kind, label_word, labels_word, part_word, word, LABEL_WORDS, PART_WORDS, STREAM_WORDS, WORDS,
+    case, kind, label_word, labels_word, part_word, run_word, stream_word, word, LABEL_WORDS, PART_WORDS,
+    RUN_WORDS, STREAM_WORDS,
 };
 
 use crate::lent::Lent;
@@ -23,13 +24,13 @@ pub struct Answer {
 }
 
 impl Answer {
-    /// Of any function that has no words of its own.
+    /// Of a function of the run's family.
     pub fn of(call: impl FnOnce(&mut [u64]) -> u64) -> Self {
-        Self::of_words(WORDS, Some(word::CUT), call)
+        Self::of_words(RUN_WORDS, Some(run_word::CUT), call)
     }
 
     pub fn of_stream(call: impl FnOnce(&mut [u64]) -> u64) -> Self {
-        Self::of_words(STREAM_WORDS, Some(word::CUT), call)
+        Self::of_words(STREAM_WORDS, Some(stream_word::CUT), call)
     }
 
     pub fn of_label(call: impl FnOnce(&mut [u64]) -> u64) -> Self {
@@ -37,7 +38,7 @@ impl Answer {
     }
 
     pub fn of_part(call: impl FnOnce(&mut [u64]) -> u64) -> Self {
-        Self::of_words(PART_WORDS, Some(word::CUT), call)
+        Self::of_words(PART_WORDS, Some(part_word::CUT), call)
     }
 
     /// Of a function with so many words.
@@ -56,11 +57,11 @@ impl Answer {
     }
 
     pub fn rows(&self) -> u64 {
-        self.word(word::ROWS)
+        self.word(run_word::ROWS)
     }
 
     pub fn bytes(&self) -> u64 {
-        self.word(word::BYTES)
+        self.word(run_word::BYTES)
     }
 
     pub fn refused(&self) -> bool {
@@ -85,22 +86,22 @@ impl Answer {
 
     /// `KIND WIDTH ROWS BYTES`.
     pub fn say_info(&self) -> String {
-        format!("{} {}", say_kind(self.word(word::KIND)), self.say_counts())
+        format!("{} {}", say_kind(self.word(run_word::KIND)), self.say_counts())
     }
 
     /// `WIDTH ROWS BYTES`.
     pub fn say_counts(&self) -> String {
-        format!("{} {} {}", self.word(word::WIDTH), self.rows(), self.bytes())
+        format!("{} {} {}", self.word(run_word::WIDTH), self.rows(), self.bytes())
     }
 
     /// `none`, or `KIND/WIDTH/ROWS/BYTES`, of a stream's last run.
     pub fn say_last(&self) -> String {
-        if self.word(word::LAST) == 0 {
+        if self.word(stream_word::LAST) == 0 {
             return "none".into();
         }
-        let [width, rows, bytes] =
-            [word::LAST_WIDTH, word::LAST_ROWS, word::LAST_BYTES].map(|place| self.word(place));
-        format!("{}/{width}/{rows}/{bytes}", say_kind(self.word(word::LAST_KIND)))
+        let [width, rows, bytes] = [stream_word::LAST_WIDTH, stream_word::LAST_ROWS, stream_word::LAST_BYTES]
+            .map(|place| self.word(place));
+        format!("{}/{width}/{rows}/{bytes}", say_kind(self.word(stream_word::LAST_KIND)))
     }
 
     /// `KIND/WIDTH/ROWS/BYTES`, of a run.
@@ -110,7 +111,7 @@ impl Answer {
 
     /// Whether the kind is this one: lines of booleans and byte values do not say it.
     pub fn has_kind(&self, kind: u64) -> bool {
-        self.word(word::KIND) == kind
+        self.word(run_word::KIND) == kind
     }
 
     /// Whether there is a cut field exactly for the refusals that have one.
@@ -129,22 +130,22 @@ impl Answer {
 
     /// Whether a stream names no run of its own, and a last run exactly where one was read.
     fn last_fits(&self) -> bool {
-        use word::{KIND, LAST, LAST_BYTES, LAST_KIND, LAST_ROWS, LAST_WIDTH, WIDTH};
+        use stream_word::{BYTES, LAST, LAST_BYTES, LAST_KIND, LAST_ROWS, LAST_WIDTH, ROWS};
         let last = match self.word(LAST) {
-            0 => self.zero(&[word::ROWS, word::BYTES, LAST_KIND, LAST_WIDTH, LAST_ROWS, LAST_BYTES]),
+            0 => self.zero(&[ROWS, BYTES, LAST_KIND, LAST_WIDTH, LAST_ROWS, LAST_BYTES]),
             1 => {
                 (1..=self.rows()).contains(&self.word(LAST_ROWS))
                     && (1..=self.bytes()).contains(&self.word(LAST_BYTES))
             }
             _ => false,
         };
-        last && self.zero(&[KIND, WIDTH])
+        last && self.zero(&[run_word::KIND, run_word::WIDTH])
     }
 
     /// Whether the words fit together: what is returned is the refusal's number, and the words that
     /// have no meaning in their case are 0. A stream counts in both its cases.
     pub fn fits(&self) -> bool {
-        const RUN: [usize; 4] = [word::KIND, word::WIDTH, word::ROWS, word::BYTES];
+        const RUN: [usize; 4] = [run_word::KIND, run_word::WIDTH, run_word::ROWS, run_word::BYTES];
         let stream = self.own == STREAM_WORDS;
         let fits = match self.case() {
             case::END => self.zero(&[word::NUMBER, word::PLACE]) && self.zero(&RUN),

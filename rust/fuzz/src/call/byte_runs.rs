@@ -1,7 +1,7 @@
 //! Calls that write flags or bytes as byte runs, or ask for their size, and what the model answers them.
 use differential::random::Random;
 use differential::stages::lined_up::{self, ToWrite};
-use menakovitsy::exported::{case, kind, BYTES_WRITTEN_WORDS, WORDS};
+use menakovitsy::exported::{case, kind, BYTES_WRITTEN_WORDS, RUN_WORDS};
 use model::Refusal;
 
 use super::{Lending, Outcome, MOST};
@@ -39,7 +39,7 @@ impl Asked {
     /// The function's name, and how many words its answer has.
     pub fn function(&self) -> (&'static str, usize) {
         match self.what {
-            What::WriteBooleans => ("orc_write_booleans", WORDS),
+            What::WriteBooleans => ("orc_write_booleans", RUN_WORDS),
             What::WriteBytes => ("orc_write_bytes", BYTES_WRITTEN_WORDS),
             What::SizeOfBooleans => ("orc_size_of_booleans", 0),
             What::SizeOfBytes => ("orc_size_of_bytes", 0),

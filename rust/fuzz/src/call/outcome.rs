@@ -1,5 +1,5 @@
 //! What a call is lent, and what it comes to.
-use menakovitsy::exported::{case, kind, WORDS};
+use menakovitsy::exported::{case, kind, RUN_WORDS};
 use model::{Info, Kind, Refusal};
 
 /// What a call comes to: what it returns, its words (none where it is lent too few, or takes none),
@@ -32,7 +32,7 @@ pub struct Lending<'a> {
 }
 
 impl Outcome {
-    pub(super) fn of(words: [u64; WORDS]) -> Self {
+    pub(super) fn of(words: [u64; RUN_WORDS]) -> Self {
         Outcome { returned: words[1], words: words.to_vec(), ..Outcome::default() }
     }
 

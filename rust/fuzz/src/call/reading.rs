@@ -1,5 +1,5 @@
 //! Calls of the readers, and what the model answers them.
-use menakovitsy::exported::WORDS;
+use menakovitsy::exported::RUN_WORDS;
 use model::{Answer, Booleans, Stream, Value};
 
 use super::Outcome;
@@ -19,7 +19,7 @@ pub fn packed(input: &[u8], signed: bool, places: usize) -> Outcome {
 
 pub fn run(input: &[u8], at: usize, signed: bool, places: usize) -> Outcome {
     match model::read_run(input, at, signed, places) {
-        Answer::End => Outcome::of([0; WORDS]),
+        Answer::End => Outcome::of([0; RUN_WORDS]),
         Answer::Refused(refusal) => Outcome::refused(refusal),
         Answer::Run(run) => Outcome { rows: run.rows.clone(), ..Outcome::read(run.info()) },
     }

@@ -1,6 +1,6 @@
 //! The library's words, and the answers that they are.
 use super::{Kind, Refused, Run, Stream, StreamRefused};
-use crate::exported::{case, label_word, part_word, word, TOO_FEW_WORDS};
+use crate::exported::{case, label_word, part_word, run_word, stream_word, word, TOO_FEW_WORDS};
 use crate::{ByteOffset, Refusal, RowNumber, MAX_ROWS, MAX_RUN_BYTES};
 
 /// The words that a call lends: more than an answer has now, so that a later library, which appends
@@ -127,8 +127,8 @@ impl Words {
     #[inline]
     pub fn run(&self) -> Run {
         Run {
-            kind: Kind::of_number(self.lent[word::KIND]),
-            width: self.lent[word::WIDTH],
+            kind: Kind::of_number(self.lent[run_word::KIND]),
+            width: self.lent[run_word::WIDTH],
             rows: self.rows(),
             bytes: self.bytes(),
         }
@@ -137,22 +137,23 @@ impl Words {
     /// The last run of a stream. Other answers have no such word, and the place that was lent for it
     /// is 0.
     fn last(&self) -> Option<Run> {
-        (self.lent[word::LAST] == 1).then(|| Run {
-            kind: Kind::of_number(self.lent[word::LAST_KIND]),
-            width: self.lent[word::LAST_WIDTH],
-            rows: RowNumber(self.lent[word::LAST_ROWS] as usize),
-            bytes: ByteOffset(self.lent[word::LAST_BYTES] as usize),
+        (self.lent[stream_word::LAST] == 1).then(|| Run {
+            kind: Kind::of_number(self.lent[stream_word::LAST_KIND]),
+            width: self.lent[stream_word::LAST_WIDTH],
+            rows: RowNumber(self.lent[stream_word::LAST_ROWS] as usize),
+            bytes: ByteOffset(self.lent[stream_word::LAST_BYTES] as usize),
         })
     }
 
+    /// The rows of a run; a stream and a part have the word at the same place, and those below it too.
     #[inline]
     fn rows(&self) -> RowNumber {
-        RowNumber(self.lent[word::ROWS] as usize)
+        RowNumber(self.lent[run_word::ROWS] as usize)
     }
 
     #[inline]
     fn bytes(&self) -> ByteOffset {
-        ByteOffset(self.lent[word::BYTES] as usize)
+        ByteOffset(self.lent[run_word::BYTES] as usize)
     }
 
     /// The refusal; a case that is none, too, by whatever number came with it.
@@ -160,7 +161,8 @@ impl Words {
         if self.case() != Some(case::REFUSED) {
             return self.unknown();
         }
-        self.refused_at((self.lent[word::CUT] == 1).then_some(ByteOffset(self.lent[word::CUT_AT] as usize)))
+        let cut_at = ByteOffset(self.lent[run_word::CUT_AT] as usize);
+        self.refused_at((self.lent[run_word::CUT] == 1).then_some(cut_at))
     }
 
     /// The refusal that the words name, with a cut field. Its place is 0 where it means nothing (FORMAT.md,

@@ -16,9 +16,10 @@ pub const SPREAD_WORDS: usize = 4;
 /// How many words an answer of `orc_label_column` has.
 pub const LABELS_WORDS: usize = 5;
 
-/// The words of a batch of rows after the case, the refusal's number and its place. The case is
-/// [`case::END`](super::case::END) if there are no more rows; the first three are 0 unless there are.
+/// The words of a batch of rows. The case is [`case::END`](super::case::END) if there are no more rows. The
+/// count and the position are 0 unless there are some.
 pub mod batch_word {
+    pub use crate::exported::word::{CASE, NUMBER, PLACE};
     /// How many rows there are, in the first places.
     pub const ROWS: usize = 3;
     /// The run of the position after them.
@@ -31,9 +32,9 @@ pub mod batch_word {
     pub const CUT_AT: usize = 7;
 }
 
-/// The words of a batch of flags after the case, the refusal's number and its place; 0 if it is refused,
-/// but for the cut field's.
+/// The words of a batch of flags. The count and the position are 0 if it is refused.
 pub mod flags_word {
+    pub use crate::exported::word::{CASE, NUMBER, PLACE};
     /// How many flags there are, in the first bytes.
     pub const GIVEN: usize = 3;
     /// The run of the position after them.
@@ -48,9 +49,9 @@ pub mod flags_word {
     pub const CUT_AT: usize = 8;
 }
 
-/// The words of a batch of bytes after the case, the refusal's number and its place; 0 if it is refused,
-/// but for the cut field's.
+/// The words of a batch of bytes. The count and the position are 0 if it is refused.
 pub mod bytes_word {
+    pub use crate::exported::word::{CASE, NUMBER, PLACE};
     /// How many bytes there are, in the first places.
     pub const GIVEN: usize = 3;
     /// The run of the position after them.
@@ -63,14 +64,16 @@ pub mod bytes_word {
     pub const CUT_AT: usize = 7;
 }
 
-/// The word of spread rows after the case, the refusal's number and its place.
+/// The words of spread rows.
 pub mod spread_word {
+    pub use crate::exported::word::{CASE, NUMBER, PLACE};
     /// How many rows the column has, in the first places; 0 if it is refused.
     pub const ROWS: usize = 3;
 }
 
-/// The words of all labels after the case, the refusal's number and its place.
+/// The words of all labels.
 pub mod labels_word {
+    pub use crate::exported::word::{CASE, NUMBER, PLACE};
     /// How many rows there are, in the first starts and sizes; 0 if it is refused.
     pub const ROWS: usize = 3;
     /// The first row that has no name for refusal 19; otherwise 0.

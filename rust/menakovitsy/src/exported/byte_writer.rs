@@ -1,11 +1,12 @@
 //! Flags and bytes written as byte runs.
 
 /// How many words an answer of `orc_write_bytes` has. (One of `orc_write_booleans` has
-/// [`WORDS`](super::WORDS), and they mean what they mean there: the flags are its rows.)
+/// [`RUN_WORDS`](super::RUN_WORDS), and they mean what they mean there: the flags are its rows.)
 pub const BYTES_WRITTEN_WORDS: usize = 5;
 
-/// The words of written bytes after the case, the refusal's number and its place; 0 if it is refused.
+/// The words of written bytes. The counts are 0 if it is refused.
 pub mod bytes_written_word {
+    pub use crate::exported::word::{CASE, NUMBER, PLACE};
     /// How many bytes were taken: all of them.
     pub const TAKEN: usize = 3;
     /// How many bytes were written, into the first places.

@@ -7,9 +7,11 @@ pub const CHECK_WORDS: usize = 4;
 /// How many words an answer of `orc_write_column` has.
 pub const COLUMN_WORDS: usize = 6;
 
-/// The words of a check behind the case, which is [`case::READ`](super::case::READ) where the proposal is
-/// accepted and [`case::NOT_ACCEPTED`](super::case::NOT_ACCEPTED) where not; then these are 0.
+/// The words of a check, which has neither number nor place: it refuses nothing. The case is
+/// [`case::READ`](super::case::READ) if the proposal is accepted and
+/// [`case::NOT_ACCEPTED`](super::case::NOT_ACCEPTED) if not. The counts are then 0.
 pub mod check_word {
+    pub use crate::exported::word::CASE;
     /// How many runs the proposal has.
     pub const RUNS: usize = 1;
     /// How many rows they have.
@@ -18,10 +20,10 @@ pub mod check_word {
     pub const BYTES: usize = 3;
 }
 
-/// The words of a written column behind the case ([`case::READ`](super::case::READ) where the proposal was
-/// written, [`case::DIRECT`](super::case::DIRECT) where direct runs of 64 bits were), the refusal's number
-/// and its place; 0 where refused.
+/// The words of a written column. The case is [`case::READ`](super::case::READ) if the proposal was written,
+/// and [`case::DIRECT`](super::case::DIRECT) if direct runs of 64 bits were. The counts are 0 if it is refused.
 pub mod column_word {
+    pub use crate::exported::word::{CASE, NUMBER, PLACE};
     /// How many runs were written.
     pub const RUNS: usize = 3;
     /// How many rows they have.

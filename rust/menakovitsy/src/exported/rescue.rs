@@ -4,8 +4,9 @@
 /// How many words an answer of `orc_rescue` has.
 pub const RESCUE_WORDS: usize = 5;
 
-/// The words of rescued rows after the case, the refusal's number and its place; 0 if it is refused.
+/// The words of rescued rows. The counts are 0 if it is refused.
 pub mod rescue_word {
+    pub use crate::exported::word::{CASE, NUMBER, PLACE};
     /// How many rows were written, into the first places.
     pub const ROWS: usize = 3;
     /// How many groups were kept.

@@ -3,7 +3,7 @@ use super::*;
 
 fn answer(returned: u64, words: &[u64]) -> Answer {
     Answer::of(|lent| {
-        lent[..WORDS].fill(0);
+        lent[..RUN_WORDS].fill(0);
         lent[..words.len()].copy_from_slice(words);
         returned
     })
@@ -13,7 +13,7 @@ fn stream(last: &[u64]) -> Answer {
     Answer::of_stream(|lent| {
         lent[..STREAM_WORDS].fill(0);
         lent[..6].copy_from_slice(&[1, 0, 0, 0, 8, 7]);
-        lent[word::LAST..][..last.len()].copy_from_slice(last);
+        lent[stream_word::LAST..][..last.len()].copy_from_slice(last);
         0
     })
 }

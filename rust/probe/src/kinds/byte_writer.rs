@@ -3,7 +3,7 @@
 //!
 //! The size is asked for, too: a line is odd if it is not what was written, or if a call is refused that has
 //! the places.
-use menakovitsy::exported::{bytes_written_word, case, kind, word, BYTES_WRITTEN_WORDS};
+use menakovitsy::exported::{bytes_written_word, case, kind, run_word, BYTES_WRITTEN_WORDS};
 
 use super::ended;
 use crate::answer::{first, hex, Answer};
@@ -18,7 +18,7 @@ pub fn booleans(mut fields: Fields) -> Option<String> {
     let answer = Answer::of(|words| calls::write_booleans(lent.content(), out.content_mut(), words));
     let size = calls::size_of_booleans(lent.content());
     let done = answer.case() == case::READ;
-    let named = !done || answer.has_kind(kind::BOOLEANS) && answer.word(word::WIDTH) == 1;
+    let named = !done || answer.has_kind(kind::BOOLEANS) && answer.word(run_word::WIDTH) == 1;
     let fits = answer.fits() && named;
     said(Written { given: flags, lent, out, size, counts: [answer.rows(), answer.bytes()], fits }, &answer)
 }

@@ -2,7 +2,7 @@
 use std::fmt::Write as _;
 
 use menakovitsy::exported::{
-    case, entry_word, index_word, rows_from_word, word, ENTRY_WORDS, INDEX_WORDS, ROWS_FROM_WORDS,
+    case, entry_word, index_word, rows_from_word, ENTRY_WORDS, INDEX_WORDS, ROWS_FROM_WORDS,
 };
 
 use super::{ended, FLAGS};
@@ -18,7 +18,7 @@ pub fn index(mut fields: Fields) -> Option<String> {
         [Lent::places(fields.places()?), Lent::places(fields.places()?), Lent::places(fields.places()?)];
     let input = fields.rest();
     let lent = Lent::holding(input);
-    let answer = Answer::of_words(INDEX_WORDS, Some(word::CUT), |words| {
+    let answer = Answer::of_words(INDEX_WORDS, Some(index_word::CUT), |words| {
         calls::build_index(lent.content(), columns.each_mut().map(Lent::content_mut), words)
     });
     let built = answer.case() == case::READ;

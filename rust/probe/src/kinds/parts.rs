@@ -1,5 +1,5 @@
 //! 07 parts: flag, places, how many parts, each part's length, the parts' bytes.
-use menakovitsy::exported::{case, part_word, word, MAX_RUN_BYTES, PART_WORDS, STATE_WORDS};
+use menakovitsy::exported::{case, part_word, MAX_RUN_BYTES, PART_WORDS, STATE_WORDS};
 
 use super::{ended, FLAGS};
 use crate::answer::{say_rows, Answer};
@@ -104,6 +104,6 @@ pub fn parts(mut fields: Fields) -> Option<String> {
 
 /// Whether a later call repeats the answer, and takes nothing.
 fn same(answer: &Answer, last: &Answer) -> bool {
-    let words = word::CASE..PART_WORDS;
+    let words = part_word::CASE..PART_WORDS;
     answer.word(part_word::TAKEN) == 0 && words.clone().all(|place| answer.word(place) == last.word(place))
 }
