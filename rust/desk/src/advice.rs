@@ -14,6 +14,8 @@ pub struct Trouble {
     pub refused: Refused,
     pub stream: Stream,
     pub before: Counts,
+    /// How many bytes the file has.
+    pub length: u64,
     pub looks: Option<Looks>,
 }
 

@@ -30,7 +30,7 @@ pub const WORD: Word = Word {
     run,
 };
 
-const HELP: &str = "usage: menakovitsy annotate [OPTION].. FILE
+const HELP: &str = "usage: menakovitsy annotate [OPTION]... FILE
 
 FILE holds the bytes of one integer column (a stream of RLE version 2 runs, uncompressed); - is
 standard input. A line for each run: the byte it begins at, the number of its first row, its kind,
@@ -42,14 +42,17 @@ file breaks off, the number of the refusal, what it means, where, and what to do
   --signed    the rows are signed (zigzag); it changes rows, and neither runs nor refusals
   --flags     FILE holds flags (a boolean column, or which rows are present): byte runs, eight flags
               to a byte. A row is a flag, and the last column says how many are true. The stream does
-              not say how many flags of its last byte are rows: up to seven may be none
+              not say how many flags its last byte has: up to seven of them may be padding
   --bytes     FILE holds bytes (a tinyint column): byte runs, a row a byte; with --signed -128 to 127
-  --json      JSON lines (menakovitsy --help says how they look): for each run a line of type run with
-              byte, row, kind, bits, rows, bytes, smallest and largest (of flags: true), then count
-              for each kind and width, passed if runs were passed over, and last whole or refused
+  --json      JSON lines (menakovitsy --help says how they look), of these types:
+              run      byte, row, kind, bits, rows, bytes, smallest, largest; of flags true instead of
+                       the last two
+              count    kind, bits, runs, rows, bytes: for each kind and width
+              passed   before_row, runs, rows, bytes: if --from passed over runs
+              whole    runs, rows, bytes: the last line, if the file is not refused
   --svg OUT   writes a picture, too: the runs by kind and width along the file, the damage marked. It
-              is never written over FILE. - is standard output, and no line is written then. It is
-              written even if whoever reads the lines stops reading them
+              is never written over FILE. - is standard output, and then no lines are written. The
+              picture is written even if whoever reads the lines stops reading
 
 A byte run is a repeat (one byte, 3 to 130 times) or literals (1 to 128 bytes as they are).
 An option's value may follow it or stand after an equals sign: --from 3, --from=3. After -- every
@@ -135,9 +138,9 @@ fn run(arguments: Vec<OsString>) -> Result<Ended, Failure> {
 }
 
 fn ended<'a>(walk: &mut Walk, options: &Options, summary: &'a Summary) -> Result<End<'a>, Failure> {
-    let length = walk.whole_length()?;
+    let trouble = walk.trouble()?;
     let (walked, is_orc_file) = (walk.walked(), walk.is_orc_file());
-    let trouble = walk.trouble(length);
+    let length = trouble.as_ref().map_or(walked.all.bytes, |trouble| trouble.length);
     Ok(End { summary, walked, from: options.from, length, trouble, is_orc_file })
 }
 

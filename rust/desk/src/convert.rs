@@ -24,7 +24,7 @@ pub const WORD: Word = Word {
     run,
 };
 
-const HELP: &str = "usage: menakovitsy convert [OPTION].. --out FILE IN
+const HELP: &str = "usage: menakovitsy convert [OPTION]... --out FILE IN
 
 IN holds the bytes of one integer column (a stream of RLE version 2 runs, uncompressed); - is standard
 input. It is read whole. Each direct or packed delta run whose values have a width that the
@@ -37,8 +37,8 @@ many runs were altered, and the bytes before and after.
               is a symbolic link, what it leads to is replaced. - is standard output, and the line goes
               to standard error then
   --signed    the rows are signed (zigzag); for a delta's first row it matters
-  --json      the line is JSON (menakovitsy --help says how it looks): converted with altered,
-              bytes_before and bytes_after, or refused
+  --json      the line is JSON (menakovitsy --help says how it looks), of type converted with altered,
+              bytes_before and bytes_after
 
 Row groups start elsewhere in the new stream if runs before them were altered.
 Status: 0 it is written, 1 IN is refused at some byte and nothing is written, 2 bad usage, or a file
@@ -82,7 +82,7 @@ fn run(arguments: Vec<OsString>) -> Result<Ended, Failure> {
             let trouble = trouble(&bytes, refused, sign);
             match json {
                 true => {
-                    ended::report(&out, &objects::refused(&trouble).number("length", before).line())?;
+                    ended::report(&out, &objects::refused(&trouble).line())?;
                 }
                 false => eprintln!("menakovitsy: {}", told(&trouble)),
             }
@@ -110,8 +110,9 @@ fn trouble(bytes: &[u8], refused: Refused, sign: Sign) -> Trouble {
         rows: index.row_count().0 as u64,
         bytes: whole.len() as u64,
     };
-    let looks = looks::of(bytes, None, bytes.len() as u64, before.runs);
-    Trouble { refused, stream: Stream::Integers(sign), before, looks }
+    let length = bytes.len() as u64;
+    let looks = looks::of(bytes, None, length, before.runs);
+    Trouble { refused, stream: Stream::Integers(sign), before, length, looks }
 }
 
 /// A refusal, and what a support desk does about it.

@@ -15,22 +15,24 @@ use crate::Word;
 pub const WORD: Word =
     Word { name: "diff", does: "says in which run and in which row two stream files part", help: HELP, run };
 
-const HELP: &str = "usage: menakovitsy diff [OPTION].. A B
+const HELP: &str = "usage: menakovitsy diff [OPTION]... A B
 
 A and B each hold the bytes of one integer column (a stream of RLE version 2 runs, uncompressed); one
-of them may be -, standard input. Says the first run in which they part, by its bytes, and the first
-row that differs. The same rows can stand in other runs (menakovitsy convert makes such a file), so
-the one can be there without the other. Runs and rows are counted from 0.
+of them may be -, standard input. Says which run is the first whose bytes differ, and which row is the
+first that differs. The same rows can stand in other runs (menakovitsy convert makes such files): then
+a run differs, and no row. Runs and rows are counted from 0.
 
   --rows    only rows count, and nothing is said of runs: files with the same rows are equal
   --signed  the rows are signed (zigzag)
   --flags   both hold flags (byte runs, eight flags to a byte)
   --bytes   both hold bytes (byte runs); with --signed -128 to 127
-  --json    JSON lines (menakovitsy --help says how they look): equal with runs, rows and bytes; or
-            run_differs with run and, of each file (a_, b_), a_byte, a_row, a_kind, a_bits, a_rows,
-            a_bytes; then rows_equal with rows, or row_differs with row, a_byte, a_value. Of a file
-            that has ended there they have a_end instead, its bytes, and of one that breaks off
-            a_refused, the refusal's number, a_byte, a_meaning and a_advice
+  --json    JSON lines (menakovitsy --help says how they look), of these types:
+            equal        runs, rows, bytes
+            run_differs  run (its number), and for A: a_byte, a_row, a_kind, a_bits, a_rows, a_bytes
+            row_differs  row (its number), and for A: a_byte (of its run), a_value
+            rows_equal   rows: no row differs, though a run does
+            For B the same with b_. If A has ended there, it has a_end (its bytes) instead; if A
+            breaks off there, a_refused (the refusal's number), a_byte, a_meaning and a_advice
 
 Status: 0 they are equal, 1 they differ or one of them is refused, 2 bad usage, or a file cannot be
 read.
@@ -131,8 +133,7 @@ impl File {
         if let Some(here) = here {
             return Ok(Side::Here(here));
         }
-        let length = self.walk.whole_length()?;
-        Ok(match self.walk.trouble(length) {
+        Ok(match self.walk.trouble()? {
             None => Side::Ended(self.walk.walked().all),
             Some(trouble) => Side::Refused(Box::new(trouble)),
         })

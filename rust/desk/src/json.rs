@@ -6,10 +6,12 @@ const DOUBLES: u64 = 1 << 53;
 
 /// What help texts say of it.
 pub const HELP: &str =
-    "With --json each line of output is a JSON object without others inside it. Its member type says
-what it is. Numbers are JSON numbers, whole and exact. Many readers round those beyond 2^53
+    "With --json each line of output is a JSON object without others inside it. Its first member, type,
+says what it is. Numbers are JSON numbers, whole and exact. Many readers round those beyond 2^53
 (9007199254740992): a row that large has a second member, whose name ends in _text, with its digits
-as a string.
+as a string. A file that is refused has a last line of type refused: refusal (its number), byte and
+row (where), cut_byte (if a field is cut there), meaning, advice, runs, rows and bytes (of what is
+before it) and length (of the file).
 ";
 
 /// A line as it grows.

@@ -43,7 +43,7 @@ const WORDS: [Word; 5] = [annotate::WORD, values::WORD, diff::WORD, convert::WOR
 fn help() -> String {
     let words: String = WORDS.iter().map(|word| format!("  {:<10} {}\n", word.name, word.does)).collect();
     format!(
-        "usage: menakovitsy SUBCOMMAND [OPTION].. [FILE]..
+        "usage: menakovitsy SUBCOMMAND [OPTION]... [FILE]...
        menakovitsy SUBCOMMAND --help
        menakovitsy --version
 

@@ -19,7 +19,7 @@ use crate::Word;
 pub const WORD: Word =
     Word { name: "values", does: "writes the rows of a stream file, a line each", help: HELP, run };
 
-const HELP: &str = "usage: menakovitsy values [OPTION].. FILE
+const HELP: &str = "usage: menakovitsy values [OPTION]... FILE
 
 FILE holds the bytes of one integer column (a stream of RLE version 2 runs, uncompressed); - is
 standard input. Its rows go to standard output, a line each, as 64 bits with a sign: without --signed
@@ -29,13 +29,13 @@ a row at or above 2^63 is the negative number with the same bits.
   --count N   writes N rows at most, and reads no further than they need
   --signed    the rows are signed (zigzag)
   --flags     FILE holds flags (byte runs, eight flags to a byte): a line of 0 or 1 for each. The
-              stream does not say how many flags of its last byte are rows: up to seven may be none
+              stream does not say how many flags its last byte has: up to seven of them may be padding
   --bytes     FILE holds bytes (byte runs): 0 to 255, with --signed -128 to 127
-  --json      JSON lines (menakovitsy --help says how they look): for each row a line of type row with
-              row, its number, and value; a last line of type refused if the file breaks off
+  --json      JSON lines (menakovitsy --help says how they look) of type row, with row (its number)
+              and value
 
-If the file breaks off, the rows before that are written all the same; why, and what to do, goes to
-standard error.
+If the file breaks off, the rows before that are written all the same. Why it does, and what to do,
+goes to standard error; with --json it is the last line.
 
 Status: 0 the rows are written, 1 the file is refused before the last of them, or has no such row,
 2 bad usage, or a file cannot be read or written.
@@ -98,17 +98,14 @@ fn write_rows(output: &mut Output, run: &RunAt, options: &Options, end: u64) -> 
 /// What became of the file, if it did not have all rows that were asked for.
 fn told(walk: &mut Walk, output: &mut Output, options: &Options) -> Result<Ended, Failure> {
     let all = walk.walked().all;
-    if let Some(refused) = walk.walked().refused {
-        let length = walk.whole_length()?;
-        let trouble = walk.trouble(length).ok_or(Failure::Closed)?;
+    if let Some(trouble) = walk.trouble()? {
         if options.json {
-            let object = objects::refused(&trouble).number("length", length);
-            output.put(|output| write!(output, "{}", object.line()))?;
+            output.put(|output| write!(output, "{}", objects::refused(&trouble).line()))?;
         } else {
             output.flush()?;
-            let (name, number) = (walk.name(), refused.refusal.number());
+            let (name, refused) = (walk.name(), trouble.refused);
             eprintln!("menakovitsy: {name} breaks off at byte {}, after {} rows", all.bytes, all.rows);
-            eprintln!("  refusal {number}: {}", refused.meaning());
+            eprintln!("  refusal {}: {}", refused.refusal.number(), refused.meaning());
             eprintln!("  what to do: {}", wrapped(&trouble.advice(), 14));
         }
         return Ok(Ended::Refused);

@@ -200,31 +200,33 @@ impl Walk {
         }
     }
 
-    /// How many bytes the input has. After a refusal a file says it; another input is read to its end.
-    pub fn whole_length(&mut self) -> Result<u64, Failure> {
-        let begins = self.walked.all.bytes - self.at as u64;
-        let seen = begins + self.held as u64;
-        match (self.walked.refused, self.input.length) {
-            (None, _) => Ok(self.walked.all.bytes),
-            (_, Some(length)) => Ok(length.max(seen)),
-            _ => {
-                let more = io::copy(&mut self.input.reader, &mut io::sink());
-                Ok(seen + more.map_err(Failure::unreadable(&self.input.name))?)
-            }
-        }
-    }
-
     /// Whether the input begins as a whole ORC file does.
     pub fn is_orc_file(&self) -> bool {
         looks::is_orc_file(&self.head)
     }
 
-    /// What became of an input of so many bytes, if it was refused.
-    pub fn trouble(&self, length: u64) -> Option<Trouble> {
-        let (refused, before) = (self.walked.refused?, self.walked.all);
+    /// What is wrong with the input, if it was refused.
+    pub fn trouble(&mut self) -> Result<Option<Trouble>, Failure> {
+        let Some(refused) = self.walked.refused else { return Ok(None) };
+        let (stream, before, length) = (self.stream, self.walked.all, self.whole_length()?);
         let again = self.input.path.as_ref().and_then(|path| File::open(path).ok());
         let looks = looks::of(&self.head, again, length, before.runs);
-        Some(Trouble { refused, stream: self.stream, before, looks })
+        Ok(Some(Trouble { refused, stream, before, length, looks }))
+    }
+
+    /// How many bytes a refused input has. A file says it; any other is read to its end.
+    fn whole_length(&mut self) -> Result<u64, Failure> {
+        let seen = self.walked.all.bytes + (self.held - self.at) as u64;
+        match self.input.length {
+            Some(length) => Ok(length.max(seen)),
+            None => {
+                let more = io::copy(&mut self.input.reader, &mut io::sink());
+                // Once is enough.
+                let all = seen + more.map_err(Failure::unreadable(&self.input.name))?;
+                self.input.length = Some(all);
+                Ok(all)
+            }
+        }
     }
 }
 

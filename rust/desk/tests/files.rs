@@ -139,6 +139,18 @@ fn standard_output() {
         assert_eq!(String::from_utf8(ended.stderr).unwrap(), line);
     }
     assert_eq!(fs::read_dir(folder.path("")).unwrap().count(), 1);
+    // What salvage reports does not get into its stream.
+    let groups = folder.holding("groups", include_bytes!("../sample/damaged.groups"));
+    let damaged = include_bytes!("../sample/damaged.rle");
+    let ended = Command::new(env!("CARGO_BIN_EXE_menakovitsy"))
+        .args(["salvage", &folder.holding("damaged", damaged), "--groups", &groups, "--fill=7", "--out=-"])
+        .output()
+        .expect("the command runs");
+    let model::Stream::Whole { rows, .. } = model::read_stream(&ended.stdout, 0, false, usize::MAX) else {
+        panic!("{:?}", ended.stdout);
+    };
+    assert_eq!((ended.status.code(), rows.len(), &rows[175..200]), (Some(0), 500, &[7; 25][..]));
+    assert!(String::from_utf8(ended.stderr).unwrap().contains("replaced 7 25\n"));
     // A refused stream writes nothing there.
     let said = menakovitsy(&["convert", "-", "--out", "-"], EVERY_KIND);
     assert_eq!((said.status, said.output.as_str()), (1, ""));

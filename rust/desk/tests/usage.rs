@@ -14,10 +14,10 @@ fn help() {
         assert!(said.output.contains("\n  annotate   says what runs a stream file holds"), "{}", said.output);
     }
     for (name, usage) in [
-        ("annotate", "usage: menakovitsy annotate [OPTION].. FILE\n"),
-        ("values", "usage: menakovitsy values [OPTION].. FILE\n"),
-        ("diff", "usage: menakovitsy diff [OPTION].. A B\n"),
-        ("convert", "usage: menakovitsy convert [OPTION].. --out FILE IN\n"),
+        ("annotate", "usage: menakovitsy annotate [OPTION]... FILE\n"),
+        ("values", "usage: menakovitsy values [OPTION]... FILE\n"),
+        ("diff", "usage: menakovitsy diff [OPTION]... A B\n"),
+        ("convert", "usage: menakovitsy convert [OPTION]... --out FILE IN\n"),
         ("salvage", "usage: menakovitsy salvage "),
     ] {
         for arguments in [&[name, "--help"][..], &[name, "no-such-file", "-h"]] {

@@ -33,7 +33,7 @@ pub fn end(output: &mut impl Write, end: &End) -> io::Result<()> {
         text += &counted(Object::new("passed").number("before_row", end.from), passed).line();
     }
     let last = match &end.trouble {
-        Some(trouble) => refused(trouble).number("length", end.length),
+        Some(trouble) => refused(trouble),
         None if end.from > 0 && end.from >= all.rows => no_such_row(end.from, all),
         None => counted(Object::new("whole"), all),
     };
@@ -48,12 +48,12 @@ fn counted(object: Object, Counts { runs, rows, bytes }: Counts) -> Object {
 
 /// A stream that is refused.
 pub fn refused(trouble: &Trouble) -> Object {
-    let Trouble { refused, before, .. } = trouble;
+    let Trouble { refused, before, length, .. } = trouble;
     let object = Object::new("refused").number("refusal", refused.refusal.number());
     let object = object.number("byte", before.bytes).number("row", before.rows);
     let object = object.optional("cut_byte", refused.cut.map(|byte| byte.0 as u64));
     let object = object.text("meaning", &refused.meaning()).text("advice", &trouble.advice());
-    counted(object, *before)
+    counted(object, *before).number("length", *length)
 }
 
 /// A row that is asked for and is not there.
