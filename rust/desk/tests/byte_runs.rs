@@ -40,6 +40,9 @@ fn the_lines() {
     let file = folder.holding("file", &RUNS);
     assert_eq!(menakovitsy(&["annotate", "--flags", &file], &[]), Ran::well(FLAGS));
     assert_eq!(menakovitsy(&["annotate", "--bytes", &file, "--from", "5"], &[]), Ran::well(BYTES));
+    // Row 4 is the first of the run at byte 4.
+    let from = BYTES.replace("before row 5", "before row 4");
+    assert_eq!(menakovitsy(&["annotate", "--bytes", &file, "--from", "4"], &[]), Ran::well(&from));
     let signed = menakovitsy(&["annotate", "--bytes", "--signed", &file], &[]);
     assert!(signed.output.contains("  repeat          8     3     2  -1\n"), "{}", signed.output);
     assert_eq!(menakovitsy(&["annotate", "--flags", "-"], &[]), Ran::well("whole: the file is empty\n"));

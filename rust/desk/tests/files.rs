@@ -3,9 +3,9 @@
 mod running;
 
 use std::fs::{self, File};
+use std::io::Read;
 use std::os::unix::fs::{symlink, FileTypeExt, MetadataExt, PermissionsExt};
 use std::process::{Command, Stdio};
-use std::thread;
 
 use running::{menakovitsy, scratch, Ran, Scratch, EVERY_KIND};
 
@@ -162,11 +162,11 @@ fn a_named_pipe() {
     let folder = scratch("pipe");
     let pipe = folder.path("pipe");
     assert!(Command::new("mkfifo").arg(&pipe).status().expect("mkfifo runs").success());
-    let reader = thread::spawn({
-        let pipe = pipe.clone();
-        move || fs::read(pipe).unwrap()
-    });
+    // Open at both ends, so that nobody waits for another: the pipe holds all that is written.
+    let mut reader = File::options().read(true).write(true).open(&pipe).unwrap();
     assert_eq!(converted(&folder, &pipe).status, 0);
-    assert_eq!(reader.join().unwrap(), AFTER);
     assert!(fs::metadata(&pipe).unwrap().file_type().is_fifo());
+    let mut read = vec![0; AFTER.len()];
+    reader.read_exact(&mut read).unwrap();
+    assert_eq!(read, AFTER);
 }

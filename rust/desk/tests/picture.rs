@@ -101,6 +101,22 @@ fn a_change_is_seen() {
     assert_eq!(last.x + last.wide, RIGHT);
 }
 
+/// The same widths all along, and in the second half another kind beside them: the first is paler there.
+#[test]
+fn a_changed_part_is_seen() {
+    let direct = [&[0x4F, 0xFF][..], &[7; 512]].concat();
+    let repeats = [0x0A, 0x01, 0x2C].repeat(171);
+    let both = [&direct[..], &repeats].concat();
+    let bytes = [direct.repeat(4000), both.repeat(2000)].concat();
+    let bars = bars(&picture("parts", &bytes, &[]));
+    let direct: Vec<&Bar> = bars.iter().filter(|bar| bar.fill == DIRECT).collect();
+    assert!(direct.len() > 1 && direct.iter().all(|bar| bar.high == 8.0), "{bars:?}");
+    let middle = (LEFT + RIGHT) / 2.0;
+    assert!((direct[0].x + direct[0].wide - middle).abs() < 10.0, "{bars:?}");
+    let repeats = bars.iter().find(|bar| bar.fill != DIRECT).expect("a bar");
+    assert!((repeats.x - middle).abs() < 10.0, "{bars:?}");
+}
+
 #[test]
 fn numbers_and_edges() {
     let svg = picture("numbers", &uniform::runs().repeat(5000), &[]);

@@ -54,6 +54,6 @@ fn long_files() {
     assert!(shown.contains("read: 1 of 102 MB (1 %)") && shown.contains("convert: 102 MB"), "{shown:?}");
     // Of a short file nothing; nor if the lines themselves go to the terminal.
     assert_eq!(on_a_terminal(&format!("'{command}' annotate '{short}' > '{lines}'")).unwrap(), "");
-    let shown = on_a_terminal(&format!("'{command}' values '{long}' --count 3")).unwrap();
-    assert_eq!(shown.lines().collect::<Vec<_>>(), ["1229782938247303441"; 3]);
+    let shown = on_a_terminal(&format!("'{command}' annotate '{long}'")).unwrap();
+    assert!(shown.lines().count() > 25_000 && !shown.contains('\u{1b}'), "{}", shown.len());
 }
