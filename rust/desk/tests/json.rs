@@ -1,7 +1,7 @@
 //! `menakovitsy annotate --json`, by running it: the same as the text says.
 mod running;
 
-use running::{fields, json, menakovitsy, BEFORE_THE_END, EVERY_KIND};
+use running::{fields, json, menakovitsy, scratch, BEFORE_THE_END, EVERY_KIND};
 
 /// What is said of the sample as text and as JSON lines.
 fn both(options: &[&str], bytes: &[u8]) -> (Vec<Vec<String>>, Vec<json::Object>) {
@@ -73,4 +73,31 @@ fn convert_refused() {
         ["refusal", "byte", "cut_byte", "length"].map(|name| objects[0].number(name)),
         [14, 124, 150, 151]
     );
+}
+
+/// The sample of salvage: group 7 of 20 is damaged.
+#[test]
+fn salvage() {
+    let folder = scratch("json-salvage");
+    let stream = folder.holding("stream", include_bytes!("../sample/damaged.rle"));
+    let groups = folder.holding("groups", include_bytes!("../sample/damaged.groups"));
+    let arguments = ["salvage", &stream, "--fill=7", "--out", &folder.path("new"), "--json"];
+    let said = menakovitsy(&[&arguments[..], &["--groups", &groups]].concat(), &[]);
+    assert_eq!((said.status, said.error.as_str()), (0, ""));
+    let objects = json::objects(&said.output);
+    assert_eq!(objects.len(), 21);
+    for (number, object) in objects[..20].iter().enumerate() {
+        let became = if number == 7 { "replaced" } else { "kept" };
+        assert_eq!((object.kind(), object.get("became")), ("group", Some(became)));
+        assert_eq!((object.number("group"), object.number("rows")), (number as i128, 25));
+    }
+    assert_eq!((objects[20].kind(), objects[20].get("note")), ("salvaged", None));
+    let found = ["kept_rows", "lost_rows", "replaced_groups"].map(|name| objects[20].number(name));
+    assert_eq!(found, [475, 25, 1]);
+    let wrong = folder.holding("wrong", b"1 25\n");
+    let said = menakovitsy(&[&arguments[..], &["--groups", &wrong]].concat(), &[]);
+    let objects = json::objects(&said.output);
+    assert_eq!((said.status, said.error.as_str(), objects.len()), (1, "", 1));
+    assert_eq!((objects[0].kind(), objects[0].number("refusal")), ("refused", 17));
+    assert!(objects[0].get("advice").is_some_and(|advice| advice.starts_with("the starts must begin at 0")));
 }

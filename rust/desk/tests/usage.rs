@@ -18,7 +18,7 @@ fn help() {
         ("values", "usage: menakovitsy values [OPTION]... FILE\n"),
         ("diff", "usage: menakovitsy diff [OPTION]... A B\n"),
         ("convert", "usage: menakovitsy convert [OPTION]... --out FILE IN\n"),
-        ("salvage", "usage: menakovitsy salvage "),
+        ("salvage", "usage: menakovitsy salvage [OPTION]... "),
     ] {
         for arguments in [&[name, "--help"][..], &[name, "no-such-file", "-h"]] {
             let said = menakovitsy(arguments, &[]);
