@@ -59,7 +59,7 @@ fn options(arguments: Vec<OsString>) -> Result<Options, Failure> {
 /// What stands in one of the files where they part.
 pub enum Side<T> {
     Here(T),
-    /// It has ended, after so much.
+    /// It has ended, after these.
     Ended(Counts),
     /// It is refused there.
     Refused(Box<Trouble>),
@@ -82,7 +82,7 @@ pub enum Compared {
 
 /// What the rows of two files came to, whatever their runs.
 pub enum Rows {
-    /// So many, all of them equal.
+    /// All are equal: how many there are.
     Equal(u64),
     /// The first that differs, and what it is in each.
     Parted(u64, [Side<Row>; 2]),

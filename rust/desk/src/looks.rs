@@ -9,7 +9,7 @@ pub enum Looks {
     OrcFile,
     /// ORC's chunk headers lead from its first byte to its end: a stream that is still compressed.
     Chunks(u64),
-    /// Its first bytes may be the header of a chunk of so many bytes, and it reads as nothing else.
+    /// Its first bytes may be the header of a chunk of that many bytes, and hardly a run of it can be read.
     Chunk(u64),
 }
 
@@ -27,7 +27,7 @@ const USUAL: u64 = 1 << 18;
 /// With as many runs read as this, what stands in the first bytes is a run's header.
 const FEW_RUNS: u64 = 4;
 
-/// Chunks are followed so far. No file has more by chance.
+/// No more chunks are followed: no file has so many by chance.
 const ENOUGH: u64 = 10_000;
 
 /// Whether bytes begin as a whole ORC file does.
@@ -35,7 +35,7 @@ pub fn is_orc_file(head: &[u8]) -> bool {
     head.starts_with(MAGIC)
 }
 
-/// What an input looks like that is refused after so many runs: by its first bytes, by the whole file if it can
+/// What an input looks like that is refused after that many runs: by its first bytes, by the whole file if it can
 /// be opened again, and by its length.
 pub fn of(head: &[u8], file: Option<File>, all: u64, runs: u64) -> Option<Looks> {
     if is_orc_file(head) {

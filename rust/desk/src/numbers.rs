@@ -13,7 +13,7 @@ pub fn separated(number: u64) -> String {
     text
 }
 
-/// So many of something: `1 row`, `2 rows`.
+/// A number of things: `1 row`, `2 rows`.
 pub fn many(number: u64, one: &str) -> String {
     format!("{number} {one}{}", plural(number))
 }

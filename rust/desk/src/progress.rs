@@ -38,7 +38,7 @@ impl Progress {
         Progress { watched, what, total, began: Instant::now(), said: None, next_look: STEP }
     }
 
-    /// So many bytes are done.
+    /// This many bytes are done.
     pub fn at(&mut self, bytes: u64) {
         if self.watched && bytes >= self.next_look {
             self.next_look = bytes + STEP;

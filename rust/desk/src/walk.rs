@@ -28,7 +28,7 @@ pub struct RunInfo {
     pub bytes: u64,
 }
 
-/// A run of a file, which is lent until the next is asked for.
+/// A run of a file. Its bytes and rows are borrowed from the walk.
 #[derive(Debug, Clone, Copy)]
 pub struct RunAt<'r> {
     pub info: RunInfo,
@@ -37,7 +37,7 @@ pub struct RunAt<'r> {
     pub rows: &'r [i64],
 }
 
-/// So many runs, with so many rows and bytes.
+/// Runs, counted with their rows and bytes.
 #[derive(Debug, Clone, Copy, Default, PartialEq, Eq)]
 pub struct Counts {
     pub runs: u64,

@@ -119,7 +119,23 @@ first row that differs: row 96
         said.status == 1
             && said.output.starts_with("both break off after 96 rows in 10 runs, 124 bytes, which")
     );
-    assert_eq!(diff(&folder, EVERY_KIND, EVERY_KIND, &["--rows"]).status, 1);
+    let said = diff(&folder, EVERY_KIND, EVERY_KIND, &["--rows"]);
+    assert!(
+        said.status == 1
+            && said.output.starts_with("rows: the first 96 are equal, and then both break off\n")
+    );
+    assert_eq!(said.output.matches("what to do: ").count(), 2);
+    // The same rows in other runs, and then both break off: what to do is said of each, once.
+    let (a, b) = ([0x0A, 0x01, 0x2C, 0xC2, 0x00], [0x5E, 0x04, 1, 44, 1, 44, 1, 44, 1, 44, 1, 44, 0x0A]);
+    let said = diff(&folder, &a, &b, &[]);
+    let begin = "first run that differs: run 0
+  A  byte 0, row 0: short repeat, 5 rows of 16 bits, 3 bytes
+  B  byte 0, row 0: direct, 5 rows of 16 bits, 12 bytes
+rows: the first 5 are equal, and then both break off
+  A  breaks off at byte 3: refusal 4: ";
+    assert!(said.status == 1 && said.output.starts_with(begin), "{}", said.output);
+    assert_eq!(said.output.matches("what to do: ").count(), 2);
+    assert!(said.output.contains("  B  breaks off at byte 12: refusal 6: "), "{}", said.output);
     let objects = json::objects(&diff(&folder, EVERY_KIND, WHOLE, &["--json"]).output);
     assert_eq!((objects[1].number("a_refused"), objects[1].number("b_end")), (14, 124));
     let missing = menakovitsy(&["diff", &folder.path("a"), &folder.path("missing")], &[]);

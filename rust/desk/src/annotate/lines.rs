@@ -59,7 +59,7 @@ pub fn end(output: &mut impl Write, end: &End) -> io::Result<()> {
     Ok(())
 }
 
-/// So many rows, and what they take up.
+/// How many rows there are, and what they take up.
 pub fn counts(Counts { runs, rows, bytes }: Counts) -> String {
     format!("{} in {}, {}", many(rows, "row"), many(runs, "run"), many(bytes, "byte"))
 }

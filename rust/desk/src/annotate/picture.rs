@@ -29,7 +29,7 @@ const LEAST: f64 = 3.0;
 /// A run's width is written above its bar if there is room for it.
 const ROOM: f64 = 13.0;
 
-/// So many runs stand in a bin, on the average, or more.
+/// A bin has this many runs on the average, or more.
 const RUNS_A_BIN: f64 = 12.0;
 
 /// Of many runs, a bar goes on as long as its mean width and its part of the bytes stay this near: what differs

@@ -5,10 +5,10 @@ use std::ops::Range;
 use crate::stream::RunKind;
 use crate::walk::RunInfo;
 
-/// Up to so many runs are kept one by one.
+/// Up to this many runs are kept one by one.
 const FEW: usize = 440;
 
-/// Up to so many stretches there are: more than two for each pixel of the picture, so that each pixel has about
+/// There are up to this many stretches: more than two for each pixel of the picture, so that each pixel has about
 /// as much of the file.
 const STRETCHES: usize = 4096;
 

@@ -6,36 +6,36 @@ use crate::json::Object;
 use crate::numbers::many;
 use crate::walk::RunInfo;
 
-/// The text. The first part of it that has to do with a refusal says what to do, too.
+/// The text. What to do about a refusal is said once.
 pub fn text(compared: &Compared, names: &[String; 2], rows_only: bool) -> String {
     let (number, runs, rows) = match compared {
         Compared::Equal(all) => return format!("equal: {}\n", counts(*all)),
         Compared::Parted(number, runs, rows) => (number, runs, rows),
     };
+    if let ([Side::Refused(trouble), Side::Refused(_)], false) = (runs, rows_only) {
+        let begin = format!("both break off after {}, which are equal\n", counts(trouble.before));
+        return begin + &both(runs, names, true, run);
+    }
     let mut text = String::new();
     if !rows_only {
-        text += &match runs {
-            [Side::Refused(trouble), Side::Refused(_)] => {
-                format!("both break off after {}, which are equal\n", counts(trouble.before))
-            }
-            _ => format!("first run that differs: run {number}\n"),
-        };
-        text += &both(runs, names, true, |RunInfo { at, first, kind, bits, rows, bytes }| {
-            let [rows, bits, bytes] =
-                [(*rows, "row"), (*bits, "bit"), (*bytes, "byte")].map(|(n, of)| many(n, of));
-            format!("byte {at}, row {first}: {kind}, {rows} of {bits}, {bytes}")
-        });
+        text += &format!("first run that differs: run {number}\n");
+        text += &both(runs, names, true, run);
     }
-    match rows {
-        Rows::Equal(rows) => text + &format!("rows: all {rows} are equal\n"),
-        Rows::Parted(_, [Side::Refused(_), Side::Refused(_)]) if !rows_only => text,
-        Rows::Parted(number, sides) => {
-            text += &format!("first row that differs: row {number}\n");
-            text + &both(sides, names, rows_only, |Row { value, at }| {
-                format!("{value}, in the run at byte {at}")
-            })
+    let said = !rows_only && runs.iter().any(|side| matches!(side, Side::Refused(_)));
+    let (begin, sides) = match rows {
+        Rows::Equal(rows) => return text + &format!("rows: all {rows} are equal\n"),
+        Rows::Parted(rows, sides @ [Side::Refused(_), Side::Refused(_)]) => {
+            (format!("rows: the first {rows} are equal, and then both break off\n"), sides)
         }
-    }
+        Rows::Parted(row, sides) => (format!("first row that differs: row {row}\n"), sides),
+    };
+    text + &begin
+        + &both(sides, names, !said, |Row { value, at }| format!("{value}, in the run at byte {at}"))
+}
+
+fn run(RunInfo { at, first, kind, bits, rows, bytes }: &RunInfo) -> String {
+    let [rows, bits, bytes] = [(*rows, "row"), (*bits, "bit"), (*bytes, "byte")].map(|(n, of)| many(n, of));
+    format!("byte {at}, row {first}: {kind}, {rows} of {bits}, {bytes}")
 }
 
 /// A line for each file; with `advice` a refusal says what to do.
