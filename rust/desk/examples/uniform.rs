@@ -4,12 +4,13 @@
 //! ```text
 //! cargo run --offline -p desk --example uniform -- uniform.rle
 //! cargo run --release --offline -p desk -- annotate uniform.rle --svg ../docs/uniform.svg
+//! cargo run --release --offline -p desk -- annotate desk/sample/every-kind.rle --svg ../docs/annotate.svg
 //! ```
 use std::process::ExitCode;
 use std::{env, fs};
 
 /// How many bytes there are at least.
-const LENGTH: usize = 60_000_000;
+pub const LENGTH: usize = 60_000_000;
 
 /// Runs of about a length: 512 rows of 24 bits, 300 of 8 bits, 32 with one step, and five times 300.
 pub fn runs() -> Vec<u8> {

@@ -179,3 +179,24 @@ fn on_standard_output() {
     assert_eq!(menakovitsy(&["annotate", &file, "--svg", &picture], &[]).status, 1);
     assert_eq!((said.status, said.output, said.error), (1, folder.text("picture.svg"), String::new()));
 }
+
+/// The pictures of the pages are what the command makes.
+#[test]
+fn the_pictures_of_the_pages() {
+    let rust = concat!(env!("CARGO_MANIFEST_DIR"), "/..");
+    let folder = scratch("pages");
+    let runs = uniform::runs();
+    folder.holding("uniform.rle", &runs.repeat(uniform::LENGTH.div_ceil(runs.len())));
+    for (page, folder, file) in [
+        ("uniform.svg", folder.path(""), "uniform.rle"),
+        ("annotate.svg", rust.into(), "desk/sample/every-kind.rle"),
+    ] {
+        let ended = Command::new(env!("CARGO_BIN_EXE_menakovitsy"))
+            .args(["annotate", file, "--svg", "-"])
+            .current_dir(folder)
+            .output()
+            .expect("the command runs");
+        let page = fs::read(format!("{rust}/../docs/{page}")).expect("the picture is there");
+        assert!(ended.stdout == page, "{file}: make its picture anew, as examples/uniform.rs says");
+    }
+}
