@@ -17,13 +17,13 @@ use crate::output::Output;
 use crate::progress::Progress;
 use crate::stream::Stream;
 use crate::walk::{Walk, Walked};
-use crate::Word;
+use crate::Subcommand;
 pub use lines::counts;
 use picture::Picture;
 use strip::Strip;
 use summary::Summary;
 
-pub const WORD: Word = Word {
+pub const SUBCOMMAND: Subcommand = Subcommand {
     name: "annotate",
     does: "says what runs a stream file holds, and where it breaks off",
     help: HELP,

@@ -15,9 +15,9 @@ use crate::numbers::many;
 use crate::progress::Progress;
 use crate::stream::Stream;
 use crate::walk::Counts;
-use crate::Word;
+use crate::Subcommand;
 
-pub const WORD: Word = Word {
+pub const SUBCOMMAND: Subcommand = Subcommand {
     name: "convert",
     does: "writes a stream file anew, without the widths that the specification has retired",
     help: HELP,

@@ -10,10 +10,14 @@ use crate::input::Input;
 use crate::progress::Progress;
 use crate::stream::Stream;
 use crate::walk::{Counts, RunInfo, Walk};
-use crate::Word;
+use crate::Subcommand;
 
-pub const WORD: Word =
-    Word { name: "diff", does: "says in which run and in which row two stream files part", help: HELP, run };
+pub const SUBCOMMAND: Subcommand = Subcommand {
+    name: "diff",
+    does: "says in which run and in which row two stream files part",
+    help: HELP,
+    run,
+};
 
 const HELP: &str = "usage: menakovitsy diff [OPTION]... A B
 

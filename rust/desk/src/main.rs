@@ -1,9 +1,9 @@
 //! `menakovitsy SUBCOMMAND ..`: the support desk's command, over the proved functions.
 //!
-//! A subcommand is a module and a line of [`WORDS`].
+//! A subcommand is a module and a line of [`SUBCOMMANDS`].
 #![forbid(unsafe_code)]
 use std::env;
-use std::ffi::OsString;
+use std::ffi::{OsStr, OsString};
 use std::process::ExitCode;
 
 mod advice;
@@ -28,7 +28,7 @@ mod walk;
 use ended::{Ended, Failure};
 
 /// A subcommand.
-pub struct Word {
+pub struct Subcommand {
     name: &'static str,
     /// What it does, in a line.
     does: &'static str,
@@ -38,10 +38,18 @@ pub struct Word {
     run: fn(Vec<OsString>) -> Result<Ended, Failure>,
 }
 
-const WORDS: [Word; 5] = [annotate::WORD, values::WORD, diff::WORD, convert::WORD, salvage::WORD];
+const SUBCOMMANDS: [Subcommand; 5] =
+    [annotate::SUBCOMMAND, values::SUBCOMMAND, diff::SUBCOMMAND, convert::SUBCOMMAND, salvage::SUBCOMMAND];
+
+fn named(name: &OsStr) -> Option<&'static Subcommand> {
+    SUBCOMMANDS.iter().find(|subcommand| name == subcommand.name)
+}
 
 fn help() -> String {
-    let words: String = WORDS.iter().map(|word| format!("  {:<10} {}\n", word.name, word.does)).collect();
+    let listed: String = SUBCOMMANDS
+        .iter()
+        .map(|subcommand| format!("  {:<10} {}\n", subcommand.name, subcommand.does))
+        .collect();
     format!(
         "usage: menakovitsy SUBCOMMAND [OPTION]... [FILE]...
        menakovitsy SUBCOMMAND --help
@@ -49,7 +57,7 @@ fn help() -> String {
 
 Looks into stream files: the bytes of one column of an ORC file, uncompressed.
 
-{words}
+{listed}
 An option's value may follow it or stand after an equals sign: --from 3, --from=3. After -- every
 argument is a name. - is standard input, and as the value of --out standard output.
 
@@ -73,23 +81,24 @@ fn told(arguments: Vec<OsString>) -> Result<Ended, Failure> {
         }
         option if option.starts_with('-') => Err(Failure::Usage(format!("unknown option {option}"))),
         name => {
-            let word = WORDS.iter().find(|word| word.name == name);
-            let word = word.ok_or_else(|| Failure::Usage(format!("unknown subcommand {name}")))?;
+            let subcommand = named(name.as_ref());
+            let subcommand =
+                subcommand.ok_or_else(|| Failure::Usage(format!("unknown subcommand {name}")))?;
             let arguments: Vec<OsString> = arguments.collect();
             let mut options = arguments.iter().take_while(|argument| *argument != "--");
             if options.any(|argument| argument == "--help" || argument == "-h") {
-                return ended::say(word.help);
+                return ended::say(subcommand.help);
             }
             menakovitsy::check_version().map_err(|other| Failure::Told(other.to_string()))?;
-            (word.run)(arguments)
+            (subcommand.run)(arguments)
         }
     }
 }
 
 fn main() -> ExitCode {
     let arguments: Vec<OsString> = env::args_os().skip(1).collect();
-    let help = match arguments.first().and_then(|first| WORDS.iter().find(|word| first == word.name)) {
-        Some(word) => format!("menakovitsy {} --help", word.name),
+    let help = match arguments.first().and_then(|first| named(first)) {
+        Some(subcommand) => format!("menakovitsy {} --help", subcommand.name),
         None => "menakovitsy --help".into(),
     };
     match told(arguments) {

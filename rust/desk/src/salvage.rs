@@ -12,12 +12,12 @@ use menakovitsy::{Column, Refused, RowNumber, RowPosition, Sign};
 
 use crate::ended::{self, Ended, Failure};
 use crate::files;
-use crate::Word;
+use crate::Subcommand;
 
 use lists::List;
 use options::{Form, Options};
 
-pub const WORD: Word = Word {
+pub const SUBCOMMAND: Subcommand = Subcommand {
     name: "salvage",
     does: "keeps the good row groups of a damaged stream file, and fills the others",
     help: HELP,

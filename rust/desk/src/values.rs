@@ -14,10 +14,10 @@ use crate::output::Output;
 use crate::progress::Progress;
 use crate::stream::Stream;
 use crate::walk::{RunAt, Walk};
-use crate::Word;
+use crate::Subcommand;
 
-pub const WORD: Word =
-    Word { name: "values", does: "writes the rows of a stream file, a line each", help: HELP, run };
+pub const SUBCOMMAND: Subcommand =
+    Subcommand { name: "values", does: "writes the rows of a stream file, a line each", help: HELP, run };
 
 const HELP: &str = "usage: menakovitsy values [OPTION]... FILE
 
