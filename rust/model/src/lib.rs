@@ -23,6 +23,7 @@ mod flags;
 mod index;
 mod label_column;
 mod labels;
+mod lines;
 mod optimum;
 mod parts;
 mod patched_writer;
@@ -46,6 +47,7 @@ pub use flags::{read_bytes, read_flags, BytePosition, Bytes, FlagPosition, Flags
 pub use index::{build_index, look_up, read_from, Columns, Entry, Index, Lookup, Rows};
 pub use label_column::{label_column, LabelPlaces, Labels, Names, Part};
 pub use labels::{label, Dictionary, Label};
+pub use lines::{answer_line, answer_lines, frame_of};
 pub use optimum::{optimum, Lists};
 pub use parts::{read_parts, Parts};
 pub use patched_writer::write_patched;
