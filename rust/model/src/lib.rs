@@ -5,7 +5,7 @@
 //!
 //! It is slow and plain on purpose. Every reader takes the whole input and a position, and how many
 //! places the caller lends; it answers what the rules say the call answers, with the rows as a
-//! list of its own.
+//! list of its own. [`vectors`] has lines to hold other readers to it.
 //!
 //! ```
 //! use model::{read_run, Answer, Kind, Run};
@@ -36,6 +36,7 @@ mod spread;
 mod streams;
 mod totals;
 mod values;
+pub mod vectors;
 mod writer;
 
 pub use batches::{read_rows, Batch, RowPosition};
