@@ -23,6 +23,7 @@ mod progress;
 mod salvage;
 mod stream;
 mod values;
+mod vectors;
 mod walk;
 
 use ended::{Ended, Failure};
@@ -38,8 +39,14 @@ pub struct Subcommand {
     run: fn(Vec<OsString>) -> Result<Ended, Failure>,
 }
 
-const SUBCOMMANDS: [Subcommand; 5] =
-    [annotate::SUBCOMMAND, values::SUBCOMMAND, diff::SUBCOMMAND, convert::SUBCOMMAND, salvage::SUBCOMMAND];
+const SUBCOMMANDS: [Subcommand; 6] = [
+    annotate::SUBCOMMAND,
+    values::SUBCOMMAND,
+    diff::SUBCOMMAND,
+    convert::SUBCOMMAND,
+    salvage::SUBCOMMAND,
+    vectors::SUBCOMMAND,
+];
 
 fn named(name: &OsStr) -> Option<&'static Subcommand> {
     SUBCOMMANDS.iter().find(|subcommand| name == subcommand.name)
