@@ -45,10 +45,10 @@ const README: &str = "README.txt";
 
 fn run(arguments: Vec<OsString>) -> Result<Ended, Failure> {
     let mut arguments = Arguments::new(arguments);
-    let folder = arguments.value("--out")?.ok_or_else(|| Failure::Usage("--out is missing".into()))?;
+    let folder = arguments.value("--out")?.ok_or_else(|| Failure::Usage("option --out is missing".into()))?;
     let [] = arguments.all([])?;
     if folder == "-" {
-        return Err(Failure::Usage("--out wants a folder, and not standard output".into()));
+        return Err(Failure::Usage("option --out needs a folder, and not standard output".into()));
     }
     let folder = PathBuf::from(folder);
     make(&folder)?;

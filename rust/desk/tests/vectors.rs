@@ -115,8 +115,8 @@ fn how_it_is_called() {
     assert_eq!((said.status, said.error.as_str()), (0, ""));
     assert!(said.output.starts_with("usage: menakovitsy vectors --out FOLDER\n"), "{}", said.output);
     for (arguments, what) in [
-        (&["vectors"][..], "--out is missing"),
-        (&["vectors", "--out", "-"], "--out wants a folder, and not standard output"),
+        (&["vectors"][..], "option --out is missing"),
+        (&["vectors", "--out", "-"], "option --out needs a folder, and not standard output"),
         (&["vectors", "--out", &folder.path("a"), "b"], "b"),
         (&["vectors", "--out", &folder.path("a"), "--signed"], "--signed"),
         (&["vectors", "--out", &folder.path("missing/a")], "missing/a cannot be written: "),
