@@ -21,8 +21,8 @@ pub const SUBCOMMAND: Subcommand = Subcommand {
 
 const HELP: &str = "usage: menakovitsy vectors --out FOLDER
 
-Writes the cases of four questions that a tester of a reader has, two files each, and a README.txt that
-says how to hold a reader to them:
+Writes test cases for readers of integer runs (RLE version 2), and a README.txt that says how to hold a
+reader to them. There are four families, with two files each:
 
   widths   each bit width at each run length
   patches  damaged patch lists
@@ -30,17 +30,17 @@ says how to hold a reader to them:
   cuts     every cut of sample streams
 
 A line of NAME.in is a run in hexadecimal, after a byte that is 00 for unsigned rows and 01 for signed
-ones: what the program runs reads. The same line of NAME.expected is what it must answer. The answers are
-made from the rules by a model, and not by the readers that are tested with them. The files are the same
-at every call, and take up about 60 MB.
+ones. The program runs reads such lines. The same line of NAME.expected is the answer that it must give.
+The answers come from a model of the rules, and not from the readers that are tested with them. The files
+are the same at every call, and take up about 60 MB.
 
-  --out FOLDER  where the files go. FOLDER is made if it is not there. One that holds anything but files
-                of an earlier call is left as it is
+  --out FOLDER  where the files go. FOLDER is made if it is not there. If it holds anything but files of
+                an earlier call, nothing is written
 
 Status: 0 the files are written, 2 bad usage, or a file cannot be written.
 ";
 
-/// The name of the file that tells that a folder is one of these.
+/// A folder of vectors is known by this file.
 const README: &str = "README.txt";
 
 fn run(arguments: Vec<OsString>) -> Result<Ended, Failure> {
@@ -53,7 +53,7 @@ fn run(arguments: Vec<OsString>) -> Result<Ended, Failure> {
     let folder = PathBuf::from(folder);
     make(&folder)?;
     let all: Vec<Vectors> = FAMILIES.iter().map(Vectors::of).collect();
-    // First of all: a folder that is left half written is known by it at the next call.
+    // It comes first: by it the next call knows a folder that was left half written.
     files::replace(&folder.join(README), readme::text(&all).as_bytes())?;
     let mut said = String::new();
     for vectors in &all {
@@ -100,27 +100,27 @@ fn names(family: &Family) -> [String; 2] {
     [format!("{}.in", family.name), format!("{}.expected", family.name)]
 }
 
-/// Makes the folder, or sees that nothing in it is another's.
+/// Makes the folder, or sees that it holds nothing but files of an earlier call.
 fn make(folder: &Path) -> Result<(), Failure> {
     let other = |what: &str| {
         let folder = folder.display();
-        Err(Failure::Told(format!("{folder} {what}; nothing is written: name a folder that is new or empty")))
+        Err(Failure::Told(format!("{folder} {what}; nothing is written: name a new or an empty folder")))
     };
     if !folder.exists() {
         return fs::create_dir(folder).map_err(Failure::unwritable(folder));
     }
     if !folder.is_dir() {
-        return other("is no folder");
+        return other("is not a folder");
     }
     let unreadable = folder.display().to_string();
     let unreadable = Failure::unreadable(&unreadable);
     let mut is_empty = true;
     for entry in fs::read_dir(folder).map_err(&unreadable)? {
         let entry = entry.map_err(&unreadable)?;
-        // A link is another's: what it leads to would be written over.
+        // A link is somebody else's: what it leads to would be written over.
         if !is_ours(&entry.file_name()) || !entry.file_type().map_err(&unreadable)?.is_file() {
             return other(&format!(
-                "holds {}, which is no file of these",
+                "holds {}, which is not a file of an earlier call",
                 entry.file_name().to_string_lossy()
             ));
         }
@@ -129,7 +129,7 @@ fn make(folder: &Path) -> Result<(), Failure> {
     let marked =
         || fs::read(folder.join(README)).is_ok_and(|text| text.starts_with(readme::TITLE.as_bytes()));
     if !is_empty && !marked() {
-        return other("holds files, and no README.txt that says that they are of these");
+        return other("holds files, but not the README.txt of an earlier call");
     }
     Ok(())
 }

@@ -65,8 +65,9 @@ fn the_files() {
         let text = std::str::from_utf8(&written["README.txt"]).unwrap();
         assert!(text.contains(&format!(" to {}: ", input.lines().count())), "{name}: {text}");
     }
-    // Once more, over what was there: the same bytes, and nothing beside them.
+    // Once more, over what was there, a file altered and another missing: the same bytes, and nothing beside them.
     fs::write(folder.path("new/cuts.in"), "old").unwrap();
+    fs::remove_file(folder.path("new/sums.in")).unwrap();
     assert_eq!(menakovitsy(&["vectors", "--out", &out], &[]), said);
     assert!(files(&out) == written, "other bytes at the second call");
 }
@@ -87,19 +88,15 @@ fn folders_of_others() {
     symlink(folder.path("notes"), folder.path("link/sums.in")).unwrap();
     for (out, what) in [
         ("", " holds "),
-        ("readme", " holds files, and no README.txt that says"),
-        ("in", " holds files, and no README.txt that says"),
-        ("link", " holds sums.in, which is no file of these"),
-        ("notes", " is no folder"),
+        ("readme", " holds files, but not the README.txt of an earlier call"),
+        ("in", " holds files, but not the README.txt of an earlier call"),
+        ("link", " holds sums.in, which is not a file of an earlier call"),
+        ("notes", " is not a folder"),
     ] {
         let said = menakovitsy(&["vectors", "--out", &folder.path(out)], &[]);
         assert_eq!((said.status, said.output.as_str()), (2, ""), "{out}");
         assert!(said.error.contains(what), "{}", said.error);
-        assert!(
-            said.error.contains("nothing is written: name a folder that is new or empty"),
-            "{}",
-            said.error
-        );
+        assert!(said.error.contains("nothing is written: name a new or an empty folder"), "{}", said.error);
     }
     assert_eq!(
         ["notes", "readme/README.txt", "in/widths.in"].map(|name| folder.text(name)),

@@ -54,6 +54,7 @@ pub type Frames = Box<dyn Iterator<Item = Frame>>;
 pub struct Part {
     /// What they are, in a line.
     pub what: &'static str,
+    /// Makes them.
     pub frames: fn() -> Frames,
 }
 
@@ -80,7 +81,7 @@ pub const FAMILIES: [Family; 4] = [
     Family { name: "cuts", question: "every cut of sample streams", parts: cuts::PARTS },
 ];
 
-/// Sample runs of docs/FORMAT.md and of the specification, in hexadecimal, each behind its flag.
+/// Sample runs of the pages and of the specification, in hexadecimal, each after its flag.
 fn samples(lines: &'static [&'static str]) -> Frames {
     Box::new(lines.iter().map(|line| {
         let (signed, bytes) = crate::frame_of(line.as_bytes()).expect("a good line");

@@ -5,11 +5,11 @@ use super::Vectors;
 pub const TITLE: &str = "Test vectors for readers of integer runs of Apache ORC files (RLE version 2)\n";
 
 const FORM: &str = "
-Line N of NAME.expected is what line N of NAME.in must be answered.
+Line N of NAME.expected is the answer that line N of NAME.in must get.
 
 A line of NAME.in is hexadecimal. Its first byte is the flag: 00 if rows are unsigned, 01 if they are
-signed (zigzag). The rest is one run, or as much of one as is left of it. Bytes after the run are not
-read. A line has at most 8,208 characters.
+signed (zigzag). The rest is one run, whole or cut. Bytes after the run are not read. A line has at most
+8,800 characters.
 
 The answers:
 
@@ -40,7 +40,8 @@ with the flag and the bytes, and prints such answers. If the reader has one erro
 
   yours <$name.in | diff - <(sed 's/^refused .*/refused/' $name.expected)
 
-The reader may crash: catch that, and print `crash`. docs/VECTORS.md of the repository says more.
+A crash is a wrong answer too: let it stop one line, and not the others. docs/VECTORS.md in the repository
+says more.
 ";
 
 /// The whole text, with the lines that each part of a family has.

@@ -8,7 +8,7 @@ use super::{samples, Frame, Frames, Part};
 use crate::bits::WIDTHS;
 
 pub const PARTS: &[Part] = &[
-    Part { what: "sample runs of docs/FORMAT.md and of the specification", frames: sample_runs },
+    Part { what: "sample runs of docs/FORMAT.md, docs/DIFFERENCES.md and the specification", frames: sample_runs },
     Part {
         what: "each patch width with each gap width: lists in place, shared places, places past the end, skips, and gaps above the gap width",
         frames: every_entry,

@@ -5,7 +5,7 @@ use super::{samples, Frame, Frames, Part};
 use crate::bits::WIDTHS;
 
 pub const PARTS: &[Part] = &[
-    Part { what: "sample runs of docs/FORMAT.md", frames: sample_runs },
+    Part { what: "sample runs of docs/FORMAT.md and docs/DIFFERENCES.md", frames: sample_runs },
     Part { what: "fixed deltas: first row and step about the ends, few rows", frames: few_steps },
     Part { what: "fixed deltas: the same, 512 rows", frames: many_steps },
     Part { what: "packed deltas: each width, rising and falling over each end", frames: over_each_end },

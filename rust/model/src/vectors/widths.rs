@@ -5,7 +5,7 @@ use super::{samples, Frame, Frames, Part};
 use crate::bits::WIDTHS;
 
 pub const PARTS: &[Part] = &[
-    Part { what: "sample runs of docs/FORMAT.md and of the specification", frames: sample_runs },
+    Part { what: "sample runs of docs/FORMAT.md and the specification", frames: sample_runs },
     Part {
         what: "direct: each of the 32 widths at each of the 512 lengths, one flag and the other by turns",
         frames: every_direct,
