@@ -69,12 +69,14 @@ fn patches() {
     );
 }
 
+/// Thirteen values of 64 bits, about the ends.
+const VALUES: &str = "0000000000000000 0000000000000001 0000000000000002 00000000FFFFFFFF 3FFFFFFFFFFFFFFF \
+                      4000000000000000 7FFFFFFFFFFFFFFE 7FFFFFFFFFFFFFFF 8000000000000000 8000000000000001 \
+                      FFFFFFFFFFFFFFFD FFFFFFFFFFFFFFFE FFFFFFFFFFFFFFFF";
+
 #[test]
 fn sums() {
     let least = "-9223372036854775808";
-    let values = "0000000000000000 0000000000000001 0000000000000002 00000000FFFFFFFF 3FFFFFFFFFFFFFFF \
-                  4000000000000000 7FFFFFFFFFFFFFFE 7FFFFFFFFFFFFFFF 8000000000000000 8000000000000001 \
-                  FFFFFFFFFFFFFFFD FFFFFFFFFFFFFFFE FFFFFFFFFFFFFFFF";
     answered(
         "sums",
         &[
@@ -96,7 +98,7 @@ fn sums() {
             ("00C2060001FFC0", "run 7 6 0 -1 -4 -7 -10 -13 -16"),
             // A base of -1 under values of 64 bits.
             (
-                &format!("00BE0C000081{}", values.replace(' ', "")),
+                &format!("00BE0C000081{}", VALUES.replace(' ', "")),
                 &format!(
                     "run 13 109 -1 0 1 4294967294 4611686018427387902 4611686018427387903 9223372036854775805 \
                      9223372036854775806 9223372036854775807 {least} -4 -3 -2"
