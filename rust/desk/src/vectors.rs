@@ -1,5 +1,5 @@
 //! `vectors --out FOLDER`: test vectors for any reader of runs, as files.
-use std::ffi::OsString;
+use std::ffi::{OsStr, OsString};
 use std::fs;
 use std::path::{Path, PathBuf};
 
@@ -81,7 +81,11 @@ impl Vectors {
         let mut vectors =
             Vectors { family, input: String::new(), expected: String::new(), lines: Vec::new() };
         for part in family.parts {
-            let lines = (part.frames)().map(|frame| vectors.push(&frame.line())).count();
+            let mut lines = 0;
+            for frame in (part.frames)() {
+                vectors.push(&frame.line());
+                lines += 1;
+            }
             vectors.lines.push(lines);
         }
         vectors
@@ -135,6 +139,6 @@ fn make(folder: &Path) -> Result<(), Failure> {
 }
 
 /// Whether a file's name is one that is written.
-fn is_ours(name: &std::ffi::OsStr) -> bool {
+fn is_ours(name: &OsStr) -> bool {
     name == README || FAMILIES.iter().flat_map(names).any(|ours| name == ours.as_str())
 }
