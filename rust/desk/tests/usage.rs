@@ -19,6 +19,7 @@ fn help() {
         ("diff", "usage: menakovitsy diff [OPTION]... A B\n"),
         ("convert", "usage: menakovitsy convert [OPTION]... --out FILE IN\n"),
         ("salvage", "usage: menakovitsy salvage [OPTION]... "),
+        ("vectors", "usage: menakovitsy vectors --out FOLDER\n"),
     ] {
         for arguments in [&[name, "--help"][..], &[name, "no-such-file", "-h"]] {
             let said = menakovitsy(arguments, &[]);
