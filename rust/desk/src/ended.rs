@@ -2,16 +2,16 @@
 use std::io::{self, ErrorKind, Write};
 use std::path::Path;
 
-/// A word has done what it does.
+/// A subcommand has done what it does.
 #[derive(Debug, Clone, Copy, PartialEq, Eq)]
 pub enum Ended {
     /// Status 0.
     Well,
-    /// The input is refused: status 1.
+    /// The input is refused, or two inputs differ: status 1.
     Refused,
 }
 
-/// A word cannot do it: status 2.
+/// A subcommand cannot do it: status 2.
 #[derive(Debug)]
 pub enum Failure {
     /// It was called wrongly.
@@ -44,5 +44,15 @@ impl Failure {
 pub fn say(text: &str) -> Result<Ended, Failure> {
     let mut output = io::stdout().lock();
     output.write_all(text.as_bytes()).and_then(|()| output.flush()).map_err(Failure::output)?;
+    Ok(Ended::Well)
+}
+
+/// Says this of a file that was written: on standard output, unless the file itself went there.
+pub fn report(out: &Path, text: &str) -> Result<Ended, Failure> {
+    if out.as_os_str() != "-" {
+        return say(text);
+    }
+    // What cannot be said on standard error cannot be said.
+    let _ = io::stderr().write_all(text.as_bytes());
     Ok(Ended::Well)
 }

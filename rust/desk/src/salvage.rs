@@ -1,31 +1,31 @@
 //! `salvage STREAM`: the good row groups of a damaged stream file, and a fill row in the place of the others.
 mod groups;
 mod lists;
+mod objects;
 mod options;
 mod positions;
 
 use std::ffi::OsString;
-use std::io::{self, Write};
 use std::path::Path;
 
 use menakovitsy::{Column, Refused, RowNumber, RowPosition, Sign};
 
 use crate::ended::{self, Ended, Failure};
 use crate::files;
-use crate::Word;
+use crate::Subcommand;
 
 use lists::List;
 use options::{Form, Options};
 
-pub const WORD: Word = Word {
+pub const SUBCOMMAND: Subcommand = Subcommand {
     name: "salvage",
     does: "keeps the good row groups of a damaged stream file, and fills the others",
     help: HELP,
     run,
 };
 
-const HELP: &str = "usage: menakovitsy salvage [OPTION].. --positions FILE --fill ROW --out FILE STREAM
-       menakovitsy salvage [OPTION].. --groups FILE --fill ROW --out FILE STREAM
+const HELP: &str = "usage: menakovitsy salvage [OPTION]... --positions FILE --fill ROW --out FILE STREAM
+       menakovitsy salvage [OPTION]... --groups FILE --fill ROW --out FILE STREAM
 
 STREAM holds the bytes of one integer column (a stream of RLE version 2 runs, uncompressed); - is
 standard input. It is read whole. Its row groups are listed in one of two ways:
@@ -45,6 +45,11 @@ STREAM, and are not counted.
   --out FILE        where the new stream goes. It is never STREAM, and is written in one step: whatever
                     happens, FILE is the old one or the new one, whole. - is standard output, and the
                     lines go to standard error then
+  --json            JSON lines (menakovitsy --help says how they look), of these types:
+                    group     group (its number), became (kept or replaced), rows
+                    salvaged  kept_rows, lost_rows, replaced_groups; the last line. It has a note if
+                              STREAM is whole
+                    refused   refusal, meaning, advice: the only line, and nothing is written
   --new-positions FILE
                     where the groups begin in the new stream: lines like those of --positions, or of
                     --groups. It is written like the new stream, and after it
@@ -91,7 +96,13 @@ fn run(arguments: Vec<OsString>) -> Result<Ended, Failure> {
             say(&salvage, &options, &input)
         }
         Err(refused) => {
-            eprintln!("menakovitsy: {}", told(&refused, &list, input.len()));
+            let advice = advice(&refused, &list, input.len());
+            match options.json {
+                true => {
+                    put(&objects::refused(&refused, &advice), &options)?;
+                }
+                false => eprintln!("menakovitsy: {}", told(&refused, &advice)),
+            }
             Ok(Ended::Refused)
         }
     }
@@ -99,43 +110,42 @@ fn run(arguments: Vec<OsString>) -> Result<Ended, Failure> {
 
 /// The new stream, and then the new positions, which are nothing without it.
 fn write(salvage: &Salvage, options: &Options) -> Result<(), Failure> {
-    put(&options.out, &salvage.bytes)?;
+    files::replace(&options.out, &salvage.bytes)?;
     let Some(path) = &options.new_positions else { return Ok(()) };
-    put(path, salvage.new_positions.as_bytes()).map_err(|failure| match failure {
+    files::replace(path, salvage.new_positions.as_bytes()).map_err(|failure| match failure {
         Failure::Told(what) => Failure::Told(format!("{what}; {} is written", options.out.display())),
         other => other,
     })
-}
-
-/// Writes a file in one step, or standard output.
-fn put(path: &Path, bytes: &[u8]) -> Result<(), Failure> {
-    if path.as_os_str() != "-" {
-        return files::replace(path, bytes);
-    }
-    let mut output = io::stdout().lock();
-    output.write_all(bytes).and_then(|()| output.flush()).map_err(Failure::output)
 }
 
 /// The report, and the last line. Of `--groups` standard output has exactly a line a group. What is said on
 /// standard error is said also if nobody reads the report.
 fn say(salvage: &Salvage, options: &Options, input: &[u8]) -> Result<Ended, Failure> {
     let Salvage { report, kept_rows, lost_rows, replaced_groups, .. } = salvage;
+    let unneeded = *replaced_groups > 0 && is_whole(input, options.sign, *kept_rows + *lost_rows);
+    let note = unneeded.then(|| not_damaged(salvage, options));
+    if options.json {
+        return put(&objects::salvaged(salvage, note.as_deref()), options);
+    }
     let last = format!("rows: {kept_rows} kept, {lost_rows} lost\n");
     let (report, beside) = match options.form {
         Form::Positions => (format!("{report}{last}"), String::new()),
         Form::Groups => (report.clone(), last),
     };
-    let said = if options.take_standard_output() {
-        eprint!("{report}");
-        Ok(Ended::Well)
-    } else {
-        ended::say(&report)
-    };
+    let said = put(&report, options);
     eprint!("{beside}");
-    if *replaced_groups > 0 && is_whole(input, options.sign, *kept_rows + *lost_rows) {
-        eprintln!("menakovitsy: {}", not_damaged(salvage, options));
+    if let Some(note) = note {
+        eprintln!("menakovitsy: {note}");
     }
     said
+}
+
+/// Says this on standard output, unless something that is written goes there.
+fn put(text: &str, options: &Options) -> Result<Ended, Failure> {
+    match options.take_standard_output() {
+        true => ended::report(Path::new("-"), text),
+        false => ended::say(text),
+    }
 }
 
 /// Whether a stream reads to its end, with exactly this many rows.
@@ -167,12 +177,15 @@ fn not_damaged(salvage: &Salvage, options: &Options) -> String {
     )
 }
 
-/// A refusal, and what a support desk does about it.
-fn told(refused: &Refused, list: &List, length: usize) -> String {
-    let advice = match list {
+/// What a support desk does about a refusal.
+fn advice(refused: &Refused, list: &List, length: usize) -> String {
+    match list {
         List::Groups(_) => groups::advice(refused.refusal, length),
         List::Positions(groups) => positions::advice(refused.refusal, groups, length),
-    };
+    }
+}
+
+fn told(refused: &Refused, advice: &str) -> String {
     format!(
         "refusal {}: {}; nothing is written\nwhat to do: {advice}",
         refused.refusal.number(),

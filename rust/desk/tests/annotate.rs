@@ -33,8 +33,10 @@ breaks off at byte 124, where row 96 would begin
   refusal 14: the patch list that begins at byte 150 is cut
   before it:  96 rows in 10 runs, 124 bytes, all read
   from it on: 27 of 151 bytes, not read
-  what to do: bytes are missing at the end: fetch the file again, and compare its length. Where the length
-              is right, a byte is damaged, in this run or in a length before it, and claims more than there is
+  what to do: bytes are missing at the end: fetch the file again, and compare its length. If the
+              length is right, a byte is damaged, in this run or in a length before it, and claims
+              more than there is. If there is no good copy, menakovitsy salvage keeps the row groups
+              that are still good
 ";
 
 #[test]
@@ -57,7 +59,7 @@ fn standard_input() {
     assert_eq!(menakovitsy(&["annotate", "-"], EVERY_KIND), Ran::refused(SAID));
     let empty = menakovitsy(&["annotate", "-"], &[]);
     assert_eq!(empty, Ran { status: 0, output: "whole: the file is empty\n".into(), error: String::new() });
-    // What is behind a refusal is counted, and no more of it is held than a window.
+    // What is after a refusal is counted, and no more of it is held than a window.
     let long = [&[0xC2, 0x00][..], &vec![0x55; 3_000_000]].concat();
     let said = menakovitsy(&["annotate", "-"], &long);
     assert_eq!(said.status, 1);
@@ -91,7 +93,7 @@ fn a_damaged_end() {
     let folder = scratch("damaged");
     let whole = &EVERY_KIND[..BEFORE_THE_END];
     // No run begins like these: a delta with one row and a width, a patch entry of 65 bits, a varint that
-    // goes on behind its tenth byte, one that says too much there, a patch outside the run.
+    // goes on after its tenth byte, one that says too much there, a patch outside the run.
     let ends: [(&[u8], u8); 5] = [
         (&[0xC2, 0x00], 4),
         (&[0x86, 0x03, 0x1F, 0x21], 2),
@@ -130,8 +132,8 @@ fn a_file_larger_than_the_window() {
     let said = menakovitsy(&["annotate", "-", "--svg", &picture], &bytes);
     held_to_the_model(&said, &bytes);
     let svg = folder.text("large.svg");
-    assert!(svg.contains("<title>") && svg.contains(" bytes, the mean width"), "{}", svg.len());
-    assert!(svg.len() < 400_000, "{} bytes", svg.len());
+    assert!(svg.contains("<title>") && svg.contains(">a bar: the mean width"), "{}", svg.len());
+    assert!(svg.len() < 100_000, "{} bytes", svg.len());
 }
 
 /// The lines, the end and the status are what the model says of the bytes.

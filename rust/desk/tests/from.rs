@@ -85,7 +85,7 @@ fn a_damaged_end() {
     assert_eq!(said.status, 1);
     assert!(said.output.contains("\n  refusal 14: the patch list that begins at byte 150 is cut\n"));
     assert!(said.output.contains("\n  before it:  96 rows in 10 runs, 124 bytes, all read or passed over\n"));
-    // The row that is asked for is behind the damage.
+    // The row that is asked for is after the damage.
     let said = menakovitsy(&["annotate", "-", "--from", "96"], EVERY_KIND);
     assert_eq!(said.status, 1);
     assert!(said.output.contains("breaks off at byte 124, where row 96 would begin\n"), "{}", said.output);
@@ -122,8 +122,8 @@ fn a_file_larger_than_the_window() {
 #[test]
 fn a_row_that_is_no_number() {
     for (value, what) in [
-        ("ninety", "--from wants a number, 0 or more, and ninety is none ("),
-        ("-1", "--from wants a number"),
+        ("ninety", "option --from needs a number, 0 or more, and not ninety ("),
+        ("-1", "option --from needs a number"),
     ] {
         let said = menakovitsy(&["annotate", "a", "--from", value], &[]);
         assert_eq!((said.status, said.output.as_str()), (2, ""));

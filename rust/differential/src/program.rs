@@ -3,43 +3,8 @@
 use std::env;
 use std::path::PathBuf;
 
-use model::Answer;
-
-/// A line with more characters is bad.
-const MOST: usize = 8_800;
-
-/// What the program writes for its input. A last line that no newline ends is a line too, and a final
-/// newline opens none.
-pub fn text(input: &[u8]) -> Vec<u8> {
-    let mut lines: Vec<&[u8]> = input.split(|byte| *byte == b'\n').collect();
-    if lines.last() == Some(&&[][..]) {
-        lines.pop();
-    }
-    lines.into_iter().flat_map(|line| (answer(line) + "\n").into_bytes()).collect()
-}
-
-/// A line's answer, without its newline.
-fn answer(line: &[u8]) -> String {
-    let Some(frame) = frame(line) else { return "bad line".into() };
-    match model::read_run(&frame[1..], 0, frame[0] == 1, 512) {
-        Answer::End => "end".into(),
-        Answer::Refused(refusal) => format!("refused {}", refusal.number),
-        Answer::Run(run) => {
-            let rows: String = run.rows.iter().map(|row| format!(" {row}")).collect();
-            format!("run {} {}{rows}", run.rows.len(), run.consumed)
-        }
-    }
-}
-
-/// The bytes that a line writes, a flag before them, where it is none of the bad ones.
-fn frame(line: &[u8]) -> Option<Vec<u8>> {
-    if line.is_empty() || line.len() % 2 == 1 || line.len() > MOST {
-        return None;
-    }
-    let digits: Vec<u32> = line.iter().map(|digit| (*digit as char).to_digit(16)).collect::<Option<_>>()?;
-    let frame: Vec<u8> = digits.chunks(2).map(|two| (two[0] * 16 + two[1]) as u8).collect();
-    (frame[0] <= 1).then_some(frame)
-}
+/// What the rules have `runs` write for its input.
+pub use model::answer_lines as text;
 
 /// The program `runs` that `RUNS` names, or the repository's own.
 pub fn find() -> Result<PathBuf, String> {

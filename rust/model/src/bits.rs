@@ -95,9 +95,14 @@ impl Put {
         }
     }
 
+    /// Bits that are all alike, up to a whole byte.
+    pub fn pad_with(&mut self, bit: bool) {
+        self.bits.resize(self.bits.len().next_multiple_of(8), bit);
+    }
+
     /// Zero padding up to a whole byte.
     pub fn pad(&mut self) {
-        self.bits.resize(self.bits.len().next_multiple_of(8), false);
+        self.pad_with(false);
     }
 
     /// The shortest varint.

@@ -5,7 +5,7 @@
 //!
 //! It is slow and plain on purpose. Every reader takes the whole input and a position, and how many
 //! places the caller lends; it answers what the rules say the call answers, with the rows as a
-//! list of its own.
+//! list of its own. [`vectors`] has lines to hold other readers to it.
 //!
 //! ```
 //! use model::{read_run, Answer, Kind, Run};
@@ -23,6 +23,7 @@ mod flags;
 mod index;
 mod label_column;
 mod labels;
+mod lines;
 mod optimum;
 mod parts;
 mod patched_writer;
@@ -35,6 +36,7 @@ mod spread;
 mod streams;
 mod totals;
 mod values;
+pub mod vectors;
 mod writer;
 
 pub use batches::{read_rows, Batch, RowPosition};
@@ -46,6 +48,7 @@ pub use flags::{read_bytes, read_flags, BytePosition, Bytes, FlagPosition, Flags
 pub use index::{build_index, look_up, read_from, Columns, Entry, Index, Lookup, Rows};
 pub use label_column::{label_column, LabelPlaces, Labels, Names, Part};
 pub use labels::{label, Dictionary, Label};
+pub use lines::{answer_line, answer_lines, frame_of};
 pub use optimum::{optimum, Lists};
 pub use parts::{read_parts, Parts};
 pub use patched_writer::write_patched;

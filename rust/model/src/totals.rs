@@ -2,6 +2,7 @@
 use std::collections::BTreeMap;
 use std::fmt::Write;
 
+use crate::lines::{frame_of, lines};
 use crate::{read_run, Answer, Kind, Refusal};
 
 /// "At most 2^32 lines and 2^32 rows."
@@ -34,25 +35,10 @@ pub struct Totals {
     pub sum: i128,
 }
 
-/// The frame of a line: its flag and bytes. "A line that is empty, odd, over 8,800 characters, not
-/// hexadecimal or with another flag is bad."
-fn frame(line: &[u8]) -> Option<(bool, Vec<u8>)> {
-    if line.is_empty() || !line.len().is_multiple_of(2) || line.len() > 8_800 {
-        return None;
-    }
-    let digits: Option<Vec<u32>> = line.iter().map(|c| char::from(*c).to_digit(16)).collect();
-    let bytes: Vec<u8> = digits?.chunks(2).map(|two| (two[0] * 16 + two[1]) as u8).collect();
-    match bytes.split_first()? {
-        (0, rest) => Some((false, rest.to_vec())),
-        (1, rest) => Some((true, rest.to_vec())),
-        _ => None,
-    }
-}
-
 /// The totals of one line.
 fn of_line(line: &[u8]) -> Totals {
     let mut totals = Totals { lines: 1, ..Totals::default() };
-    match frame(line).map(|(signed, bytes)| read_run(&bytes, 0, signed, 512)) {
+    match frame_of(line).map(|(signed, bytes)| read_run(&bytes, 0, signed, 512)) {
         None => totals.bad = 1,
         Some(Answer::End) => totals.end = 1,
         Some(Answer::Refused(refusal)) => {
@@ -120,15 +106,6 @@ impl Totals {
         }
         text
     }
-}
-
-/// The lines of a text. "A final newline opens no further line."
-fn lines(text: &[u8]) -> Vec<&[u8]> {
-    let mut lines: Vec<&[u8]> = text.split(|byte| *byte == b'\n').collect();
-    if lines.last().is_some_and(|last| last.is_empty()) {
-        lines.pop();
-    }
-    lines
 }
 
 /// What the count of ones answers.

@@ -36,6 +36,7 @@ pub struct Options {
     pub sign: Sign,
     pub out: PathBuf,
     pub new_positions: Option<PathBuf>,
+    pub json: bool,
 }
 
 impl Options {
@@ -56,8 +57,9 @@ impl Options {
         let fill = row(&wanted("--fill")?.to_string_lossy())?;
         let new_positions = arguments.value("--new-positions")?.map(PathBuf::from);
         let sign = if arguments.flag("--signed") { Sign::Signed } else { Sign::Unsigned };
+        let json = arguments.flag("--json");
         let stream = arguments.name("STREAM")?;
-        let options = Options { stream, form, list, fill, sign, out, new_positions };
+        let options = Options { stream, form, list, fill, sign, out, new_positions, json };
         match options.over() {
             None => Ok(options),
             Some(what) => Err(Failure::Usage(what)),

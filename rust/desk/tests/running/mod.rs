@@ -5,6 +5,8 @@ use std::path::PathBuf;
 use std::process::{self, Command, Stdio};
 use std::{env, fs, thread};
 
+pub mod json;
+
 #[path = "../../examples/sample.rs"]
 pub mod sample;
 
@@ -21,6 +23,10 @@ pub struct Ran {
 }
 
 impl Ran {
+    pub fn well(output: &str) -> Self {
+        Ran { status: 0, output: output.into(), error: String::new() }
+    }
+
     pub fn refused(output: &str) -> Self {
         Ran { status: 1, output: output.into(), error: String::new() }
     }
