@@ -59,6 +59,7 @@ compile_error!(
     "libmenakovitsy.a is for a little-endian processor with 64-bit pointers (x86-64): build for one"
 );
 
+mod ahead;
 mod answers;
 mod batches;
 mod byte_writer;
@@ -78,6 +79,7 @@ mod parts;
 mod patched;
 mod refusal;
 mod rescue;
+mod rows;
 mod salvage;
 mod units;
 mod version;
@@ -88,7 +90,7 @@ pub use byte_writer::{
     boolean_room, byte_room, size_of_booleans, size_of_bytes, write_booleans, write_bytes, Flag,
 };
 pub use bytes::{read_bytes, BytePosition, Bytes};
-pub use column::{Column, Rows, RunAt, Runs};
+pub use column::{Column, RunAt, Runs};
 pub use columns::{
     check_column, column_room, plan, plan_into, write_column, write_proposed, Proposal, Segment,
     WrittenColumn,
@@ -109,6 +111,7 @@ pub use parts::{PartReader, PartRun};
 pub use patched::write_patched;
 pub use refusal::Refusal;
 pub use rescue::{rescue, rescue_into, PositionedGroup, Rescued, RescuedInto, Verdict, MOST_LOST};
+pub use rows::Rows;
 pub use salvage::{salvage, Group, Salvaged, MOST_FILL};
 pub use units::{ByteOffset, RowNumber};
 pub use version::{check_version, OtherVersion};
