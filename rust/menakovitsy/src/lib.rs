@@ -13,6 +13,7 @@
 //! |---|---|
 //! | a column of integers | [`Column`]: [`read_into`](Column::read_into), [`read_to_end`](Column::read_to_end), [`rows`](Column::rows), [`runs`](Column::runs) |
 //! | the same in batches, or from a position that a row index gives | [`batches`](Column::batches), [`read_at`](Column::read_at), [`RowPosition`], [`read_rows`] |
+//! | the same by the names of `orc-rs`, for those who move over | [`orc_rs`] |
 //! | a column that arrives in parts | [`PartReader`]: [`next_run`](PartReader::next_run), [`close`](PartReader::close) |
 //! | one integer run, or all to the end | [`read_run`], [`read_stream`] |
 //! | a column of flags, all at once | [`read_booleans`] |
@@ -75,6 +76,7 @@ mod labels;
 mod library;
 mod nullable;
 mod ones;
+pub mod orc_rs;
 mod parts;
 mod patched;
 mod refusal;
