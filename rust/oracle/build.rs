@@ -30,8 +30,9 @@ fn main() {
     }
     let decode = checkout.join("src/reader/decode");
     let lines = format!(
-        "#[allow(warnings, clippy::all)]
-pub(crate) mod reader {{
+        "#[doc(hidden)]
+#[allow(warnings, clippy::all)]
+pub mod reader {{
     #[path = {decode:?}]
     pub mod decode {{
         pub mod boolean_rle;

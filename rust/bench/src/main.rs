@@ -9,6 +9,8 @@ mod booleans;
 mod cases;
 #[cfg(feature = "ours")]
 mod index;
+#[cfg(feature = "ours")]
+mod iterators;
 mod measure;
 #[cfg(feature = "ours")]
 mod ours;
@@ -36,7 +38,8 @@ Nanoseconds a row, the least of 31 samples, the candidates taking turns; less is
 - **Ours**: one call of `orc_read_run` a run, through the safe wrapper `menakovitsy`, into bytes; of
   whole streams one call of `orc_read_stream`, and of booleans one of `orc_read_booleans`; of a column in
   parts the calls of `orc_part_take` that its parts need, the runs used where they are handed out; of a
-  column in batches a call of `orc_read_rows` or `orc_read_flags` a batch; of a column that is written one
+  column in batches a call of `orc_read_rows` or `orc_read_flags` a batch; row by row the iterators of the
+  wrapper, which call `orc_read_stream` or `orc_read_run_at`; of a column that is written one
   call of `orc_plan` and one of `orc_write_column`, and of flags one of `orc_write_booleans`.
 - **Rust**: the decoders of WenyXu/orc-rs at 3a197fa636, unchanged, through their iterators, as a
   loader calls them. They have not written the widths 26, 28 and 30, and of booleans they agree with
@@ -117,10 +120,13 @@ fn main() -> ExitCode {
         let times =
             (batches::rows(&cases, samples), batches::flags(&flags, samples), batches::labels(samples));
         let batches = batches::markdown(&times.0, &times.1, times.2);
+        eprintln!("iterators");
+        let iterators =
+            iterators::markdown(&iterators::rows(&cases, samples), &iterators::flags(&flags, samples));
         eprintln!("flags and bytes written");
         let written = written::markdown(&written::flags(samples), &written::bytes(samples));
         eprintln!("columns written");
-        tables + &batches + &index + &planned::markdown(&planned::measure(samples)) + &written
+        tables + &iterators + &batches + &index + &planned::markdown(&planned::measure(samples)) + &written
     };
     println!("{tables}");
     if mode != Mode::Write {

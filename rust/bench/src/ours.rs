@@ -3,7 +3,7 @@ use menakovitsy::{read_booleans, read_run_bytes, ByteOffset, Column, PartReader,
 
 use crate::cases::Case;
 
-fn sign(case: &Case) -> Sign {
+pub fn sign(case: &Case) -> Sign {
     if case.signed {
         Sign::Signed
     } else {

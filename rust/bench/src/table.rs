@@ -12,12 +12,12 @@ pub struct Row {
     pub times: Times,
 }
 
-fn cell(number: Option<f64>) -> String {
+pub fn cell(number: Option<f64>) -> String {
     number.map_or_else(|| "-".into(), |number| format!("{number:.2}"))
 }
 
 /// One over the other, where both were timed.
-fn ratio(over: Option<f64>, under: Option<f64>) -> Option<f64> {
+pub fn ratio(over: Option<f64>, under: Option<f64>) -> Option<f64> {
     Some(over? / under?)
 }
 

@@ -1,10 +1,9 @@
 //! A column of integer rows: all at once, in batches, by runs, or by rows.
 use std::fmt;
-use std::iter::FusedIterator;
 
 use crate::{read_rows, read_run, read_stream, MAX_ROWS};
 use crate::{Batch, Batches, ByteOffset, Refusal, Refused, RowNumber, RowPosition};
-use crate::{Run, Sign, Stream, StreamRefused};
+use crate::{Rows, Run, Sign, Stream, StreamRefused};
 
 /// The bytes of an integer column, from a position on, and whether its rows are signed.
 ///
@@ -164,6 +163,11 @@ impl<'a> Column<'a> {
         Batches::new(*self, size)
     }
 
+    /// The same as [`read_into`](Column::read_into) after so many bytes of the column's runs.
+    pub(crate) fn read_after(&self, passed: ByteOffset, rows: &mut [i64]) -> Result<Stream, StreamRefused> {
+        read_stream(self.bytes, self.at + passed, self.sign, rows)
+    }
+
     /// The bytes, all of them.
     pub(crate) fn bytes(&self) -> &'a [u8] {
         self.bytes
@@ -180,8 +184,9 @@ impl<'a> Column<'a> {
     }
 
     /// The rows, one after another: a refusal is given once, and ends them.
+    #[inline]
     pub fn rows(&self) -> Rows<'a> {
-        Rows { runs: self.runs(), given: 0, held: 0 }
+        Rows::new(*self)
     }
 }
 
@@ -268,34 +273,3 @@ impl Runs<'_> {
         self.read
     }
 }
-
-/// An iterator over a column's rows. It holds the rows of one run, and allocates nothing.
-#[must_use]
-#[derive(Debug, Clone)]
-pub struct Rows<'a> {
-    runs: Runs<'a>,
-    given: usize,
-    held: usize,
-}
-
-impl Iterator for Rows<'_> {
-    type Item = Result<i64, StreamRefused>;
-
-    fn next(&mut self) -> Option<Self::Item> {
-        if self.given == self.held {
-            match self.runs.next_run()? {
-                Ok(run) => (self.given, self.held) = (0, run.rows.len()),
-                Err(refused) => return Some(Err(refused)),
-            }
-        }
-        let row = self.runs.places.get(self.given).copied()?;
-        self.given += 1;
-        Some(Ok(row))
-    }
-
-    fn size_hint(&self) -> (usize, Option<usize>) {
-        (self.held - self.given, None)
-    }
-}
-
-impl FusedIterator for Rows<'_> {}

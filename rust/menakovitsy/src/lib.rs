@@ -13,6 +13,7 @@
 //! |---|---|
 //! | a column of integers | [`Column`]: [`read_into`](Column::read_into), [`read_to_end`](Column::read_to_end), [`rows`](Column::rows), [`runs`](Column::runs) |
 //! | the same in batches, or from a position that a row index gives | [`batches`](Column::batches), [`read_at`](Column::read_at), [`RowPosition`], [`read_rows`] |
+//! | the same by the names of `orc-rs`, for those who move over | [`orc_rs`] |
 //! | a column that arrives in parts | [`PartReader`]: [`next_run`](PartReader::next_run), [`close`](PartReader::close) |
 //! | one integer run, or all to the end | [`read_run`], [`read_stream`] |
 //! | a column of flags, all at once | [`read_booleans`] |
@@ -59,6 +60,7 @@ compile_error!(
     "libmenakovitsy.a is for a little-endian processor with 64-bit pointers (x86-64): build for one"
 );
 
+mod ahead;
 mod answers;
 mod batches;
 mod byte_writer;
@@ -74,10 +76,12 @@ mod labels;
 mod library;
 mod nullable;
 mod ones;
+pub mod orc_rs;
 mod parts;
 mod patched;
 mod refusal;
 mod rescue;
+mod rows;
 mod salvage;
 mod units;
 mod version;
@@ -88,7 +92,7 @@ pub use byte_writer::{
     boolean_room, byte_room, size_of_booleans, size_of_bytes, write_booleans, write_bytes, Flag,
 };
 pub use bytes::{read_bytes, BytePosition, Bytes};
-pub use column::{Column, Rows, RunAt, Runs};
+pub use column::{Column, RunAt, Runs};
 pub use columns::{
     check_column, column_room, plan, plan_into, write_column, write_proposed, Proposal, Segment,
     WrittenColumn,
@@ -109,6 +113,7 @@ pub use parts::{PartReader, PartRun};
 pub use patched::write_patched;
 pub use refusal::Refusal;
 pub use rescue::{rescue, rescue_into, PositionedGroup, Rescued, RescuedInto, Verdict, MOST_LOST};
+pub use rows::Rows;
 pub use salvage::{salvage, Group, Salvaged, MOST_FILL};
 pub use units::{ByteOffset, RowNumber};
 pub use version::{check_version, OtherVersion};

@@ -116,6 +116,39 @@ fn by_rows() {
     assert_eq!((rows.next(), rows.next()), (None, None));
 }
 
+/// Short runs and runs of 512 rows, so that the places end at every sort of row; then the column is cut. One by
+/// one, by `fold`, and by both.
+#[test]
+fn by_many_rows() {
+    let long = [&[0x4F, 0xFF][..], &[7; 512]].concat();
+    for before in [0, 1, 2, 3, 60, 130, 300] {
+        let bytes = [&CUT[..7].repeat(before)[..], &long, &long, &CUT[..7], &long[..200]].concat();
+        let rows = [&ROWS.repeat(before)[..], &[7; 1024], &ROWS].concat();
+        let column = Column::new(&bytes, Sign::Unsigned);
+        let whole: Vec<i64> = column.rows().map_while(Result::ok).collect();
+        assert_eq!(whole, rows);
+        for given in [0, 1, 17, 500, 1024] {
+            let mut some = column.rows();
+            assert!(some.by_ref().take(given).eq(rows.iter().take(given).map(|row| Ok(*row))));
+            let rest = rows.get(given..).unwrap_or_default();
+            let (held, most) = some.size_hint();
+            assert!(held <= rest.len() && most.is_none());
+            let mut places = rest.iter();
+            let refused = some.fold(None, |refused, row| match row {
+                Ok(row) => {
+                    assert_eq!((refused, Some(&row)), (None, places.next()));
+                    None
+                }
+                Err(refused) => Some(refused),
+            });
+            let refused = refused.unwrap();
+            assert_eq!((refused.refused.refusal, places.len()), (Refusal::RowsCut, 0));
+            assert_eq!(refused.before.rows, RowNumber(rows.len()));
+            assert_eq!(refused.refused.at, Some(ByteOffset(bytes.len() - 200)));
+        }
+    }
+}
+
 #[test]
 fn nothing_is_allocated_for_a_run() {
     let bytes = CUT[..7].repeat(1000);
@@ -123,9 +156,6 @@ fn nothing_is_allocated_for_a_run() {
     let mut places = vec![0; 8000];
     let before = ALLOCATIONS.with(Cell::get);
     let mut sum = 0;
-    for row in column.rows() {
-        sum += row.unwrap();
-    }
     let mut runs = column.runs();
     while let Some(run) = runs.next_run() {
         sum += run.unwrap().rows.iter().sum::<i64>();
@@ -133,8 +163,8 @@ fn nothing_is_allocated_for_a_run() {
     let _ = column.read_into(&mut places).unwrap();
     sum += places.iter().sum::<i64>();
     let allocated = ALLOCATIONS.with(Cell::get) - before;
-    assert_eq!((sum, allocated), (3 * 1000 * 1506, 0));
-    // The count counts.
-    drop(column.to_vec());
-    assert!(ALLOCATIONS.with(Cell::get) > before);
+    assert_eq!((sum, allocated), (2 * 1000 * 1506, 0));
+    // Row by row, places are made once: a few, and then many.
+    assert_eq!(column.rows().sum::<Result<i64, _>>(), Ok(1000 * 1506));
+    assert_eq!(ALLOCATIONS.with(Cell::get) - before, 3);
 }

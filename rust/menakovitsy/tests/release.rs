@@ -112,6 +112,7 @@ fn holds_what_a_user_needs_and_no_other_name() {
         "menakovitsy.h",
         "SHA256SUMS",
         "docs/EVIDENCE.md",
+        "docs/MOVING.md",
         "NOTICE",
         "LICENSE-APACHE",
         "LICENSE-MIT",

@@ -23,6 +23,7 @@ mod quiet;
 mod standins;
 
 pub use error::Case;
+pub use quiet::quietly;
 pub use standins::{ResultExt, ZigZag};
 
 // `mod reader`, at the crate's root, where the decoders look for each other.
@@ -31,7 +32,6 @@ include!(concat!(env!("OUT_DIR"), "/decoders.rs"));
 use std::cell::Cell;
 use std::io::{self, Read};
 
-use quiet::quietly;
 use reader::decode::boolean_rle::BooleanIter;
 use reader::decode::rle_v2::RleReaderV2;
 use reader::decode::variable_length::Values;
