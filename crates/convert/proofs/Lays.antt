@@ -7,6 +7,7 @@ use mathlib.Core.List.{List, _++_}
 use lib.ListN.{length, take, drop, length-append, length-drop}
 use lib.Seq.{length-take-le, take-at, drop-at, drop-drop}
 use borrow.Author.Tests.{lt-ltb, le-ltb, ltb-true}
+use Rattle.format.proofs.Tests.{never}
 use Rattle.convert.specs.declared.LaidOutput.{LaidOutput}
 use Rattle.convert.specs.Walk.{Put, Filled, Lays}
 
@@ -20,9 +21,9 @@ module _ (run : List ℕ) (n : ℕ) (at : LaidOutput) (room : ℕ) (out : List �
   over : (l out₀ : List ℕ) → at .end .bytes ≤ room → room < length l + n → Filled (l ++ take n run) room out₀ out full
   over l out₀ e h = record {
     full-is = sym (rw (longer l) (lt-ltb room (length l + n) h));
-    end-is = λ t. let z : _≡_ {A = ℕ} 0 1 = cc in absurd (omega arith);
+    end-is = λ t. never (cc);
     end-in = e;
-    laid = λ q t. let z : _≡_ {A = ℕ} 0 1 = cc in absurd (omega arith);
+    laid = λ q t. never (cc);
   }
 
   -- no room before, or none now

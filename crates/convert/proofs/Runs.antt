@@ -1,7 +1,6 @@
 -- One run: what an altered run is; that it is valid, has the same rows and no odd width, and is the writer's. Assumes nothing.
 use mathlib.Core.Path.{_≡_, refl, sym, ap, _∙_}
 use Prim.Native.Nat.{ℕ, _<_, _≤_}
-use native.Mathlib.Omega.{arith}
 use native.Mathlib.Nat.{le-refl, le-trans}
 use mathlib.Core.Bool.{Bool, true, false, not}
 use mathlib.Core.List.{List, [], map}
@@ -25,6 +24,7 @@ use Rattle.format.proofs.Steps.{map-back}
 use Rattle.format.proofs.Writing.{accepted, written, writes-back}
 use Rattle.format.specs.Kept.{nextKept}
 use Rattle.format.proofs.Kept.{next-kept, next-code, next-wider}
+use Rattle.format.proofs.Tests.{never}
 use Rattle.convert.specs.Convert.{isOdd, rewritten, converted}
 use Rattle.convert.specs.Laws.{RunsHold, Altered, AlteredWritten}
 
@@ -109,11 +109,11 @@ delta-good signed code first base k v =
 
 -- a direct or delta run is odd, and else no run is
 odd-good : (signed : Bool) (d : Description) → Valid d → isOdd d ≡ true → Good signed d (rewritten signed d)
-odd-good signed (short count value) v e = let z : _≡_ {A = ℕ} 0 1 = cc in absurd (omega arith)
+odd-good signed (short count value) v e = never (cc)
 odd-good signed (direct code k) v e = direct-good signed code k v
-odd-good signed (fixed rows first base) v e = let z : _≡_ {A = ℕ} 0 1 = cc in absurd (omega arith)
+odd-good signed (fixed rows first base) v e = never (cc)
 odd-good signed (delta code first base k) v e = delta-good signed code first base k v
-odd-good signed (patched code base pc gw k l) v e = let z : _≡_ {A = ℕ} 0 1 = cc in absurd (omega arith)
+odd-good signed (patched code base pc gw k l) v e = never (cc)
 
 good : (signed : Bool) (d : Description) → Valid d → Good signed d (converted signed d)
 unfolding converted

@@ -16,6 +16,7 @@ use Rattle.format.proofs.Runs.{layout-pos}
 use Rattle.format.proofs.Streams.{stream-broken}
 use Rattle.format.proofs.StreamRoom.{more-room}
 use Rattle.format.proofs.Joined.{joined-snoc, rows-le}
+use Rattle.format.proofs.Tests.{never}
 use Rattle.convert.specs.declared.LaidOutput.{LaidOutput}
 use Rattle.convert.specs.declared.Converted.the-variants.{Refused}
 use Rattle.convert.specs.declared.turn.Turn.{Turn}
@@ -101,7 +102,7 @@ module _ (signed : Bool) (bs : List ℕ) (limit : ℕ) (out₀ : List ℕ) where
         by e true g h = record {
           answer = rw (e, h, g);
           long = w .long;
-          places = λ q a bytes r. let z : _≡_ {A = ℕ} 0 1 = cc (rw (e, h, g) at r) in absurd (omega arith);
+          places = λ q a bytes r. never (cc (rw (e, h, g) at r));
         }
         by e false g h = record {
           answer = rw (e, h, g, w .count, w .fill .end-is g);
@@ -122,5 +123,5 @@ module _ (signed : Bool) (bs : List ℕ) (limit : ℕ) (out₀ : List ℕ) where
         record {
           answer = rw (e, ← (w .place)) (ap Refused (n .refusal-is));
           long = w .long;
-          places = λ q a bytes r. let z : _≡_ {A = ℕ} 0 1 = cc (rw e at r) in absurd (omega arith);
+          places = λ q a bytes r. never (cc (rw e at r));
         }

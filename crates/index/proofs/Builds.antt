@@ -3,7 +3,7 @@ use mathlib.Core.Path.{_≡_, refl, sym, ap, _∙_}
 use Prim.Native.Nat.{ℕ, _+_, _-_, _*_, _<_, _≤_}
 use native.Mathlib.Omega.{arith}
 use native.Mathlib.Nat.{zero-add}
-use mathlib.Core.Bool.{Bool, true, false, _||_}
+use mathlib.Core.Bool.{true, _||_, or-true}
 use mathlib.Core.List.{List}
 use lib.ListN.{length, length-append}
 use lib.Dec.{leb, ltb}
@@ -16,6 +16,7 @@ use Rattle.format.specs.Streams.{Reading, whole, broken, stream, totalRows}
 use Rattle.format.specs.Answers as answers
 use Rattle.format.specs.declared.Refusal.{Refusal}
 use Rattle.format.proofs.Streams.{Reads, reads-whole, reads-broken}
+use Rattle.format.proofs.StreamRoom.{stream-reads}
 use Rattle.index.specs.Entries.{Result, gives, refuses, building}
 use Rattle.index.specs.Columns.{columnsAt, buildingIn}
 use Rattle.index.specs.Promises.{builtOf, builtWith, notBuilt, BuiltIn}
@@ -25,7 +26,6 @@ use Rattle.index.specs.declared.walk.Total.the-variants as total
 use Rattle.index.specs.declared.walk.Survey.{Survey}
 use Rattle.index.specs.declared.walk.Survey.the-variants as survey
 use Rattle.index.specs.Walk.{totalOf, surveyFrom, Roomy, Filled}
-use Rattle.index.proofs.Checked.{stream-reads}
 use Rattle.index.proofs.Columns.{columns-hold}
 use Rattle.index.proofs.Totals as Totals
 
@@ -97,10 +97,6 @@ module _ (bs f o n : List ℕ) where
       eight : ltb (length f) (length (w .runs)) || leb two64 (totalRows (w .runs)) ≡ true → what ≡ refuses (plain 8) 0
       unfolding building
       eight e = as-table ∙ rw (w .whole-is, e)
-
-      or-true : (b : Bool) → b || true ≡ true
-      or-true true = refl
-      or-true false = refl
 
       pub past-so : t ≡ total.Past → BuiltIn bs f o n f o n (notBuilt 8)
       past-so e =

@@ -9,18 +9,20 @@ use Rattle.format.specs.Runs.{Description, rowCount}
 use Rattle.format.specs.Streams.{Reading, whole, broken, after, stream, totalRows}
 use Rattle.format.specs.declared.Refusal.{Refusal}
 use Rattle.format.specs.declared.Run.{Run}
+use Rattle.format.proofs.StreamRoom.{stream-none}
+use Rattle.format.proofs.Tests.{never}
 use Rattle.util.proofs.Grow.{grow, kept, filled}
 use Rattle.index.specs.Columns.{Columns, sumsBefore, byteCount, columnsAt}
 use Rattle.index.specs.Entries.{gives}
 use Rattle.index.specs.Walk.{Roomy, Filled}
-use Rattle.index.proofs.Turns.{stream-none, OneRun, NoRun}
+use Rattle.index.proofs.MeasuredRun.{OneRun, NoRun, broken-here}
 
 pub whole-inj : {ds es : List Description} → whole ds ≡ whole es → ds ≡ es
 whole-inj e = cc
 
 after-inv : (d : Description) (m : Reading) (rest : List Description) → after d m ≡ whole rest → (x : List Description) × (m ≡ whole x) × (rest ≡ d ∷ x)
 after-inv d (whole x) rest e = (x, refl, sym (whole-inj e))
-after-inv d (broken ds r t) rest e = let z : _≡_ {A = ℕ} 0 1 = cc in absurd (omega arith)
+after-inv d (broken ds r t) rest e = never (cc)
 
 -- one number more in a column
 sums-next : (col : List ℕ) (i x n k : ℕ) (ns all : List ℕ) → n ≡ k → i < length col → take i col ++ sumsBefore x (k ∷ ns) ≡ all → take (i + 1) (set col i x) ++ sumsBefore (x + n) ns ≡ all
@@ -80,7 +82,7 @@ module _ (s first₀ at₀ counts₀ : List ℕ) where
   module _ (first at counts : List ℕ) (p row i : ℕ) (w : Filling first at counts p row i) where
     module _ (r : Run) (o : OneRun s p r) where
       next : (x : List Description) × (stream (drop (p + r .consumed .bytes) s) ≡ whole x) × (w .rest ≡ o .run ∷ x)
-      next = after-inv (o .run) (stream (drop (p + r .consumed .bytes) s)) (w .rest) (sym (o .read) ∙ w .rest-is)
+      next = after-inv (o .run) (stream (drop (p + r .consumed .bytes) s)) (w .rest) (sym (o .onward) ∙ w .rest-is)
 
       -- there is a place in each column, and the rows stay small
       pub record Room : Type 0 where
@@ -141,9 +143,8 @@ module _ (s first₀ at₀ counts₀ : List ℕ) where
 
     pub filling-refused : (f : Refusal) → NoRun s p f → ⊥
     filling-refused f q =
-        let e : broken [] (q .reason) (drop p s) ≡ whole (w .rest) = sym (q .read) ∙ w .rest-is in
-        let z : _≡_ {A = ℕ} 0 1 = cc in
-        omega arith
+        let e : broken [] (q .reason) (drop p s) ≡ whole (w .rest) = sym (broken-here q) ∙ w .rest-is in
+        never (cc)
 
     pub filling-end : drop p s ≡ [] → Filled s first₀ at₀ counts₀ first at counts
     unfolding sumsBefore

@@ -15,7 +15,7 @@ use Rattle.format.specs.Parse.{plain}
 use Rattle.format.specs.Streams.{totalRows}
 use Rattle.index.specs.Entries.{Result, gives, refuses, Entry, entriesFrom, holdsRow, holder}
 use Rattle.index.specs.Theorems.{Holds}
-use Rattle.format.proofs.Tests.{and-e, and-i}
+use Rattle.format.proofs.Tests.{never, and-e, and-i}
 
 holds-row : (e : Entry) (r : ℕ) → Holds e r → T (holdsRow e r)
 holds-row e r h = and-i (leb (e .first) r) (ltb r (e .first + e .rows)) (le→leb (e .first) r (h .from)) (lt→ltb r (e .first + e .rows) (h .below))
@@ -28,7 +28,7 @@ row-holds e r t =
 -- what is given is one of the entries, and holds the row
 pub holder-sound : (r : ℕ) (es : List Entry) (e : Entry) → holder r es ≡ gives e → List·Memᴰ e es × Holds e r
 unfolding holder
-holder-sound r [] e g = let z : _≡_ {A = ℕ} 0 1 = cc in absurd (omega arith)
+holder-sound r [] e g = never (cc)
 holder-sound r (d ∷ es) e g = go (holdsRow d r) refl g (holder-sound r es e)
   where
     go : (t : Bool) → holdsRow d r ≡ t → pick t (gives d) (holder r es) ≡ gives e → (holder r es ≡ gives e → List·Memᴰ e es × Holds e r) → List·Memᴰ e (d ∷ es) × Holds e r

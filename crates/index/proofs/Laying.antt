@@ -21,6 +21,7 @@ use Rattle.format.proofs.Reading.{run-inj, run-not-refused}
 use Rattle.format.proofs.RunComplete.{parse-complete}
 use Rattle.format.proofs.Rows.{row-bounds, i64-count}
 use Rattle.format.proofs.Streams.{into-got, stream-whole, joined-unique}
+use Rattle.format.proofs.Tests.{never}
 use Rattle.util.proofs.Grow.{back-is}
 use Rattle.index.specs.Walk.{Ready, RowsLaid}
 
@@ -56,7 +57,7 @@ module _ (s : List ℕ) (at skip : ℕ) (signed : Bool) (out : List ℤ) (y : Re
     not-refused f e = run-not-refused (runOf d) f (sym ran ∙ e)
 
     pub not-ended : a ≡ answer.End → ⊥
-    not-ended e = let q : answer.Run (runOf d) ≡ answer.End = sym ran ∙ e in let z : _≡_ {A = ℕ} 0 1 = cc in omega arith
+    not-ended e = let q : answer.Run (runOf d) ≡ answer.End = sym ran ∙ e in never (cc)
 
   -- there are so many bytes ..
   pub bytes-within : at + length (layout d) ≤ length s

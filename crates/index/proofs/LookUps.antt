@@ -9,6 +9,7 @@ use Rattle.format.specs.Fields.{pick}
 use Rattle.format.specs.Runs.{Description}
 use Rattle.format.specs.Parse.{plain}
 use Rattle.format.specs.Streams.{Reading, whole, broken, stream}
+use Rattle.format.proofs.Tests.{never}
 use Rattle.index.specs.Entries.{gives, refuses, unless, holdsRow}
 use Rattle.index.specs.Columns.{Columns, checkedColumns, checkedIn, holderIn, lookupIn}
 use Rattle.index.specs.Promises.{foundOf, foundAt, notFound, LookedUp}
@@ -67,7 +68,7 @@ module _ (bs f o n : List ℕ) where
       where
         go : (m : Reading) → stream bs ≡ m → rightFrom 0 0 f o n m ≡ true → (ds : List Description) × (stream bs ≡ whole ds) × (checkedIn c bs ≡ gives ds)
         go (whole ds) q e = (ds, q, checked-is ∙ ap (checkedColumns c) q ∙ ap (λ (t : Bool). unless (not t) 15 (gives ds)) e)
-        go (broken ds r rest) q e = let z : _≡_ {A = ℕ} 0 1 = cc in absurd (omega arith)
+        go (broken ds r rest) q e = never (cc)
 
   -- ---- what looking up answers
 

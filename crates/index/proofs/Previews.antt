@@ -17,6 +17,7 @@ use Rattle.format.specs.Streams.{totalRows, joinedRows}
 use Rattle.format.specs.declared.RowNumber.{RowNumber}
 use Rattle.format.proofs.Rows.{joined-count}
 use Rattle.format.proofs.Joined.{total-append, joined-append, rows-append, valid-behind}
+use Rattle.format.proofs.Tests.{never}
 use Rattle.index.specs.Entries.{gives, refuses, previewPlaces}
 use Rattle.index.specs.Columns.{Columns, sumsBefore, readingIn}
 use Rattle.index.specs.Promises.{previewOf, readRows, notRead, ReadFrom}
@@ -48,13 +49,13 @@ left-many x y r p e = go (ltb p (x + y - r)) refl e
   where
     go : (t : Bool) → ltb p (x + y - r) ≡ t → left.TooMany ≡ pick t left.TooMany (left.Rows (record { rows = x + y - r })) → p < x + y - r
     go true q e = ltb-true p (x + y - r) q
-    go false q e = let z : _≡_ {A = ℕ} 0 1 = cc in absurd (omega arith)
+    go false q e = never (cc)
 
 pub left-rows : (x y r p k : ℕ) → left.Rows (record { rows = k }) ≡ leftOf x y r p → (k ≡ x + y - r) × (k ≤ p)
 left-rows x y r p k e = go (ltb p (x + y - r)) refl e
   where
     go : (t : Bool) → ltb p (x + y - r) ≡ t → left.Rows (record { rows = k }) ≡ pick t left.TooMany (left.Rows (record { rows = x + y - r })) → (k ≡ x + y - r) × (k ≤ p)
-    go true q e = let z : _≡_ {A = ℕ} 0 1 = cc in absurd (omega arith)
+    go true q e = never (cc)
     go false q e =
         let u : _≡_ {A = RowNumber} (record { rows = k }) (record { rows = x + y - r }) = cc in
         let w : k ≡ x + y - r = ap (λ (n : RowNumber). n .rows) u in

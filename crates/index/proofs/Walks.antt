@@ -4,7 +4,7 @@ use Prim.Native.Nat.{ℕ, suc, _+_, _<_, _≤_}
 use native.Mathlib.Omega.{arith}
 use native.Mathlib.Decide.{decLt}
 use native.Mathlib.Nat.{add-zero}
-use mathlib.Core.Bool.{Bool, true, false, _&&_}
+use mathlib.Core.Bool.{Bool, true, false, _&&_, and-false}
 use mathlib.Core.List.{List, [], _∷_, _++_}
 use lib.ListN.{length, drop, getD, length-append, length-drop, drop-of-length-le}
 use lib.Seq.{drop-cons}
@@ -22,8 +22,8 @@ use Rattle.index.specs.declared.walk.Total.the-variants as total
 use Rattle.index.specs.declared.walk.Survey.the-variants as survey
 use Rattle.index.specs.Walk.{totalOf, surveyFrom, rightFrom, sameThree}
 use Rattle.index.proofs.Columns.{regrouped}
-use Rattle.index.proofs.Turns.{stream-none, OneRun, NoRun}
-use Rattle.format.proofs.Tests.{and-false}
+use Rattle.index.proofs.MeasuredRun.{OneRun, NoRun, broken-here}
+use Rattle.format.proofs.StreamRoom.{stream-none}
 
 none-yet : total.Rows (record { rows = 0 }) ≡ totalOf 0
 unfolding totalOf
@@ -83,7 +83,7 @@ module _ (s : List ℕ) where
       total-is = e (w .rows) (w .total-is);
       within = o .within;
       few = omega (arith, w .few, o .some-bytes);
-      so-far = rw (o .rows-are, o .bytes-are) (sym (survey-after k (w .rows) p (o .run) (stream (drop (p + length (layout (o .run))) s))) ∙ sym (ap (surveyFrom k (w .rows) p) (rw (o .bytes-are) at (o .read))) ∙ w .so-far);
+      so-far = rw (o .rows-are, o .bytes-are) (sym (survey-after k (w .rows) p (o .run) (stream (drop (p + length (layout (o .run))) s))) ∙ sym (ap (surveyFrom k (w .rows) p) (rw (o .bytes-are) at (o .onward))) ∙ w .so-far);
     }
 
     pub surveyed-whole : drop p s ≡ [] → survey.Whole k t ≡ surveyFrom 0 0 0 (stream s)
@@ -92,7 +92,7 @@ module _ (s : List ℕ) where
 
     pub surveyed-refused : (f : Refusal) → NoRun s p f → survey.Refused f ≡ surveyFrom 0 0 0 (stream s)
     unfolding joined
-    surveyed-refused f q = rw (q .refusal-is) (rw (q .read, add-zero, length-drop) at (w .so-far))
+    surveyed-refused f q = rw (q .refusal-is) (rw (broken-here q, add-zero, length-drop) at (w .so-far))
 
   -- ---- THE WALK THAT COMPARES: i places of the columns are the stream's
   module _ (fs os ns : List ℕ) where
@@ -110,7 +110,7 @@ module _ (s : List ℕ) where
       module _ (r : Run) (o : OneRun s p r) where
         pub matched-short : length fs ≤ i → false ≡ rightFrom 0 0 fs os ns (stream s)
         matched-short h =
-            sym (right-short (w .rows) p (o .run) (drop i os) (drop i ns) (stream (drop (p + r .consumed .bytes) s))) ∙ rw (drop-of-length-le fs {i = i} h, o .read) at (w .so-far)
+            sym (right-short (w .rows) p (o .run) (drop i os) (drop i ns) (stream (drop (p + r .consumed .bytes) s))) ∙ rw (drop-of-length-le fs {i = i} h, o .onward) at (w .so-far)
 
         module _ (h : i < length fs) (a : length os ≡ length fs) (b : length ns ≡ length fs) where
           next-is : sameThree (getD fs i 0) (getD os i 0) (getD ns i 0) (w .rows) p (rowCount (o .run))
@@ -118,7 +118,7 @@ module _ (s : List ℕ) where
               ≡ rightFrom 0 0 fs os ns (stream s)
           next-is =
               sym (right-after (w .rows) p (o .run) _ _ _ (drop (suc i) fs) (drop (suc i) os) (drop (suc i) ns) (stream (drop (p + r .consumed .bytes) s)))
-              ∙ (rw (o .read, drop-cons fs i 0 h, drop-cons os i 0 (omega arith), drop-cons ns i 0 (omega arith)) at (w .so-far))
+              ∙ (rw (o .onward, drop-cons fs i 0 h, drop-cons os i 0 (omega arith), drop-cons ns i 0 (omega arith)) at (w .so-far))
 
           module _ (yes : Bool) (e : (m : ℕ) → t ≡ totalOf m → yes ≡ sameThree (getD fs i 0) (getD os i 0) (getD ns i 0) m p (r .rows .rows)) where
             pub matched-other : yes ≡ false → false ≡ rightFrom 0 0 fs os ns (stream s)
@@ -139,4 +139,4 @@ module _ (s : List ℕ) where
       matched-end a b z = sym (right-empty (w .rows) p i fs os ns (w .few) a b) ∙ (rw (z, stream-none) at (w .so-far))
 
       pub matched-refused : (f : Refusal) → NoRun s p f → false ≡ rightFrom 0 0 fs os ns (stream s)
-      matched-refused f q = rw (q .read) at (w .so-far)
+      matched-refused f q = rw (broken-here q) at (w .so-far)

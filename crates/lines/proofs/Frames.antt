@@ -18,6 +18,7 @@ use Rattle.format.specs.Promises.{RunRead, answerOf, runPlaces}
 use Rattle.format.specs.declared.Answer.{Answer}
 use Rattle.format.specs.declared.Answer.the-variants.{End, Run, Refused}
 use Rattle.format.proofs.Rows.{i64-count}
+use Rattle.format.proofs.Tests.{never}
 use Rattle.text.specs.Ascii.{ascii}
 use Rattle.text.specs.Hexadecimal.{allHex, hexBytes}
 use Rattle.text.specs.Decimal.{rowText, rowsText}
@@ -110,18 +111,12 @@ answered-unique a b = (a .count ∙ sym (b .count), a .places ∙ sym (b .places
 -- the rows that were read fit the places
 into-rows : (n : ℕ) (m : Parsed Description) (d : Description) (rest : List ℕ) → into n m ≡ got d rest → rowCount d ≤ n
 unfolding into
-into-rows n end d rest e =
-    let z : _≡_ {A = ℕ} 0 1 = cc in
-    absurd (omega arith)
-into-rows n (refused r) d rest e =
-    let z : _≡_ {A = ℕ} 0 1 = cc in
-    absurd (omega arith)
+into-rows n end d rest e = never (cc)
+into-rows n (refused r) d rest e = never (cc)
 into-rows n (got b s) d rest e = by (ltb n (rowCount b)) refl e
   where
     by : (t : Bool) → ltb n (rowCount b) ≡ t → unless t 8 (got b s) ≡ got d rest → rowCount d ≤ n
-    by true f e =
-        let z : _≡_ {A = ℕ} 0 1 = cc in
-        absurd (omega arith)
+    by true f e = never (cc)
     by false f e =
         let z : b ≡ d = cc in
         rw z at (ltb-false n (rowCount b) f)

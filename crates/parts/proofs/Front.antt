@@ -11,6 +11,7 @@ use Rattle.format.specs.Fields.{pick, width, Block, bytesFor, lastBelow}
 use Rattle.format.specs.Runs.{Description, patches, tooLarge, outOfPlace, entryWidth}
 use Rattle.format.specs.Parse
 use Rattle.format.specs.Parse.{Reason, plain, cutIn, unfinished, Parsed, end, got, refused, then, unless, bytes, block, varint, codeOf, rowsLess, parse}
+use Rattle.format.proofs.Tests.{never}
 
 -- reading is refused, since the input ended too soon (true) or for good (false)
 pub data Stops {A : Type 0} (b : Bool) : Parsed A → Type 0 where
@@ -58,9 +59,7 @@ not-unless : {A B : Type 0} {m : Parsed A} (t : Bool) (n : ℕ) → eqb n 1 ≡ 
 not-unless {A = A} {B = B} true n h k = go
   where
     go : Stops {A = A} true (refused (plain n)) → B
-    go (stops e) =
-        let z : _≡_ {A = ℕ} 0 1 = cc in
-        absurd (omega arith)
+    go (stops e) = never (cc)
 not-unless false n h k = k
 
 -- ---- a varint that lies in the first bytes

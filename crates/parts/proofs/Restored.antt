@@ -11,17 +11,14 @@ use Rattle.format.specs.Digits.{AllBelow}
 use Rattle.format.specs.declared.PartReader.{PartReader}
 use Rattle.format.specs.declared.PartStep.{PartStep}
 use Rattle.format.specs.Parts.{Reply, handed, more, broke, ended, answered, bufferAfter}
+use Rattle.format.proofs.Tests.{never}
 use Rattle.parts.specs.Steps.{Begun, Joins, Goes, goes, isRefused}
 use Rattle.parts.proofs.Joined.{take-both, few-part, in-lent, kept-lent}
 
 pub left-lent : (held part buffer : List ℕ) (a : Reply) → isRefused (answered a) ≡ true → buffer ≡ bufferAfter held part buffer a
 unfolding isRefused
-left-lent held part buffer (handed h) e =
-    let z : _≡_ {A = ℕ} 0 1 = cc in
-    absurd (omega arith)
-left-lent held part buffer more e =
-    let z : _≡_ {A = ℕ} 0 1 = cc in
-    absurd (omega arith)
+left-lent held part buffer (handed h) e = never (cc)
+left-lent held part buffer more e = never (cc)
 left-lent held part buffer (broke f) e = refl
 left-lent held part buffer ended e = refl
 

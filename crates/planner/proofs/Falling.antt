@@ -1,10 +1,10 @@
 -- The direct runs of 64 bits, laid as a proposal: the check accepts it, and its runs are those. Assumes nothing.
 use mathlib.Core.Path.{_≡_, refl, sym, ap, _∙_}
-use Prim.Native.Nat.{ℕ, zero, suc, _+_, _-_, _*_, _/_, _<_, _≤_, min}
+use Prim.Native.Nat.{ℕ, zero, suc, _+_, _-_, _*_, _<_, _≤_, min}
 use native.Mathlib.Omega.{arith}
 use native.Mathlib.Nat.{le-refl}
 use native.Mathlib.Decide.{decLt}
-use mathlib.Core.Bool.{Bool, true, false, _&&_, not}
+use mathlib.Core.Bool.{Bool, true, _&&_}
 use mathlib.Core.List.{List, [], _∷_, map}
 use lib.ListN.{length, take, drop, set, length-set, length-drop, length-take}
 use lib.Seq.{length-take-le, drop-drop, getD-take, getD-set-same, getD-set-other}
@@ -16,13 +16,14 @@ use Rattle.format.specs.Rows.{asU64}
 use Rattle.format.specs.Parse.{got}
 use Rattle.format.specs.Writing.{AllI64}
 use Rattle.format.proofs.Writing.{written}
+use Rattle.format.proofs.Tests.{both}
 use Rattle.proposer.specs.Proposed.{Proposed}
 use Rattle.planner.specs.declared.segment.Segment.{Segment}
 use Rattle.planner.specs.Check.{Columns, proposal, segments, covers, anyRun, writeIn, runOf, parts, wide}
 use Rattle.planner.specs.Laws.{Accept, none, more}
 use Rattle.planner.specs.Walk.{segmentAt}
 use Rattle.planner.specs.Plan.{firstOf, Sound, directRuns, havePlaces, directAt, DirectLaid}
-use Rattle.planner.proofs.Segments.{both, segment-next, segment-none}
+use Rattle.planner.proofs.Segments.{segment-next, segment-none}
 use Rattle.planner.proofs.Accepting.{covers-exactly}
 use Rattle.planner.proofs.Direct.{fit-take, fit-drop, run, run-accepted, run-bytes}
 use Rattle.planner.proofs.Widely.{take-least, no-part}
@@ -48,15 +49,6 @@ all-places n c h =
       in-widths = leb-true n (length (c .widths)) (q .1);
       in-bases = leb-true n (length (c .bases)) (p .1);
     }
-
--- by the test's answer
-pub no-fit : (r fit : Bool) → r ≡ fit → not r ≡ true → fit ≡ false
-no-fit true fit e h = let z : _≡_ {A = ℕ} 0 1 = cc in absurd (omega arith)
-no-fit false fit e h = sym e
-
-pub all-fit : (r fit : Bool) → r ≡ fit → not r ≡ false → fit ≡ true
-all-fit true fit e h = sym e
-all-fit false fit e h = let z : _≡_ {A = ℕ} 0 1 = cc in absurd (omega arith)
 
 -- ---- one after another into the places
 

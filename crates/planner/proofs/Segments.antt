@@ -9,17 +9,10 @@ use lib.ListN.{length, drop, getD, drop-of-length-le}
 use lib.Seq.{getD-drop}
 use lib.Dec.{eqb}
 use borrow.Author.Tests.{eqb-true}
+use Rattle.format.proofs.Tests.{both}
 use Rattle.planner.specs.declared.segment.Segment.{Segment}
 use Rattle.planner.specs.Check.{Columns, proposal, equalLengths, segmentsFrom, segments, covers}
 use Rattle.planner.specs.Walk.{segmentAt}
-
-pub both : (a b : Bool) → (a && b) ≡ true → (a ≡ true) × (b ≡ true)
-both true b e = (refl, e)
-both false b e = let z : _≡_ {A = ℕ} 0 1 = cc in absurd (omega arith)
-
-pub and-false : (a b : Bool) → b ≡ false → (a && b) ≡ false
-and-false true b e = e
-and-false false b e = refl
 
 -- the columns are as long as the first, where the test says so
 pub record Equal (c : Columns) : Type 0 where

@@ -22,6 +22,7 @@ use Rattle.format.proofs.Cut.{refused-stays}
 use Rattle.format.specs.declared.Standing.the-variants.{Opened, Broken}
 use Rattle.format.specs.Parts as reader
 use Rattle.format.specs.Parts.{State, onPart, takePart}
+use Rattle.format.proofs.Tests.{never}
 use Rattle.promises.specs.Parts.{Fed, goOn, offer, feed, joinedParts, starting}
 
 -- ---- what stands after some bytes
@@ -67,12 +68,8 @@ prefixed rest (d ∷ ds) v e t = consed (v .0) (e ∙ append-assoc (layout d) (j
 
 -- what waits does not begin with a whole run
 none-whole : {h : List ℕ} (d : Description) (s : List ℕ) → Waits h → Valid d → h ≡ layout d ++ s → ⊥
-none-whole d s (nothing-held z) v e =
-    let z : _≡_ {A = ℕ} 0 1 = cc (parse-empty, parse-complete d s v) in
-    omega arith
-none-whole d s (begun b p u) v e =
-    let z : _≡_ {A = ℕ} 0 1 = cc (parse-complete d s v) in
-    omega arith
+none-whole d s (nothing-held z) v e = never (cc (parse-empty, parse-complete d s v))
+none-whole d s (begun b p u) v e = never (cc (parse-complete d s v))
 
 -- so a run that the part makes whole ends in the part, and what is not taken of the part is what is behind the run
 module _ (h part rest : List ℕ) (d : Description) (w : Waits h) (v : Valid d) (e : h ++ part ≡ layout d ++ rest) where

@@ -28,6 +28,7 @@ use Rattle.format.specs.Parts.{State, Reply, answered, stateOf, heldAfter, buff
 use Rattle.promises.specs.Parts.{Follows, FollowsClosing, RefusedLeaves}
 use Rattle.format.proofs.Length.{unfinished-short}
 use Rattle.format.proofs.Parts.{take-min}
+use Rattle.format.proofs.Tests.{never}
 
 module _ (s : PartReader) (part buffer : List ℕ) where
   abbrev held : List ℕ
@@ -125,31 +126,21 @@ module _ (f : Refusal) where
 
       on-refusal : (r : Reason) (u : Bool) → answered (pick u (reader.hold s part) (reader.refuse s (length (s .held ++ part)) r) .reply) ≡ said.Refused f
           → pick u (reader.hold s part) (reader.refuse s (length (s .held ++ part)) r) .taken ≡ 0
-      on-refusal r true e =
-          let z : _≡_ {A = ℕ} 0 1 = cc in
-          absurd (omega arith)
+      on-refusal r true e = never (cc)
       on-refusal r false e = refl
 
       by : (u : Bool) (x : Standing) (m : Parsed Description) → answered (call u x m .reply) ≡ said.Refused f → call u x m .taken ≡ 0
       by true x m e = refl
       by false (Broken b) m e = refl
       by false Closed m e = refl
-      by false Opened end e =
-          let z : _≡_ {A = ℕ} 0 1 = cc in
-          absurd (omega arith)
-      by false Opened (got d rest) e =
-          let z : _≡_ {A = ℕ} 0 1 = cc in
-          absurd (omega arith)
+      by false Opened end e = never (cc)
+      by false Opened (got d rest) e = never (cc)
       by false Opened (refused r) e = on-refusal r (unfinished r) e
 
   as-before : (held part buffer : List ℕ) (signed : Bool) (out : List ℤ) (a : Reply) → answered a ≡ said.Refused f
       → (bufferAfter held part buffer a ≡ buffer) × (placesAfter signed out a ≡ out)
-  as-before held part buffer signed out (reader.handed h) e =
-      let z : _≡_ {A = ℕ} 0 1 = cc in
-      absurd (omega arith)
-  as-before held part buffer signed out reader.more e =
-      let z : _≡_ {A = ℕ} 0 1 = cc in
-      absurd (omega arith)
+  as-before held part buffer signed out (reader.handed h) e = never (cc)
+  as-before held part buffer signed out reader.more e = never (cc)
   as-before held part buffer signed out (reader.broke b) e = (refl, refl)
   as-before held part buffer signed out reader.ended e = (refl, refl)
 

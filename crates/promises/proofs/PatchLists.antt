@@ -9,7 +9,7 @@ use mathlib.Core.Bool.{Bool, true, false, not}
 use mathlib.Core.List.{List, _++_}
 use lib.ListN.{length, getD, drop, List·getD-append, List·getD-map}
 use lib.Seq.{drop-at}
-use lib.Dec.{T}
+use lib.Dec.{T, T-not}
 use lib.IntN.{ℤ, pos}
 use Rattle.format.specs.declared.Answer.{Answer}
 use Rattle.format.specs.Answers.{refusedAt}
@@ -23,7 +23,7 @@ use Rattle.format.proofs.Fields.{any-block}
 use Rattle.format.proofs.RunComplete.{noList, patched-read}
 use Rattle.format.proofs.Rows.{i64-count}
 use Rattle.format.proofs.Streams.{into-got, into-refused}
-use Rattle.format.proofs.Tests.{never-both, not-left, not-right}
+use Rattle.format.proofs.Tests.{not-left, not-right}
 use Rattle.promises.specs.PatchLists.{TooLarge, OutOfPlace, Patched, EitherWay, with-3, with-7, with-8, with-rows, PatchLists}
 use Rattle.promises.proofs.Sums.{sums}
 use Rattle.promises.proofs.PatchCases.{patch-there, patch-none, named-from, from-named, too-large, out-of-place}
@@ -67,10 +67,10 @@ module _ (code : ℕ) (base : List ℕ) (pc gw : ℕ) (k l : Block) (v : Valid (
   refused-with n q = (rw (q, into-refused (length out)) at (h .answer), rw (q, into-refused (length out)) at (h .places))
 
   no-large : large ≡ false → TooLarge (width code) (width pc) (l .values) → ⊥
-  no-large s o = never-both large (too-large (width pc) (width code) (l .values) .1 o) (rw s tt)
+  no-large s o = T-not large (rw s tt) (too-large (width pc) (width code) (l .values) .1 o)
 
   none-misplaced : misplaced ≡ false → OutOfPlace (width pc) (length (k .values)) (l .values) → ⊥
-  none-misplaced t o = never-both misplaced (out-of-place (width pc) (length (k .values)) (l .values) .1 o) (rw t tt)
+  none-misplaced t o = T-not misplaced (rw t tt) (out-of-place (width pc) (length (k .values)) (l .values) .1 o)
 
   by-room : large ≡ false → misplaced ≡ false → Dec (length out < length (k .values)) → EitherWay code base pc gw k l at out out′ r
   by-room s t (yes n) =

@@ -4,7 +4,7 @@ use mathlib.Core.Logic.{_⊎_, inl, inr}
 use Prim.Native.Nat.{ℕ, zero, suc, _+_, _-_, _*_, _/_, _^_, _<_, _≤_}
 use native.Mathlib.Nat.{add-zero}
 use native.Mathlib.Omega.{arith}
-use mathlib.Core.Bool.{Bool, true, false, not}
+use mathlib.Core.Bool.{Bool, true, false, not, and-false}
 use mathlib.Core.List.{List, [], _∷_, _++_, map}
 use lib.ListN.{length, replicate, length-append, length-replicate}
 use lib.Dec.{T, leb, eqb, eqb→eq}
@@ -15,12 +15,12 @@ use Rattle.format.specs.Digits.{AllBelow}
 use Rattle.format.specs.Fields.{pick}
 use Rattle.format.specs.Runs.{Patch, patchOf, gapOf, isSkip, patchesFrom, lastIsSkip, tooLarge}
 use Rattle.format.proofs.RunComplete.{limit-is}
-use Rattle.format.proofs.Widths.{and-left, and-right}
 use Rattle.format.specs.PatchedWriting.{patchesAbove, Entry, skip, skipsIn, entriesFrom, field}
 use Rattle.promises.specs.Patched.{OnlySkips}
 use Rattle.format.proofs.Again.{below-mono}
 use Rattle.format.proofs.PatchedWriting.{gaps-255, skip-next}
-use Rattle.promises.proofs.PatchedPlaces.{or-not, and-false, Rising, rising-from, kept}
+use Rattle.format.proofs.Tests.{and-left, and-right, or-not}
+use Rattle.promises.proofs.PatchedPlaces.{Rising, rising-from, kept}
 
 -- ---- NO LIST IS SHORTER: of those that have these patches, each gap at most 255
 
@@ -81,7 +81,7 @@ module _ (pw : ℕ) where
   is-skip = rw (high 255 pw (pow-pos pw), low 255 pw (pow-pos pw))
 
   no-skip : (gap patch : ℕ) → 1 ≤ patch → patch < 2 ^ pw → isSkip pw (gap * 2 ^ pw + patch) ≡ false
-  no-skip gap patch h l = rw (low gap pw l) (and-false (eqb (gapOf pw (gap * 2 ^ pw + patch)) 255) (eqb patch 0) (ne-eqb patch 0 (λ e. omega arith)))
+  no-skip gap patch h l = rw (low gap pw l, ne-eqb patch 0 (λ e. omega arith)) (and-false (eqb (gapOf pw (gap * 2 ^ pw + patch)) 255))
 
   skips-read : (before n : ℕ) (es : List Entry) → patchesFrom pw before (map (field pw) (replicate n skip ++ es)) ≡ patchesFrom pw (before + 255 * n) (map (field pw) es)
   unfolding patchesFrom

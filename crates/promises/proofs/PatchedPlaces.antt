@@ -4,7 +4,7 @@ use Prim.Native.Nat.{ℕ, suc, _+_, _-_, _*_, _/_, _^_, _<_, _≤_}
 use native.Mathlib.Nat.{add-comm}
 use native.Mathlib.Omega.{arith}
 use native.Mathlib.Decide.{ℕ-discrete}
-use mathlib.Core.Bool.{Bool, true, false, not, _&&_, _||_}
+use mathlib.Core.Bool.{Bool, true, false, not, _||_}
 use mathlib.Core.List.{List, [], _∷_, map}
 use lib.ListN.{length}
 use lib.Dec.{T, leb, eqb, nleb→lt}
@@ -16,18 +16,8 @@ use Rattle.format.specs.Fields.{pick, two64}
 use Rattle.format.specs.Runs.{Patch, patchOf, gapOf, isSkip, patchesFrom, taken, shared, outside, tooLarge}
 use Rattle.format.specs.Rows.{patchAt, patchedRows, plus}
 use Rattle.format.proofs.RunComplete.{limit-is}
-use Rattle.format.proofs.Tests.{not-left, not-right}
+use Rattle.format.proofs.Tests.{not-left, not-right, or-not}
 use Rattle.format.specs.PatchedWriting.{lows, patchesAbove}
-
--- ---- tests
-
-pub or-not : (a b : Bool) → T (not a) → T (not b) → T (not (a || b))
-or-not true b h k = h
-or-not false b h k = k
-
-pub and-false : (a b : Bool) → b ≡ false → (a && b) ≡ false
-and-false true b e = e
-and-false false b e = refl
 
 -- ---- PLACES that rise strictly, from `low` on and below `end`
 

@@ -23,9 +23,8 @@ use Rattle.format.proofs.Patterns.{as-lt}
 use Rattle.format.proofs.Rows.{rows-count}
 use Rattle.format.proofs.Streams.{into-got}
 use Rattle.format.proofs.RunComplete.{parse-complete}
-use Rattle.format.proofs.Tests.{between-le, le-between, and-i, T-true}
+use Rattle.format.proofs.Tests.{between-le, le-between, and-i, T-true, and-left, and-right}
 use Rattle.format.proofs.Writing.{patterns-lt, patterns-back}
-use Rattle.format.proofs.Widths.{and-left, and-right}
 use Rattle.format.specs.Kept.{isKeptWidth}
 use Rattle.format.specs.PatchedWriting.{Parts, run, parts, headerHolds, writingPatched, PatchedWritten}
 use Rattle.promises.specs.Patched.{Describes, PatchedMeaning, Some, PatchedTable, PatchedTableHolds, PatchedReadsBack}

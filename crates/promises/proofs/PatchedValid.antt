@@ -15,15 +15,15 @@ use Rattle.format.specs.Runs.{Patch, Valid, patches, shared, outside, outOfPlac
 use Rattle.format.specs.Rows.{rowsOf, plus}
 use Rattle.format.specs.Writing.{minus}
 use Rattle.format.proofs.Digits.{digits-below}
-use Rattle.format.proofs.Widths.{and-left, and-right, least-holds}
+use Rattle.format.proofs.Widths.{least-holds}
 use Rattle.format.proofs.Rows.{width-le}
 use Rattle.format.proofs.Steps.{map-back}
-use Rattle.format.proofs.Tests.{and-i}
+use Rattle.format.proofs.Tests.{and-i, and-left, and-right, or-not}
 use Rattle.format.specs.PatchedWriting.{differences, lows, entriesFrom, field, codeFor, patchCode, gapWidth, baseSize, baseBytes, Parts, run, patchesIn, parts, headerHolds}
 use Rattle.promises.specs.Patched.{Describes}
 use Rattle.promises.proofs.PatchedBase.{base-value}
 use Rattle.format.proofs.PatchedWriting.{size-low, below-mods, code-width, code-fits, gap-8, gap-1, gap-holds, fields-below, fields-gaps, qs-64, qs-below, es-below, length-ds, size-is, above-below, ds-below}
-use Rattle.promises.proofs.PatchedPlaces.{Rising, rising-unshared, rising-inside, or-not, rows-sums, above-rises, sums-above}
+use Rattle.promises.proofs.PatchedPlaces.{Rising, rising-unshared, rising-inside, rows-sums, above-rises, sums-above}
 use Rattle.promises.proofs.PatchedEntries.{entries-read, last-no-skip, above-some, above-small}
 
 there : (base x : ℕ) → base < two64 → x < two64 → plus base (minus x base) ≡ x

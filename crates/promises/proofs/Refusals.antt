@@ -19,6 +19,7 @@ use Rattle.format.specs.Promises.{answerOf}
 use Rattle.format.proofs.Posts.{Took}
 use Rattle.format.proofs.Below.{below-drop}
 use Rattle.format.proofs.Runs.{parse-sound}
+use Rattle.format.proofs.Tests.{never}
 use Rattle.promises.specs.Refusals
 use Rattle.promises.specs.Refusals.{Table, refusal-8, CutLine, CutNumber, six, twelve, thirteen, fourteen, TableGives, by-number, by-field, RefusalsHold, AnswersHold}
 use Rattle.promises.proofs.Fates.{Fate, no-run, a-run, by-line}
@@ -34,14 +35,10 @@ refusals places bs h r = (λ e. to (fate places bs h) refl e, λ t. line places 
         let k : plain 8 ≡ r = cc in
         let t : Took bs layout Valid d rest = parse-sound bs d rest h f in
         subst (λ (x : Reason). TableGives places bs x) k (by-number (refusal-8 (d, rest, t .ok, t .split, ltb-true places (rowCount d) l)))
-    room {d} {rest} false l f e =
-        let z : _≡_ {A = ℕ} 0 1 = cc in
-        absurd (omega arith)
+    room {d} {rest} false l f e = never (cc)
 
     to : {m : Parsed Description} → Fate places bs m → parse bs ≡ m → into places m ≡ refused r → TableGives places bs r
-    to no-run f e =
-        let z : _≡_ {A = ℕ} 0 1 = cc in
-        absurd (omega arith)
+    to no-run f e = never (cc)
     to (a-run {d} {rest}) f e = room (ltb places (rowCount d)) refl f e
     to (by-line {r = q} t) f e =
         let k : q ≡ r = cc in
@@ -72,12 +69,8 @@ field-pos bs (Refusals.in-values r m l) = (omega arith, thirteen)
 field-pos bs (Refusals.in-list r m l) = (omega arith, fourteen)
 
 answer-refused : (at total : ℕ) (f : Refusal) (m : Parsed Description) → answerOf at total m ≡ Refused f → (r : Reason) × (m ≡ refused r) × (refusal at total r ≡ f)
-answer-refused at total f end e =
-    let z : _≡_ {A = ℕ} 0 1 = cc in
-    absurd (omega arith)
-answer-refused at total f (got d rest) e =
-    let z : _≡_ {A = ℕ} 0 1 = cc in
-    absurd (omega arith)
+answer-refused at total f end e = never (cc)
+answer-refused at total f (got d rest) e = never (cc)
 answer-refused at total f (refused r) e =
     let z : refusal at total r ≡ f = cc in
     (r, refl, z)
@@ -91,8 +84,7 @@ module _ (places at : ℕ) (bs : List ℕ) (n : ℕ) where
   of-number (by-number t) e = subst (λ (x : ℕ). Table places bs x) (ap (λ (f : Refusal). f .number) e) t
   of-number (by-field l) e =
       let q : At _ ≡ None = ap (λ (f : Refusal). f .cut) e in
-      let z : _≡_ {A = ℕ} 0 1 = cc in
-      absurd (omega arith)
+      never (cc)
 
   pub field-here : (field : ℕ) → CutLine bs n field → refusal at (length bs) (cutIn n (drop field bs)) ≡ cutting n at (at + field)
   field-here field l =
@@ -103,8 +95,7 @@ module _ (places at : ℕ) (bs : List ℕ) (n : ℕ) where
   unfolding byteOf
   of-field byte (by-number t) e =
       let q : None ≡ At _ = ap (λ (f : Refusal). f .cut) e in
-      let z : _≡_ {A = ℕ} 0 1 = cc in
-      absurd (omega arith)
+      never (cc)
   of-field byte (by-field {n = k} {field} l) e =
       let j : at + (length bs - length (drop field bs)) ≡ byte = ap (λ (f : Refusal). byteOf (f .cut)) e in
       (field, subst (λ (x : ℕ). CutLine bs x field) (ap (λ (f : Refusal). f .number) e) l, omega (arith, j, length-drop field bs, field-le bs l))

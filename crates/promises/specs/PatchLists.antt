@@ -12,12 +12,11 @@ use lib.IntN.{ℤ, pos}
 use Rattle.format.specs.declared.Kind.the-variants.{PatchedBase}
 use Rattle.format.specs.declared.Answer.{Answer}
 use Rattle.format.specs.Answers.{ran, refusedAt}
-use Rattle.format.specs.Digits.{AllBelow}
+use Rattle.format.specs.Digits.{AllBelow, sum}
 use Rattle.format.specs.Fields.{two64, width, bytesFor, Block, IsBlock, blockBytes}
 use Rattle.format.specs.Runs.{patched, Valid, layout, patchOf, gapOf, isSkip, entryWidth}
 use Rattle.format.specs.Rows.{baseValue, asI64}
 use Rattle.format.specs.Promises.{RunRead}
-use Rattle.promises.specs.Sums.{sum}
 
 -- an entry's place is the whole-number sum of all gaps up to its own
 abbrev pub placeOf : ℕ → List ℕ → ℕ → ℕ

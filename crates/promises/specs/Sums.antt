@@ -4,16 +4,12 @@
 use mathlib.Core.Path.{_≡_}
 use Prim.Native.Nat.{ℕ, suc, _+_, _-_, _*_, _%_, _^_, _<_, _≤_}
 use mathlib.Core.Bool.{Bool}
-use mathlib.Core.List.{List, [], _∷_}
+use mathlib.Core.List.{List}
 use lib.ListN.{length, getD, take}
-use Rattle.format.specs.Digits.{number}
+use Rattle.format.specs.Digits.{number, sum}
 use Rattle.format.specs.Fields.{two64, zigzag, row, width, Block, Varint, varintValue}
 use Rattle.format.specs.Runs.{fixed, delta, patched, Valid, patches}
 use Rattle.format.specs.Rows.{rowsOf, baseValue, patchAt}
-
-abbrev pub sum : List ℕ → ℕ
-sum [] = 0
-sum (m ∷ ms) = m + sum ms
 
 -- the first row (zigzag if signed) and the base delta (zigzag always)
 abbrev pub firstRow : Bool → List ℕ → ℕ

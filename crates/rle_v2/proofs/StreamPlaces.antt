@@ -23,7 +23,7 @@ use Rattle.format.proofs.Rows.{i64-count}
 use Rattle.format.proofs.Streams.{into-end}
 use Rattle.format.proofs.Joined.{rows-snoc}
 use Rattle.util.proofs.Grow.{back-is, front-is, kept-by, long-by}
-use Rattle.rle_v2.proofs.OneRun.{OneRun, NoRun, Step, step-is}
+use Rattle.rle_v2.proofs.OneRun.{OneRun, NoRun, Step, step-is, fits}
 use Rattle.rle_v2.proofs.StreamWalk.{Counted, counted-first, counted-run, is-whole, counted-whole, is-broken, counted-refused}
 
 -- ---- the stream reader's places
@@ -72,7 +72,7 @@ module _ (s : List ℕ) (from : ℕ) (signed : Bool) (out₀ : List ℤ) where
             let d = o .run in
             let n = w .counted in
             let c : k ≤ length out = omega (arith, n .fits, w .long) in
-            let f : k + rows ≤ length out = omega (arith, o .fits, n .fits, w .long) in
+            let f : k + rows ≤ length out = omega (arith, fits left o, n .fits, w .long) in
             record {
               counted = counted-run s from (length out₀) p k last n r h o;
               long = long-by out back (i64Rows signed d) k rows c counted-rows back-so f ∙ w .long;

@@ -17,7 +17,7 @@ use Rattle.format.specs.declared.LastRun.the-variants as last-run
 use Rattle.format.proofs.Runs.{layout-pos}
 use Rattle.format.proofs.Streams.{afterAll, after-whole, after-broken, stops-empty, stops-refused, sub-sub, last-snoc}
 use Rattle.format.proofs.Joined.{joined-snoc, total-snoc}
-use Rattle.rle_v2.proofs.OneRun.{OneRun, NoRun}
+use Rattle.rle_v2.proofs.OneRun.{OneRun, NoRun, fits}
 
 -- ---- the loop: one run more
 
@@ -73,7 +73,7 @@ module _ (s : List ℕ) (from n : ℕ) where
             rows = rw (total-snoc (w .ds) d) (omega (arith, w .rows, o .rows-are));
             bytes = rw (joined-snoc (w .ds) d, length-append (joined (w .ds)) (layout d)) (omega (arith, w .bytes, o .bytes-are));
             last-is = ap last-run.Run (o .run-is) ∙ sym (last-snoc last-run.None (w .ds) d);
-            fits = omega (arith, o .fits, w .fits);
+            fits = omega (arith, fits (n - k) o, w .fits);
           }
 
     -- the bytes end after a whole run, or there are none

@@ -18,7 +18,7 @@ use Rattle.salvage.specs.Salvage.{Group, groups, rising, startsRight, me
 use Rattle.salvage.specs.Laws.{AllBytes, AllKept, counts, joinedGroups, startsFrom, RightStarts, Room, SomeRows, trueGroups, AllValidGroups, renewed, CallHolds}
 use Rattle.salvage.proofs.Grouping.{renew, some-rows, kept-joined, runs-kept, renewed-joined, salvaged-holds}
 use Rattle.salvage.proofs.Starting.{back}
-use Rattle.format.proofs.Tests.{T-true, and-e, and-i}
+use Rattle.format.proofs.Tests.{never, T-true, and-e, and-i}
 
 module _ (signed : Bool) (fill : ℤ) (fits : SFits w64 fill) where
   counts-renewed : (gs : List Group) → counts (renewed signed fill gs) ≡ counts gs
@@ -57,17 +57,17 @@ module _ (signed : Bool) (fill : ℤ) (fits : SFits w64 fill) where
           → CallHolds signed fill bs starts ns places lines (unless (not a) 17 (unless b 8 (Salvage.written new text)))
       go false b r s = record {
         is-17 = (λ e i. r .1 i, λ n. refl);
-        is-8 = (λ e. let z : _≡_ {A = ℕ} 0 1 = cc in absurd (omega arith), λ (i, n). absurd (r .1 i));
-        otherwise = λ x y. (λ e. let z : _≡_ {A = ℕ} 0 1 = cc in absurd (omega arith), λ (i, p, q, n). absurd (r .1 i));
+        is-8 = (λ e. never (cc), λ (i, n). absurd (r .1 i));
+        otherwise = λ x y. (λ e. never (cc), λ (i, p, q, n). absurd (r .1 i));
       }
       go true true r s = record {
-        is-17 = (λ e. let z : _≡_ {A = ℕ} 0 1 = cc in absurd (omega arith), λ n. absurd (n (r .0 tt)));
+        is-17 = (λ e. never (cc), λ n. absurd (n (r .0 tt)));
         is-8 = (λ e. (r .0 tt, s .1), λ n. refl);
-        otherwise = λ x y. (λ e. let z : _≡_ {A = ℕ} 0 1 = cc in absurd (omega arith), λ (i, p, q, n). absurd (s .1 (rw (p, q) at n)));
+        otherwise = λ x y. (λ e. never (cc), λ (i, p, q, n). absurd (s .1 (rw (p, q) at n)));
       }
       go true false r s = record {
-        is-17 = (λ e. let z : _≡_ {A = ℕ} 0 1 = cc in absurd (omega arith), λ n. absurd (n (r .0 tt)));
-        is-8 = (λ e. let z : _≡_ {A = ℕ} 0 1 = cc in absurd (omega arith), λ (i, n). absurd (n (s .0 tt)));
+        is-17 = (λ e. never (cc), λ n. absurd (n (r .0 tt)));
+        is-8 = (λ e. never (cc), λ (i, n). absurd (n (s .0 tt)));
         otherwise = λ x y. (
           λ e.
               let p : x ≡ new = cc in

@@ -3,12 +3,12 @@ use mathlib.Core.Path.{_≡_, refl, sym, ap, _∙_}
 use mathlib.Core.Logic.{_≢_}
 use Prim.Native.Nat.{ℕ, suc, _+_, _<_, _≤_}
 use native.Mathlib.Omega.{arith}
-use mathlib.Core.Bool.{Bool, true, false, not, _&&_, _||_}
+use mathlib.Core.Bool.{Bool, true, false, not, _||_, and-false}
 use mathlib.Core.List.{List, [], _++_, append-assoc, append-nil}
 use lib.ListN.{length, drop, length-append}
 use lib.Dec.{ltb, eqb}
 use lib.IntN.{ℤ}
-use borrow.Author.Tests.{ltb-false, eq-eqb, ne-eqb}
+use borrow.Author.Tests.{ltb-false, eq-eqb, ne-eqb, not-true}
 use Rattle.text.specs.Written.{TextWritten}
 use Rattle.text.proofs.Texts.{none-written, then-written, from-first}
 use Rattle.salvage.specs.declared.Outcome.{Outcome}
@@ -17,19 +17,13 @@ use Rattle.salvage.specs.Steps.{made, roomFor}
 use Rattle.salvage.specs.Laws.{RightStarts, Room}
 use Rattle.salvage.proofs.Walking.{groups-end}
 use Rattle.salvage.proofs.Turning.{gs, new, text, Turn, stream-next, lines-next}
-use Rattle.format.proofs.Tests.{T-true}
-
--- what is written from the first byte on
-either : (a b : Bool) → not (a || b) ≡ true → (a ≡ false) × (b ≡ false)
-either true b e = let z : _≡_ {A = ℕ} 0 1 = cc in absurd (omega arith)
-either false true e = let z : _≡_ {A = ℕ} 0 1 = cc in absurd (omega arith)
-either false false e = (refl, refl)
+use Rattle.format.proofs.Tests.{never, T-true, neither}
 
 module _ (signed : Bool) (fill : ℤ) (bs starts ns : List ℕ) where
   pub has : {places lines : ℕ} → roomFor signed fill bs starts ns places lines ≡ true → Room places lines (new signed fill bs starts ns) (text signed fill bs starts ns)
   unfolding roomFor
   has {places} {lines} e =
-      let b = either (ltb places (length (new signed fill bs starts ns))) (ltb lines (length (text signed fill bs starts ns))) e in
+      let b = neither (ltb places (length (new signed fill bs starts ns))) (ltb lines (length (text signed fill bs starts ns))) (not-true _ e) in
       record { stream = ltb-false places _ (b .0); lines-fit = ltb-false lines _ (b .1) }
 
   -- ---- the groups before i are written, and their lines
@@ -125,11 +119,7 @@ module _ (signed : Bool) (fill : ℤ) (bs starts ns : List ℕ) where
 
     pub wrong-starts : startsRight (length bs) starts ≡ false → call ≡ refused 17
     unfolding salvaging
-    wrong-starts h = rw (h, none (eqb (length starts) (length ns)))
-      where
-        none : (b : Bool) → (b && false) ≡ false
-        none true = refl
-        none false = refl
+    wrong-starts h = rw (h, and-false (eqb (length starts) (length ns)))
 
     module _ (r : RightStarts bs starts ns) where
       right-call : call ≡ unless (ltb places (length (new signed fill bs starts ns)) || ltb lines (length (text signed fill bs starts ns))) 8 (written (new signed fill bs starts ns) (text signed fill bs starts ns))
@@ -142,12 +132,12 @@ module _ (signed : Bool) (fill : ℤ) (bs starts ns : List ℕ) where
         where
           go : (b : Bool) → not b ≡ false → unless b 8 (written (new signed fill bs starts ns) (text signed fill bs starts ns)) ≡ refused 8
           go true e = refl
-          go false e = let z : _≡_ {A = ℕ} 0 1 = cc in absurd (omega arith)
+          go false e = never (cc)
 
       pub is-written : roomFor signed fill bs starts ns places lines ≡ true → call ≡ written (new signed fill bs starts ns) (text signed fill bs starts ns)
       unfolding roomFor
       is-written e =
-          let b = either (ltb places (length (new signed fill bs starts ns))) (ltb lines (length (text signed fill bs starts ns))) e in
+          let b = neither (ltb places (length (new signed fill bs starts ns))) (ltb lines (length (text signed fill bs starts ns))) (not-true _ e) in
           right-call ∙ rw (b .0, b .1)
 
   pub was-refused : (n : ℕ) {out lines : List ℕ} {r : Outcome} → salvaging signed fill bs starts ns (length out) (length lines) ≡ refused n → r ≡ refusedWith n

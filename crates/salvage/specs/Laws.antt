@@ -11,7 +11,7 @@ use lib.IntN.{ℤ}
 use mir.Syntax.{w64}
 use mir.Val.{SFits}
 use Rattle.format.specs.declared.Form.the-variants.{FixedDelta}
-use Rattle.format.specs.Digits.{AllBelow}
+use Rattle.format.specs.Digits.{AllBelow, sum}
 use Rattle.format.specs.Fields.{pick, shortest}
 use Rattle.format.specs.Runs.{Description, AllValid, head, layout, joined}
 use Rattle.format.specs.Rows.{asU64}
@@ -32,11 +32,6 @@ AllKept (g ∷ gs) = T (kept g) × AllKept gs
 
 abbrev pub counts : List Group → List ℕ
 counts gs = map (λ g. g .rows) gs
-
--- the whole-number sum
-abbrev pub sum : List ℕ → ℕ
-sum [] = 0
-sum (n ∷ ns) = n + sum ns
 
 -- the groups' bytes, joined; and where each of them begins, the first at s
 unfoldable pub joinedGroups : List Group → List ℕ

@@ -9,6 +9,7 @@ use lib.Dec.{ltb}
 use lib.ListN.{length, take, drop, getD}
 use lib.Seq.{drop-cons, take-at, length-take-le}
 use Rattle.format.specs.Fields.{pick}
+use Rattle.format.proofs.Tests.{never}
 use Rattle.util.proofs.Grow.{filled}
 use borrow.Author.Tests.{lt-ltb, le-ltb}
 use Rattle.text.specs.Ascii.{ascii}
@@ -58,12 +59,8 @@ begun-all (c ∷ e ∷ cs) h = by (hexValue c * 16 + hexValue e) (ltb (hexValue 
   where
     by : (b : ℕ) (t u : Bool) → t && (u && allHex cs) ≡ true → (allHex cs ≡ true → hexBegun cs ≡ hexBytes cs) → pick (t && u) (b ∷ hexBegun cs) [] ≡ b ∷ hexBytes cs
     by b true true h f = ap (λ (l : List ℕ). b ∷ l) (f h)
-    by b true false h f =
-        let z : _≡_ {A = ℕ} 0 1 = cc in
-        absurd (omega arith)
-    by b false u h f =
-        let z : _≡_ {A = ℕ} 0 1 = cc in
-        absurd (omega arith)
+    by b true false h f = never (cc)
+    by b false u h f = never (cc)
 
 -- half as many as the characters
 bytes-length : (line : List ℕ) → length (hexBytes line) ≡ length line / 2

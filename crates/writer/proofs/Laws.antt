@@ -5,7 +5,7 @@ use native.Mathlib.Nat.{div-lt-iff-lt-mul}
 use native.Mathlib.Numerals.{add-one}
 use native.Mathlib.Decide.{decLt}
 use native.Mathlib.Omega.{arith}
-use mathlib.Core.Bool.{Bool, true, false, _&&_}
+use mathlib.Core.Bool.{Bool, true, false, _&&_, and-true, and-false}
 use mathlib.Core.List.{List, [], _∷_, map}
 use mathlib.Core.Logic.{_↔_}
 use lib.Dec.{ltb, eqb}
@@ -16,12 +16,7 @@ use lib.Pow.{pow-pos}
 use borrow.Author.Tests.{lt-ltb, le-ltb, eq-eqb, ne-eqb}
 use Rattle.format.specs.Rows.{asU64}
 use Rattle.format.specs.Writing.{minus, stepTo, stepsOf, baseDelta, every}
-use Rattle.format.proofs.Tests.{and-false}
 use Rattle.writer.specs.PatchedBase.{Largest}
-
-pub and-true : (b : Bool) → b && true ≡ b
-and-true true = refl
-and-true false = refl
 
 -- ---- a loop that tests all numbers of a list: the whole passes exactly if what is left of it passes
 

@@ -2,7 +2,7 @@
 use mathlib.Core.Path.{_≡_, ap}
 use Prim.Native.Nat.{ℕ, _+_, _-_, _*_, _^_, _<_, _≤_}
 use native.Mathlib.Omega.{arith}
-use mathlib.Core.Bool.{true, false}
+use mathlib.Core.Bool.{true, false, and-false}
 use mathlib.Core.List.{List, map}
 use lib.Dec.{leb, ltb, ltb→lt}
 use lib.IntN.{ℤ}
@@ -20,7 +20,6 @@ use Rattle.format.specs.PatchedWriting.{differences, lows, field, codeFor, patc
 use Rattle.format.proofs.Least.{least-passes}
 use Rattle.format.proofs.Widths.{least-holds}
 use Rattle.format.proofs.PatchedWriting.{below-mods, size-low, size-is, code-width, width-56, gap-1, gap-8, gap-holds, es-below, fields-below}
-use Rattle.format.proofs.Tests.{and-false}
 use Rattle.writer.specs.declared.patched_base.Header.{Header}
 use Rattle.writer.specs.PatchedBase.{signMagnitude, headed, Headed, PatchedLaid}
 

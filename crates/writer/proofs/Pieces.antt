@@ -14,8 +14,8 @@ use Rattle.format.specs.Fields.{width}
 use Rattle.format.specs.Kept.{isKept}
 use Rattle.format.specs.Writing.{between, countAllowed, widthAllowed}
 use Rattle.format.proofs.Kept.{kept-code}
-use Rattle.format.proofs.Tests.{between-le, T-true}
-use Rattle.format.proofs.Widths.{and-left, and-right, IsWidth, width-is}
+use Rattle.format.proofs.Tests.{between-le, T-true, and-left, and-right}
+use Rattle.format.proofs.Widths.{IsWidth, width-is}
 
 -- ---- bytes written one piece after another
 

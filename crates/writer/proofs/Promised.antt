@@ -2,7 +2,7 @@
 use mathlib.Core.Path.{_≡_, refl}
 use native.Mathlib.Omega.{arith}
 use Prim.Native.Nat.{ℕ, _<_, _≤_}
-use mathlib.Core.Bool.{Bool, true, false, _&&_}
+use mathlib.Core.Bool.{Bool, true, false, and-false}
 use mathlib.Core.List.{List, [], _++_, map}
 use lib.IntN.{ℤ}
 use lib.ListN.{length, drop}
@@ -15,12 +15,7 @@ use Rattle.format.specs.Rows.{asU64}
 use Rattle.format.specs.Parse.{Parsed, got, refused, plain}
 use Rattle.format.specs.Promises.{answerOf, kindOf, widthOf}
 use Rattle.format.specs.Writing.{countAllowed, haveForm, widthAllowed, described, writing, bytesIn, Written}
-use Rattle.format.proofs.Tests.{and-false}
 use Rattle.writer.specs.Sizes.{Sized, unfit, fit}
-
-pub and-same : (b : Bool) → b && b ≡ b
-and-same true = refl
-and-same false = refl
 
 module _ (rows : List ℤ) (signed : Bool) (f : Form) (w : ℕ) (out : List ℕ) (r : Answer) where
   abbrev rs : List ℕ

@@ -2,7 +2,7 @@
 use mathlib.Core.Path.{_≡_, refl, sym, ap, _∙_}
 use Prim.Native.Nat.{ℕ, zero, suc, _+_, _-_, _*_, _^_, _<_, _≤_}
 use native.Mathlib.Omega.{arith}
-use mathlib.Core.Bool.{Bool, true, false, not}
+use mathlib.Core.Bool.{Bool, true, false, not, and-true, and-self}
 use mathlib.Core.List.{List, [], _∷_, _++_, map}
 use lib.Dec.{ltb}
 use lib.IntN.{ℤ}
@@ -20,11 +20,10 @@ use Rattle.format.specs.Writing.{countAllowed, haveForm, widthAllowed, fitWidth
 use Rattle.format.proofs.Digits.{length-digits}
 use Rattle.format.proofs.Tests.{every-same}
 use Rattle.format.proofs.Again.{map-replicate}
-use Rattle.writer.proofs.Laws.{and-true}
 use Rattle.writer.proofs.Pieces.{behind}
 use Rattle.writer.specs.Sizes.{Sized, unfit, fit}
 use Rattle.writer.proofs.Sizes.{sized-as}
-use Rattle.writer.proofs.Promised.{and-same, bad-form, bad-fit, no-room, laid}
+use Rattle.writer.proofs.Promised.{bad-form, bad-fit, no-room, laid}
 
 -- ---- short repeat
 
@@ -33,7 +32,7 @@ every-one : (test : ℕ → Bool) (n y : ℕ) → 1 ≤ n → every test (replic
 unfolding every
 every-one test zero y h = absurd (omega arith)
 every-one test (suc zero) y h = and-true (test y)
-every-one test (suc (suc n)) y h = rw (every-one test (suc n) y (omega arith)) (and-same (test y))
+every-one test (suc (suc n)) y h = rw (every-one test (suc n) y (omega arith)) (and-self (test y))
 
 pub record Short (rows : List ℤ) (signed : Bool) (w : ℕ) : Type 0 where
   pub count : countAllowed ShortRepeat (length (map asU64 rows)) ≡ true

@@ -8,7 +8,7 @@ use borrow.Author.Needs.{needs}
 use Rattle.format.specs.Fields.{two64}
 use Rattle.format.proofs.Below.{below-all}
 use Rattle.format.proofs.Runs.{layout-pos}
-use Rattle.rle_v2.proofs.OneRun.{OneRun, NoRun, Step, step-is}
+use Rattle.rle_v2.proofs.OneRun.{OneRun, NoRun, Step, step-is, fits}
 use Rattle.rle_v2.proofs.StreamWalk.{Counted, counted-first, counted-run, counted-whole, counted-refused}
 use Rattle.rle_v2.proofs.measure_stream.Statement.{statement}
 use Rattle.rle_v2.proofs.measure_stream.Tie as tie
@@ -38,8 +38,9 @@ ended-is m = rw (m .enum-told .given .1) at (step (m .before .before))
 
 add-count : tie.Need-add-count Inv-loop μ-loop
 add-count c =
-    let back-6 = c .before .before .before .before .before .before in
-    omega (arith, ran-is (c .before .before .before .before) .fits, back-6 .before .before .before .loop .inv .fits)
+    let ran = c .before .before .before .before in
+    let at-loop = ran .before .before .before .before .before in
+    omega (arith, fits (two64 - 1 - at-loop .loop .count) (ran-is ran), at-loop .loop .inv .fits)
 
 add-place : tie.Need-add-place Inv-loop μ-loop
 add-place c = omega (arith, ran-is (c .before .before .before .before .before) .within)

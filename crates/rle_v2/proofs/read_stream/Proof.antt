@@ -8,7 +8,7 @@ use lib.ListN.{length, take, drop, drop-of-length-le}
 use Rattle.format.proofs.Below.{below-all}
 use Rattle.format.proofs.Runs.{layout-pos}
 use Rattle.util.proofs.Grow.{rest-is}
-use Rattle.rle_v2.proofs.OneRun.{OneRun, NoRun, Step}
+use Rattle.rle_v2.proofs.OneRun.{OneRun, NoRun, Step, fits}
 use Rattle.rle_v2.proofs.StreamPlaces.{Walked, walked-first, walked-step, walked-run, back-refused, back-ended, walked-whole, walked-refused}
 use borrow.Author.Needs.{needs}
 use native.Mathlib.Omega.{arith}
@@ -69,7 +69,7 @@ add-k : tie.Need-add-k Inv-loop μ-loop
 add-k c =
     let m = c .before .before .before .before in
     let l = m .before .before .before .before .before .before .loop in
-    omega (arith, ran-is m .fits, l .inv .counted .fits)
+    omega (arith, fits _ (ran-is m), l .inv .counted .fits)
 
 add-p : tie.Need-add-p Inv-loop μ-loop
 add-p c = omega (arith, ran-is (c .before .before .before .before .before) .within)

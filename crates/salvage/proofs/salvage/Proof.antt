@@ -4,9 +4,9 @@ use native.Mathlib.Omega.{arith}
 use borrow.Author.Needs.{needs}
 use borrow.Author.Tests.{not-true, not-false}
 use mir.Facts.{toZ-ofZ}
+use Rattle.format.proofs.Tests.{true-T}
 use Rattle.salvage.specs.Laws.{RightStarts}
 use Rattle.salvage.proofs.Setting.{other-lengths, wrong-starts, no-room, was-refused}
-use Rattle.salvage.proofs.Tests.{true-T}
 use Rattle.salvage.proofs.salvage.Statement.{statement}
 use Rattle.salvage.proofs.salvage.Tie as tie
 

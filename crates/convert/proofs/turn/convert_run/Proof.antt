@@ -5,10 +5,9 @@ use lib.ListN.{length-drop}
 use denote.Ref.{now}
 use Rattle.format.proofs.Below.{below-all}
 use Rattle.format.proofs.Rows.{byte-bounds}
-use Rattle.format.proofs.Runs.{layout-pos}
 use Rattle.util.proofs.Grow.{rest-is}
 use borrow.Author.Needs.{needs}
-use Rattle.convert.proofs.Turns.{One, Found, found, turned-odd, turned-even}
+use Rattle.convert.proofs.ConvertTurns.{One, Found, found, turned-odd, turned-even}
 use Rattle.convert.proofs.turn.convert_run.Statement.{statement}
 use Rattle.convert.proofs.turn.convert_run.Tie as tie
 
@@ -27,11 +26,11 @@ ran m = rw (m .a .given .1) at (says (m .before .before .before))
 shared-slice-read-first : tie.Need-shared-slice-read-first
 shared-slice-read-first c =
     let o = ran (c .before .before .before .before) in
-    omega (arith, o .within, o .bytes-are, layout-pos (o .which))
+    omega (arith, o .at .within, o .at .some-bytes)
 
 rewrite-requires : tie.Need-rewrite-requires
 rewrite-requires c κs =
-    omega (arith, ran (let back-6 = c .before .before .before .before .before .before in back-6 .before .before) .rows-few)
+    omega (arith, ran (let back-6 = c .before .before .before .before .before .before in back-6 .before .before) .at .few)
 
 returns : tie.Need-returns
 returns c =
@@ -44,17 +43,17 @@ returns c =
     turned-odd (a .args .signed) (now (a .args .input)) (a .args .at .bytes) _ (m .a .given .0 .0) (ran m) (now (a .args .run)) _ (c .before .before .before .rewrite .result) _ (c .consumed .ensures) (a .pre) (sym (i .is-odd .ensures) ∙ c .before .before .before .before .before .before .if1 .taken) (c .before .before .before .rewrite .ensures)
 
 sub-copy : tie.Need-sub-copy
-sub-copy c = omega (arith, ran (c .before .before .before .before .before .before) .within)
+sub-copy c = omega (arith, ran (c .before .before .before .before .before .before) .at .within)
 
 part-copy-start : tie.Need-part-copy-start
-part-copy-start c = omega (arith, ran (c .before .before .before .before .before .before) .within)
+part-copy-start c = omega (arith, ran (c .before .before .before .before .before .before) .at .within)
 
 copy-requires : tie.Need-copy-requires
 copy-requires c κs =
     let m = (let back-6 = c .before .before .before .before .before .before in back-6 .before .before) in
     let a = (let back-6 = c .before .before .before .before .before .before in let back-12 = back-6 .before .before .before .before .before .before in back-12 .before .before .before .before) in
     let o = ran m in
-    (rw (rest-is (now (a .args .input)) (a .args .at .bytes), length-drop (a .args .at .bytes) (now (a .args .input))) (omega (arith, o .within)), omega (arith, o .bytes-are, byte-bounds (o .which) (o .valid), a .pre))
+    (rw (rest-is (now (a .args .input)) (a .args .at .bytes), length-drop (a .args .at .bytes) (now (a .args .input))) (omega (arith, o .at .within)), omega (arith, o .at .bytes-are, byte-bounds (o .at .run) (o .at .valid), a .pre))
 
 returns-2 : tie.Need-returns-2
 returns-2 c =

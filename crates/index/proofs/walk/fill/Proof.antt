@@ -6,7 +6,7 @@ use mathlib.Core.List.{[]}
 use lib.ListN.{length, drop, drop-of-length-le}
 use borrow.Author.Needs.{needs}
 use Rattle.format.proofs.Below.{below-all}
-use Rattle.index.proofs.Turns.{Step, step-is, OneRun, NoRun}
+use Rattle.index.proofs.MeasuredRun.{Step, step-is, OneRun, NoRun}
 use Rattle.index.proofs.Fills.{Filling, filling-first, Room, has-room, filling-run, filling-refused, filling-end}
 use Rattle.index.proofs.walk.fill.Statement.{statement}
 use Rattle.index.proofs.walk.fill.Tie as tie

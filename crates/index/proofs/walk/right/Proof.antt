@@ -7,7 +7,7 @@ use lib.ListN.{length, drop, drop-of-length-le}
 use borrow.Author.Needs.{needs}
 use borrow.Author.Tests.{not-true, not-false}
 use Rattle.format.proofs.Below.{below-all}
-use Rattle.index.proofs.Turns.{Step, step-is, OneRun, NoRun}
+use Rattle.index.proofs.MeasuredRun.{Step, step-is, OneRun, NoRun}
 use Rattle.index.proofs.Walks.{Matched, matched-first, matched-short, matched-other, matched-run, matched-end, matched-refused}
 use Rattle.index.proofs.walk.right.Statement.{statement}
 use Rattle.index.proofs.walk.right.Tie as tie

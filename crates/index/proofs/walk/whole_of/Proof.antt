@@ -6,7 +6,7 @@ use mathlib.Core.List.{[]}
 use lib.ListN.{length, drop, drop-of-length-le}
 use borrow.Author.Needs.{needs}
 use Rattle.format.proofs.Below.{below-all}
-use Rattle.index.proofs.Turns.{Step, step-is, OneRun, NoRun}
+use Rattle.index.proofs.MeasuredRun.{Step, step-is, OneRun, NoRun}
 use Rattle.index.proofs.Walks.{Surveyed, surveyed-first, surveyed-run, surveyed-whole, surveyed-refused}
 use Rattle.index.proofs.walk.whole_of.Statement.{statement}
 use Rattle.index.proofs.walk.whole_of.Tie as tie
