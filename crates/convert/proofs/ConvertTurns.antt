@@ -85,55 +85,55 @@ module _ (signed : Bool) (s : List ℕ) (p : ℕ) where
           record { at = o; rows-are = rw e (take-at (i64Rows signed (o .run)) _ (r .rows .rows) (i64-count signed (o .run) ∙ sym (o .rows-are))) }
       by (answer.Refused f) q = record { reason = q .reason; read = q .read; refusal-is = q .refusal-is }
 
-  -- ---- the two ways of a run. Its first byte is the one at the place.
+-- ---- the two ways of a run. Its first byte is the one at the place.
 
-  module _ (rows : List ℤ) (r : Run) (o : One rows r) where
-    abbrev n : ℕ
-    n = r .consumed .bytes
+module _ {signed : Bool} {s : List ℕ} {p : ℕ} {rows : List ℤ} {r : Run} (o : One signed s p rows r) where
+  abbrev n : ℕ
+  n = r .consumed .bytes
 
-    first-is : getD s p 0 ≡ getD (layout (o .at .run) ++ drop (p + n) s) 0 0
-    first-is = sym (ap (λ (l : List ℕ). getD l 0 0) (sym (o .at .split)) ∙ getD-drop p s 0 0 ∙ ap (λ (k : ℕ). getD s k 0) (omega arith))
+  first-is : getD s p 0 ≡ getD (layout (o .at .run) ++ drop (p + n) s) 0 0
+  first-is = sym (ap (λ (l : List ℕ). getD l 0 0) (sym (o .at .split)) ∙ getD-drop p s 0 0 ∙ ap (λ (k : ℕ). getD s k 0) (omega arith))
 
-    is-odd : oddFirst (getD s p 0) ≡ isOdd (o .at .run)
-    is-odd = rw first-is (odd-first (o .at .run) (drop (p + n) s) (o .at .valid))
+  is-odd : oddFirst (getD s p 0) ≡ isOdd (o .at .run)
+  is-odd = rw first-is (odd-first (o .at .run) (drop (p + n) s) (o .at .valid))
 
-    pub turned-odd : (run run′ : List ℕ) (a : Answer) (given : ByteOffset) → given .bytes ≡ answerBytes a → length run ≡ 4356 → oddFirst (getD s p 0) ≡ true
-        → Written (take (r .rows .rows) rows) signed (formFirst (getD s p 0)) (nextKept (getD s p 0 / 2 % 32)) run run′ a
-        → Turned signed s p run′ (record { taken = r .consumed; given = given; odd = true })
-    turned-odd run run′ a given g l t w =
-        let d = o .at .run in
-        let c : Description = converted signed d in
-        let e : writing signed (formFirst (getD s p 0)) (nextKept (getD s p 0 / 2 % 32)) (map asU64 (take (r .rows .rows) rows)) (length run) ≡ got c [] =
-        rw (first-is, o .rows-are, l) (written-again signed d (drop (p + n) s) (o .at .valid) (sym is-odd ∙ t)) in
-        let q : a ≡ answerOf 0 0 (got c []) = w .answer ∙ rw e in
-        let b : run′ ≡ layout c ++ drop (length (layout c)) run = w .places ∙ rw e in
-        record {
-          which = d;
-          valid = o .at .valid;
-          split = o .at .split;
-          within = o .at .within;
-          taken-is = o .at .bytes-are;
-          odd-is = sym t ∙ is-odd;
-          given-is = rw (g, q);
-          small = rw (g, q) (byte-bounds c (runs-hold signed d (o .at .valid) .valid));
-          bytes = rw (g, q, b) (take-at (layout c) (drop (length (layout c)) run) (length (layout c)) refl);
-        }
+  pub turned-odd : {run run′ : List ℕ} {a : Answer} {given : ByteOffset} → given .bytes ≡ answerBytes a → length run ≡ 4356 → oddFirst (getD s p 0) ≡ true
+      → Written (take (r .rows .rows) rows) signed (formFirst (getD s p 0)) (nextKept (getD s p 0 / 2 % 32)) run run′ a
+      → Turned signed s p run′ (record { taken = r .consumed; given = given; odd = true })
+  turned-odd {run} {run′} {a} {given} g l t w =
+      let d = o .at .run in
+      let c : Description = converted signed d in
+      let e : writing signed (formFirst (getD s p 0)) (nextKept (getD s p 0 / 2 % 32)) (map asU64 (take (r .rows .rows) rows)) (length run) ≡ got c [] =
+      rw (first-is, o .rows-are, l) (written-again signed d (drop (p + n) s) (o .at .valid) (sym is-odd ∙ t)) in
+      let q : a ≡ answerOf 0 0 (got c []) = w .answer ∙ rw e in
+      let b : run′ ≡ layout c ++ drop (length (layout c)) run = w .places ∙ rw e in
+      record {
+        which = d;
+        valid = o .at .valid;
+        split = o .at .split;
+        within = o .at .within;
+        taken-is = o .at .bytes-are;
+        odd-is = sym t ∙ is-odd;
+        given-is = rw (g, q);
+        small = rw (g, q) (byte-bounds c (runs-hold signed d (o .at .valid) .valid));
+        bytes = rw (g, q, b) (take-at (layout c) (drop (length (layout c)) run) (length (layout c)) refl);
+      }
 
-    pub turned-even : (run run′ : List ℕ) → oddFirst (getD s p 0) ≡ false → run′ ≡ paste run 0 (drop p s) n
-        → Turned signed s p run′ (record { taken = r .consumed; given = r .consumed; odd = false })
-    turned-even run run′ t b =
-        let d = o .at .run in
-        let c : converted signed d ≡ d = runs-hold signed d (o .at .valid) .copied (sym is-odd ∙ t) in
-        let z : 0 + n ≡ n = omega arith in
-        let k : take n (drop p s) ≡ layout d = rw (o .at .split) (take-at (layout d) (drop (p + n) s) n (sym (o .at .bytes-are))) in
-        record {
-          which = d;
-          valid = o .at .valid;
-          split = o .at .split;
-          within = o .at .within;
-          taken-is = o .at .bytes-are;
-          odd-is = sym t ∙ is-odd;
-          given-is = rw c (o .at .bytes-are);
-          small = omega (arith, o .at .bytes-are, byte-bounds d (o .at .valid));
-          bytes = rw (c, b, k, z) (take-at (layout d) (drop n run) n (sym (o .at .bytes-are)));
-        }
+  pub turned-even : (run : List ℕ) {run′ : List ℕ} → oddFirst (getD s p 0) ≡ false → run′ ≡ paste run 0 (drop p s) n
+      → Turned signed s p run′ (record { taken = r .consumed; given = r .consumed; odd = false })
+  turned-even run {run′} t b =
+      let d = o .at .run in
+      let c : converted signed d ≡ d = runs-hold signed d (o .at .valid) .copied (sym is-odd ∙ t) in
+      let z : 0 + n ≡ n = omega arith in
+      let k : take n (drop p s) ≡ layout d = rw (o .at .split) (take-at (layout d) (drop (p + n) s) n (sym (o .at .bytes-are))) in
+      record {
+        which = d;
+        valid = o .at .valid;
+        split = o .at .split;
+        within = o .at .within;
+        taken-is = o .at .bytes-are;
+        odd-is = sym t ∙ is-odd;
+        given-is = rw c (o .at .bytes-are);
+        small = omega (arith, o .at .bytes-are, byte-bounds d (o .at .valid));
+        bytes = rw (c, b, k, z) (take-at (layout d) (drop n run) n (sym (o .at .bytes-are)));
+      }
