@@ -72,7 +72,8 @@ module _ (input : List ℕ) (at n : ℕ) (out out′ : List ℕ) (r : Answer) (p
       let q : None ≡ At _ = ap answerCut (sym e ∙ g) in
       never (cc)
 
-  same-field : (k field k′ byte : ℕ) → CutShort bs (bytesFor n) k field → r ≡ cutAt k′ at byte → (field : ℕ) × CutShort bs (bytesFor n) k′ field × (byte ≡ at + field)
+  same-field : (k field k′ byte : ℕ) → CutShort bs (bytesFor n) k field → r ≡ cutAt k′ at byte
+      → (field : ℕ) × CutShort bs (bytesFor n) k′ field × (byte ≡ at + field)
   unfolding byteOf
   same-field k field k′ byte c e =
       let f : cutAt k at (at + field) ≡ cutAt k′ at byte = sym (off k field c .0) ∙ e in

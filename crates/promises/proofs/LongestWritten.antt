@@ -86,7 +86,9 @@ module _ (base w : ℕ) (rs : List ℕ) where
           → Bounded places (unless (not a) 9 (unless (not b) 10 (unless few 8 (got (run p) []))))
       go false b few s t u = other 9 (λ e. omega arith)
       go true false few s t u = other 10 (λ e. omega arith)
-      go true true few s t u = by few u (patched-le (header-room p .0 (and-right (isKeptWidth w) (headerHolds p) (rw t tt))) (between-le 1 512 (length rs) (rw s tt) .1))
+      go true true few s t u =
+          by few u (patched-le (header-room p .0 (and-right (isKeptWidth w) (headerHolds p) (rw t tt)))
+          (between-le 1 512 (length rs) (rw s tt) .1))
         where
           by : (few : Bool) → ltb places (length (layout (run p))) ≡ few → length (layout (run p)) ≤ 4108 → Bounded places (unless few 8 (got (run p) []))
           by true u l = record {
@@ -99,12 +101,26 @@ module _ (base w : ℕ) (rs : List ℕ) where
 
 module _ (base : ℕ) (rs : List ℕ) (s : baseSize base ≡ 8) (n : length rs ≡ 512) where
   has-room : Room (parts base 64 rs)
-  unfolding parts PatchedWriting.entriesFrom PatchedWriting.codeFor PatchedWriting.patchCode PatchedWriting.gapWidth PatchedWriting.leastFrom Writing.every Fields.width Fields.widths
-  has-room = record { code-fits = omega arith; eight = rw (size-is base 64 rs, s) (omega arith); not-2 = rw (no-patch base rs) (omega arith); entries-fit = omega (arith, no-list base rs) }
+  unfolding parts PatchedWriting.entriesFrom PatchedWriting.codeFor PatchedWriting.patchCode PatchedWriting.gapWidth
+      PatchedWriting.leastFrom Writing.every Fields.width Fields.widths
+  has-room = record {
+    code-fits = omega arith;
+    eight = rw (size-is base 64 rs, s) (omega arith);
+    not-2 = rw (no-patch base rs) (omega arith);
+    entries-fit = omega (arith, no-list base rs);
+  }
 
   as-long : length (layout (run (parts base 64 rs))) ≡ 4108
   unfolding parts
-  as-long = rw (bytes-count (run (parts base 64 rs)), is-width base 64 rs has-room, length-ds base 64 rs, n, size-is base 64 rs, s, no-list base rs) (omega arith)
+  as-long = rw (
+    bytes-count (run (parts base 64 rs)),
+    is-width base 64 rs has-room,
+    length-ds base 64 rs,
+    n,
+    size-is base 64 rs,
+    s,
+    no-list base rs,
+  ) (omega arith)
 
   is-formed : (isKeptWidth 64 && headerHolds (parts base 64 rs)) ≡ true
   unfolding Kept.isKeptWidth Kept.keptWidths Kept.among

@@ -38,7 +38,8 @@ pub record Onward (bytes : List ℕ) (c : Call) : Type 0 where
   pub some : 0 < c .taken
   pub within : c .taken ≤ length bytes
 
-pub onward : {s : State} (bytes : List ℕ) (h : Handed) → Ready s → AllBelow 256 bytes → takePart 512 s bytes .reply ≡ handed h → Onward bytes (takePart 512 s bytes)
+pub onward : {s : State} (bytes : List ℕ) (h : Handed) → Ready s → AllBelow 256 bytes → takePart 512 s bytes .reply ≡ handed h
+    → Onward bytes (takePart 512 s bytes)
 unfolding takePart reader.inPlaces reader.unlessStopped onPart
 onward bytes h (broken) b e = never (cc)
 onward bytes h (opened {h = held} {at} w) b e = go (parse (held ++ bytes)) (outcome (held ++ bytes) (below-append 256 held bytes (bytes-held w) b)) e
@@ -49,7 +50,8 @@ onward bytes h (opened {h = held} {at} w) b e = go (parse (held ++ bytes)) (outc
     go : (m : Parsed Description) → Outcome (held ++ bytes) m → onPart s bytes m .reply ≡ handed h → Onward bytes (onPart s bytes m)
     go m (nothing z) e = never (cc)
     go m (run {d} {rest} t) e =
-        let l : 0 < length bytes - length rest = omega (arith, ends-in held bytes rest d w (t .ok) (t .split), lengths held bytes rest d w (t .ok) (t .split)) in
+        let l : 0 < length bytes - length rest =
+        omega (arith, ends-in held bytes rest d w (t .ok) (t .split), lengths held bytes rest d w (t .ok) (t .split)) in
         record { ready = opened (nothing-held refl); some = l; within = omega arith }
     go m (refusal {r} z) e = by-kind (unfinished r) e
       where
@@ -70,7 +72,8 @@ ready-after bytes (opened {h} {at} w) b = go (offered (suc (length bytes)) h at 
 
 -- ---- what a reply becomes
 
-pub no-run : (again : State → List ℕ → Fed) (bytes : List ℕ) (c : Call) (a : Reply) → NoRun (answered a) → goOn again bytes c a ≡ record { runs = []; state = c .state }
+pub no-run : (again : State → List ℕ → Fed) (bytes : List ℕ) (c : Call) (a : Reply) → NoRun (answered a)
+    → goOn again bytes c a ≡ record { runs = []; state = c .state }
 no-run again bytes c (handed h) n = absurd n
 no-run again bytes c more n = refl
 no-run again bytes c (broke f) n = refl

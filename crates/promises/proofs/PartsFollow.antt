@@ -49,7 +49,8 @@ module _ (s : PartReader) (part buffer : List ℕ) where
 
   -- an open reader's call
   follows-open : (m : Parsed Description) → Outcome (held ++ part) m → parse (held ++ part) ≡ m → AllBelow 256 (held ++ part) → 4356 ≤ length buffer
-      → take (heldAfter (s .held) (onPart (stateOf s buffer) part m) (onPart (stateOf s buffer) part m .reply)) (bufferAfter held part buffer (onPart (stateOf s buffer) part m .reply))
+      → take (heldAfter (s .held) (onPart (stateOf s buffer) part m) (onPart (stateOf s buffer) part m .reply))
+      (bufferAfter held part buffer (onPart (stateOf s buffer) part m .reply))
       ≡ onPart (stateOf s buffer) part m .state .held
   unfolding onPart
   follows-open m (nothing z) e b l = holding (omega (arith, ap length z)) l
@@ -57,7 +58,9 @@ module _ (s : PartReader) (part buffer : List ℕ) where
   follows-open m (refusal {r} z) e b l = go (unfinished r) refl
     where
       go : (u : Bool) → unfinished r ≡ u
-          → take (heldAfter (s .held) (pick u (reader.hold (stateOf s buffer) part) (reader.refuse (stateOf s buffer) (length (held ++ part)) r)) (pick u (reader.hold (stateOf s buffer) part) (reader.refuse (stateOf s buffer) (length (held ++ part)) r) .reply))
+          → take (heldAfter (s .held)
+          (pick u (reader.hold (stateOf s buffer) part) (reader.refuse (stateOf s buffer) (length (held ++ part)) r))
+          (pick u (reader.hold (stateOf s buffer) part) (reader.refuse (stateOf s buffer) (length (held ++ part)) r) .reply))
           (bufferAfter held part buffer (pick u (reader.hold (stateOf s buffer) part) (reader.refuse (stateOf s buffer) (length (held ++ part)) r) .reply))
           ≡ pick u (reader.hold (stateOf s buffer) part) (reader.refuse (stateOf s buffer) (length (held ++ part)) r) .state .held
       go true u = holding (omega (arith, unfinished-short (held ++ part) r b e (rw u tt))) l
@@ -82,7 +85,8 @@ follows s part buffer buffer′ signed out out′ r b c t =
     here = take (s .held) buffer
 
     call : Bool → Standing → Call
-    call u x = pick u (reader.idle (stateOf s buffer) (reader.broke (refusing 8 0))) (unlessStopped x (reader.idle (stateOf s buffer)) (onPart (stateOf s buffer) part (parse (here ++ part))))
+    call u x = pick u (reader.idle (stateOf s buffer) (reader.broke (refusing 8 0)))
+        (unlessStopped x (reader.idle (stateOf s buffer)) (onPart (stateOf s buffer) part (parse (here ++ part))))
 
     by : (u : Bool) → ltb (room buffer out) 512 ≡ u → (x : Standing)
         → take (heldAfter (s .held) (call u x) (call u x .reply)) (bufferAfter here part buffer (call u x .reply)) ≡ call u x .state .held
@@ -101,9 +105,12 @@ follows-closing s buffer signed out out′ r t =
     ∙ ap (λ (x : List ℕ). record { held = x; at = d .state .at; standing = d .state .standing }) (by (ltb (room buffer out) 512) (s .standing))
   where
     call : Bool → Standing → Call
-    call u x = pick u (reader.idle (stateOf s buffer) (reader.broke (refusing 8 0))) (unlessStopped x (reader.idle (stateOf s buffer)) (onClose (stateOf s buffer) (parse (take (s .held) buffer))))
+    call u x = pick u (reader.idle (stateOf s buffer) (reader.broke (refusing 8 0)))
+        (unlessStopped x (reader.idle (stateOf s buffer)) (onClose (stateOf s buffer) (parse (take (s .held) buffer))))
 
-    by-parse : (m : Parsed Description) → take (heldAfter (s .held) (onClose (stateOf s buffer) m) (onClose (stateOf s buffer) m .reply)) buffer ≡ onClose (stateOf s buffer) m .state .held
+    by-parse : (m : Parsed Description)
+        → take (heldAfter (s .held) (onClose (stateOf s buffer) m) (onClose (stateOf s buffer) m .reply)) buffer
+        ≡ onClose (stateOf s buffer) m .state .held
     by-parse end = refl
     by-parse (got d rest) = refl
     by-parse (refused r) = refl

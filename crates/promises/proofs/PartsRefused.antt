@@ -23,7 +23,8 @@ use Rattle.promises.specs.Refusals
 use Rattle.promises.specs.Refusals.{Table, by-number, by-field}
 use Rattle.promises.proofs.Refusals.{refusals, field-pos}
 use Rattle.promises.proofs.BrokeOff.{others, cut-numbers}
-use Rattle.promises.specs.Parts.{Fed, joinedParts, OfUnfinished, in-header, in-field, TheNumbers, WhenRefused, NoRun, Repeats, AfterRefusal, AfterLast, AfterClosing, TooFewPlaces, MorePlaces, HeldBelow}
+use Rattle.promises.specs.Parts.{Fed, joinedParts, OfUnfinished, in-header, in-field, TheNumbers, WhenRefused, NoRun, Repeats}
+use Rattle.promises.specs.Parts.{AfterRefusal, AfterLast, AfterClosing, TooFewPlaces, MorePlaces, HeldBelow}
 use Rattle.format.proofs.Length.{unfinished-short}
 use Rattle.format.proofs.Tests.{never}
 use Rattle.promises.proofs.Feeding.{Waits, nothing-held, begun, Result, waiting, barred}

@@ -36,14 +36,20 @@ module _ (code : ℕ) (base : List ℕ) (pc gw : ℕ) (k l : Block) (out out′ 
       → getD out′ p (pos 0) ≡ asI64 ((baseValue base + (getD (k .values) p 0 + patchAt p (patches (width pc) (l .values)) * 2 ^ width code)) % two64)
   unfolding i64Rows asI64
   row-at p h =
-      rw (places, List·getD-append (i64Rows signed (patched code base pc gw k l)) (drop (length (k .values)) out) (pos 0) p (omega (arith, i64-count signed (patched code base pc gw k l))))
+      rw (
+        places,
+        List·getD-append (i64Rows signed (patched code base pc gw k l)) (drop (length (k .values)) out) (pos 0) p
+            (omega (arith, i64-count signed (patched code base pc gw k l))),
+      )
       (List·getD-map asI64 (rowsOf signed (patched code base pc gw k l)) p 0 ∙ ap asI64 (sums .patched-row signed code base pc gw k l p h))
 
   rows-patched : T (not (outOfPlace (width pc) (length (k .values)) (l .values))) → (p : ℕ) → p < length (k .values) → Patched code base pc k l out′ p
   unfolding outOfPlace patches
   rows-patched n p h =
       let es : List ℕ = l .values in
-      let m : T (not (shared (patchesFrom (width pc) 0 es))) = not-left (shared (patchesFrom (width pc) 0 es)) (outside (length (k .values)) (patchesFrom (width pc) 0 es)) (not-right (lastIsSkip (width pc) es) _ n) in
+      let m : T (not (shared (patchesFrom (width pc) 0 es))) =
+      not-left (shared (patchesFrom (width pc) 0 es)) (outside (length (k .values)) (patchesFrom (width pc) 0 es))
+      (not-right (lastIsSkip (width pc) es) _ n) in
       record {
         named = λ j f. row-at p h ∙ rw (patch-there (width pc) 0 es j p (from-named (width pc) es j p f) m);
         other = λ f. row-at p h ∙ rw (patch-none (width pc) 0 es p (λ j g. f j (named-from (width pc) es j p g)), zero-mul, add-zero);
@@ -95,7 +101,8 @@ module _ (code : ℕ) (base : List ℕ) (pc gw : ℕ) (k l : Block) (v : Valid (
         rows = rows-patched code base pc gw k l out out′ signed places (rw t tt);
         others =
             ap (drop (length (k .values))) places
-            ∙ drop-at (i64Rows signed (patched code base pc gw k l)) (drop (length (k .values)) out) (length (k .values)) (i64-count signed (patched code base pc gw k l));
+            ∙ drop-at (i64Rows signed (patched code base pc gw k l)) (drop (length (k .values)) out) (length (k .values))
+            (i64-count signed (patched code base pc gw k l));
       })
 
   by-list : (s t : Bool) → large ≡ s → misplaced ≡ t → EitherWay code base pc gw k l at out out′ r

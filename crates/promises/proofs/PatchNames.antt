@@ -103,9 +103,12 @@ module _ (pw : ℕ) where
             → ((j p : ℕ) → From (past before e) es j p → T (of (patchAs es j p)) → T (test (rest before e es)))
             → T (test (patchesFrom pw before (e ∷ es)))
         go zero f t (inl s) ih = absurd (T-not (isSkip pw e) (f .no-skip) s)
-        go zero f t (inr s) ih = rw (of-entry before e es s, one) (or-left (of (named before e)) (test (rest before e es)) (rw (from-zero before e es p f) at t))
+        go zero f t (inr s) ih =
+            rw (of-entry before e es s, one) (or-left (of (named before e)) (test (rest before e es)) (rw (from-zero before e es p f) at t))
         go (suc j) f t (inl s) ih = rw (of-skip before e es s) (ih j p (from-back before e es j p f) t)
-        go (suc j) f t (inr s) ih = rw (of-entry before e es s, one) (or-right (of (named before e)) (test (rest before e es)) (ih j p (from-back before e es j p f) t))
+        go (suc j) f t (inr s) ih =
+            rw (of-entry before e es s, one)
+            (or-right (of (named before e)) (test (rest before e es)) (ih j p (from-back before e es j p f) t))
 
   -- a place is taken: an entry names it
   taken-names : (p before : ℕ) (es : List ℕ) → T (taken p (patchesFrom pw before es)) → (j : ℕ) × From before es j p
@@ -153,8 +156,10 @@ module _ (pw : ℕ) where
       go zero (suc j) l f g (inl s) ih = absurd (T-not (isSkip pw e) (f .no-skip) s)
       go zero (suc j) l f g (inr s) ih =
           rw (of-entry before e es s)
-          (or-left (taken (past before e) (rest before e es)) (shared (rest before e es)) (names-taken (past before e) (past before e) es j (rw (from-zero before e es p f) at (from-back before e es j p g))))
+          (or-left (taken (past before e) (rest before e es)) (shared (rest before e es))
+          (names-taken (past before e) (past before e) es j (rw (from-zero before e es p f) at (from-back before e es j p g))))
       go (suc i) (suc j) l f g (inl s) ih = rw (of-skip before e es s) (ih i j p (omega (arith, l)) (from-back before e es i p f) (from-back before e es j p g))
       go (suc i) (suc j) l f g (inr s) ih =
           rw (of-entry before e es s)
-          (or-right (taken (past before e) (rest before e es)) (shared (rest before e es)) (ih i j p (omega (arith, l)) (from-back before e es i p f) (from-back before e es j p g)))
+          (or-right (taken (past before e) (rest before e es)) (shared (rest before e es))
+          (ih i j p (omega (arith, l)) (from-back before e es i p f) (from-back before e es j p g)))

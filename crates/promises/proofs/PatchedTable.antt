@@ -75,7 +75,8 @@ module _ (signed : Bool) (rows : List ℤ) (base : ℤ) (w : ℕ) (h : AllI64 ro
   counts = rw (length-map rows asU64) (λ t. between-le 1 512 (length rows) t, λ n. le-between 1 512 (length rows) (n .0) (n .1))
 
   means : T counted → PatchedMeaning signed (asU64 base) w rs
-  means t = patched-meaning signed (asU64 base) w rs (as-lt base hb) (patterns-lt rows h) (between-le 1 512 (length rs) t .0) (between-le 1 512 (length rs) t .1)
+  means t = patched-meaning signed (asU64 base) w rs (as-lt base hb) (patterns-lt rows h) (between-le 1 512 (length rs) t .0)
+      (between-le 1 512 (length rs) t .1)
 
   some-counted : Some signed base w rows → T counted
   some-counted s =

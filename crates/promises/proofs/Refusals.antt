@@ -21,7 +21,8 @@ use Rattle.format.proofs.Below.{below-drop}
 use Rattle.format.proofs.Runs.{parse-sound}
 use Rattle.format.proofs.Tests.{never}
 use Rattle.promises.specs.Refusals
-use Rattle.promises.specs.Refusals.{Table, refusal-8, CutLine, CutNumber, six, twelve, thirteen, fourteen, TableGives, by-number, by-field, RefusalsHold, AnswersHold}
+use Rattle.promises.specs.Refusals.{Table, refusal-8, CutLine, CutNumber, six, twelve, thirteen, fourteen, TableGives, by-number}
+use Rattle.promises.specs.Refusals.{by-field, RefusalsHold, AnswersHold}
 use Rattle.promises.proofs.Fates.{Fate, no-run, a-run, by-line}
 use Rattle.promises.proofs.Fated.{fate}
 use Rattle.promises.proofs.Lines.{line}
@@ -30,7 +31,8 @@ pub refusals : RefusalsHold
 unfolding into
 refusals places bs h r = (λ e. to (fate places bs h) refl e, λ t. line places bs t)
   where
-    room : {d : Description} {rest : List ℕ} (t : Bool) → ltb places (rowCount d) ≡ t → parse bs ≡ got d rest → unless t 8 (got d rest) ≡ refused r → TableGives places bs r
+    room : {d : Description} {rest : List ℕ} (t : Bool) → ltb places (rowCount d) ≡ t → parse bs ≡ got d rest
+        → unless t 8 (got d rest) ≡ refused r → TableGives places bs r
     room {d} {rest} true l f e =
         let k : plain 8 ≡ r = cc in
         let t : Took bs layout Valid d rest = parse-sound bs d rest h f in
@@ -53,7 +55,8 @@ field-le bs (Refusals.in-base r l) = r .headed .header
 field-le bs (Refusals.in-first-row r t) = r .headed .header
 field-le bs (Refusals.in-base-delta v rest r e h t) = omega (arith, r .headed .header, length-drop 2 bs, ap length e, length-append v rest)
 field-le bs (Refusals.in-rows h l) = h .header
-field-le bs (Refusals.in-magnitudes v w rest r e h g l) = omega (arith, r .headed .header, length-drop 2 bs, ap length e, length-append v (w ++ rest), length-append w rest)
+field-le bs (Refusals.in-magnitudes v w rest r e h g l) =
+    omega (arith, r .headed .header, length-drop 2 bs, ap length e, length-append v (w ++ rest), length-append w rest)
 field-le bs (Refusals.in-values r m l) = m
 field-le bs (Refusals.in-list r m l) = m
 
@@ -68,7 +71,8 @@ field-pos bs (Refusals.in-magnitudes v w rest r e h g l) = (omega arith, thirtee
 field-pos bs (Refusals.in-values r m l) = (omega arith, thirteen)
 field-pos bs (Refusals.in-list r m l) = (omega arith, fourteen)
 
-answer-refused : (at total : ℕ) (f : Refusal) (m : Parsed Description) → answerOf at total m ≡ Refused f → (r : Reason) × (m ≡ refused r) × (refusal at total r ≡ f)
+answer-refused : (at total : ℕ) (f : Refusal) (m : Parsed Description) → answerOf at total m ≡ Refused f
+    → (r : Reason) × (m ≡ refused r) × (refusal at total r ≡ f)
 answer-refused at total f end e = never (cc)
 answer-refused at total f (got d rest) e = never (cc)
 answer-refused at total f (refused r) e =
@@ -91,7 +95,8 @@ module _ (places at : ℕ) (bs : List ℕ) (n : ℕ) where
       let e : length bs - length (drop field bs) ≡ field = omega (arith, length-drop field bs, field-le bs l) in
       rw e
 
-  of-field : (byte : ℕ) {r : Reason} → TableGives places bs r → refusal at (length bs) r ≡ cutting n at byte → (field : ℕ) × CutLine bs n field × (byte ≡ at + field)
+  of-field : (byte : ℕ) {r : Reason} → TableGives places bs r → refusal at (length bs) r ≡ cutting n at byte
+      → (field : ℕ) × CutLine bs n field × (byte ≡ at + field)
   unfolding byteOf
   of-field byte (by-number t) e =
       let q : None ≡ At _ = ap (λ (f : Refusal). f .cut) e in
