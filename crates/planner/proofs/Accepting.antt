@@ -17,8 +17,10 @@ use Rattle.format.proofs.Tests.{never, both, not-so}
 use Rattle.planner.specs.declared.segment.Segment.{Segment}
 use Rattle.planner.specs.declared.Checked.{Checked}
 use Rattle.planner.specs.declared.Checked.the-variants as checked
-use Rattle.planner.specs.Check.{Columns, equalLengths, segments, covers, runOf, isRun, before, allRuns, runs, accepted, wide, Column, planned, direct, eight, column, told, checkedAs}
-use Rattle.planner.specs.Laws.{sumRows, Covers, Accept, none, more, Accepted, Answers, as-planned, as-direct, as-eight, Checks, accepts, rejects, CheckExactlyHolds}
+use Rattle.planner.specs.Check.{Columns, equalLengths, segments, covers, runOf, isRun, before, allRuns, runs, accepted, wide, Column}
+use Rattle.planner.specs.Check.{planned, direct, eight, column, told, checkedAs}
+use Rattle.planner.specs.Laws.{sumRows, Covers, Accept, none, more, Accepted, Answers, as-planned, as-direct, as-eight, Checks}
+use Rattle.planner.specs.Laws.{accepts, rejects, CheckExactlyHolds}
 
 -- ---- the segments cover the rows from `at` on
 
@@ -87,7 +89,8 @@ module _ (signed : Bool) (rows : List ℤ) where
   module _ (c : Columns) (room : ℕ) where
     -- the four tests
     pub tests : accepted signed rows c room ≡ true
-        → (equalLengths c ≡ true) × (covers (length rows) 0 (segments c) ≡ true) × (allRuns signed rows (segments c) ≡ true) × (length (joined (runs signed rows (segments c))) ≤ room)
+        → (equalLengths c ≡ true) × (covers (length rows) 0 (segments c) ≡ true) × (allRuns signed rows (segments c) ≡ true)
+        × (length (joined (runs signed rows (segments c))) ≤ room)
     unfolding accepted
     tests e =
         let bytes : ℕ = length (joined (runs signed rows (segments c))) in
@@ -131,7 +134,8 @@ module _ (signed : Bool) (rows : List ℤ) where
     unfolding checkedAs
     checks = go (accepted signed rows c room) refl
       where
-        go : (t : Bool) → accepted signed rows c room ≡ t → Checks signed rows c room (pick t (checked.Accepted (told (runs signed rows (segments c)))) checked.Rejected)
+        go : (t : Bool) → accepted signed rows c room ≡ t
+            → Checks signed rows c room (pick t (checked.Accepted (told (runs signed rows (segments c)))) checked.Rejected)
         go true e = accepts (of-accepted e)
         go false e = rejects (λ ds a. never (cc (to-accepted a .0)))
 

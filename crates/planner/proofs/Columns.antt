@@ -19,7 +19,8 @@ use Rattle.planner.proofs.Direct.{wide-holds}
 
 module _ (signed : Bool) (rows : List ℤ) (c : Columns) (room : ℕ) where
   -- what the check's answer says of the test
-  pub was-accepted : (t : Columned) → checked.Accepted t ≡ checkedAs signed rows c room → (accepted signed rows c room ≡ true) × (t ≡ told (runs signed rows (segments c)))
+  pub was-accepted : (t : Columned) → checked.Accepted t ≡ checkedAs signed rows c room
+      → (accepted signed rows c room ≡ true) × (t ≡ told (runs signed rows (segments c)))
   unfolding checkedAs
   was-accepted t e = go (accepted signed rows c room) refl e
     where
@@ -42,7 +43,8 @@ module _ (signed : Bool) (rows : List ℤ) (c : Columns) (room : ℕ) where
   wide-test b e = e ∙ ap (λ (n : ℕ). leb n room) (sym (wide-holds signed rows .bytes))
 
 module _ (signed : Bool) (rows : List ℤ) (c : Columns) (out out′ : List ℕ) where
-  pub wrote-planned : (t : Columned) → checked.Accepted t ≡ checkedAs signed rows c (length out) → ColumnLaid (runs signed rows (segments c)) out out′ → Wrote signed rows c out out′ (answer.Planned t)
+  pub wrote-planned : (t : Columned) → checked.Accepted t ≡ checkedAs signed rows c (length out)
+      → ColumnLaid (runs signed rows (segments c)) out out′ → Wrote signed rows c out out′ (answer.Planned t)
   unfolding column
   wrote-planned t e l =
       let a = was-accepted signed rows c (length out) t e in

@@ -17,7 +17,8 @@ use Rattle.planner.specs.declared.Checked.the-variants as checked
 use Rattle.planner.specs.declared.Columned.{Columned}
 use Rattle.planner.specs.Check.{Columns, equalLengths, segmentsFrom, wide, planned, told, checkedAs}
 use Rattle.planner.specs.Laws.{Accepted, as-planned, Checks, accepts, rejects}
-use Rattle.planner.specs.Plan.{firstOf, Sound, Proposes, no-rows, no-places, some, as-proposed, PlanHolds, PlanProposes, Kept, dropped, kept, Fallback, too-few, laid}
+use Rattle.planner.specs.Plan.{firstOf, Sound, Proposes, no-rows, no-places, some, as-proposed, PlanHolds, PlanProposes, Kept}
+use Rattle.planner.specs.Plan.{dropped, kept, Fallback, too-few, laid}
 use Rattle.planner.proofs.Accepting.{check-exactly}
 use Rattle.planner.proofs.Direct.{wide-holds}
 
@@ -66,7 +67,8 @@ sound-some signed rows c zero o s = absurd (omega (arith, o, s .accepted .coveri
 sound-some signed rows c (suc k) o s = omega arith
 
 pub plan-proposes : PlanProposes
-plan-proposes signed rows c k (no-rows e) = record { for-rows = λ o h. absurd (omega (arith, o, e)); for-none = λ z. refl; when-none = λ z o. absurd (omega (arith, o, e)) }
+plan-proposes signed rows c k (no-rows e) =
+    record { for-rows = λ o h. absurd (omega (arith, o, e)); for-none = λ z. refl; when-none = λ z o. absurd (omega (arith, o, e)) }
 plan-proposes signed rows c k (no-places e) = record { for-rows = λ o h. never (cc); for-none = λ z. refl; when-none = λ z o. e }
 plan-proposes signed rows c k (some o s) = record {
   for-rows = λ u h. (sound-some signed rows c k o s, s);

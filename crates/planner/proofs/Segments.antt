@@ -43,7 +43,8 @@ segments-from k [] counts forms widths bases h = absurd (omega arith)
 segments-from zero (x ∷ starts) counts forms widths bases h = refl
 segments-from (suc k) (x ∷ starts) counts forms widths bases h =
     let e : (l : List ℕ) → getD (drop 1 l) k 0 ≡ getD l (suc k) 0 = λ l. getD-drop 1 l k 0 ∙ ap (λ (i : ℕ). getD l i 0) (omega arith) in
-    rw (← (e counts), ← (e forms), ← (e widths), ← (e bases)) (segments-from k starts (drop 1 counts) (drop 1 forms) (drop 1 widths) (drop 1 bases) (omega arith))
+    rw (← (e counts), ← (e forms), ← (e widths), ← (e bases))
+    (segments-from k starts (drop 1 counts) (drop 1 forms) (drop 1 widths) (drop 1 bases) (omega arith))
 
 pub segment-next : (c : Columns) (k : ℕ) → k < length (c .starts) → drop k (segments c) ≡ segmentAt c k ∷ drop (k + 1) (segments c)
 segment-next c k h = rw add-one (segments-from k (c .starts) (c .counts) (c .forms) (c .widths) (c .bases) h)

@@ -111,14 +111,16 @@ module _ (signed : Bool) (rows : List ℤ) where
       verdict-next =
           let e : k + suc (length ds) ≡ k + 1 + length ds = omega arith in
           let f : row + (rowCount (t .which) + totalRows ds) ≡ row + s .count + totalRows ds = omega (arith, its-rows) in
-          let g : bytes + length (layout (t .which) ++ joined ds) ≡ bytes + n + length (joined ds) = omega (arith, length-append (layout (t .which)) (joined ds), t .size) in
+          let g : bytes + length (layout (t .which) ++ joined ds) ≡ bytes + n + length (joined ds) =
+          omega (arith, length-append (layout (t .which)) (joined ds), t .size) in
           rw (eq-eqb (s .start) row (t .here), t .written, e, f, g)
 
       pub verdict-full : bytes ≤ room → room - bytes < n → verdict k row bytes (s ∷ ss) ≡ checked.Rejected
       unfolding verdict runs joined
       verdict-full h l =
           let p : leb (bytes + length (joined (runs signed rows (s ∷ ss)))) room ≡ false =
-          rw (t .written) (lt-leb (bytes + length (layout (t .which) ++ joined ds)) room (omega (arith, length-append (layout (t .which)) (joined ds), t .size))) in
+          rw (t .written) (lt-leb (bytes + length (layout (t .which) ++ joined ds)) room
+          (omega (arith, length-append (layout (t .which)) (joined ds), t .size))) in
           rw (p, and-false (covers (length rows) row (s ∷ ss) && allRuns signed rows (s ∷ ss)))
 
     pub verdict-short : (k row bytes : ℕ) → row < length rows → verdict k row bytes [] ≡ checked.Rejected
@@ -167,7 +169,8 @@ module _ (signed : Bool) (rows : List ℤ) where
 
   -- its step, in any room that holds the run
   pub next-ran : (row : ℕ) (s : Segment) (ss : List Segment) (x : Next row s ss) (out out′ : List ℕ) (n : ℕ) → length (layout (x .which)) ≤ length out
-      → Ran (stepIn signed rows row s (length out)) out out′ n → (n ≡ length (layout (x .which))) × (out′ ≡ layout (x .which) ++ drop (length (layout (x .which))) out)
+      → Ran (stepIn signed rows row s (length out)) out out′ n
+      → (n ≡ length (layout (x .which))) × (out′ ≡ layout (x .which) ++ drop (length (layout (x .which))) out)
   unfolding stepIn
   next-ran row s ss x out out′ n h r =
       let w = in-room signed (s .form) (s .width) (s .base) (take (s .count) (drop (s .start) rows)) anyRun (x .written) .elsewhere (length out) h in

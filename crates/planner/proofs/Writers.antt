@@ -37,7 +37,8 @@ pub record InRoom (write : ℕ → Parsed Description) (room : ℕ) (d : Descrip
 abbrev tested : Bool → Bool → Bool → Description → ℕ → Parsed Description
 tested a b c d room = unless a 9 (unless b 10 (unless c 11 (unless (ltb room (length (layout d))) 8 (got d []))))
 
-tested-run : (a b c : Bool) (d : Description) (room : ℕ) {d′ : Description} {rest : List ℕ} → tested a b c d room ≡ got d′ rest → InRoom (tested a b c d) room d′ rest
+tested-run : (a b c : Bool) (d : Description) (room : ℕ) {d′ : Description} {rest : List ℕ} → tested a b c d room ≡ got d′ rest
+    → InRoom (tested a b c d) room d′ rest
 tested-run true b c d room e = never (cc)
 tested-run false true c d room e = never (cc)
 tested-run false false true d room e = never (cc)
@@ -83,7 +84,8 @@ described-rows signed Direct w rs h = length-map rs (stored signed)
 described-rows signed FixedDelta w rs h = refl
 described-rows signed PackedDelta w rs h = later-steps (falls (baseDelta rs)) rs (between-le 2 512 (length rs) h .0)
 
-run-rows : (signed : Bool) (f : Form) (w : ℕ) (rs : List ℕ) (room : ℕ) {d : Description} {rest : List ℕ} → writing signed f w rs room ≡ got d rest → rowCount d ≡ length rs
+run-rows : (signed : Bool) (f : Form) (w : ℕ) (rs : List ℕ) (room : ℕ) {d : Description} {rest : List ℕ}
+    → writing signed f w rs room ≡ got d rest → rowCount d ≡ length rs
 unfolding writing
 run-rows signed f w rs room {d} {rest} e =
     go (countAllowed f (length rs)) (haveForm f rs && widthAllowed f w) (fitWidth signed f w rs) (ltb room (length (layout (described signed f w rs)))) refl e
@@ -102,7 +104,8 @@ run-rows signed f w rs room {d} {rest} e =
 patched-held : (base w : ℕ) (rs : List ℕ) (room : ℕ) {d : Description} {rest : List ℕ} → writingPatched base w rs room ≡ got d rest
     → (run (parts base w rs) ≡ d) × T (between 1 512 (length rs)) × T (headerHolds (parts base w rs))
 unfolding writingPatched
-patched-held base w rs room {d} {rest} e = go (between 1 512 (length rs)) (isKeptWidth w) (headerHolds (parts base w rs)) (ltb room (length (layout (run (parts base w rs))))) e
+patched-held base w rs room {d} {rest} e =
+    go (between 1 512 (length rs)) (isKeptWidth w) (headerHolds (parts base w rs)) (ltb room (length (layout (run (parts base w rs))))) e
   where
     go : (a k h few : Bool) → unless (not a) 9 (unless (not (k && h)) 10 (unless few 8 (got (run (parts base w rs)) []))) ≡ got d rest
         → (run (parts base w rs) ≡ d) × T a × T h
@@ -115,7 +118,8 @@ patched-held base w rs room {d} {rest} e = go (between 1 512 (length rs)) (isKep
 patched-rows : (base w : ℕ) (rs : List ℕ) (room : ℕ) {d : Description} {rest : List ℕ} → writingPatched base w rs room ≡ got d rest → rowCount d ≡ length rs
 unfolding parts
 patched-rows base w rs room e =
-    ap (λ (x : Description). rowCount x) (sym (patched-held base w rs room e .0)) ∙ length-map (differences base rs) (λ d. d % 2 ^ w) ∙ length-map rs (λ r. minus r base)
+    ap (λ (x : Description). rowCount x) (sym (patched-held base w rs room e .0)) ∙ length-map (differences base rs) (λ d. d % 2 ^ w)
+    ∙ length-map rs (λ r. minus r base)
 
 pub rows-given : (signed : Bool) (form width base : ℕ) (part : List ℤ) (room : ℕ) {d : Description} {rest : List ℕ}
     → writeIn signed form width base part room ≡ got d rest → rowCount d ≡ length part
@@ -146,7 +150,8 @@ module _ (base w : ℕ) (part : List ℤ) (room : ℕ) {d : Description} {rest :
   by-patched : (signed : Bool) → AllI64 part → base < two64 → StandsFor signed part d
   unfolding i64Rows
   by-patched signed h hb =
-      let g = patched-described base w (map asU64 part) (header-room (parts base w (map asU64 part)) .0 (held .2)) signed hb (patterns-lt part h) (counted .0) (counted .1) in
+      let g = patched-described base w (map asU64 part) (header-room (parts base w (map asU64 part)) .0 (held .2)) signed hb
+      (patterns-lt part h) (counted .0) (counted .1) in
       record { valid = subst Valid (held .0) (g .valid); rows-are = ap (i64Rows signed) (sym (held .0)) ∙ ap (map asI64) (g .has-rows) ∙ patterns-back part h }
 
 pub stands : (signed : Bool) (form width base : ℕ) (part : List ℤ) (room : ℕ) {d : Description} {rest : List ℕ} → AllI64 part → base < two64

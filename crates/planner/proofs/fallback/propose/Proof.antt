@@ -1,4 +1,4 @@
--- `fallback::propose` meets its contract: the direct runs are accepted, where there are places for them. Assumes nothing.
+-- If each column has a place for each direct run, these are laid, and the check accepts them; otherwise none is proposed. Assumes nothing.
 use borrow.Author.Needs.{needs}
 use borrow.Author.Tests.{not-true, not-false}
 use denote.Ref.{now}
@@ -20,8 +20,11 @@ lay-requires c κs =
     let e = c .before .before .before .before .before in
     let fit = e .before in
     let n = fit .before in
-    let a = n .before .before .before .before .before .before .before .args in
-    (n .runs-of .ensures, all-places _ (proposal (now (a .first)) (now (a .counts)) (now (a .forms)) (now (a .widths)) (now (a .bases))) (sym (fit .have-places .ensures) ∙ not-false _ (e .if1 .left)))
+    let a = n .before .before .before .before .before .before .before .args in (
+      n .runs-of .ensures,
+      all-places _ (proposal (now (a .first)) (now (a .counts)) (now (a .forms)) (now (a .widths)) (now (a .bases)))
+          (sym (fit .have-places .ensures) ∙ not-false _ (e .if1 .left)),
+    )
 
 returns-2 : tie.Need-returns-2
 returns-2 c =
