@@ -62,7 +62,8 @@ module _ (l : List ℕ) (n most i : ℕ) (m : Most l n most i) where
       by (yes k) = rw (lt-ltb x b (omega arith))
       by (no k) = rw (le-ltb most b (omega arith))
 
-  split : i < n → n ≤ length l → (b : ℕ) → 1 ≤ b → every (λ x. ltb x b) (take n l) ≡ ltb most b && (ltb (getD l i 0) b && every (λ x. ltb x b) (slice (i + 1) n l))
+  split : i < n → n ≤ length l → (b : ℕ) → 1 ≤ b
+      → every (λ x. ltb x b) (take n l) ≡ ltb most b && (ltb (getD l i 0) b && every (λ x. ltb x b) (slice (i + 1) n l))
   unfolding every
   split h k b p = m .bounds b p ∙ rw (add-one, slice-cons i n l 0 h k)
 

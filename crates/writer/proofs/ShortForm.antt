@@ -39,7 +39,9 @@ pub record Short (rows : List ℤ) (signed : Bool) (w : ℕ) : Type 0 where
   pub size : widthAllowed ShortRepeat w ≡ true
   pub fits : haveForm ShortRepeat (map asU64 rows) ≡ true → ltb (firstOf signed (map asU64 rows)) (2 ^ (8 * w)) ≡ fitWidth signed ShortRepeat w (map asU64 rows)
   pub lay : layout (described signed ShortRepeat w (map asU64 rows)) ≡ ((w - 1) * 8 + (length rows - 3)) ∷ digits 256 w (firstOf signed (map asU64 rows))
-  pub shape : (kindOf (described signed ShortRepeat w (map asU64 rows)) ≡ kind.ShortRepeat) × (widthOf (described signed ShortRepeat w (map asU64 rows)) ≡ 8 * w) × (rowCount (described signed ShortRepeat w (map asU64 rows)) ≡ length rows)
+  pub shape : (kindOf (described signed ShortRepeat w (map asU64 rows)) ≡ kind.ShortRepeat)
+      × (widthOf (described signed ShortRepeat w (map asU64 rows)) ≡ 8 * w)
+      × (rowCount (described signed ShortRepeat w (map asU64 rows)) ≡ length rows)
 
 pub short-known : (rows : List ℤ) (signed : Bool) (w : ℕ) → 3 ≤ length rows → length rows ≤ 10 → 1 ≤ w → w ≤ 8 → Short rows signed w
 unfolding haveForm fitWidth valuesOf described layout
@@ -83,10 +85,12 @@ module _ {rows : List ℤ} {signed : Bool} {w : ℕ} (k : Short rows signed w) w
       pub alike : not small ≡ false → w ≤ 8 → Sized signed ShortRepeat w rs (1 + w)
       alike y h = fit form-is (sym (k .fits form-is) ∙ sym g ∙ not-false small y) (sym short-size) (omega arith) (omega arith)
 
-  pub refused-form : (same : Bool) → same ≡ haveForm ShortRepeat rs → same ≡ false → (out : List ℕ) (r : Answer) → r ≡ refusedAt 10 0 → Written rows signed ShortRepeat w out out r
+  pub refused-form : (same : Bool) → same ≡ haveForm ShortRepeat rs → same ≡ false → (out : List ℕ) (r : Answer) → r ≡ refusedAt 10 0
+      → Written rows signed ShortRepeat w out out r
   refused-form same e h out r p = bad-form rows signed ShortRepeat w out r (k .count) (k .size) (sym e ∙ h) p
 
-  pub refused-fit : (same : Bool) → same ≡ haveForm ShortRepeat rs → same ≡ true → {n : ℕ} → Sized signed ShortRepeat w rs n → n ≡ 0 → (out : List ℕ) (r : Answer) → r ≡ refusedAt 11 0
+  pub refused-fit : (same : Bool) → same ≡ haveForm ShortRepeat rs → same ≡ true → {n : ℕ} → Sized signed ShortRepeat w rs n → n ≡ 0
+      → (out : List ℕ) (r : Answer) → r ≡ refusedAt 11 0
       → Written rows signed ShortRepeat w out out r
   refused-fit same e h z o out r p = bad-fit rows signed ShortRepeat w out r (k .count) (k .size) z o (sym e ∙ h) p
 
@@ -98,7 +102,8 @@ module _ {rows : List ℤ} {signed : Bool} {w : ℕ} (k : Short rows signed w) w
     too-little out r h e = no-room rows signed ShortRepeat w out r (k .count) (k .size) z some h e
 
     pub repeated : (out out₁ out₂ : List ℕ) (r : Answer) → n ≤ length out → r ≡ ran kind.ShortRepeat (8 * w) (length rows) n
-        → out₁ ≡ ((w - 1) * 8 + (length rows - 3)) ∷ drop 1 out → out₂ ≡ take 1 out₁ ++ digits 256 w value ++ drop (1 + w) out₁ → Written rows signed ShortRepeat w out out₂ r
+        → out₁ ≡ ((w - 1) * 8 + (length rows - 3)) ∷ drop 1 out → out₂ ≡ take 1 out₁ ++ digits 256 w value ++ drop (1 + w) out₁
+        → Written rows signed ShortRepeat w out out₂ r
     repeated out out₁ out₂ r h e e₁ e₂ =
         laid rows signed ShortRepeat w out r (k .count) (k .size) z some h out₂ (rw (k .shape .0, k .shape .1, k .shape .2) e)
         (rw (k .lay) (behind (((w - 1) * 8 + (length rows - 3)) ∷ []) (digits 256 w value) out out₁ out₂ 1 w refl (length-digits 256 w value) e₁ e₂))
