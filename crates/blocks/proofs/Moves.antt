@@ -11,7 +11,8 @@ use Rattle.format.proofs.Parts.{take-min}
 use Rattle.blocks.specs.Blocks.{tooLong, kept, part, Kept}
 
 -- one byte more is moved to the front
-module _ (x x₀ : List ℕ) (from i : ℕ) (h : from + i < length x) (l : length x ≡ length x₀) (f : take i x ≡ take i (drop from x₀)) (d : drop i x ≡ drop i x₀) where
+module _ (x x₀ : List ℕ) (from i : ℕ) (h : from + i < length x) (l : length x ≡ length x₀) (f : take i x ≡ take i (drop from x₀))
+    (d : drop i x ≡ drop i x₀) where
   moved-is : getD x (from + i) 0 ≡ getD (drop from x₀) i 0
   moved-is =
       let z : from + i ≡ i + from = omega arith in
@@ -65,7 +66,8 @@ clamped from end s =
 pub part-le : (from end : ℕ) (s : List ℕ) → length (part from end s) ≤ length s
 part-le from end s = rw (length-drop, length-take) (omega arith)
 
-pub kept-clamped : (from end a b : ℕ) (s : List ℕ) {s′ : List ℕ} {n : ℕ} → a ≡ min from b → b ≡ min end (length s) → Kept (part a b s) s s′ n → Kept (part from end s) s s′ n
+pub kept-clamped : (from end a b : ℕ) (s : List ℕ) {s′ : List ℕ} {n : ℕ} → a ≡ min from b → b ≡ min end (length s) → Kept (part a b s) s s′ n
+    → Kept (part from end s) s s′ n
 kept-clamped from end a b s {s′ = s′} {n = n} f e k =
     let g : part a b s ≡ part from end s = rw (f, e) (clamped from end s) in
     rw g at k

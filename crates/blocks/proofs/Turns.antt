@@ -57,7 +57,8 @@ pub kept-le : (line x₀ x : List ℕ) (n : ℕ) → Kept line x₀ x n → leng
 kept-le line x₀ x n k w e = omega (arith, k .count, length-take 8801 line, w, e)
 
 -- ---- a read: `x` after what is kept was moved, and the bytes `new` in the places behind it
-module _ (line x₀ x new : List ℕ) (n : ℕ) (k : Kept line x₀ x n) (w : length line ≤ length x₀) (e : length x ≡ length x₀) (l : length new ≡ length (take (length x - n) (drop n x))) where
+module _ (line x₀ x new : List ℕ) (n : ℕ) (k : Kept line x₀ x n) (w : length line ≤ length x₀) (e : length x ≡ length x₀)
+    (l : length new ≡ length (take (length x - n) (drop n x))) where
   h : n ≤ length x
   h = kept-le line x₀ x n k w e
 
@@ -103,7 +104,8 @@ module _ (line input : List ℕ) (held stop : ℕ) (got : ℤ) (c : Came line in
       let e : held ≡ length (take stop input) = omega (arith, stop-long, z) in
       (e, sym front-held ∙ take-all held (take stop input) (omega (arith, e)))
 
-  pub carried : (from end : ℕ) → end ≡ length (take stop input) → from ≤ end → begunFrom [] (take from (take stop input)) ≡ [] → NoNewline (drop from (take stop input))
+  pub carried : (from end : ℕ) → end ≡ length (take stop input) → from ≤ end → begunFrom [] (take from (take stop input)) ≡ []
+      → NoNewline (drop from (take stop input))
       → Carried line input from end
   carried from end l o b n =
       let e : end ≡ stop = l ∙ length-take-le stop input (c .within) in
