@@ -32,12 +32,14 @@ module _ (signed : Bool) (bs out lent part : List ℕ) (r : Converted) (w : Walk
   pub converts-refused : (f : Refusal) → r ≡ Refused f → (out′ : List ℕ) → out′ ≡ out → Converts signed bs out out′ (Refused f)
   converts-refused f e out′ o = by (convert signed bs (length out)) refl (sym e ∙ w .answer)
     where
-      by : (m : Outcome) → convert signed bs (length out) ≡ m → Refused f ≡ toldAs (length bs) (convert signed bs (length out)) → Converts signed bs out out′ (Refused f)
+      by : (m : Outcome) → convert signed bs (length out) ≡ m → Refused f ≡ toldAs (length bs) (convert signed bs (length out))
+          → Converts signed bs out out′ (Refused f)
       by (result a b) g h = never (cc (rw g at h))
       by (own q place) g h = record { answer = h; places = o ∙ rw g }
       by eight g h = record { answer = h; places = o ∙ rw g }
 
-  pub converts-done : (n : Conversion) → r ≡ Done n → (mid out′ : List ℕ) (r′ : Converted) → mid ≡ out → Walked signed bs (length out) mid out′ r′ → Converts signed bs out out′ r′
+  pub converts-done : (n : Conversion) → r ≡ Done n → (mid out′ : List ℕ) (r′ : Converted) → mid ≡ out → Walked signed bs (length out) mid out′ r′
+      → Converts signed bs out out′ r′
   converts-done n e mid out′ r′ o v = by (convert signed bs (length out)) refl (sym e ∙ w .answer)
     where
       by : (m : Outcome) → convert signed bs (length out) ≡ m → Done n ≡ toldAs (length bs) (convert signed bs (length out)) → Converts signed bs out out′ r′

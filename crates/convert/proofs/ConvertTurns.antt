@@ -1,4 +1,5 @@
--- What a turn of the conversion finds at its byte, and what that is converted to: the run's first byte says its form and whether its width is odd. Assumes nothing.
+-- What a turn of the conversion finds at its byte, and what that is converted to:
+-- the run's first byte says its form and whether its width is odd. Assumes nothing.
 use mathlib.Core.Path.{_≡_, refl, sym, ap, _∙_}
 use Prim.Native.Nat.{ℕ, _+_, _-_, _*_, _/_, _%_, _≤_}
 use native.Mathlib.Omega.{arith}
@@ -44,12 +45,14 @@ odd-first (patched code base pc gw k l) rest v = rw (head-back 2 code (length (k
 -- ---- the writer takes the rows of a run of an odd width, and writes what it is converted to: by the run's first byte, in room for any run
 
 pub written-again : (signed : Bool) (d : Description) (rest : List ℕ) → Valid d → isOdd d ≡ true
-    → writing signed (formFirst (getD (layout d ++ rest) 0 0)) (nextKept (getD (layout d ++ rest) 0 0 / 2 % 32)) (map asU64 (i64Rows signed d)) 4356 ≡ got (converted signed d) []
+    → writing signed (formFirst (getD (layout d ++ rest) 0 0)) (nextKept (getD (layout d ++ rest) 0 0 / 2 % 32)) (map asU64 (i64Rows signed d)) 4356
+    ≡ got (converted signed d) []
 unfolding layout formFirst
 written-again signed d rest v o = by d rest v o (byte-bounds (converted signed d) (runs-hold signed d v .valid))
   where
     by : (d : Description) (rest : List ℕ) → Valid d → isOdd d ≡ true → length (layout (converted signed d)) ≤ 4356
-        → writing signed (formFirst (getD (layout d ++ rest) 0 0)) (nextKept (getD (layout d ++ rest) 0 0 / 2 % 32)) (map asU64 (i64Rows signed d)) 4356 ≡ got (converted signed d) []
+        → writing signed (formFirst (getD (layout d ++ rest) 0 0)) (nextKept (getD (layout d ++ rest) 0 0 / 2 % 32)) (map asU64 (i64Rows signed d)) 4356
+        ≡ got (converted signed d) []
     by (short count value) rest v o l = never (cc)
     by (direct code k) rest v o l =
         let h = head-back 1 code (length (k .values)) (v .head) in

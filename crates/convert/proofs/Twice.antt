@@ -53,7 +53,8 @@ shortest-least v h = shortestIn-least 10 v h
 
 -- ---- one run
 
-direct-twice : (signed : Bool) (code : ℕ) (k : Block) → Valid (direct code k) → length (layout (rewritten signed (direct code k))) ≤ 2 * length (layout (direct code k))
+direct-twice : (signed : Bool) (code : ℕ) (k : Block) → Valid (direct code k)
+    → length (layout (rewritten signed (direct code k))) ≤ 2 * length (layout (direct code k))
 direct-twice signed code k v =
     rw (altered signed .direct-run code k v, bytes-count (direct (nextKept code) (padded (k .values))), bytes-count (direct code k))
     (omega (arith, block-twice (length (k .values)) (width code) (width (nextKept code)) (next-twice code (v .head .code-fits))))

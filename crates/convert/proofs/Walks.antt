@@ -32,7 +32,8 @@ all-snoc : (ds : List Description) (d : Description) → AllValid ds → Valid d
 all-snoc [] d v w = (w, tt)
 all-snoc (x ∷ ds) d v w = (v .0, all-snoc ds d (v .1) w)
 
-converted-snoc : (signed : Bool) (ds : List Description) (d : Description) → convertedAll signed (ds ++ (d ∷ [])) ≡ convertedAll signed ds ++ (converted signed d ∷ [])
+converted-snoc : (signed : Bool) (ds : List Description) (d : Description)
+    → convertedAll signed (ds ++ (d ∷ [])) ≡ convertedAll signed ds ++ (converted signed d ∷ [])
 converted-snoc signed [] d = refl
 converted-snoc signed (x ∷ ds) d = ap (λ (l : List Description). converted signed x ∷ l) (converted-snoc signed ds d)
 
@@ -83,7 +84,8 @@ module _ (signed : Bool) (bs : List ℕ) (limit : ℕ) (out₀ : List ℕ) where
         record {
           ds = w .ds ++ (d ∷ []);
           valid = all-snoc (w .ds) d (w .valid) (u .valid);
-          split = w .split ∙ ap (λ (x : List ℕ). joined (w .ds) ++ x) (u .split) ∙ sym (append-assoc (joined (w .ds)) (layout d) _) ∙ ap (λ (x : List ℕ). x ++ drop (p + t .taken .bytes) bs) (sym (joined-snoc (w .ds) d));
+          split = w .split ∙ ap (λ (x : List ℕ). joined (w .ds) ++ x) (u .split) ∙ sym (append-assoc (joined (w .ds)) (layout d) _)
+              ∙ ap (λ (x : List ℕ). x ++ drop (p + t .taken .bytes) bs) (sym (joined-snoc (w .ds) d));
           place = rw (joined-snoc (w .ds) d, length-append (joined (w .ds)) (layout d)) (omega (arith, w .place, u .taken-is));
           count = rw (odd-snoc (w .ds) d, ← (u .odd-is)) (omega (arith, w .count));
           few = omega (arith, w .few, counted-le (t .odd), u .taken-is, layout-pos d);
@@ -98,7 +100,8 @@ module _ (signed : Bool) (bs : List ℕ) (limit : ℕ) (out₀ : List ℕ) where
         let e : stream bs ≡ whole (w .ds) = whole-in bs (w .ds) (w .valid) (w .split ∙ rw (z, append-nil)) in
         by e (at .full) refl (sym (w .fill .full-is))
       where
-        by : stream bs ≡ whole (w .ds) → (f : Bool) → at .full ≡ f → ltb limit (length (joined (convertedAll signed (w .ds)))) ≡ at .full → Walked signed bs limit out₀ out (finished altered at)
+        by : stream bs ≡ whole (w .ds) → (f : Bool) → at .full ≡ f → ltb limit (length (joined (convertedAll signed (w .ds)))) ≡ at .full
+            → Walked signed bs limit out₀ out (finished altered at)
         by e true g h = record {
           answer = rw (e, h, g);
           long = w .long;

@@ -18,7 +18,8 @@ says : (x : tie.After-read-run) → let entry = x .before .before .before .befor
 says x =
     let begun = x .before .before .before .before in
     let a = begun .before .args in
-    found (a .signed) (now (a .input)) (a .at .bytes) _ _ (x .read-run .result) (below-all 256 (now (a .input)) (λ k. begun .shared-slice-known .given k .fits)) (search needs)
+    found (a .signed) (now (a .input)) (a .at .bytes) _ _ (x .read-run .result)
+    (below-all 256 (now (a .input)) (λ k. begun .shared-slice-known .given k .fits)) (search needs)
     (x .read-run .ensures)
 
 ran-is : (m : tie.After-a) → let x = m .before .before .before in let entry = x .before .before .before .before .before in
@@ -74,5 +75,6 @@ returns-4 c = rw (c .enum-told .given .1) at (says (c .before .before .before))
 pub convert-run-spec : {M : Type 1} → statement M
 convert-run-spec =
     tie.close (tie.spec (λ c κs. search needs) (λ c. search needs) (λ c κs. search needs) (λ c. search needs) shared-slice-read-first (λ c κs. search needs)
-    (λ c. search needs) rewrite-requires (λ c κs. search needs) (λ c. search needs) returns sub-copy part-copy-start (λ c. search needs) copy-requires (λ c. search needs)
+    (λ c. search needs) rewrite-requires (λ c κs. search needs) (λ c. search needs) returns sub-copy part-copy-start (λ c. search needs) copy-requires
+    (λ c. search needs)
     (λ c. search needs) (λ c. search needs) returns-2 returns-3 returns-4)
