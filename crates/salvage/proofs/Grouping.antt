@@ -100,7 +100,13 @@ module _ (signed : Bool) (fill : ℤ) (fits : SFits w64 fill) where
 
   renew-all : (gs : List Group) → AllBytes gs → AllRenewed gs
   unfolding salvaged joined totalRows
-  renew-all [] h = record { runs = []; valid = tt; bytes = refl; total = refl; rows = λ before behind g e. absurd (omega (arith, length-append before (g ∷ behind), ap (λ (l : List Group). length l) e)) }
+  renew-all [] h = record {
+    runs = [];
+    valid = tt;
+    bytes = refl;
+    total = refl;
+    rows = λ before behind g e. absurd (omega (arith, length-append before (g ∷ behind), ap (λ (l : List Group). length l) e));
+  }
   renew-all (g ∷ gs) h =
       let r = renew g (h .0) in
       let all = renew-all gs (h .1) in

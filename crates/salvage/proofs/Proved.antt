@@ -47,7 +47,8 @@ salvage-given input starts ns fill signed out out′ lines lines′ r fits bytes
   untouched = λ n e. untouched (salvaging signed fill input starts ns (length out) (length lines)) (s .new-stream) (s .report-is) (sym (s .answer) ∙ e);
 }
   where
-    reads : (m : ℕ) {k : ℕ} (c : Call) → salvaging signed fill input starts ns (length out) (length lines) ≡ c → out′ ≡ streamIn out c → outcomeOf c ≡ writtenOf m k
+    reads : (m : ℕ) {k : ℕ} (c : Call) → salvaging signed fill input starts ns (length out) (length lines) ≡ c → out′ ≡ streamIn out c
+        → outcomeOf c ≡ writtenOf m k
         → (ds : List Description) × (stream (take m out′) ≡ whole ds) × (totalRows ds ≡ sum ns)
     reads m (refused n) q o e = never (cc)
     reads m (written new text) q o e =

@@ -20,7 +20,8 @@ use Rattle.salvage.proofs.Turning.{gs, new, text, Turn, stream-next, li
 use Rattle.format.proofs.Tests.{never, T-true, neither}
 
 module _ (signed : Bool) (fill : ℤ) (bs starts ns : List ℕ) where
-  pub has : {places lines : ℕ} → roomFor signed fill bs starts ns places lines ≡ true → Room places lines (new signed fill bs starts ns) (text signed fill bs starts ns)
+  pub has : {places lines : ℕ} → roomFor signed fill bs starts ns places lines ≡ true
+      → Room places lines (new signed fill bs starts ns) (text signed fill bs starts ns)
   unfolding roomFor
   has {places} {lines} e =
       let b = neither (ltb places (length (new signed fill bs starts ns))) (ltb lines (length (text signed fill bs starts ns))) (not-true _ e) in
@@ -54,7 +55,8 @@ module _ (signed : Bool) (fill : ℤ) (bs starts ns : List ℕ) where
     room = has e;
   }
 
-  module _ {out₀ lines₀ out lines bytes : List ℕ} {stream told i rows first : ℕ} {keep : Bool} (l : GroupsLaid out₀ lines₀ out lines stream told i) (t : Turn signed fill bs starts ns i bytes rows keep first) where
+  module _ {out₀ lines₀ out lines bytes : List ℕ} {stream told i rows first : ℕ} {keep : Bool} (l : GroupsLaid out₀ lines₀ out lines stream told i)
+      (t : Turn signed fill bs starts ns i bytes rows keep first) where
     at-stream : (l .done ++ made keep bytes first rows) ++ salvaged signed fill (drop (suc i) (gs signed fill bs starts ns)) ≡ new signed fill bs starts ns
     at-stream =
         append-assoc (l .done) (made keep bytes first rows) (salvaged signed fill (drop (suc i) (gs signed fill bs starts ns)))
@@ -90,7 +92,8 @@ module _ (signed : Bool) (fill : ℤ) (bs starts ns : List ℕ) where
           length-append (l .said) (line keep i rows),
         )
 
-    pub laid-next : {out′ lines′ : List ℕ} {stream′ told′ : ℕ} → i < length starts → TextWritten (made keep bytes first rows) out stream out′ stream′ → length out′ ≡ length out
+    pub laid-next : {out′ lines′ : List ℕ} {stream′ told′ : ℕ} → i < length starts → TextWritten (made keep bytes first rows) out stream out′ stream′
+        → length out′ ≡ length out
         → TextWritten (line keep i rows) lines told lines′ told′ → length lines′ ≡ length lines → GroupsLaid out₀ lines₀ out′ lines′ stream′ told′ (i + 1)
     laid-next h w s v r =
         let e : i + 1 ≡ suc i = omega arith in
@@ -122,7 +125,8 @@ module _ (signed : Bool) (fill : ℤ) (bs starts ns : List ℕ) where
     wrong-starts h = rw (h, and-false (eqb (length starts) (length ns)))
 
     module _ (r : RightStarts bs starts ns) where
-      right-call : call ≡ unless (ltb places (length (new signed fill bs starts ns)) || ltb lines (length (text signed fill bs starts ns))) 8 (written (new signed fill bs starts ns) (text signed fill bs starts ns))
+      right-call : call ≡ unless (ltb places (length (new signed fill bs starts ns)) || ltb lines (length (text signed fill bs starts ns))) 8
+          (written (new signed fill bs starts ns) (text signed fill bs starts ns))
       unfolding salvaging
       right-call = rw (eq-eqb (length starts) (length ns) (r .lengths), T-true (startsRight (length bs) starts) (r .right))
 
@@ -144,8 +148,10 @@ module _ (signed : Bool) (fill : ℤ) (bs starts ns : List ℕ) where
       → Salvaged bs starts ns fill signed out out lines lines r
   was-refused n {out} {lines} {r} e f = record { answer = rw e f; new-stream = rw e; report-is = rw e }
 
-  pub was-written : {out₀ lines₀ out lines : List ℕ} {stream told i : ℕ} {r : Outcome} → RightStarts bs starts ns → roomFor signed fill bs starts ns (length out₀) (length lines₀) ≡ true
-      → GroupsLaid out₀ lines₀ out lines stream told i → length starts ≤ i → r ≡ writtenOf stream told → Salvaged bs starts ns fill signed out₀ out lines₀ lines r
+  pub was-written : {out₀ lines₀ out lines : List ℕ} {stream told i : ℕ} {r : Outcome} → RightStarts bs starts ns
+      → roomFor signed fill bs starts ns (length out₀) (length lines₀) ≡ true
+      → GroupsLaid out₀ lines₀ out lines stream told i → length starts ≤ i → r ≡ writtenOf stream told
+      → Salvaged bs starts ns fill signed out₀ out lines₀ lines r
   unfolding salvaged report
   was-written {out₀} {lines₀} {out} {lines} {stream} {told} {i} {r} s e l h f =
       let g = groups-end bs starts ns i h in
