@@ -59,7 +59,14 @@ module _ (line frame : List ℕ) where
           pub bad-flag : 1 < getD frame 0 0 → Framed line frame 0
           unfolding badLine
           bad-flag h =
-              framed-none (rw (ne-eqb (length line) 0 some, ne-eqb (length line % 2) 1 even, le-ltb 8800 (length line) short, hex, flag-is, lt-ltb 1 (getD frame 0 0) h))
+              framed-none (rw (
+                ne-eqb (length line) 0 some,
+                ne-eqb (length line % 2) 1 even,
+                le-ltb 8800 (length line) short,
+                hex,
+                flag-is,
+                lt-ltb 1 (getD frame 0 0) h,
+              ))
 
           pub framed : getD frame 0 0 ≤ 1 → Framed line frame (length line / 2)
           unfolding badLine frameOf
@@ -129,7 +136,8 @@ pub record Reads (frame : List ℕ) (signed : Bool) (out′ : List ℤ) (r : Ans
 pub reads : (frame : List ℕ) (signed : Bool) (out out′ : List ℤ) (r : Answer) → length out ≡ 512 → RunRead frame 1 signed out out′ r → Reads frame signed out′ r
 reads frame signed out out′ r l g = by (into 512 (parse (drop 1 frame))) refl (rw l at (g .answer)) (rw l at (g .places))
   where
-    by : (x : Parsed Description) → into 512 (parse (drop 1 frame)) ≡ x → r ≡ answerOf 1 (length frame - 1) x → out′ ≡ runPlaces signed out x → Reads frame signed out′ r
+    by : (x : Parsed Description) → into 512 (parse (drop 1 frame)) ≡ x → r ≡ answerOf 1 (length frame - 1) x → out′ ≡ runPlaces signed out x
+        → Reads frame signed out′ r
     by end e a p = record { few = rw a (omega arith); words = rw (a, e) }
     by (refused n) e a p = record { few = rw a (omega arith); words = rw (a, e) }
     by (got d rest) e a p = record {
@@ -138,7 +146,8 @@ reads frame signed out out′ r l g = by (into 512 (parse (drop 1 frame))) refl 
     }
 
 -- the frame's first byte and the run after it
-pub frame-text : (frame : List ℕ) → 0 < length frame → frameText frame ≡ readingText (length frame - 1) (eqb (getD frame 0 0) 1) (into 512 (parse (drop 1 frame)))
+pub frame-text : (frame : List ℕ) → 0 < length frame
+    → frameText frame ≡ readingText (length frame - 1) (eqb (getD frame 0 0) 1) (into 512 (parse (drop 1 frame)))
 unfolding frameText
 frame-text [] h = absurd (omega arith)
 frame-text (flag ∷ run) h =
