@@ -89,7 +89,8 @@ module _ (s : PartReader) (part buffer : List ℕ) (h k : ℕ) (g : Begun s part
       go m p (run _) f = rw (size, ne-eqb h 0 (λ z. absurd (omega (arith, g .some))), ← (g .seen))
       go m p (runs.refusal {r} _) f = by-kind (unfinished r) refl
         where
-          by-kind : (u : Bool) → unfinished r ≡ u → paste buffer h part k ≡ bufferAfter (take (s .held) buffer) part buffer (onPart (stateOf s buffer) part (refused r) .reply)
+          by-kind : (u : Bool) → unfinished r ≡ u
+              → paste buffer h part k ≡ bufferAfter (take (s .held) buffer) part buffer (onPart (stateOf s buffer) part (refused r) .reply)
           by-kind true u = rw (u, size) (whole (unfinished-short all r below p (rw u tt)))
           by-kind false u =
               let t : isRefused (answered (onPart (stateOf s buffer) part (refused r) .reply)) ≡ true = rw u in
@@ -136,9 +137,11 @@ module _ (s : PartReader) (part buffer : List ℕ) (h k : ℕ) (g : Begun s part
         bs = take (s .held) buffer ++ take k part
 
         count : length bs ≡ h + k
-        count = length-append (take (s .held) buffer) (take k part) ∙ ap (λ (n : ℕ). n + length (take k part)) size ∙ ap (λ (n : ℕ). h + n) (length-take-le k part few-part)
+        count = length-append (take (s .held) buffer) (take k part) ∙ ap (λ (n : ℕ). n + length (take k part)) size
+            ∙ ap (λ (n : ℕ). h + n) (length-take-le k part few-part)
 
-        go : (m : Parsed Description) → parse bs ≡ m → Stops true m → Goes s part buffer buffer′ signed out out (holds s (h + k) (length part)) (goes s part buffer)
+        go : (m : Parsed Description) → parse bs ≡ m → Stops true m
+            → Goes s part buffer buffer′ signed out out (holds s (h + k) (length part)) (goes s part buffer)
         go m e (stops {r} u) =
             let short : length bs < 4356 = unfinished-short bs r (append-below 256 bs (drop k part) (rw (sym split) at below)) e (rw u tt) in
             let n : k ≡ length part = omega (arith, g .seen, count) in
@@ -165,7 +168,8 @@ module _ (s : PartReader) (part buffer : List ℕ) (h k : ℕ) (g : Begun s part
     all-is : take (s .held) buffer ++ part ≡ getD buffer 0 0 ∷ ((rest ++ take k part) ++ drop k part)
     all-is =
         ap (λ (x : List ℕ). x ++ part) (sym front-is ∙ begins)
-        ∙ ap (λ (x : List ℕ). getD buffer 0 0 ∷ x) (ap (λ (x : List ℕ). rest ++ x) (sym (take-append-drop k part)) ∙ sym (append-assoc rest (take k part) (drop k part)))
+        ∙ ap (λ (x : List ℕ). getD buffer 0 0 ∷ x)
+        (ap (λ (x : List ℕ). rest ++ x) (sym (take-append-drop k part)) ∙ sym (append-assoc rest (take k part) (drop k part)))
 
     not-told : (total : ℕ) (m : Parsed Description) → isWhole (answerOf 0 total m) ≡ true → Stops false m → ⊥
     unfolding isWhole
@@ -190,7 +194,13 @@ module _ (s : PartReader) (part buffer : List ℕ) (h k : ℕ) (g : Begun s part
         bs-below = append-below 256 bs (drop k part) (rw all-is at below)
 
         count : length bs ≡ h + k
-        count = omega (arith, length-append (getD buffer 0 0 ∷ rest) (take k part), ap length begins, length-take-le h buffer (omega (arith, in-lent)), length-take-le k part few-part)
+        count = omega (
+          arith,
+          length-append (getD buffer 0 0 ∷ rest) (take k part),
+          ap length begins,
+          length-take-le h buffer (omega (arith, in-lent)),
+          length-take-le k part few-part,
+        )
 
         on-refusal : (r : Reason) → unfinished r ≡ false → parse (bs ++ drop k part) ≡ refused r → (m : Parsed Description) → parse bs ≡ m
             → Extends (drop k part) m (refused r) → ⊥

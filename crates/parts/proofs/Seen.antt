@@ -110,4 +110,14 @@ module _ (s : PartReader) (part buffer : List ℕ) (signed : Bool) (out out′ :
               record { step = rw (ea, p, cut-is (length bs) r, u, size l); places = rw (p, u) eo }
           by-kind false u =
               let p : parse (held ++ part) ≡ refused r = ap parse all ∙ refused-stays bs q r e (rw u tt) in
-              record { step = rw (ea, p, cut-is (length bs) r, u, from-run (s .at .bytes) (length bs) r ∙ any-total (s .at .bytes) (length bs) (length (held ++ part)) r u); places = rw (p, u) eo }
+              record {
+                step = rw (
+                  ea,
+                  p,
+                  cut-is (length bs) r,
+                  u,
+                  from-run (s .at .bytes) (length bs) r
+                      ∙ any-total (s .at .bytes) (length bs) (length (held ++ part)) r u,
+                );
+                places = rw (p, u) eo;
+              }
