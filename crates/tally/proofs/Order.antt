@@ -192,7 +192,8 @@ module _ (R : ℤ → ℤ → Type 0) (choice : ℤ → ℤ → ℤ) (o : Choice
   one-row [] h = absurd (omega arith)
   one-row (z ∷ zs) h = refl
 
-  pub more-row : (zs : List ℤ) (i : ℕ) (m : ℤ) → i < length zs → ofAll choice (take i zs) ≡ Row m → ofAll choice (take (i + 1) zs) ≡ Row (choice m (getD zs i (pos 0)))
+  pub more-row : (zs : List ℤ) (i : ℕ) (m : ℤ) → i < length zs → ofAll choice (take i zs) ≡ Row m
+      → ofAll choice (take (i + 1) zs) ≡ Row (choice m (getD zs i (pos 0)))
   unfolding ofAll
   more-row zs i m h e =
       rw (add-one, take-suc zs i (pos 0) h) (ofAll-append R choice o (take i zs) (getD zs i (pos 0) ∷ []) ∙ rw e)

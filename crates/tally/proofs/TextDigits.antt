@@ -35,7 +35,8 @@ enough (suc k) (suc j) x h l = by (decLt x 10) (λ m. enough k j (x / 10) (omega
   where
     by : Dec (x < 10) → (x / 10 < suc j → decimalIn (suc k) (x / 10) ≡ decimalIn (suc j) (x / 10)) → decimalIn (suc (suc k)) x ≡ decimalIn (suc (suc j)) x
     by (yes m) ih = low (suc k) x m ∙ sym (low (suc j) x m)
-    by (no m) ih = decimal-more (suc k) x (omega arith) ∙ ap (λ (ds : List ℕ). ds ++ ((48 + x % 10) ∷ [])) (ih (omega arith)) ∙ sym (decimal-more (suc j) x (omega arith))
+    by (no m) ih = decimal-more (suc k) x (omega arith) ∙ ap (λ (ds : List ℕ). ds ++ ((48 + x % 10) ∷ [])) (ih (omega arith))
+        ∙ sym (decimal-more (suc j) x (omega arith))
 
 -- a number has fewer digits than it counts
 below-power : (n : ℕ) → n < 10 ^ suc n

@@ -1,4 +1,5 @@
-// Totals over lines of the program's input, taken line by line or combined: counts, the smallest and the largest row, and the exact sum of all rows.
+// Totals over lines of the program's input, taken line by line or combined:
+// counts, the smallest and the largest row, and the exact sum of all rows.
 ghost use mathlib.Core.Path.{_≡_};
 ghost use mathlib.Core.List.{_∷_, []};
 ghost use Prim.Native.Nat.{_+_, _≤_};
@@ -310,7 +311,8 @@ impl Totals {
         }
     }
 
-    // Two inputs, the second's lines after the first's. Refusal 20, with the first's totals, where they are more lines or rows than the limit.
+    // Two inputs, the second's lines after the first's. Refusal 20, with
+    // the first's totals, where they are more lines or rows than the limit.
     pub fn combine(self, more: Totals) -> Taken
         ensures { λ r. ⌜ r ≡ combined self more ⌝ }
     {
@@ -323,7 +325,8 @@ impl Totals {
         Taken::going(self.together(more))
     }
 
-    // One line more: its reply, and its rows, which count for a run alone. Refusal 20, with the totals as before, where it would pass a limit.
+    // One line more: its reply, and its rows, which count for a run alone.
+    // Refusal 20, with the totals as before, where it would pass a limit.
     pub fn take(self, reply: Reply, rows: &[i64]) -> Taken
         ensures { λ r. ⌜ r ≡ takeLine self (lineWith reply (now (rows .entry))) ⌝ }
     {

@@ -1,4 +1,4 @@
--- `Wide::of_row` meets its contract: below 0, the bits turned over are those of a natural number. Assumes nothing.
+-- Below 0 the bits turned over are those of a natural number, and otherwise the row is its low word. Assumes nothing.
 use Prim.Native.Nat.{suc, _-_, _%_, _^_, _<_}
 use mathlib.Core.Path.{_≡_}
 use mathlib.Core.Bool.{Bool, true, false}
