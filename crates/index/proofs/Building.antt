@@ -30,7 +30,8 @@ module _ (bs : List ℕ) (h : AllBelow 256 bs) where
       go false true e f g = never (cc)
       go true t e f g = never (cc)
 
-  pub built : (places : ℕ) (ds : List Description) → (building places bs ≡ gives ds) ↔ (AllValid ds × (bs ≡ joined ds) × (length ds ≤ places) × (totalRows ds < two64))
+  pub built : (places : ℕ) (ds : List Description)
+      → (building places bs ≡ gives ds) ↔ (AllValid ds × (bs ≡ joined ds) × (length ds ≤ places) × (totalRows ds < two64))
   unfolding building
   built places ds = (
     λ e. from (stream bs) refl e,
@@ -49,7 +50,8 @@ module _ (bs : List ℕ) (h : AllBelow 256 bs) where
           let w = exactly-whole bs h ds .0 (s ∙ ap whole (p .1)) in
           (w .0, w .1, rw (p .1) at (q .0), rw (p .1) at (q .1))
 
-  pub own : (places : ℕ) (ds : List Description) (r : Reason) (rest : List ℕ) → stream bs ≡ broken ds r rest → building places bs ≡ refuses r (length (joined ds))
+  pub own : (places : ℕ) (ds : List Description) (r : Reason) (rest : List ℕ) → stream bs ≡ broken ds r rest
+      → building places bs ≡ refuses r (length (joined ds))
   unfolding building
   own places ds r rest e = rw e
 

@@ -54,7 +54,13 @@ module _ (bs : List ℕ) where
   what-found v h e = rw e (go (stream bs) refl (stream-reads bs h))
     where
       go : (m : Reading) → stream bs ≡ m → Reads (512 * length bs) bs m → Found (surveyFrom 0 0 0 m)
-      go m e (reads-whole {ds} v b l) = record { runs = ds; whole-is = e; bytes = b; count = zero-add (length ds); total-is = ap totalOf (zero-add (totalRows ds)) }
+      go m e (reads-whole {ds} v b l) = record {
+        runs = ds;
+        whole-is = e;
+        bytes = b;
+        count = zero-add (length ds);
+        total-is = ap totalOf (zero-add (totalRows ds));
+      }
       go m e (reads-broken {ds} {r} {rest} v b l f) = record {
         runs = ds;
         reason = r;
@@ -101,7 +107,8 @@ module _ (bs f o n : List ℕ) where
       pub past-so : t ≡ total.Past → BuiltIn bs f o n f o n (notBuilt 8)
       past-so e =
           refused-so (plain 8) 0
-          (eight (rw (le-leb two64 (totalRows (w .runs)) (Totals.past-is (totalRows (w .runs)) (sym e ∙ w .total-is))) (or-true (ltb (length f) (length (w .runs))))))
+          (eight (rw (le-leb two64 (totalRows (w .runs)) (Totals.past-is (totalRows (w .runs)) (sym e ∙ w .total-is)))
+          (or-true (ltb (length f) (length (w .runs))))))
 
       pub few-so : length f < k → BuiltIn bs f o n f o n (notBuilt 8)
       few-so h = refused-so (plain 8) 0 (eight (rw (lt-ltb (length f) (length (w .runs)) (omega (arith, w .count)))))
@@ -123,5 +130,6 @@ module _ (bs f o n : List ℕ) where
           columns = q .filled (w .runs) (w .whole-is) ∙ sym (ap (columnsAt (record { firsts = f; offsets = o; counts = n })) what-is);
         }
           where
-            numbers : (x y z : ℕ) → x ≡ length (w .runs) → y ≡ totalRows (w .runs) → z ≡ length (joined (w .runs)) → builtWith x y z ≡ builtOf (length bs) (gives (w .runs))
+            numbers : (x y z : ℕ) → x ≡ length (w .runs) → y ≡ totalRows (w .runs) → z ≡ length (joined (w .runs))
+                → builtWith x y z ≡ builtOf (length bs) (gives (w .runs))
             numbers x y z p q r = rw (p, q, r)

@@ -29,7 +29,8 @@ module _ (bs : List ℕ) (h : AllBelow 256 bs) (es : List Entry) where
   unfolding checked
   what-checked = go (stream bs) refl (stream-reads bs h)
     where
-      test : (ds : List Description) (t : Bool) → same sameEntry es (entries ds) ≡ t → AllValid ds → bs ≡ joined ds → Checked bs es (unless (not t) 15 (gives ds))
+      test : (ds : List Description) (t : Bool) → same sameEntry es (entries ds) ≡ t → AllValid ds → bs ≡ joined ds
+          → Checked bs es (unless (not t) 15 (gives ds))
       test ds true e v b = right (record { runs = ds; valid = v; bytes = b; are = same-sound sameEntry entry-sound es (entries ds) (rw e tt) })
       test ds false e v b = wrong λ i.
           let f : T (same sameEntry es (entries ds)) = rw (i .are, runs-are i ds v b) (same-refl sameEntry entry-refl (entries ds)) in

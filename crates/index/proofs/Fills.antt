@@ -25,7 +25,8 @@ after-inv d (whole x) rest e = (x, refl, sym (whole-inj e))
 after-inv d (broken ds r t) rest e = never (cc)
 
 -- one number more in a column
-sums-next : (col : List ℕ) (i x n k : ℕ) (ns all : List ℕ) → n ≡ k → i < length col → take i col ++ sumsBefore x (k ∷ ns) ≡ all → take (i + 1) (set col i x) ++ sumsBefore (x + n) ns ≡ all
+sums-next : (col : List ℕ) (i x n k : ℕ) (ns all : List ℕ) → n ≡ k → i < length col → take i col ++ sumsBefore x (k ∷ ns) ≡ all
+    → take (i + 1) (set col i x) ++ sumsBefore (x + n) ns ≡ all
 unfolding sumsBefore
 sums-next col i x n k ns all e h q = rw e (grow col i x (sumsBefore (x + k) ns) all h q)
 
@@ -54,7 +55,8 @@ pub record Filling (s first₀ at₀ counts₀ first at counts : List ℕ) (p ro
   pub kept-at : drop i at ≡ drop i at₀
   pub kept-counts : drop i counts ≡ drop i counts₀
 
-pub filling-first : {s first₀ at₀ counts₀ : List ℕ} → Roomy s (length first₀) (length at₀) (length counts₀) → Filling s first₀ at₀ counts₀ first₀ at₀ counts₀ 0 0 0
+pub filling-first : {s first₀ at₀ counts₀ : List ℕ} → Roomy s (length first₀) (length at₀) (length counts₀)
+    → Filling s first₀ at₀ counts₀ first₀ at₀ counts₀ 0 0 0
 filling-first y = record {
   runs = y .runs;
   whole-is = y .whole-is;
@@ -110,7 +112,8 @@ module _ {s first₀ at₀ counts₀ first at counts : List ℕ} {p row i : ℕ}
           rows-small = omega (arith, w .small);
         }
 
-    pub filling-run : Filling s first₀ at₀ counts₀ (set first i row) (set at i p) (set counts i (r .rows .rows)) (p + r .consumed .bytes) (row + r .rows .rows) (i + 1)
+    pub filling-run : Filling s first₀ at₀ counts₀ (set first i row) (set at i p) (set counts i (r .rows .rows)) (p + r .consumed .bytes)
+        (row + r .rows .rows) (i + 1)
     unfolding totalRows
     filling-run =
         let (x, e, q) = next in
@@ -157,7 +160,8 @@ module _ {s first₀ at₀ counts₀ first at counts : List ℕ} {p row i : ℕ}
       three f f′ o o′ n n′ a b c = rw (a, b, c)
 
       go : (ds : List Description) → w .runs ≡ ds
-          → _≡_ {A = Columns} (record { firsts = first; offsets = at; counts = counts }) (columnsAt (record { firsts = first₀; offsets = at₀; counts = counts₀ }) (gives ds))
+          → _≡_ {A = Columns} (record { firsts = first; offsets = at; counts = counts })
+          (columnsAt (record { firsts = first₀; offsets = at₀; counts = counts₀ }) (gives ds))
       go ds e =
           let n : i ≡ length ds = omega (arith, w .left, ap length rest-none, ap length e) in
           rw (← n) (three first _ at _ counts _

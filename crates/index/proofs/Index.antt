@@ -129,7 +129,8 @@ module _ (bs : List ℕ) (h : AllBelow 256 bs) where
     reads-through i e g = go (rw g at (lookup-held es i r))
       where
         go : Held r 0 0 (i .runs) (gives e)
-            → (ds : List Description) × (stream (drop (e .at) bs) ≡ whole ds) × (drop r (joinedRows signed (i .runs)) ≡ drop (r - e .first) (joinedRows signed ds))
+            → (ds : List Description) × (stream (drop (e .at) bs) ≡ whole ds)
+            × (drop r (joinedRows signed (i .runs)) ≡ drop (r - e .first) (joinedRows signed ds))
         go (held before behind d s p q n k) =
             let b : bs ≡ joined before ++ joined (d ∷ behind) = i .bytes ∙ ap joined s ∙ joined-append before (d ∷ behind) in
             let c : r ≡ length (joinedRows signed before) + (r - e .first) = omega (arith, p, k .from, joined-count signed before) in (

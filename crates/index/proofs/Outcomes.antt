@@ -26,7 +26,8 @@ use Rattle.index.proofs.Index.{lookup-holds}
 use Rattle.index.proofs.Previews.{sums-length}
 
 -- what was built, by the answer
-built-runs : (total : ℕ) (s : Sizes) (m : Result (List Description)) → built.Index s ≡ builtOf total m → (ds : List Description) × (m ≡ gives ds) × (s .entries ≡ length ds)
+built-runs : (total : ℕ) (s : Sizes) (m : Result (List Description)) → built.Index s ≡ builtOf total m
+    → (ds : List Description) × (m ≡ gives ds) × (s .entries ≡ length ds)
 built-runs total s (gives ds) e = (ds, refl, ap entriesIn e)
   where
     entriesIn : Built → ℕ
@@ -69,9 +70,14 @@ abbrev first-of : ℕ → Columns → Columns
 first-of k c = record { firsts = take k (c .firsts); offsets = take k (c .offsets); counts = take k (c .counts) }
 
 its-columns : (ds : List Description) (c : Columns) → first-of (length ds) (columnsAt c (gives ds)) ≡ asColumns (entries ds)
-its-columns ds c = rw (firsts-in ds (drop (length ds) (c .firsts)), offsets-in ds (drop (length ds) (c .offsets)), counts-in ds (drop (length ds) (c .counts))) (sym (columns-are ds))
+its-columns ds c = rw (
+  firsts-in ds (drop (length ds) (c .firsts)),
+  offsets-in ds (drop (length ds) (c .offsets)),
+  counts-in ds (drop (length ds) (c .counts)),
+) (sym (columns-are ds))
 
-built-never-15 : (input first at counts f o n : List ℕ) (s : Sizes) (row : ℕ) (r : Found) → AllBelow 256 input → BuiltIn input first at counts f o n (built.Index s)
+built-never-15 : (input first at counts f o n : List ℕ) (s : Sizes) (row : ℕ) (r : Found) → AllBelow 256 input
+    → BuiltIn input first at counts f o n (built.Index s)
     → LookedUp input (record { firsts = take (s .entries) f; offsets = take (s .entries) o; counts = take (s .entries) n }) row r → r ≢ notFound 15
 built-never-15 input first at counts f o n s row r h b l e =
     let (ds, m, k) = built-runs (length input) s (buildingIn (length first) (length at) (length counts) input) (b .answer) in

@@ -31,7 +31,8 @@ none-yet = refl
 
 -- ---- one run more
 
-survey-after : (k rows p : ℕ) (d : Description) (m : Reading) → surveyFrom k rows p (after d m) ≡ surveyFrom (k + 1) (rows + rowCount d) (p + length (layout d)) m
+survey-after : (k rows p : ℕ) (d : Description) (m : Reading)
+    → surveyFrom k rows p (after d m) ≡ surveyFrom (k + 1) (rows + rowCount d) (p + length (layout d)) m
 unfolding totalRows joined
 survey-after k rows p d (whole ds) =
     let a : k + suc (length ds) ≡ k + 1 + length ds = omega arith in
@@ -43,7 +44,8 @@ survey-after k rows p d (broken ds r rest) =
 
 module _ (first at : ℕ) (d : Description) where
   right-after : (f o n : ℕ) (fs os ns : List ℕ) (m : Reading)
-      → rightFrom first at (f ∷ fs) (o ∷ os) (n ∷ ns) (after d m) ≡ sameThree f o n first at (rowCount d) && rightFrom (first + rowCount d) (at + length (layout d)) fs os ns m
+      → rightFrom first at (f ∷ fs) (o ∷ os) (n ∷ ns) (after d m)
+      ≡ sameThree f o n first at (rowCount d) && rightFrom (first + rowCount d) (at + length (layout d)) fs os ns m
   unfolding same sumsBefore
   right-after f o n fs os ns (whole ds) = sym (regrouped (eqb f first) (eqb o at) (eqb n (rowCount d)) _ _ _ _ refl)
   right-after f o n fs os ns (broken ds r rest) = sym (and-false (sameThree f o n first at (rowCount d)))
@@ -61,7 +63,12 @@ right-empty first at i fs os ns h p q = go (decLt i (length fs))
     go : Dec (i < length fs) → rightFrom first at (drop i fs) (drop i os) (drop i ns) (whole []) ≡ eqb i (length fs)
     go (yes l) = rw (ne-eqb i (length fs) (λ e. omega arith), drop-cons fs i 0 l)
     go (no l) =
-        rw (eq-eqb i (length fs) (omega arith), drop-of-length-le fs {i = i} (omega arith), drop-of-length-le os {i = i} (omega arith), drop-of-length-le ns {i = i} (omega arith))
+        rw (
+          eq-eqb i (length fs) (omega arith),
+          drop-of-length-le fs {i = i} (omega arith),
+          drop-of-length-le os {i = i} (omega arith),
+          drop-of-length-le ns {i = i} (omega arith),
+        )
 
 -- ---- THE WALK THAT COUNTS: k runs and p bytes are passed
 
@@ -118,7 +125,8 @@ module _ {s fs os ns : List ℕ} {p i : ℕ} {t : Total} (w : Matched s fs os ns
 
     module _ (h : i < length fs) (a : length os ≡ length fs) (b : length ns ≡ length fs) where
       next-is : sameThree (getD fs i 0) (getD os i 0) (getD ns i 0) (w .rows) p (rowCount (o .run))
-          && rightFrom (w .rows + rowCount (o .run)) (p + length (layout (o .run))) (drop (suc i) fs) (drop (suc i) os) (drop (suc i) ns) (stream (drop (p + r .consumed .bytes) s))
+          && rightFrom (w .rows + rowCount (o .run)) (p + length (layout (o .run))) (drop (suc i) fs) (drop (suc i) os) (drop (suc i) ns)
+          (stream (drop (p + r .consumed .bytes) s))
           ≡ rightFrom 0 0 fs os ns (stream s)
       next-is =
           sym (right-after (w .rows) p (o .run) _ _ _ (drop (suc i) fs) (drop (suc i) os) (drop (suc i) ns) (stream (drop (p + r .consumed .bytes) s)))
@@ -128,7 +136,8 @@ module _ {s fs os ns : List ℕ} {p i : ℕ} {t : Total} (w : Matched s fs os ns
         pub matched-other : yes ≡ false → false ≡ rightFrom 0 0 fs os ns (stream s)
         matched-other n = rw (← (o .rows-are), ← (e (w .rows) (w .total-is)), n) at next-is
 
-        pub matched-run : yes ≡ true → {t′ : Total} → ((m : ℕ) → t ≡ totalOf m → t′ ≡ totalOf (m + r .rows .rows)) → Matched s fs os ns (p + r .consumed .bytes) (i + 1) t′
+        pub matched-run : yes ≡ true → {t′ : Total} → ((m : ℕ) → t ≡ totalOf m → t′ ≡ totalOf (m + r .rows .rows))
+            → Matched s fs os ns (p + r .consumed .bytes) (i + 1) t′
         matched-run y {t′} f =
             let s1 : i + 1 ≡ suc i = omega arith in
             record {

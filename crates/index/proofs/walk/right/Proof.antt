@@ -95,5 +95,6 @@ returns-5 c =
 pub right-spec : {M : Type 1} → statement M
 right-spec =
     tie.close (tie.spec Inv-loop μ-loop (λ c. matched-first _ _ _ _) (λ c κs. search needs) (λ c. search needs) returns (λ c. search needs) (λ c. omega arith)
-    (λ c. search needs) (λ c. omega arith) (λ c. search needs) (λ c. omega arith) (λ c κs. search needs) returns-2 (λ c κs. search needs) add-place (λ c. omega arith)
+    (λ c. search needs) (λ c. omega arith) (λ c. search needs) (λ c. omega arith) (λ c κs. search needs) returns-2 (λ c κs. search needs) add-place
+    (λ c. omega arith)
     loop-less loop-again (λ c. search needs) returns-3 (λ c. search needs) returns-4 returns-5)

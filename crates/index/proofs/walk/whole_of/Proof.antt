@@ -66,5 +66,6 @@ returns-3 c = surveyed-whole (c .before .loop .inv) (drop-of-length-le _ (c .loo
 
 pub whole-of-spec : {M : Type 1} → statement M
 whole-of-spec =
-    tie.close (tie.spec Inv-loop μ-loop (λ c. surveyed-first _) (λ c κs. search needs) (λ c. search needs) (λ c κs. search needs) add-place add-runs loop-less loop-again
+    tie.close (tie.spec Inv-loop μ-loop (λ c. surveyed-first _) (λ c κs. search needs) (λ c. search needs)
+    (λ c κs. search needs) add-place add-runs loop-less loop-again
     (λ c. search needs) returns (λ c. search needs) returns-2 returns-3)
