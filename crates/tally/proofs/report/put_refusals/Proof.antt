@@ -142,13 +142,17 @@ returns c =
     let x3 = x4 .before .before .before .before in
     let x2 = x3 .before .before .before .before in
     let x1 = x2 .before .before .before .before in
-    let s = x1 .before .before .before in (
-      then-written (omega arith) (then-written (omega arith)
-          (then-written (omega arith) (then-written (omega arith)
-          (then-written (omega arith) (then-written (omega arith)
-          (then-written (omega arith) (then-written (omega arith) (then-written (omega arith) (x1 .put-refusal .ensures .0) (x2 .put-refusal2 .ensures .0))
-          (x3 .put-refusal3 .ensures .0)) (x4 .put-refusal4 .ensures .0)) (x5 .put-refusal5 .ensures .0)) (x6 .put-refusal6 .ensures .0))
-          (x7 .put-refusal7 .ensures .0)) (x8 .put-refusal8 .ensures .0)) (x9 .put-refusal9 .ensures .0)) (x10 .put-refusal10 .ensures .0),
+    let s = x1 .before .before .before in
+    let to2 = then-written (omega arith) (x1 .put-refusal .ensures .0) (x2 .put-refusal2 .ensures .0) in
+    let to3 = then-written (omega arith) to2 (x3 .put-refusal3 .ensures .0) in
+    let to4 = then-written (omega arith) to3 (x4 .put-refusal4 .ensures .0) in
+    let to5 = then-written (omega arith) to4 (x5 .put-refusal5 .ensures .0) in
+    let to6 = then-written (omega arith) to5 (x6 .put-refusal6 .ensures .0) in
+    let to7 = then-written (omega arith) to6 (x7 .put-refusal7 .ensures .0) in
+    let to8 = then-written (omega arith) to7 (x8 .put-refusal8 .ensures .0) in
+    let to9 = then-written (omega arith) to8 (x9 .put-refusal9 .ensures .0) in
+    let to10 = then-written (omega arith) to9 (x10 .put-refusal10 .ensures .0) in (
+      to10,
       omega (
         arith,
         x1 .put-refusal .ensures .1,

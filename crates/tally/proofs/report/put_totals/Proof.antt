@@ -135,11 +135,13 @@ returns c =
     let x1 = x2 .before .before .before .before .before in
     let t = x1 .before .before .before in
     let s = t .before .before .before .before in
-    then-written (omega arith) (then-written (omega arith)
-    (then-written (omega arith) (then-written (omega arith)
-    (then-written (omega arith) (then-written (omega arith) (then-written (omega arith) (x1 .put-count .ensures .0) (x2 .put-count2 .ensures .0))
-    (x3 .put-count3 .ensures .0)) (x4 .put-refusals .ensures .0)) (x5 .put-runs .ensures .0)) (x6 .put-extreme .ensures .0))
-    (x7 .put-extreme2 .ensures .0)) (x8 .put-sum .ensures)
+    let to2 = then-written (omega arith) (x1 .put-count .ensures .0) (x2 .put-count2 .ensures .0) in
+    let to3 = then-written (omega arith) to2 (x3 .put-count3 .ensures .0) in
+    let to4 = then-written (omega arith) to3 (x4 .put-refusals .ensures .0) in
+    let to5 = then-written (omega arith) to4 (x5 .put-runs .ensures .0) in
+    let to6 = then-written (omega arith) to5 (x6 .put-extreme .ensures .0) in
+    let to7 = then-written (omega arith) to6 (x7 .put-extreme2 .ensures .0) in
+    then-written (omega arith) to7 (x8 .put-sum .ensures)
 
 pub put-totals-spec : {M : Type 1} → statement M
 put-totals-spec =
