@@ -16,6 +16,7 @@ use Rattle.format.specs.Fields.{pick}
 use Rattle.format.specs.Streams.{Reading, whole, broken, runsOf, totalRows, joinedRows}
 use Rattle.format.specs.declared.Refusal.{Refusal}
 use Rattle.format.proofs.Rows.{joined-count}
+use Rattle.format.proofs.Tests.{never}
 use Rattle.batches.specs.Batches.{Position, RowBatch, BatchOutcome, gives, ended, refuses, positionOf, rowsLeft, countLeft}
 use Rattle.batches.specs.Batches.{firstRows, emptyOf, readingAt, batch}
 use Rattle.batches.specs.BatchTheorems.{BatchHolds, EveryBatch, joinedTo, andThen, TwoCalls}
@@ -66,10 +67,10 @@ every-batch signed n bs p g h e = go (called signed bs p n) e
     go (no-row l) f = absurd (without (λ b. b ≡ gives g → ⊥) (λ z. not-ended z) (λ r z. not-refused r z) p (readingAt bs p) f)
       where
         not-ended : ended ≡ gives g → ⊥
-        not-ended z = let y : _≡_ {A = ℕ} 0 1 = cc in omega arith
+        not-ended z = never (cc)
 
         not-refused : (r : Refusal) → refuses r ≡ gives g → ⊥
-        not-refused r z = let y : _≡_ {A = ℕ} 0 1 = cc in omega arith
+        not-refused r z = never (cc)
     go (some-rows l) f =
         let w = onward bs h signed p n (omega arith) in
         let y : firstRows signed n p (readingAt bs p) ≡ g = cc in

@@ -14,14 +14,15 @@ use borrow.Author.Tests.{ltb-false, le-ltb, lt-ltb}
 use Rattle.format.specs.declared.LastRun.{LastRun}
 use Rattle.format.specs.declared.Refusal.{Refusal}
 use Rattle.format.specs.Answers.{refusing, brokeAt}
-use Rattle.format.specs.Digits.{AllBelow}
+use Rattle.format.specs.Digits.{AllBelow, sum}
 use Rattle.format.specs.Fields.{pick}
 use Rattle.format.specs.Promises.{streamAnswer}
 use Rattle.format.specs.Runs.{Description}
 use Rattle.format.specs.Streams.{Reading, whole, broken, runsOf, totalRows}
+use Rattle.format.proofs.Tests.{never}
 use Rattle.batches.specs.Batches.{Position, RowBatch, BatchOutcome, gives, ended, refuses, firstRows, emptyOf}
 use Rattle.batches.specs.Batches.{readingAt, batch}
-use Rattle.batches.specs.BatchTheorems.{Series, following, series, sum, Stopped}
+use Rattle.batches.specs.BatchTheorems.{Series, following, series, Stopped}
 use Rattle.batches.specs.BatchTheorems.{rowsAt, SeriesHolds, AnySizes}
 use Rattle.batches.proofs.NextPosition.{onward}
 use Rattle.batches.proofs.BatchCalls.{without, Called, no-row, some-rows, called, from-long, from-none}
@@ -82,11 +83,11 @@ module _ (signed : Bool) (bs : List ℕ) (h : AllBelow 256 bs) where
       same cs e = cc
 
       go : (t : Bool) → ltb (totalRows ds) (p .skip) ≡ t → pick t (refuses (refusing 16 0)) ended ≡ ended → p .skip ≤ totalRows ds
-      go true e f = let z : _≡_ {A = ℕ} 0 1 = cc in absurd (omega arith)
+      go true e f = never (cc)
       go false e f = ltb-false (totalRows ds) (p .skip) e
   ends p (broken ds r rest) = (
-    λ e. let z : _≡_ {A = ℕ} 0 1 = cc in absurd (omega arith),
-    λ (cs, e, l). let z : _≡_ {A = ℕ} 0 1 = cc in absurd (omega arith),
+    λ e. never (cc),
+    λ (cs, e, l). never (cc),
   )
 
 no-row-so : (p : Position) (x : Reading) (ds : List Description) → x ≡ whole ds → totalRows ds < p .skip
@@ -95,7 +96,7 @@ no-row-so p x ds e l = ap (emptyOf p) e ∙ rw (lt-ltb (totalRows ds) (p .skip) 
 
 own-refusal-so : (p : Position) (x : Reading) (f : Refusal) (rows bytes : ℕ) (last : LastRun)
     → streamAnswer (p .run) x ≡ brokeAt f rows bytes last → emptyOf p x ≡ refuses f
-own-refusal-so p (whole ds) f rows bytes last e = let z : _≡_ {A = ℕ} 0 1 = cc in absurd (omega arith)
+own-refusal-so p (whole ds) f rows bytes last e = never (cc)
 own-refusal-so p (broken ds r rest) f rows bytes last e = cc
 
 -- a batch is none of the answers without rows
@@ -111,10 +112,10 @@ empty-exactly signed bs p n = go (called signed bs p n)
     )
       where
         not-ended : gives (firstRows signed n p (readingAt bs p)) ≡ ended → ⊥
-        not-ended e = let z : _≡_ {A = ℕ} 0 1 = cc in omega arith
+        not-ended e = never (cc)
 
         not-refused : (f : Refusal) → gives (firstRows signed n p (readingAt bs p)) ≡ refuses f → ⊥
-        not-refused f e = let z : _≡_ {A = ℕ} 0 1 = cc in omega arith
+        not-refused f e = never (cc)
 
 pub any-sizes : AnySizes
 any-sizes signed bs p h = (

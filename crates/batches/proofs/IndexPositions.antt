@@ -10,6 +10,7 @@ use Rattle.format.specs.Digits.{AllBelow}
 use Rattle.format.specs.Runs.{Description, rowCount, layout, joined}
 use Rattle.format.specs.Streams.{Reading, whole, after, stream, runsOf, totalRows, joinedRows}
 use Rattle.format.proofs.StreamRoom.{stream-is}
+use Rattle.format.proofs.Tests.{never}
 use Rattle.index.specs.Entries.{Result, gives, Entry}
 use Rattle.index.specs.Theorems.{IsIndex, Holds}
 use Rattle.index.proofs.Held.{Held, held, unheld, what-held, holder-of}
@@ -57,7 +58,7 @@ module _ (signed : Bool) (bs : List ℕ) (h : AllBelow 256 bs) (es : List Entry)
       let a : 0 + length (joined ds) ≡ e .at = rw (sym y) (sym a) in
       let b : totalRows ds + (r - e .first) ≡ r = omega (arith, k .from, f, ap (λ (z : Entry). z .first) y) in
       rw (← a) (sym (rw b at (skip-all bs h signed n ds (d ∷ cs) 0 (r - e .first) (is-whole ∙ ap whole s))))
-  same-batch n q (unheld f) = let z : _≡_ {A = ℕ} 0 1 = cc in absurd (omega arith)
+  same-batch n q (unheld f) = never (cc)
 
   pub entry-holds : EntryHolds signed bs es e r i
   entry-holds = record { rows = read; batches = λ n. same-batch n refl is-held }

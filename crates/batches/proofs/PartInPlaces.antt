@@ -15,6 +15,7 @@ use Rattle.format.specs.Rows.{i64Rows}
 use Rattle.format.specs.Streams.{whole}
 use Rattle.format.specs.Promises.{runOf}
 use Rattle.format.specs.declared.Run.{Run}
+use Rattle.format.proofs.Tests.{never}
 use Rattle.rle_v2.specs.Part.{rowsFrom, partRows, partOf, partAnswer, laidFirst, DirectPartRead}
 use Rattle.rle_v2.specs.declared.part.DirectPart.{DirectPart}
 use Rattle.rle_v2.specs.declared.part.DirectPart.the-variants as part
@@ -26,7 +27,7 @@ use Rattle.batches.proofs.BatchRuns.{first-cut, first-alone}
 use Rattle.batches.proofs.PartOfRun.{stands-one}
 
 read-not : (r : Run) → part.NotRead ≡ part.Read r → ⊥
-read-not r e = let z : _≡_ {A = ℕ} 0 1 = cc in omega arith
+read-not r e = never (cc)
 
 module _ {s : List ℕ} {p : RowPosition} {signed : Bool} {out out′ : List ℤ} {a : DirectPart} (y : RunHolds s p)
     (g : DirectPartRead s (p .run .bytes) (p .skip .rows) signed out out′ a) where

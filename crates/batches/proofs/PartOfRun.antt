@@ -24,6 +24,7 @@ use Rattle.format.proofs.Reading.{run-inj, run-not-refused}
 use Rattle.format.proofs.Rows.{i64-count}
 use Rattle.format.proofs.Runs.{got-inj}
 use Rattle.format.proofs.Streams.{into-got}
+use Rattle.format.proofs.Tests.{never}
 use Rattle.batches.specs.Batches.{firstRows}
 use Rattle.batches.specs.BatchPromise.{positionIn, batchReadAs}
 use Rattle.batches.specs.BatchSteps.{Stands, RunHolds, HeldRun, PartLaid, RunPart, Reads}
@@ -60,8 +61,7 @@ module _ {s : List ℕ} {p : RowPosition} {signed : Bool} {held held′ : List �
   pub not-ended : length held ≡ 512 → a ≡ answer.End → ⊥
   not-ended l e =
       let q : answer.Run (runOf d) ≡ answer.End = sym (ran (omega (arith, l, y .stands .few))) ∙ e in
-      let z : _≡_ {A = ℕ} 0 1 = cc in
-      omega arith
+      never (cc)
 
   -- .. and there is room if a run is answered
   module _ {r : Run} (e : a ≡ answer.Run r) where
@@ -73,7 +73,7 @@ module _ {s : List ℕ} {p : RowPosition} {signed : Bool} {held held′ : List �
       where
         go : (t : Bool) → ltb (length held) (rowCount d) ≡ t
             → answer.Run r ≡ answerOf at (length s - at) (unless t 8 (got d (drop (at + length (layout d)) s))) → rowCount d ≤ length held
-        go true l f = let z : _≡_ {A = ℕ} 0 1 = cc in absurd (omega arith)
+        go true l f = never (cc)
         go false l f = ltb-false (length held) (rowCount d) l
 
     rows-are : r .rows .rows ≡ rowCount d

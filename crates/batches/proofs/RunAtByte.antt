@@ -2,11 +2,9 @@
 use mathlib.Core.Path.{_≡_, refl, sym, ap, _∙_}
 use mathlib.Core.Logic.{_≢_}
 use Prim.Native.Nat.{ℕ, _+_, _-_, _<_, _≤_}
-use native.Mathlib.Omega.{arith}
 use mathlib.Core.Bool.{Bool, true, false}
 use mathlib.Core.List.{List, [], _++_}
-use lib.ListN.{length, drop, length-append, length-drop}
-use lib.Seq.{drop-drop, drop-at}
+use lib.ListN.{length, drop}
 use lib.Dec.{ltb}
 use lib.IntN.{ℤ}
 use borrow.Author.Tests.{ltb-true, ltb-false}
@@ -27,7 +25,9 @@ use Rattle.format.proofs.Reading.{NoRun}
 use Rattle.format.proofs.Rows.{row-bounds}
 use Rattle.format.proofs.Runs.{layout-pos, Outcome, nothing, run, refusal, outcome}
 use Rattle.format.proofs.Streams.{into-got}
-use Rattle.index.proofs.Turns.{stream-none, stream-refused, stream-cons}
+use Rattle.format.proofs.Tests.{never}
+use Rattle.format.proofs.StreamRoom.{stream-none, stream-refused}
+use Rattle.format.proofs.RunAt.{taken-at}
 use Rattle.batches.specs.BatchSteps.{Stands}
 
 pub data There (s : List ℕ) (p : ℕ) : Parsed Description → Type 0 where
@@ -41,13 +41,11 @@ there s p h = go (parse (drop p s)) refl (outcome (drop p s) (below-drop 256 p s
     go : (m : Parsed Description) → parse (drop p s) ≡ m → Outcome (drop p s) m → There s p m
     go m e (nothing z) = no-bytes z (rw z stream-none)
     go m e (run {d} {rest} t) =
-        let l : length s - p ≡ length (layout d) + length rest = rw (← (length-drop p s), t .split) (length-append (layout d) rest) in
-        let q : rest ≡ drop (p + length (layout d)) s = sym (sym (drop-drop (length (layout d)) p s)
-        ∙ rw (t .split) (drop-at (layout d) rest (length (layout d)) refl)) in
+        let k = taken-at s p t in
         a-run {rest = rest} (record {
-          parsed = e ∙ ap (got d) q;
-          onward = ap stream (t .split) ∙ stream-cons d rest (t .ok) (t .rest-bytes) ∙ ap (λ (x : List ℕ). after d (stream x)) q;
-          within = omega (arith, layout-pos d);
+          parsed = e ∙ ap (got d) (k .rest-is);
+          onward = k .onward;
+          within = k .within;
           some-bytes = layout-pos d;
           some = row-bounds d (t .ok) .0;
           few = row-bounds d (t .ok) .1;
@@ -58,17 +56,17 @@ there s p h = go (parse (drop p s)) refl (outcome (drop p s) (below-drop 256 p s
 
 after-inj : (d c : Description) (m k : Reading) → after d m ≡ after c k → (d ≡ c) × (m ≡ k)
 after-inj d c (whole ds) (whole cs) e = (cc, cc)
-after-inj d c (whole ds) (broken cs r rest) e = let z : _≡_ {A = ℕ} 0 1 = cc in absurd (omega arith)
-after-inj d c (broken ds r rest) (whole cs) e = let z : _≡_ {A = ℕ} 0 1 = cc in absurd (omega arith)
+after-inj d c (whole ds) (broken cs r rest) e = never (cc)
+after-inj d c (broken ds r rest) (whole cs) e = never (cc)
 after-inj d c (broken ds r rest) (broken cs q t) e = (cc, cc)
 
 after-some : (d : Description) (m : Reading) → after d m ≡ whole [] → ⊥
-after-some d (whole ds) e = let z : _≡_ {A = ℕ} 0 1 = cc in omega arith
-after-some d (broken ds r rest) e = let z : _≡_ {A = ℕ} 0 1 = cc in omega arith
+after-some d (whole ds) e = never (cc)
+after-some d (broken ds r rest) e = never (cc)
 
 after-more : (d : Description) (m : Reading) (r : Reason) (rest : List ℕ) → after d m ≡ broken [] r rest → ⊥
-after-more d (whole ds) r rest e = let z : _≡_ {A = ℕ} 0 1 = cc in omega arith
-after-more d (broken ds q t) r rest e = let z : _≡_ {A = ℕ} 0 1 = cc in omega arith
+after-more d (whole ds) r rest e = never (cc)
+after-more d (broken ds q t) r rest e = never (cc)
 
 pub read-on : (s : List ℕ) (p : ℕ) → AllBelow 256 s → (d : Description) (m : Reading) → stream (drop p s) ≡ after d m
     → stream (drop (p + length (layout d)) s) ≡ m

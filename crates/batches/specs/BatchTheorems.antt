@@ -9,7 +9,7 @@ use lib.IntN.{ℤ}
 use Rattle.format.specs.declared.LastRun.{LastRun}
 use Rattle.format.specs.declared.Refusal.{Refusal}
 use Rattle.format.specs.Answers.{refusing, brokeAt}
-use Rattle.format.specs.Digits.{AllBelow}
+use Rattle.format.specs.Digits.{AllBelow, sum}
 use Rattle.format.specs.Promises.{streamAnswer}
 use Rattle.format.specs.Runs.{Description, rowCount}
 use Rattle.format.specs.Streams.{whole, runsOf, totalRows, joinedRows}
@@ -76,10 +76,6 @@ following (refuses r) f = record { rows = []; last = refuses r }
 unfoldable pub series : Bool → List ℕ → Position → List ℕ → Series
 series signed bs p [] = record { rows = []; last = gives (record { rows = []; next = p }) }
 series signed bs p (n ∷ ns) = following (batch signed n bs p) λ q. series signed bs q ns
-
-abbrev pub sum : List ℕ → ℕ
-sum [] = 0
-sum (n ∷ ns) = n + sum ns
 
 abbrev pub AllSome : List ℕ → Type 0
 AllSome [] = Unit {0}

@@ -15,7 +15,8 @@ unfolding begunFrom
 begun-append line [] b = refl
 begun-append line (c ∷ a) b = by (eqb c (code "\n")) (begun-append [] a b) (begun-append (line ++ (c ∷ [])) a b)
   where
-    by : (t : Bool) → begunFrom [] (a ++ b) ≡ begunFrom (begunFrom [] a) b → begunFrom (line ++ (c ∷ [])) (a ++ b) ≡ begunFrom (begunFrom (line ++ (c ∷ [])) a) b
+    by : (t : Bool) → begunFrom [] (a ++ b) ≡ begunFrom (begunFrom [] a) b
+        → begunFrom (line ++ (c ∷ [])) (a ++ b) ≡ begunFrom (begunFrom (line ++ (c ∷ [])) a) b
         → pick t (begunFrom [] (a ++ b)) (begunFrom (line ++ (c ∷ [])) (a ++ b)) ≡ begunFrom (pick t (begunFrom [] a) (begunFrom (line ++ (c ∷ [])) a)) b
     by true e f = e
     by false e f = f

@@ -84,7 +84,8 @@ module _ (input : List ℕ) (from end : ℕ) (w : from ≤ length input) (is : e
   end-le = omega (arith, line-le (drop from input), length-drop from input)
 
   module _ (whole : begunFrom [] (take from input) ≡ []) (more : end ≡ length input → ⊥) where
-    next-is : (linesFrom [] (take (end + 1) input) ≡ linesFrom [] (take from input) ++ (take (end - from) (drop from input) ∷ [])) × (begunFrom [] (take (end + 1) input) ≡ [])
+    next-is : (linesFrom [] (take (end + 1) input) ≡ linesFrom [] (take from input) ++ (take (end - from) (drop from input) ∷ []))
+        × (begunFrom [] (take (end + 1) input) ≡ [])
     next-is =
         let n = lineLength (drop from input) in
         let (a, b) = line-whole [] (drop from input) (rw length-drop (omega (arith, end-le))) in

@@ -2,7 +2,7 @@
 use mathlib.Core.Path.{_≡_, refl, sym, ap, _∙_}
 use Prim.Native.Nat.{ℕ, zero, suc, _+_, _-_, _≤_}
 use native.Mathlib.Omega.{arith}
-use mathlib.Core.Bool.{Bool, true, false, not}
+use mathlib.Core.Bool.{true, false}
 use mathlib.Core.List.{List, [], _++_}
 use lib.ListN.{length, take, drop, take-append-drop, length-take, length-drop}
 use lib.Seq.{take-all, take-take, length-take-le}
@@ -12,6 +12,7 @@ use mir.Syntax.{w64}
 use mir.Val.{ofZ, SFits}
 use borrow.Author.Tests.{lt-ltb}
 use borrow.Rule.Slice.PartMut.{putMid, same-len-mid, take-put}
+use Rattle.format.proofs.Tests.{never}
 use Rattle.util.proofs.Grow.{rest-is}
 use Rattle.io.specs.Counts.{clamped}
 use Rattle.libc.specs.Io.{Moved}
@@ -23,17 +24,14 @@ use Rattle.blocks.proofs.Begun.{begun-append, begun-open, no-take}
 -- nothing came
 pub none-came : (z : ℤ) → ltZ (pos 0) z ≡ false → came z ≡ 0
 none-came (pos zero) h = refl
-none-came (pos (suc k)) h = let z : _≡_ {A = ℕ} 0 1 = cc (sym (lt-ltb 0 (suc k) (omega arith)) ∙ h) in absurd (omega arith)
+none-came (pos (suc k)) h = never (cc (sym (lt-ltb 0 (suc k) (omega arith)) ∙ h))
 none-came (negsuc k) h = refl
 
 -- something came, the input has ended, or the read failed: as the programs test it
-clash : {X : Type 0} → true ≡ false → X
-clash h = let z : _≡_ {A = ℕ} 0 1 = cc in absurd (omega arith)
-
 pub some-came : (z : ℤ) → ltZ (pos 0) z ≡ true → (k : ℕ) × (z ≡ pos (suc k))
-some-came (pos zero) h = clash (sym h)
+some-came (pos zero) h = never (cc)
 some-came (pos (suc k)) h = (k, refl)
-some-came (negsuc k) h = clash (sym h)
+some-came (negsuc k) h = never (cc)
 
 pub at-end : (z : ℤ) → SFits w64 z → ofZ w64 z ≡ 0 → z ≡ pos 0
 at-end (pos zero) f h = refl
@@ -42,17 +40,8 @@ at-end (negsuc k) f h = absurd (omega (arith, f .sfits, h))
 
 pub read-failed : (z : ℤ) → ltZ (pos 0) z ≡ false → (ofZ w64 z ≡ 0 → ⊥) → (k : ℕ) × (z ≡ negsuc k)
 read-failed (pos zero) h n = absurd (n refl)
-read-failed (pos (suc k)) h n = clash (sym (lt-ltb 0 (suc k) (omega arith)) ∙ h)
+read-failed (pos (suc k)) h n = never (cc (lt-ltb 0 (suc k) (omega arith)))
 read-failed (negsuc k) h n = (k, refl)
-
--- a test of what is not so
-pub is-not : (b : Bool) → not b ≡ true → b ≡ false
-is-not true h = sym h
-is-not false h = refl
-
-pub is-so : (b : Bool) → not b ≡ false → b ≡ true
-is-so true h = refl
-is-so false h = sym h
 
 -- then there is only what was held
 pub held-all : (s : List ℕ) (n : ℕ) (z : ℤ) → length s ≡ n + came z → ltZ (pos 0) z ≡ false → NoNewline (take n s) → (n ≡ length s) × NoNewline s
@@ -68,7 +57,8 @@ pub kept-le : (line x₀ x : List ℕ) (n : ℕ) → Kept line x₀ x n → leng
 kept-le line x₀ x n k w e = omega (arith, k .count, length-take 8801 line, w, e)
 
 -- ---- a read: `x` after what is kept was moved, and the bytes `new` in the places behind it
-module _ (line x₀ x new : List ℕ) (n : ℕ) (k : Kept line x₀ x n) (w : length line ≤ length x₀) (e : length x ≡ length x₀) (l : length new ≡ length (take (length x - n) (drop n x))) where
+module _ (line x₀ x new : List ℕ) (n : ℕ) (k : Kept line x₀ x n) (w : length line ≤ length x₀) (e : length x ≡ length x₀)
+    (l : length new ≡ length (take (length x - n) (drop n x))) where
   h : n ≤ length x
   h = kept-le line x₀ x n k w e
 
@@ -114,7 +104,8 @@ module _ (line input : List ℕ) (held stop : ℕ) (got : ℤ) (c : Came line in
       let e : held ≡ length (take stop input) = omega (arith, stop-long, z) in
       (e, sym front-held ∙ take-all held (take stop input) (omega (arith, e)))
 
-  pub carried : (from end : ℕ) → end ≡ length (take stop input) → from ≤ end → begunFrom [] (take from (take stop input)) ≡ [] → NoNewline (drop from (take stop input))
+  pub carried : (from end : ℕ) → end ≡ length (take stop input) → from ≤ end → begunFrom [] (take from (take stop input)) ≡ []
+      → NoNewline (drop from (take stop input))
       → Carried line input from end
   carried from end l o b n =
       let e : end ≡ stop = l ∙ length-take-le stop input (c .within) in

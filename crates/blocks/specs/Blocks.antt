@@ -52,7 +52,8 @@ kept line = take tooLong line
 abbrev pub part : ℕ → ℕ → List ℕ → List ℕ
 part from end s = drop from (take end s)
 
--- a line's beginning stands at the front of the input, all of it or as much as shows that it is over 8,800 characters; other places keep their content
+-- a line's beginning stands at the front of the input, all of it or as much
+-- as shows that it is over 8,800 characters; other places keep their content
 pub record Kept (line input input′ : List ℕ) (n : ℕ) : Type 0 where
   pub count : n ≡ length (kept line)
   pub front : take n input′ ≡ kept line
@@ -68,15 +69,16 @@ unfoldable pub notReady : ℤ → Bool
 notReady (pos n) = eqb n 4 || eqb n 11
 notReady (negsuc n) = false
 
--- AFTER A READ that a line's beginning was left for: what is kept of it stands at the front of the input, and what came behind it, up to `stop`
+-- AFTER A READ that a line's beginning was left for: what is kept of it
+-- stands at the front of the input, and what came behind it, up to `stop`
 pub record Came (line input : List ℕ) (held stop : ℕ) (got : ℤ) : Type 0 where
   pub count : held ≡ length (kept line)
   pub front : take held input ≡ kept line
   pub stop-is : stop ≡ held + came got
   pub within : stop ≤ length input
 
--- WHAT IS LEFT OF A TURN that a line's beginning was left for: what is kept of it stands at the front of the input; what came stands behind it, up to
--- `end`; the whole lines of both are taken, and the beginning of a line is left
+-- WHAT IS LEFT OF A TURN that a line's beginning was left for: what is kept of it stands at the front of the input; what came stands behind
+-- it, up to `end`; the whole lines of both are taken, and the beginning of a line is left
 pub record Carried (line input : List ℕ) (from end : ℕ) : Type 0 where
   pub front : take (length (kept line)) input ≡ kept line
   pub behind : length (kept line) ≤ end

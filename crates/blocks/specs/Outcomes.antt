@@ -1,5 +1,5 @@
--- Any two answers that a promise of this room allows are equal, but for `read_on`: its answer and the bytes that came are the system's, and no
--- contract names them before. Assumes nothing.
+-- Any two answers that a promise of this room allows are equal, but for `read_on`: its answer and the bytes that came are the system's, and
+-- no contract names them before. Assumes nothing.
 use mathlib.Core.Path.{_≡_}
 use Prim.Native.Nat.{ℕ, _+_}
 use mathlib.Core.Bool.{Bool}

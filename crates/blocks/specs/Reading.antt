@@ -1,5 +1,5 @@
--- READS, COUNTED: how often was read, and how many bytes came. No contract can name what the system read; what these say is that there was a
--- read, and how much came by it.
+-- READS, COUNTED: how often was read, and how many bytes came. No contract can name what the system read; what these say is that there was
+-- a read, and how much came by it.
 -- Assumes nothing.
 use mathlib.Core.Path.{_≡_}
 use Prim.Native.Nat.{ℕ, _+_, _%_, min}

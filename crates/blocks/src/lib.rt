@@ -1,5 +1,5 @@
-// Standard input in blocks, cut into lines: what the programs share. What was read and is not taken yet is the beginning of one line, so that a
-// line of any length takes no more room.
+// Standard input in blocks, cut into lines: what the programs share. What was read and is not taken yet is the beginning of one line, so
+// that a line of any length takes no more room.
 pub mod reading;
 
 ghost use mathlib.Core.Path.{_≡_};
@@ -29,7 +29,8 @@ pub fn input_places() -> [u8; MAX_HELD + BLOCK]
     [0; MAX_HELD + BLOCK]
 }
 
-// Where the line that begins at a place ends: at its newline, or with the input. Behind the input there is no line, and it ends where it begins.
+// Where the line that begins at a place ends: at its newline, or with the
+// input. Behind the input there is no line, and it ends where it begins.
 pub fn line_end(input: &[u8], at: usize) -> usize
     ensures { λ r. ⌜ r ≡ at + lineLength (drop at (now (input .entry))) ⌝ }
 {
@@ -43,8 +44,8 @@ pub fn line_end(input: &[u8], at: usize) -> usize
     i
 }
 
-// Moves what is left of a block, the beginning of a line, to the front of the input: how much it is. A line that is too long is bad however it
-// goes on, so that no more of it is kept than shows that.
+// Moves what is left of a block, the beginning of a line, to the front of the input: how much it is. A line that is too long is bad however
+// it goes on, so that no more of it is kept than shows that.
 fn keep(input: &mut [u8], from: usize, end: usize) -> usize
     requires { ⌜ (from ≤ end) × (end ≤ length (now input)) ⌝ }
     ensures { λ r. ⌜ Kept (part from end (now (input .entry))) (now (input .entry)) (now (input .exit)) r ⌝ }
@@ -58,8 +59,8 @@ fn keep(input: &mut [u8], from: usize, end: usize) -> usize
     n
 }
 
-// One read: what is left of the block before is moved to the front, and what is read stands behind it. Places behind the input have nothing left in
-// them. What the system answers goes on as it is: no contract can name it before.
+// One read: what is left of the block before is moved to the front, and what is read stands behind it. Places behind the input have nothing
+// left in them. What the system answers goes on as it is: no contract can name it before.
 pub(crate) fn read_on(input: &mut [u8], from: usize, end: usize) -> Block
     ensures { λ r. ⌜ Came (part from end (now (input .entry))) (now (input .exit)) (r .held) (r .stop) (r .got) ⌝ }
 {
@@ -70,7 +71,8 @@ pub(crate) fn read_on(input: &mut [u8], from: usize, end: usize) -> Block
     Block { held, stop, got }
 }
 
-// A read that a signal broke off, or that found nothing ready, is no end: it is tried again. The error is handed in, so that the answer is determined.
+// A read that a signal broke off, or that found nothing ready, is no end: it
+// is tried again. The error is handed in, so that the answer is determined.
 pub fn is_not_ready(error: i32) -> bool
     ensures { λ r. ⌜ r ≡ notReady error ⌝ }
 {

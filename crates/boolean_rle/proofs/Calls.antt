@@ -12,6 +12,7 @@ use borrow.Author.Tests.{le-ltb, le-leb}
 use Rattle.format.specs.Digits.{AllBelow}
 use Rattle.format.specs.Parse.{Reason, plain}
 use Rattle.format.specs.Booleans.{bits}
+use Rattle.format.proofs.Tests.{never}
 use Rattle.boolean_rle.specs.declared.positions.BytePosition.{BytePosition}
 use Rattle.boolean_rle.specs.declared.positions.FlagPosition.{FlagPosition}
 use Rattle.boolean_rle.specs.declared.bytes.ByteBatch.{ByteBatch}
@@ -102,13 +103,13 @@ nextFlag q (flag.Refused f) = q
 pub bytes-calls-in-parts : (s : List ℕ) → AllBelow 256 s → CallsInParts (BytesGiven s) readBytes
 bytes-calls-in-parts s b =
     calls (λ p n. bytesFrom p n s) (λ p n. bytesAnswer (p .run .bytes) (length s - p .run .bytes) n) readBytes (BytesGiven s)
-    (λ p q n vs. refl) (λ n q q′ e. ap (nextByte q) e) (λ p q n r e. let z : _≡_ {A = ℕ} 0 1 = cc in omega arith)
+    (λ p q n vs. refl) (λ n q q′ e. ap (nextByte q) e) (λ p q n r e. never (cc))
     (λ p q n vs. bytes-length s b n vs p q) (λ p n out places r g. (g .answer, g .places))
     (bytes-in-parts s b)
 
 pub flags-calls-in-parts : (s : List ℕ) → AllBelow 256 s → CallsInParts (FlagsGiven s) readFlags
 flags-calls-in-parts s b =
     calls (λ p n. flagsFrom p n s) (λ p n. flagsAnswer (p .run .bytes) (length s - p .run .bytes) n) readFlags (FlagsGiven s)
-    (λ p q n vs. refl) (λ n q q′ e. ap (nextFlag q) e) (λ p q n r e. let z : _≡_ {A = ℕ} 0 1 = cc in omega arith)
+    (λ p q n vs. refl) (λ n q q′ e. ap (nextFlag q) e) (λ p q n r e. never (cc))
     (λ p q n vs. flags-length s b n vs p q) (λ p n out places r g. (g .answer, g .places))
     (flags-in-parts s b)

@@ -14,6 +14,7 @@ use Rattle.format.specs.Parse.{Reason, cutIn, Parsed, got, refused, then, bytes
 use Rattle.format.specs.Booleans.{ByteRun, repeat, literals, runBytes, byteCount, joinedBytes, repeatRun, byteRun, byteRuns}
 use Rattle.format.proofs.Posts.{Post, at-got, at-refused, then-post, pick-post}
 use Rattle.format.proofs.Booleans.{length-run}
+use Rattle.format.proofs.Tests.{never}
 use Rattle.boolean_rle.specs.Column.{noRuns, runThen, scanned, scan, wholeRuns}
 use Rattle.boolean_rle.specs.Found.{numberOf, fieldIn, foundIn}
 use Rattle.boolean_rle.specs.declared.Found.the-variants as found
@@ -78,9 +79,7 @@ none-found total bs n q f = go (byteRun bs) refl (run-shorter bs) f
   where
     go : (m : Parsed ByteRun) → byteRun bs ≡ m → Post (Shorter bs) m → foundIn total m ≡ found.Cut n q
         → (r : Reason) × (wholeRuns bs ≡ noRuns r) × (found.Cut (numberOf r) (fieldIn total r) ≡ found.Cut n q)
-    go m e (at-got k) f =
-        let z : _≡_ {A = ℕ} 0 1 = cc in
-        absurd (omega arith)
+    go m e (at-got k) f = never (cc)
     go m e (at-refused {r}) f = (r, all-refused bs r e, f)
 
 -- ---- the runs that m bytes need are the first of all; or the bytes of all are fewer than m

@@ -13,6 +13,7 @@ use Rattle.format.specs.Digits.{AllBelow}
 use Rattle.format.specs.Fields.{pick}
 use Rattle.format.specs.Booleans.{ByteRun, AllValidRuns, runBytes, byteCount, joinedBytes, byteRun}
 use Rattle.format.proofs.Booleans.{length-run}
+use Rattle.format.proofs.Tests.{never}
 use Rattle.boolean_rle.specs.declared.ByteRun as code
 use Rattle.boolean_rle.specs.declared.positions.BytePosition.{BytePosition}
 use Rattle.boolean_rle.specs.declared.positions.FlagPosition.{FlagPosition}
@@ -100,28 +101,28 @@ module _ (s : List ℕ) (at m : ℕ) where
       → (length (joinedBytes (runsAt s at .runs)) < m) × (numberOf (runsAt s at .why) ≡ n) × (fieldIn (length s) (runsAt s at .why) ≡ f)
   byte-cut n f e =
       let (t, g) = picked-second (leb m (length (joinedBytes (runsAt s at .runs)))) _ _ (byte.Cut n f)
-      (λ u. let z : _≡_ {A = ℕ} 0 1 = cc in omega arith) e in
+      (λ u. never (cc)) e in
       (leb-false m (length (joinedBytes (runsAt s at .runs))) t, cc, cc)
 
   pub byte-at : (q : BytePosition) → byteEnd s at m ≡ byte.At q → (m ≤ length (joinedBytes (runsAt s at .runs)))
       × (past at m (runsAt s at .runs) ≡ q)
   byte-at q e =
       let (t, g) = picked-first (leb m (length (joinedBytes (runsAt s at .runs)))) _ _ (byte.At q)
-      (λ u. let z : _≡_ {A = ℕ} 0 1 = cc in omega arith) e in
+      (λ u. never (cc)) e in
       (leb-true m (length (joinedBytes (runsAt s at .runs))) t, cc)
 
   pub flag-cut : (n f : ℕ) → flagEnd s at m ≡ flag.Cut n f
       → (8 * length (joinedBytes (runsAt s at .runs)) < m) × (numberOf (runsAt s at .why) ≡ n) × (fieldIn (length s) (runsAt s at .why) ≡ f)
   flag-cut n f e =
       let (t, g) = picked-second (leb m (8 * length (joinedBytes (runsAt s at .runs)))) _ _ (flag.Cut n f)
-      (λ u. let z : _≡_ {A = ℕ} 0 1 = cc in omega arith) e in
+      (λ u. never (cc)) e in
       (leb-false m (8 * length (joinedBytes (runsAt s at .runs))) t, cc, cc)
 
   pub flag-at : (q : FlagPosition) → flagEnd s at m ≡ flag.At q → (m ≤ 8 * length (joinedBytes (runsAt s at .runs)))
       × (pastFlags at m (runsAt s at .runs) ≡ q)
   flag-at q e =
       let (t, g) = picked-first (leb m (8 * length (joinedBytes (runsAt s at .runs)))) _ _ (flag.At q)
-      (λ u. let z : _≡_ {A = ℕ} 0 1 = cc in omega arith) e in
+      (λ u. never (cc)) e in
       (leb-true m (8 * length (joinedBytes (runsAt s at .runs))) t, cc)
 
   pub flags-cut : (k n f : ℕ) → 8 * m ≤ k → byteEnd s at m ≡ byte.Cut n f → flagEnd s at k ≡ flag.Cut n f

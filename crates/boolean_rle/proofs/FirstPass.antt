@@ -13,6 +13,7 @@ use Rattle.format.proofs.Posts.{Post, at-got, at-refused, Took}
 use Rattle.format.proofs.Below.{below-all, below-drop}
 use Rattle.format.proofs.ByteRuns.{run-sound}
 use Rattle.format.proofs.Reading.{byte-here, bytes-here, bytes-cut}
+use Rattle.format.proofs.Tests.{never}
 use Rattle.boolean_rle.specs.declared.ByteRun as code
 use Rattle.boolean_rle.specs.declared.Found.{Found}
 use Rattle.boolean_rle.specs.declared.Found.the-variants as found
@@ -103,9 +104,7 @@ here s p e b f = go (byteRun (drop p s)) refl (run-sound (drop p s) (below-drop 
             valid = t .ok;
           },
         )
-    go m g at-refused f =
-        let z : _≡_ {A = ℕ} 0 1 = cc in
-        absurd (omega arith)
+    go m g at-refused f = never (cc)
 
 -- ---- the first pass: how many bytes the runs take
 
@@ -130,9 +129,7 @@ span-cut total (suc g) m bs r q h l f = rw (ne-eqb m 0 (omega arith)) (go (byteR
   where
     go : (p : Parsed ByteRun) → foundIn total p ≡ found.Cut r q → spanOf total (then p λ d s. then (byteRuns g (m - byteCount d) s) λ ds rest. got (d ∷ ds) rest) ≡ span.Cut r q
     go end f = cc
-    go (got d rest) f =
-        let z : _≡_ {A = ℕ} 0 1 = cc in
-        absurd (omega arith)
+    go (got d rest) f = never (cc)
     go (refused n) f = cc
 
 -- a run, and then the runs after it

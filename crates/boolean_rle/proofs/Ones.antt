@@ -22,6 +22,7 @@ use Rattle.format.proofs.Digits.{digits-snoc, digits-add, length-digits}
 use Rattle.format.proofs.Below.{below-append}
 use Rattle.format.proofs.Rows.{below-replicate}
 use Rattle.format.proofs.Booleans.{needed-enough}
+use Rattle.format.proofs.Tests.{never}
 use Rattle.boolean_rle.specs.Ones.{trues, onesIn, countTrue, OnesHold, BooleansCounted, CountDetermined}
 
 pub trues-append : (s t : List ℕ) → trues (s ++ t) ≡ trues s + trues t
@@ -80,7 +81,7 @@ ones-hold n bytes h = record {
   where
     short : (t : Bool) → ltb (8 * length bytes) n ≡ t → pick t (Refused (cutting 6 0 0)) (True (onesIn n bytes)) ≡ Refused (cutting 6 0 0) → 8 * length bytes < n
     short true f e = ltb-true (8 * length bytes) n f
-    short false f e = let z : _≡_ {A = ℕ} 0 1 = cc in absurd (omega arith)
+    short false f e = never (cc)
 
 runs-below : (ds : List ByteRun) → AllValidRuns ds → AllBelow 256 (joinedBytes ds)
 unfolding joinedBytes runBytes

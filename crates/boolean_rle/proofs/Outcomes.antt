@@ -10,6 +10,7 @@ use borrow.Author.Tests.{lt-leb, le-leb}
 use Rattle.format.specs.Digits.{AllBelow}
 use Rattle.format.specs.Booleans.{bits}
 use Rattle.format.proofs.Booleans.{length-bits}
+use Rattle.format.proofs.Tests.{never}
 use Rattle.boolean_rle.specs.Column.{wholeRuns, column}
 use Rattle.boolean_rle.specs.Positions.{skipped, past, pastFlags}
 use Rattle.boolean_rle.specs.Batches.{took, missing}
@@ -36,8 +37,7 @@ seen-took k n l q q′ why vs e = by (decLt (length l) (k + n))
     by : Dec (length l < k + n) → (k + n ≤ length l) × (q ≡ q′)
     by (yes h) =
         let f : missing why ≡ took vs q′ = rw (lt-leb (k + n) (length l) h) at e in
-        let z : _≡_ {A = ℕ} 0 1 = cc in
-        absurd (omega arith)
+        never (cc)
     by (no h) =
         let f = rw (le-leb (k + n) (length l) (omega arith)) at e in
         (omega arith, cc)

@@ -16,6 +16,7 @@ use Rattle.format.specs.Booleans.{ByteRun, runBytes, joinedRuns, joinedBytes, b
 use Rattle.format.proofs.Digits.{spread-append}
 use Rattle.format.proofs.ByteRuns.{OnlyCut, runs-only}
 use Rattle.format.proofs.Booleans.{length-run, length-bits}
+use Rattle.format.proofs.Tests.{never}
 use Rattle.boolean_rle.specs.declared.ByteRun as code
 use Rattle.boolean_rle.specs.declared.Found.the-variants as found
 use Rattle.boolean_rle.specs.declared.Span.the-variants as span
@@ -114,9 +115,7 @@ module _ (input : List ℕ) (at n : ℕ) (out : List ℕ) where
     where
       go : (m : Parsed (List ByteRun)) → booleans n (drop at input) ≡ m → OnlyCut m → spanOf (length input) m ≡ span.Cut r q
           → BooleansRead input at n out out (cutAt r at (max at q))
-      go (got ds rest) f o e =
-          let z : _≡_ {A = ℕ} 0 1 = cc in
-          absurd (omega arith)
+      go (got ds rest) f o e = never (cc)
       go (refused (cut k left)) f o e =
           let z : max at (length input - left) ≡ at + (length input - at - left) = omega arith in
           let i : k ≡ r = cc in
@@ -130,13 +129,9 @@ module _ (input : List ℕ) (at n : ℕ) (out : List ℕ) where
       where
         go : (m : Parsed (List ByteRun)) → booleans n (drop at input) ≡ m → spanOf (length input) m ≡ span.Whole k
             → (ds : List ByteRun) × ((rest : List ℕ) × (booleans n (drop at input) ≡ got ds rest) × (length (joinedRuns ds) ≡ k))
-        go end f e =
-            let z : _≡_ {A = ℕ} 0 1 = cc in
-            absurd (omega arith)
+        go end f e = never (cc)
         go (got ds rest) f e = (ds, (rest, f, cc))
-        go (refused r) f e =
-            let z : _≡_ {A = ℕ} 0 1 = cc in
-            absurd (omega arith)
+        go (refused r) f e = never (cc)
 
     pub reads-8 : length out < n → BooleansRead input at n out out (refusedAt 8 at)
     unfolding booleansInto

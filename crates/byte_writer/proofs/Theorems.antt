@@ -17,6 +17,7 @@ use Rattle.format.specs.Parse.{got}
 use Rattle.format.specs.Booleans.{Needed, byteCount, booleans, booleansInto, booleansOf, BooleansRead}
 use Rattle.format.proofs.ByteRuns.{runs-complete}
 use Rattle.format.proofs.Booleans.{booleans-complete}
+use Rattle.format.proofs.Tests.{never}
 use Rattle.byte_writer.specs.Choice.{nextRun, runsIn, runsOf, written}
 use Rattle.byte_writer.specs.Flags.{bit, flagBytes}
 use Rattle.byte_writer.specs.Laws.{enoughFor, Exactly, EveryBytes, EveryFlags, BytesCall, BooleansCall}
@@ -119,10 +120,10 @@ numberOf (answer.Bytes rows size) = 0
 numberOf (answer.Refused f) = f .number
 
 bytes-apart : (rows size k : ℕ) → wroteBytes rows size ≡ refusedWith k → ⊥
-bytes-apart rows size k e = let z : _≡_ {A = ℕ} 0 1 = cc in omega arith
+bytes-apart rows size k e = never (cc)
 
 booleans-apart : (rows size k : ℕ) → ran Booleans 1 rows size ≡ refusedAt k 0 → ⊥
-booleans-apart rows size k e = let z : _≡_ {A = ℕ} 0 1 = cc in omega arith
+booleans-apart rows size k e = never (cc)
 
 pub bytes-call : BytesCall
 unfolding numberOf

@@ -9,6 +9,7 @@ use lib.ListN.{length, getD, take, drop, set, length-append, length-drop, drop-o
 use lib.Seq.{drop-drop, getD-drop, drop-set-lt, take-suc-set, append-snoc, length-take-le, sets-eq}
 use borrow.Author.Tests.{le-leb, lt-leb}
 use Rattle.format.specs.Booleans.{ByteRun, repeat, literals, runLayout, byteCount}
+use Rattle.format.proofs.Tests.{never}
 use Rattle.util.proofs.Grow.{front-is, kept-by, filled}
 use Rattle.byte_writer.specs.Choice.{stretch, before, repeated, inLiterals, nextRun, written}
 use Rattle.byte_writer.specs.Steps.{nextOf, countIn, sizeIn, Laid}
@@ -41,8 +42,7 @@ module _ (bs : List ℕ) (l : 0 < length bs) (n : ℕ) where
       by : Dec (stretch bs < 3) → (nextRun bs ≡ repeat n (getD bs 0 0)) × (3 ≤ n) × (n ≤ 130)
       by (yes h) =
           let q : next.Repeat n ≡ next.Literals (length (take (min 128 (inLiterals bs)) bs)) = e ∙ ap nextOf (next-literals bs l h) in
-          let z : _≡_ {A = ℕ} 0 1 = cc in
-          absurd (omega arith)
+          never (cc)
       by (no h) =
           let q : next.Repeat n ≡ next.Repeat (repeated (stretch bs)) = e ∙ ap nextOf (next-repeat bs (omega arith)) in
           let z : n ≡ repeated (stretch bs) = cc in
@@ -61,8 +61,7 @@ module _ (bs : List ℕ) (l : 0 < length bs) (n : ℕ) where
           (rw z (next-literals bs l h), omega (arith, literals-some bs l h), omega arith, omega (arith, literals-le bs))
       by (no h) =
           let q : next.Literals n ≡ next.Repeat (repeated (stretch bs)) = e ∙ ap nextOf (next-repeat bs (omega arith)) in
-          let z : _≡_ {A = ℕ} 0 1 = cc in
-          absurd (omega arith)
+          never (cc)
 
 pub count-of : (d : ByteRun) → countIn (nextOf d) ≡ byteCount d
 unfolding byteCount

@@ -8,6 +8,7 @@ use mathlib.Core.List.{List, [], _∷_, _++_, append-nil}
 use lib.ListN.{length, take, drop, drop-of-length-le}
 use lib.Seq.{take-all}
 use Rattle.format.specs.declared.Refusal.{Refusal}
+use Rattle.format.proofs.Tests.{never}
 use Rattle.convert.specs.declared.Conversion.{Conversion}
 use Rattle.convert.specs.declared.Converted.{Converted}
 use Rattle.convert.specs.declared.Converted.the-variants.{Done, Refused}
@@ -31,15 +32,17 @@ module _ (signed : Bool) (bs out lent part : List ℕ) (r : Converted) (w : Walk
   pub converts-refused : (f : Refusal) → r ≡ Refused f → (out′ : List ℕ) → out′ ≡ out → Converts signed bs out out′ (Refused f)
   converts-refused f e out′ o = by (convert signed bs (length out)) refl (sym e ∙ w .answer)
     where
-      by : (m : Outcome) → convert signed bs (length out) ≡ m → Refused f ≡ toldAs (length bs) (convert signed bs (length out)) → Converts signed bs out out′ (Refused f)
-      by (result a b) g h = let z : _≡_ {A = ℕ} 0 1 = cc (rw g at h) in absurd (omega arith)
+      by : (m : Outcome) → convert signed bs (length out) ≡ m → Refused f ≡ toldAs (length bs) (convert signed bs (length out))
+          → Converts signed bs out out′ (Refused f)
+      by (result a b) g h = never (cc (rw g at h))
       by (own q place) g h = record { answer = h; places = o ∙ rw g }
       by eight g h = record { answer = h; places = o ∙ rw g }
 
-  pub converts-done : (n : Conversion) → r ≡ Done n → (mid out′ : List ℕ) (r′ : Converted) → mid ≡ out → Walked signed bs (length out) mid out′ r′ → Converts signed bs out out′ r′
+  pub converts-done : (n : Conversion) → r ≡ Done n → (mid out′ : List ℕ) (r′ : Converted) → mid ≡ out → Walked signed bs (length out) mid out′ r′
+      → Converts signed bs out out′ r′
   converts-done n e mid out′ r′ o v = by (convert signed bs (length out)) refl (sym e ∙ w .answer)
     where
       by : (m : Outcome) → convert signed bs (length out) ≡ m → Done n ≡ toldAs (length bs) (convert signed bs (length out)) → Converts signed bs out out′ r′
       by (result a b) g h = record { answer = v .answer; places = v .places (ap (λ (l : List ℕ). length l) o) a b g ∙ rw (g, o) }
-      by (own q place) g h = let z : _≡_ {A = ℕ} 0 1 = cc (rw g at h) in absurd (omega arith)
-      by eight g h = let z : _≡_ {A = ℕ} 0 1 = cc (rw g at h) in absurd (omega arith)
+      by (own q place) g h = never (cc (rw g at h))
+      by eight g h = never (cc (rw g at h))

@@ -12,7 +12,8 @@ use Rattle.format.specs.Kept.{keptCodes, among, isKept, nextKept}
 use Rattle.convert.specs.Convert.{rewritten, converted, oddRuns, Outcome, result, own, eight, convert}
 
 unfoldable seen : Bool → List ℕ → ℕ → Outcome
-unfolding told zigzagged shortestIn shortest stored stepsOf baseDelta valuesOf described keptCodes among isKept nextKept rewritten converted oddRuns stream convert
+unfolding told zigzagged shortestIn shortest stored stepsOf baseDelta valuesOf described keptCodes among isKept nextKept rewritten converted oddRuns stream
+    convert
 seen signed bs places = convert signed bs places
 
 -- one direct row of 26 bits: 32 bits

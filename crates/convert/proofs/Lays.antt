@@ -7,6 +7,7 @@ use mathlib.Core.List.{List, _++_}
 use lib.ListN.{length, take, drop, length-append, length-drop}
 use lib.Seq.{length-take-le, take-at, drop-at, drop-drop}
 use borrow.Author.Tests.{lt-ltb, le-ltb, ltb-true}
+use Rattle.format.proofs.Tests.{never}
 use Rattle.convert.specs.declared.LaidOutput.{LaidOutput}
 use Rattle.convert.specs.Walk.{Put, Filled, Lays}
 
@@ -20,9 +21,9 @@ module _ (run : List ℕ) (n : ℕ) (at : LaidOutput) (room : ℕ) (out : List �
   over : (l out₀ : List ℕ) → at .end .bytes ≤ room → room < length l + n → Filled (l ++ take n run) room out₀ out full
   over l out₀ e h = record {
     full-is = sym (rw (longer l) (lt-ltb room (length l + n) h));
-    end-is = λ t. let z : _≡_ {A = ℕ} 0 1 = cc in absurd (omega arith);
+    end-is = λ t. never (cc);
     end-in = e;
-    laid = λ q t. let z : _≡_ {A = ℕ} 0 1 = cc in absurd (omega arith);
+    laid = λ q t. never (cc);
   }
 
   -- no room before, or none now
@@ -40,11 +41,13 @@ module _ (run : List ℕ) (n : ℕ) (at : LaidOutput) (room : ℕ) (out : List �
     behind : (l out₀ : List ℕ) → at .end .bytes ≡ length l → length l ≤ length out₀ → length l + n ≤ length out₀ → out ≡ l ++ drop (length l) out₀
         → out′ ≡ (l ++ take n run) ++ drop (length l + n) out₀
     behind l out₀ e a b o =
-        let m : length out ≡ length out₀ = ap (λ (x : List ℕ). length x) o ∙ length-append l (drop (length l) out₀) ∙ omega (arith, length-drop (length l) out₀) in
+        let m : length out ≡ length out₀ = ap (λ (x : List ℕ). length x) o ∙ length-append l (drop (length l) out₀)
+        ∙ omega (arith, length-drop (length l) out₀) in
         let q : out′ ≡ (take (length l) out ++ take n run) ++ drop (length l + n) out = rw e at (p (omega (arith, m, e))) in
         let x : take (length l) out ≡ l = rw o (take-at l (drop (length l) out₀) (length l) refl) in
         let y : drop (length l) out ≡ drop (length l) out₀ = ap (λ (z : List ℕ). drop (length l) z) o ∙ drop-at l (drop (length l) out₀) (length l) refl in
-        let w : drop (length l + n) out ≡ drop (length l + n) out₀ = sym (drop-drop n (length l) out) ∙ ap (λ (z : List ℕ). drop n z) y ∙ drop-drop n (length l) out₀ in
+        let w : drop (length l + n) out ≡ drop (length l + n) out₀ =
+        sym (drop-drop n (length l) out) ∙ ap (λ (z : List ℕ). drop n z) y ∙ drop-drop n (length l) out₀ in
         q ∙ rw (x, w)
 
     pub lays-more : length out′ ≡ length out → Lays run n at room out out′ (record { end = record { bytes = at .end .bytes + n }; full = false })

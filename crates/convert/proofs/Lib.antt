@@ -3,7 +3,7 @@ pub mod Runs
 pub mod Streams
 pub mod Twice
 pub mod Examples
-pub mod Turns
+pub mod ConvertTurns
 pub mod Lays
 pub mod Walks
 pub mod Calls

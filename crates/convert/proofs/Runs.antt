@@ -1,7 +1,6 @@
 -- One run: what an altered run is; that it is valid, has the same rows and no odd width, and is the writer's. Assumes nothing.
 use mathlib.Core.Path.{_≡_, refl, sym, ap, _∙_}
 use Prim.Native.Nat.{ℕ, _<_, _≤_}
-use native.Mathlib.Omega.{arith}
 use native.Mathlib.Nat.{le-refl, le-trans}
 use mathlib.Core.Bool.{Bool, true, false, not}
 use mathlib.Core.List.{List, [], map}
@@ -25,6 +24,7 @@ use Rattle.format.proofs.Steps.{map-back}
 use Rattle.format.proofs.Writing.{accepted, written, writes-back}
 use Rattle.format.specs.Kept.{nextKept}
 use Rattle.format.proofs.Kept.{next-kept, next-code, next-wider}
+use Rattle.format.proofs.Tests.{never}
 use Rattle.convert.specs.Convert.{isOdd, rewritten, converted}
 use Rattle.convert.specs.Laws.{RunsHold, Altered, AlteredWritten}
 
@@ -32,7 +32,8 @@ use Rattle.convert.specs.Laws.{RunsHold, Altered, AlteredWritten}
 pub described-again : (signed : Bool) (f : Form) (w : ℕ) (d : Description) → Valid d → AsWritten f w d → described signed f w (rowsOf signed d) ≡ d
 unfolding i64Rows
 described-again signed f w d v c =
-    let e = rw (map-back asU64 asI64 two64 as-back (rowsOf signed d) (rows-below signed d v)) at (writes-back signed f w d (length (layout d)) v c (le-refl _)) in
+    let e = rw (map-back asU64 asI64 two64 as-back (rowsOf signed d) (rows-below signed d v)) at
+    (writes-back signed f w d (length (layout d)) v c (le-refl _)) in
     let a = accepted signed f w (rowsOf signed d) (length (layout d)) (ap (λ (m : Parsed Description). answerNumber (answerOf 0 0 m)) e) in
     got-inj (sym (written signed f w (rowsOf signed d) (length (layout d)) (a .0) (a .1)) ∙ e) .0
 
@@ -65,7 +66,8 @@ module _ (code : ℕ) (first base : List ℕ) (k : Block) where
 
   pub delta-rows : (signed : Bool) → Valid (delta code first base k) → rowsOf signed rebuilt ≡ rowsOf signed (delta code first base k)
   unfolding rowsOf rebuilt
-  delta-rows signed v = rw (shortest-value (varintValue first) (varint-lt first (v .first-varint)), shortest-value (varintValue base) (varint-lt base (v .base-varint)))
+  delta-rows signed v =
+      rw (shortest-value (varintValue first) (varint-lt first (v .first-varint)), shortest-value (varintValue base) (varint-lt base (v .base-varint)))
 
 short-varint : (x : ℕ) → x < two64 → Shortest (shortest x)
 short-varint x h = shortest-stands x h .least
@@ -80,11 +82,13 @@ delta-shortest code first base k v =
 pub altered : (signed : Bool) → Altered signed
 unfolding rewritten rebuilt rowsOf
 altered signed = record {
-  direct-run = λ code k v. described-again signed Direct (nextKept code) (direct (nextKept code) (padded (k .values))) (direct-valid code k v) (direct-run (next-kept code (v .head .code-fits)));
+  direct-run = λ code k v. described-again signed Direct (nextKept code) (direct (nextKept code) (padded (k .values))) (direct-valid code k v)
+      (direct-run (next-kept code (v .head .code-fits)));
   delta-run = λ code first base k v.
       ap (described signed PackedDelta (nextKept code)) (sym (delta-rows code first base k signed v))
       ∙ described-again signed PackedDelta (nextKept code) (rebuilt code first base k) (delta-valid code first base k v)
-      (packed-delta (next-kept code (v .head .code-fits)) (short-varint (varintValue first) (varint-lt first (v .first-varint))) (short-varint (varintValue base) (varint-lt base (v .base-varint))));
+      (packed-delta (next-kept code (v .head .code-fits)) (short-varint (varintValue first) (varint-lt first (v .first-varint)))
+      (short-varint (varintValue base) (varint-lt base (v .base-varint))));
 }
 
 -- ---- each run, by whether it is odd
@@ -109,11 +113,11 @@ delta-good signed code first base k v =
 
 -- a direct or delta run is odd, and else no run is
 odd-good : (signed : Bool) (d : Description) → Valid d → isOdd d ≡ true → Good signed d (rewritten signed d)
-odd-good signed (short count value) v e = let z : _≡_ {A = ℕ} 0 1 = cc in absurd (omega arith)
+odd-good signed (short count value) v e = never (cc)
 odd-good signed (direct code k) v e = direct-good signed code k v
-odd-good signed (fixed rows first base) v e = let z : _≡_ {A = ℕ} 0 1 = cc in absurd (omega arith)
+odd-good signed (fixed rows first base) v e = never (cc)
 odd-good signed (delta code first base k) v e = delta-good signed code first base k v
-odd-good signed (patched code base pc gw k l) v e = let z : _≡_ {A = ℕ} 0 1 = cc in absurd (omega arith)
+odd-good signed (patched code base pc gw k l) v e = never (cc)
 
 good : (signed : Bool) (d : Description) → Valid d → Good signed d (converted signed d)
 unfolding converted
@@ -139,18 +143,21 @@ module _ (signed : Bool) where
       let d : Description = direct (nextKept code) (padded (k .values)) in
       let w : Valid d = direct-valid code k v in
       rw (altered signed .direct-run code k v)
-      (writes-back signed Direct (nextKept code) d places w (direct-run (next-kept code (v .head .code-fits))) (rw (altered signed .direct-run code k v) at room))
+      (writes-back signed Direct (nextKept code) d places w (direct-run (next-kept code (v .head .code-fits)))
+      (rw (altered signed .direct-run code k v) at room))
 
   delta-again : (code : ℕ) (first base : List ℕ) (k : Block) (places : ℕ) → Valid (delta code first base k)
       → length (layout (rewritten signed (delta code first base k))) ≤ places
-      → writing signed PackedDelta (nextKept code) (map asU64 (i64Rows signed (delta code first base k))) places ≡ got (rewritten signed (delta code first base k)) []
+      → writing signed PackedDelta (nextKept code) (map asU64 (i64Rows signed (delta code first base k))) places
+      ≡ got (rewritten signed (delta code first base k)) []
   unfolding i64Rows rebuilt
   delta-again code first base k places v room =
       let d : Description = rebuilt code first base k in
       let w : Valid d = delta-valid code first base k v in
       let s = delta-shortest code first base k v in
       rw (altered signed .delta-run code first base k v, ← (delta-rows code first base k signed v))
-      (writes-back signed PackedDelta (nextKept code) d places w (packed-delta (next-kept code (v .head .code-fits)) (s .0) (s .1)) (rw (altered signed .delta-run code first base k v) at room))
+      (writes-back signed PackedDelta (nextKept code) d places w (packed-delta (next-kept code (v .head .code-fits)) (s .0) (s .1))
+      (rw (altered signed .delta-run code first base k v) at room))
 
 pub altered-written : AlteredWritten
 unfolding converted

@@ -19,7 +19,8 @@ use Rattle.format.proofs.Streams.{Reads, reads-whole, reads-broken, stream-post
 use Rattle.format.proofs.StreamRoom
 use Rattle.convert.specs.Convert as c
 use Rattle.convert.specs.Convert.{isOdd, converted, convertedAll, oddRuns, result, eight, outcomeOf, convert}
-use Rattle.convert.specs.Laws.{StreamsHold, Gives, gives-own, gives-eight, gives-result, ConvertExactly, Result, ResultsHold, RoomEnough, ConvertDetermined}
+use Rattle.convert.specs.Laws.{StreamsHold, Gives, gives-own, gives-eight, gives-result, ConvertExactly, Result, ResultsHold, RoomEnough}
+use Rattle.convert.specs.Laws.{ConvertDetermined}
 use Rattle.convert.proofs.Runs.{runs-hold}
 
 -- ---- the runs

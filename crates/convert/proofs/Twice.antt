@@ -14,6 +14,7 @@ use Rattle.format.specs.Runs.{Description, short, direct, fixed, delta, patched
 use Rattle.format.specs.Writing.{padded}
 use Rattle.format.proofs.Rows.{bytes-count}
 use Rattle.format.proofs.Widths.{all-at}
+use Rattle.format.proofs.Tests.{never}
 use Rattle.convert.specs.Convert.{isOdd, rewritten, converted, convertedAll, result, eight}
 use Rattle.convert.specs.Laws.{Gives, gives-eight, gives-result, TwiceHolds}
 use Rattle.convert.proofs.Runs.{altered}
@@ -52,7 +53,8 @@ shortest-least v h = shortestIn-least 10 v h
 
 -- ---- one run
 
-direct-twice : (signed : Bool) (code : ℕ) (k : Block) → Valid (direct code k) → length (layout (rewritten signed (direct code k))) ≤ 2 * length (layout (direct code k))
+direct-twice : (signed : Bool) (code : ℕ) (k : Block) → Valid (direct code k)
+    → length (layout (rewritten signed (direct code k))) ≤ 2 * length (layout (direct code k))
 direct-twice signed code k v =
     rw (altered signed .direct-run code k v, bytes-count (direct (nextKept code) (padded (k .values))), bytes-count (direct code k))
     (omega (arith, block-twice (length (k .values)) (width code) (width (nextKept code)) (next-twice code (v .head .code-fits))))
@@ -78,11 +80,11 @@ module _ (signed : Bool) where
   run-twice d v = go (isOdd d) refl
     where
       odd : (d : Description) → Valid d → isOdd d ≡ true → length (layout (rewritten signed d)) ≤ 2 * length (layout d)
-      odd (short count value) v e = let z : _≡_ {A = ℕ} 0 1 = cc in absurd (omega arith)
+      odd (short count value) v e = never (cc)
       odd (direct code k) v e = direct-twice signed code k v
-      odd (fixed rows first base) v e = let z : _≡_ {A = ℕ} 0 1 = cc in absurd (omega arith)
+      odd (fixed rows first base) v e = never (cc)
       odd (delta code first base k) v e = delta-twice signed code first base k v
-      odd (patched code base pc gw k l) v e = let z : _≡_ {A = ℕ} 0 1 = cc in absurd (omega arith)
+      odd (patched code base pc gw k l) v e = never (cc)
 
       go : (t : Bool) → isOdd d ≡ t → length (layout (pick t (rewritten signed d) d)) ≤ 2 * length (layout d)
       go true e = odd d v e

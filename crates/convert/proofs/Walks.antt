@@ -16,6 +16,7 @@ use Rattle.format.proofs.Runs.{layout-pos}
 use Rattle.format.proofs.Streams.{stream-broken}
 use Rattle.format.proofs.StreamRoom.{more-room}
 use Rattle.format.proofs.Joined.{joined-snoc, rows-le}
+use Rattle.format.proofs.Tests.{never}
 use Rattle.convert.specs.declared.LaidOutput.{LaidOutput}
 use Rattle.convert.specs.declared.Converted.the-variants.{Refused}
 use Rattle.convert.specs.declared.turn.Turn.{Turn}
@@ -31,7 +32,8 @@ all-snoc : (ds : List Description) (d : Description) → AllValid ds → Valid d
 all-snoc [] d v w = (w, tt)
 all-snoc (x ∷ ds) d v w = (v .0, all-snoc ds d (v .1) w)
 
-converted-snoc : (signed : Bool) (ds : List Description) (d : Description) → convertedAll signed (ds ++ (d ∷ [])) ≡ convertedAll signed ds ++ (converted signed d ∷ [])
+converted-snoc : (signed : Bool) (ds : List Description) (d : Description)
+    → convertedAll signed (ds ++ (d ∷ [])) ≡ convertedAll signed ds ++ (converted signed d ∷ [])
 converted-snoc signed [] d = refl
 converted-snoc signed (x ∷ ds) d = ap (λ (l : List Description). converted signed x ∷ l) (converted-snoc signed ds d)
 
@@ -82,7 +84,8 @@ module _ (signed : Bool) (bs : List ℕ) (limit : ℕ) (out₀ : List ℕ) where
         record {
           ds = w .ds ++ (d ∷ []);
           valid = all-snoc (w .ds) d (w .valid) (u .valid);
-          split = w .split ∙ ap (λ (x : List ℕ). joined (w .ds) ++ x) (u .split) ∙ sym (append-assoc (joined (w .ds)) (layout d) _) ∙ ap (λ (x : List ℕ). x ++ drop (p + t .taken .bytes) bs) (sym (joined-snoc (w .ds) d));
+          split = w .split ∙ ap (λ (x : List ℕ). joined (w .ds) ++ x) (u .split) ∙ sym (append-assoc (joined (w .ds)) (layout d) _)
+              ∙ ap (λ (x : List ℕ). x ++ drop (p + t .taken .bytes) bs) (sym (joined-snoc (w .ds) d));
           place = rw (joined-snoc (w .ds) d, length-append (joined (w .ds)) (layout d)) (omega (arith, w .place, u .taken-is));
           count = rw (odd-snoc (w .ds) d, ← (u .odd-is)) (omega (arith, w .count));
           few = omega (arith, w .few, counted-le (t .odd), u .taken-is, layout-pos d);
@@ -97,11 +100,12 @@ module _ (signed : Bool) (bs : List ℕ) (limit : ℕ) (out₀ : List ℕ) where
         let e : stream bs ≡ whole (w .ds) = whole-in bs (w .ds) (w .valid) (w .split ∙ rw (z, append-nil)) in
         by e (at .full) refl (sym (w .fill .full-is))
       where
-        by : stream bs ≡ whole (w .ds) → (f : Bool) → at .full ≡ f → ltb limit (length (joined (convertedAll signed (w .ds)))) ≡ at .full → Walked signed bs limit out₀ out (finished altered at)
+        by : stream bs ≡ whole (w .ds) → (f : Bool) → at .full ≡ f → ltb limit (length (joined (convertedAll signed (w .ds)))) ≡ at .full
+            → Walked signed bs limit out₀ out (finished altered at)
         by e true g h = record {
           answer = rw (e, h, g);
           long = w .long;
-          places = λ q a bytes r. let z : _≡_ {A = ℕ} 0 1 = cc (rw (e, h, g) at r) in absurd (omega arith);
+          places = λ q a bytes r. never (cc (rw (e, h, g) at r));
         }
         by e false g h = record {
           answer = rw (e, h, g, w .count, w .fill .end-is g);
@@ -122,5 +126,5 @@ module _ (signed : Bool) (bs : List ℕ) (limit : ℕ) (out₀ : List ℕ) where
         record {
           answer = rw (e, ← (w .place)) (ap Refused (n .refusal-is));
           long = w .long;
-          places = λ q a bytes r. let z : _≡_ {A = ℕ} 0 1 = cc (rw e at r) in absurd (omega arith);
+          places = λ q a bytes r. never (cc (rw e at r));
         }

@@ -1,5 +1,5 @@
--- THE CONVERTER (FORMAT.md, "Converter"): each direct or packed delta run of an odd width is replaced by the writer's run of the same rows at the next kept
--- width, and every other run is copied.
+-- THE CONVERTER (FORMAT.md, "Converter"): each direct or packed delta run of an odd width is replaced by the writer's run of the same rows
+-- at the next kept width, and every other run is copied.
 -- Assumes nothing.
 use mathlib.Core.Path.{_≡_}
 use Prim.Native.Nat.{ℕ, _+_, _-_}
@@ -66,14 +66,16 @@ outcomeOf signed places (broken ds r rest) = own r (length (joined ds))
 unfoldable pub convert : Bool → List ℕ → ℕ → Outcome
 convert signed bs places = outcomeOf signed places (stream bs)
 
--- ---- THE PROMISE: the answer, and the lent bytes at exit: the runs in the first of them, and what stood in the others; nothing is written on a refusal
+-- ---- THE PROMISE: the answer, and the lent bytes at exit: the runs in the
+-- first of them, and what stood in the others; nothing is written on a refusal
 
 abbrev pub outcomeBytes : List ℕ → Outcome → List ℕ
 outcomeBytes out (result altered bytes) = bytes ++ drop (length bytes) out
 outcomeBytes out (own r place) = out
 outcomeBytes out eight = out
 
--- as the call tells it, of an input of so many bytes: the runs altered and how many bytes; or the refusal, a stream's own with its place and its cut field
+-- as the call tells it, of an input of so many bytes: the runs altered and how
+-- many bytes; or the refusal, a stream's own with its place and its cut field
 abbrev pub done : ℕ → ℕ → Converted
 done altered bytes = Done (record { altered = altered; bytes = record { bytes = bytes } })
 

@@ -31,7 +31,8 @@ RunsHold = (signed : Bool) (d : Description) → Valid d → Run signed d
 
 -- an altered run keeps its packed values, in zero padding, and its varints come out shortest
 pub record Altered (signed : Bool) : Type 0 where
-  pub direct-run : (code : ℕ) (k : Block) → Valid (direct code k) → rewritten signed (direct code k) ≡ direct (nextKept code) (padded (k .values))
+  pub direct-run : (code : ℕ) (k : Block) → Valid (direct code k)
+      → rewritten signed (direct code k) ≡ direct (nextKept code) (padded (k .values))
   pub delta-run : (code : ℕ) (first base : List ℕ) (k : Block) → Valid (delta code first base k)
       → rewritten signed (delta code first base k)
       ≡ delta (nextKept code) (shortest (varintValue first)) (shortest (varintValue base)) (padded (k .values))
@@ -68,13 +69,16 @@ StreamsHold = (signed : Bool) (ds : List Description) → AllValid ds → Stream
 
 -- each outcome, exactly when: the stream's own refusals, then 8
 pub data Gives (signed : Bool) (bs : List ℕ) (places : ℕ) : Outcome → Type 0 where
-  gives-own : (ds : List Description) (r : Reason) (rest : List ℕ) → stream bs ≡ broken ds r rest → Gives signed bs places (own r (length (joined ds)))
-  gives-eight : (ds : List Description) → AllValid ds → bs ≡ joined ds → places < length (joined (convertedAll signed ds)) → Gives signed bs places eight
+  gives-own : (ds : List Description) (r : Reason) (rest : List ℕ) → stream bs ≡ broken ds r rest
+      → Gives signed bs places (own r (length (joined ds)))
+  gives-eight : (ds : List Description) → AllValid ds → bs ≡ joined ds → places < length (joined (convertedAll signed ds))
+      → Gives signed bs places eight
   gives-result : (ds : List Description) → AllValid ds → bs ≡ joined ds → length (joined (convertedAll signed ds)) ≤ places
       → Gives signed bs places (result (oddRuns ds) (joined (convertedAll signed ds)))
 
 abbrev pub ConvertExactly : Type 0
-ConvertExactly = (signed : Bool) (bs : List ℕ) (places : ℕ) (r : Outcome) → AllBelow 256 bs → (convert signed bs places ≡ r) ↔ Gives signed bs places r
+ConvertExactly = (signed : Bool) (bs : List ℕ) (places : ℕ) (r : Outcome) → AllBelow 256 bs
+    → (convert signed bs places ≡ r) ↔ Gives signed bs places r
 
 -- what comes out reads whole, as the same rows, with as many runs and none of an odd width; converting again alters 0 and changes no byte
 pub record Result (signed : Bool) (bs : List ℕ) (altered : ℕ) (out : List ℕ) : Type 0 where
@@ -110,4 +114,5 @@ RoomEnough = (bs : List ℕ) (n : ℕ) → AllBelow 256 bs → 512 * length bs �
 -- any two outcomes that the promise allows are equal
 abbrev pub ConvertDetermined : Type 0
 ConvertDetermined =
-    (signed : Bool) (bs out o o′ : List ℕ) (r r′ : Converted) → Converts signed bs out o r → Converts signed bs out o′ r′ → (r ≡ r′) × (o ≡ o′)
+    (signed : Bool) (bs out o o′ : List ℕ) (r r′ : Converted) → Converts signed bs out o r → Converts signed bs out o′ r′
+    → (r ≡ r′) × (o ≡ o′)

@@ -39,4 +39,5 @@ pub record Lays (run : List ℕ) (n : ℕ) (at : LaidOutput) (room : ℕ) (out o
 pub record Walked (signed : Bool) (bs : List ℕ) (room : ℕ) (out out′ : List ℕ) (r : Converted) : Type 0 where
   pub answer : r ≡ toldAs (length bs) (convert signed bs room)
   pub long : length out′ ≡ length out
-  pub places : length out ≡ room → (altered : ℕ) (bytes : List ℕ) → convert signed bs room ≡ result altered bytes → out′ ≡ bytes ++ drop (length bytes) out
+  pub places : length out ≡ room → (altered : ℕ) (bytes : List ℕ) → convert signed bs room ≡ result altered bytes
+      → out′ ≡ bytes ++ drop (length bytes) out

@@ -8,7 +8,7 @@ use mathlib.Core.Bool.{Bool, true, false, not}
 use mathlib.Core.List.{List, [], _∷_, _++_, append-nil}
 use lib.ListN.{length, take, drop, length-append}
 use lib.Seq.{take-append-le, drop-append-le}
-use lib.Dec.{T, leb, ltb, eqb, leb→le}
+use lib.Dec.{T, T-not, leb, ltb, eqb, leb→le}
 use borrow.Author.Tests.{le-leb}
 use Rattle.format.specs.Fields.{pick, width, bytesFor, lastBelow}
 use Rattle.format.specs.Runs.{Description, Valid, layout, patches, tooLarge, outOfPlace, entryWidth}
@@ -16,7 +16,7 @@ use Rattle.format.specs.Parse
 use Rattle.format.specs.Parse.{Reason, cutIn, unfinished, Parsed, got, refused, then, unless, bytes, block, varint, codeOf, rowsLess, parse}
 use Rattle.format.proofs.Runs.{parse-empty, cut-refused}
 use Rattle.format.proofs.RunComplete.{parse-complete}
-use Rattle.format.proofs.Tests.{never-both}
+use Rattle.format.proofs.Tests.{never}
 
 -- what reading gives with the bytes q behind the input, by what it gave without them
 pub data Extends {A : Type 0} (q : List ℕ) : Parsed A → Parsed A → Type 0 where
@@ -105,14 +105,12 @@ module _ (q : List ℕ) where
 
 -- so a refusal for another reason stays, whatever follows
 pub refused-stays : (bs q : List ℕ) (r : Reason) → parse bs ≡ refused r → T (not (unfinished r)) → parse (bs ++ q) ≡ refused r
-refused-stays [] q r e h =
-    let z : _≡_ {A = ℕ} 0 1 = cc parse-empty in
-    absurd (omega arith)
+refused-stays [] q r e h = never (cc parse-empty)
 refused-stays (a ∷ bs) q r e h = go (rw e at (parse-ext q a bs))
   where
     go : {m : Parsed Description} → Extends q (refused r) m → m ≡ refused r
     go ext-refused = refl
-    go (ext-cut c) = absurd (never-both (unfinished r) c h)
+    go (ext-cut c) = absurd (T-not (unfinished r) h c)
 
 -- (d) in full: a proper part of a layout, from its start and not empty, is refused as one that is cut
 pub cut-number : (d : Description) (p q : List ℕ) → Valid d → layout d ≡ p ++ q → p ≢ [] → q ≢ [] → (n : Reason) × (parse p ≡ refused n) × T (unfinished n)

@@ -12,7 +12,8 @@ use borrow.Author.Tests.{eqb-true, le-leb}
 use Rattle.format.specs.Fields.{widths, width, leastOf, Narrowest}
 use Rattle.format.specs.Kept.{keptWidths, keptCodes, among, isKept, isKeptWidth, nextKept, NarrowestKept}
 use Rattle.format.specs.PatchedWriting.{leastFrom, codeFor}
-use Rattle.format.proofs.Widths.{allB, all-at, allOf, and-left, and-right}
+use Rattle.format.proofs.Widths.{allB, all-at, allOf}
+use Rattle.format.proofs.Tests.{never, not-so, and-left, and-right}
 use Rattle.format.proofs.Rows.{width-le}
 use Rattle.format.proofs.Least.{least-none}
 
@@ -24,7 +25,7 @@ same false false t = refl
 
 implied : (a b : Bool) → T (not a || b) → a ≡ true → T b
 implied true b t e = t
-implied false b t e = let z : _≡_ {A = ℕ} 0 1 = cc in absurd (omega arith)
+implied false b t e = never (cc)
 
 -- ---- the codes are those of the kept widths
 
@@ -62,7 +63,7 @@ next-wider code h = leb→le _ _ (all-at 32 (λ c. leb (width c) (width (nextKep
 
 among-below : (b n : ℕ) (l : List ℕ) → T (allOf (λ x. ltb x b) l) → among n l ≡ true → n < b
 unfolding among
-among-below b n [] t e = let z : _≡_ {A = ℕ} 0 1 = cc in absurd (omega arith)
+among-below b n [] t e = never (cc)
 among-below b n (x ∷ l) t e = by (eqb n x) refl e (λ f. among-below b n l (and-right (ltb x b) _ t) f)
   where
     by : (c : Bool) → eqb n x ≡ c → (c || among n l) ≡ true → (among n l ≡ true → n < b) → n < b
@@ -74,11 +75,7 @@ unfolding keptCodes isKept
 kept-code c e = among-below 32 c keptCodes tt e
 
 pub no-code-kept : (c : ℕ) → 31 < c → isKept c ≡ false
-no-code-kept c h = by (isKept c) refl
-  where
-    by : (b : Bool) → isKept c ≡ b → isKept c ≡ false
-    by true e = absurd (omega (arith, kept-code c e))
-    by false e = e
+no-code-kept c h = not-so (isKept c) (λ e. omega (arith, kept-code c e))
 
 -- ---- a kept width is a width of the table, and the others above 64 are none
 
@@ -87,11 +84,7 @@ unfolding keptWidths isKeptWidth
 kept-le w e = among-below 65 w keptWidths tt e
 
 pub wide-not-kept : (w : ℕ) → 64 < w → isKeptWidth w ≡ false
-wide-not-kept w h = by (isKeptWidth w) refl
-  where
-    by : (b : Bool) → isKeptWidth w ≡ b → isKeptWidth w ≡ false
-    by true e = absurd (omega (arith, kept-le w e))
-    by false e = e
+wide-not-kept w h = not-so (isKeptWidth w) (λ e. omega (arith, kept-le w e))
 
 wide-none : (w : ℕ) → 64 < w → codeFor w ≡ 32
 unfolding codeFor

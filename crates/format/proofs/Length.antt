@@ -6,7 +6,7 @@ use native.Mathlib.Omega.{arith}
 use mathlib.Core.Bool.{Bool, true, false, not}
 use mathlib.Core.List.{List, [], _∷_}
 use lib.ListN.{length, take, drop, length-drop}
-use lib.Dec.{T, leb, ltb, eqb, nleb→lt}
+use lib.Dec.{T, T-not, leb, ltb, eqb, nleb→lt}
 use Rattle.format.specs.Digits.{AllBelow}
 use Rattle.format.specs.Fields.{pick, width, bytesFor, lastBelow}
 use Rattle.format.specs.Runs.{Description, patches, tooLarge, outOfPlace, entryWidth}
@@ -14,7 +14,6 @@ use Rattle.format.specs.Parse
 use Rattle.format.specs.Parse.{Reason, plain, cutIn, unfinished, Parsed, end, got, refused, then, unless, bytes, block, varint, codeOf, rowsLess, parse}
 use Rattle.format.proofs.Rows.{width-le}
 use Rattle.format.proofs.Widths.{least-le}
-use Rattle.format.proofs.Tests.{never-both}
 
 -- reading the bytes bs looks at n of them at most: what is unfinished has fewer, and what is read has taken no more
 pub data Within {A : Type 0} (n : ℕ) (bs : List ℕ) : Parsed A → Type 0 where
@@ -121,4 +120,4 @@ unfinished-short bs r b e u = go (rw e at (parse-within bs b))
   where
     go : Within {A = Description} 4356 bs (refused r) → length bs < 4356
     go (short-of l) = l
-    go (for-good n) = absurd (never-both (unfinished r) u n)
+    go (for-good n) = absurd (T-not (unfinished r) n u)

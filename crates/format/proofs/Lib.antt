@@ -10,6 +10,7 @@ pub mod Runs
 pub mod Streams
 pub mod Joined
 pub mod StreamRoom
+pub mod RunAt
 pub mod Never
 pub mod Widths
 pub mod Kept

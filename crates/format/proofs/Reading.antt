@@ -22,6 +22,7 @@ use Rattle.format.specs.declared.Refusal.{Refusal}
 use Rattle.format.specs.declared.Answer.{Answer}
 use Rattle.format.specs.declared.Answer.the-variants as answer
 use Rattle.format.proofs.Streams.{into-got, into-refused, into-end}
+use Rattle.format.proofs.Tests.{never}
 
 module _ (s : List ℕ) (p : ℕ) where
   pub byte-here : p < length s → drop p s ≡ getD s p 0 ∷ drop (p + 1) s
@@ -82,7 +83,7 @@ pub run-inj : (r r′ : Run) → answer.Run r ≡ answer.Run r′ → r ≡ r′
 run-inj r r′ e = cc
 
 pub run-not-refused : (r : Run) (f : Refusal) → answer.Run r ≡ answer.Refused f → ⊥
-run-not-refused r f e = let z : _≡_ {A = ℕ} 0 1 = cc in omega arith
+run-not-refused r f e = never (cc)
 
 -- ---- what a call gives, by its measure: nothing but the answer, where no run is named ..
 
@@ -119,7 +120,7 @@ module _ (at total places : ℕ) (m : Parsed Description) where
     placed-8 h = go m e
       where
         go : (x : Parsed Description) → answer.Run r ≡ answerOf at total x → refusedAt 8 at ≡ answerOf at total (into places x)
-        go end q = let z : _≡_ {A = ℕ} 0 1 = cc in absurd (omega arith)
+        go end q = never (cc)
         go (got d rest) q = rw (lt-ltb places (rowCount d) (rw (run-inj r (runOf d) q) at h))
         go (refused f) q = absurd (run-not-refused r _ q)
 

@@ -19,13 +19,15 @@ use Rattle.format.proofs.Posts
 
 -- ---- the two-byte header: its fields come back out of it
 
-record Head (kind code rows : ℕ) : Type 0 where
-  is-kind : head₀ kind code rows / 64 ≡ kind
-  is-code : codeOf (head₀ kind code rows) ≡ code
-  is-less : rowsLess (head₀ kind code rows) (head₁ rows) ≡ rows - 1
-  is-rows : rowsLess (head₀ kind code rows) (head₁ rows) + 1 ≡ rows
+pub record Head (kind code rows : ℕ) : Type 0 where
+  pub is-kind : head₀ kind code rows / 64 ≡ kind
+  pub is-code : codeOf (head₀ kind code rows) ≡ code
+  pub is-less : rowsLess (head₀ kind code rows) (head₁ rows) ≡ rows - 1
+  pub is-rows : rowsLess (head₀ kind code rows) (head₁ rows) + 1 ≡ rows
+  -- the width code as the lower bits of a half
+  pub code-half : head₀ kind code rows / 2 % 32 ≡ code
 
-head-back : (kind code rows : ℕ) → ValidHead code rows → Head kind code rows
+pub head-back : (kind code rows : ℕ) → ValidHead code rows → Head kind code rows
 head-back kind code rows v = omega (arith, v)
 
 -- refusal 3's limit, with the case of 64 bits: 2^(64-W)

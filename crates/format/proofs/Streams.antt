@@ -21,6 +21,7 @@ use Rattle.format.proofs.Posts.{Took}
 use Rattle.format.proofs.Cut.{cut-number}
 use Rattle.format.proofs.Runs.{Outcome, nothing, run, refusal, outcome, parse-empty, layout-pos, got-inj}
 use Rattle.format.proofs.RunComplete.{parse-complete}
+use Rattle.format.proofs.Tests.{never}
 
 -- ---- one run, into n places
 
@@ -127,9 +128,7 @@ stops-empty n (suc f) l = rw (parse-empty, into-end n)
 
 pub stops-refused : (n : ℕ) (rest : List ℕ) (r : Reason) → into n (parse rest) ≡ refused r → (f : ℕ) → length rest ≤ f → runsFrom f n rest ≡ broken [] r rest
 unfolding runsFrom
-stops-refused n [] r e f l =
-    let z : _≡_ {A = ℕ} 0 1 = cc (into-end n, parse-empty) in
-    absurd (omega arith)
+stops-refused n [] r e f l = never (cc (into-end n, parse-empty))
 stops-refused n (a ∷ rest) r e zero l = absurd (omega arith)
 stops-refused n (a ∷ rest) r e (suc f) l = rw e
 

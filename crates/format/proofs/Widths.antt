@@ -10,17 +10,10 @@ use mathlib.Core.List.{List, [], _∷_}
 use lib.ListN.{getD}
 use lib.Dec.{T, leb, ltb, eqb, eqb→eq, leb→le}
 use borrow.Author.Tests.{lt-leb}
+use Rattle.format.proofs.Tests.{and-left, and-right}
 use Rattle.format.specs.Fields.{pick, widths, width, leastOf, leastWidth, Narrowest}
 
 -- ---- computed tests
-
-pub and-left : (a b : Bool) → T (a && b) → T a
-and-left true b t = tt
-and-left false b t = t
-
-pub and-right : (a b : Bool) → T (a && b) → T b
-and-right true b t = t
-and-right false b t = absurd t
 
 -- f passes at each number below n
 abbrev pub allB : ℕ → (ℕ → Bool) → Bool

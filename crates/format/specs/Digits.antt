@@ -9,6 +9,11 @@ abbrev pub AllBelow : ℕ → List ℕ → Type 0
 AllBelow b [] = Unit {0}
 AllBelow b (d ∷ ds) = (d < b) × AllBelow b ds
 
+-- the sum of the numbers, as a whole number
+abbrev pub sum : List ℕ → ℕ
+sum [] = 0
+sum (n ∷ ns) = n + sum ns
+
 -- the number that the digits ds, most significant first, write in base b
 unfoldable pub number : ℕ → List ℕ → ℕ
 number b [] = 0

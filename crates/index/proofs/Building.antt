@@ -14,6 +14,7 @@ use Rattle.format.specs.Fields.{two64}
 use Rattle.format.specs.Runs.{Description, AllValid, joined}
 use Rattle.format.specs.Parse.{Reason, plain}
 use Rattle.format.specs.Streams.{Reading, whole, broken, stream, totalRows}
+use Rattle.format.proofs.Tests.{never}
 use Rattle.index.specs.Entries.{gives, refuses, unless, Entry, entries, buildingOf, building, tableOf}
 use Rattle.index.specs.Theorems.{IsIndex}
 use Rattle.index.proofs.Entries.{entries-length}
@@ -26,10 +27,11 @@ module _ (bs : List ℕ) (h : AllBelow 256 bs) where
     where
       go : (s t : Bool) → ltb a b ≡ s → leb c d ≡ t → s || t ≡ false → (b ≤ a) × (d < c)
       go false false e f g = (ltb-false a b e, leb-false c d f)
-      go false true e f g = let z : _≡_ {A = ℕ} 0 1 = cc in absurd (omega arith)
-      go true t e f g = let z : _≡_ {A = ℕ} 0 1 = cc in absurd (omega arith)
+      go false true e f g = never (cc)
+      go true t e f g = never (cc)
 
-  pub built : (places : ℕ) (ds : List Description) → (building places bs ≡ gives ds) ↔ (AllValid ds × (bs ≡ joined ds) × (length ds ≤ places) × (totalRows ds < two64))
+  pub built : (places : ℕ) (ds : List Description)
+      → (building places bs ≡ gives ds) ↔ (AllValid ds × (bs ≡ joined ds) × (length ds ≤ places) × (totalRows ds < two64))
   unfolding building
   built places ds = (
     λ e. from (stream bs) refl e,
@@ -38,17 +40,18 @@ module _ (bs : List ℕ) (h : AllBelow 256 bs) where
     where
       test : (es : List Description) (t : Bool) → unless t 8 (gives es) ≡ gives ds → (t ≡ false) × (es ≡ ds)
       test es false e = (refl, cc)
-      test es true e = let z : _≡_ {A = ℕ} 0 1 = cc in absurd (omega arith)
+      test es true e = never (cc)
 
       from : (m : Reading) → stream bs ≡ m → buildingOf places m ≡ gives ds → AllValid ds × (bs ≡ joined ds) × (length ds ≤ places) × (totalRows ds < two64)
-      from (broken es r rest) s e = let z : _≡_ {A = ℕ} 0 1 = cc in absurd (omega arith)
+      from (broken es r rest) s e = never (cc)
       from (whole es) s e =
           let p = test es (ltb places (length es) || leb two64 (totalRows es)) e in
           let q = room places (length es) two64 (totalRows es) .0 (p .0) in
           let w = exactly-whole bs h ds .0 (s ∙ ap whole (p .1)) in
           (w .0, w .1, rw (p .1) at (q .0), rw (p .1) at (q .1))
 
-  pub own : (places : ℕ) (ds : List Description) (r : Reason) (rest : List ℕ) → stream bs ≡ broken ds r rest → building places bs ≡ refuses r (length (joined ds))
+  pub own : (places : ℕ) (ds : List Description) (r : Reason) (rest : List ℕ) → stream bs ≡ broken ds r rest
+      → building places bs ≡ refuses r (length (joined ds))
   unfolding building
   own places ds r rest e = rw e
 

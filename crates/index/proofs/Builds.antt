@@ -3,7 +3,7 @@ use mathlib.Core.Path.{_≡_, refl, sym, ap, _∙_}
 use Prim.Native.Nat.{ℕ, _+_, _-_, _*_, _<_, _≤_}
 use native.Mathlib.Omega.{arith}
 use native.Mathlib.Nat.{zero-add}
-use mathlib.Core.Bool.{Bool, true, false, _||_}
+use mathlib.Core.Bool.{true, _||_, or-true}
 use mathlib.Core.List.{List}
 use lib.ListN.{length, length-append}
 use lib.Dec.{leb, ltb}
@@ -16,6 +16,7 @@ use Rattle.format.specs.Streams.{Reading, whole, broken, stream, totalRows}
 use Rattle.format.specs.Answers as answers
 use Rattle.format.specs.declared.Refusal.{Refusal}
 use Rattle.format.proofs.Streams.{Reads, reads-whole, reads-broken}
+use Rattle.format.proofs.StreamRoom.{stream-reads}
 use Rattle.index.specs.Entries.{Result, gives, refuses, building}
 use Rattle.index.specs.Columns.{columnsAt, buildingIn}
 use Rattle.index.specs.Promises.{builtOf, builtWith, notBuilt, BuiltIn}
@@ -25,7 +26,6 @@ use Rattle.index.specs.declared.walk.Total.the-variants as total
 use Rattle.index.specs.declared.walk.Survey.{Survey}
 use Rattle.index.specs.declared.walk.Survey.the-variants as survey
 use Rattle.index.specs.Walk.{totalOf, surveyFrom, Roomy, Filled}
-use Rattle.index.proofs.Checked.{stream-reads}
 use Rattle.index.proofs.Columns.{columns-hold}
 use Rattle.index.proofs.Totals as Totals
 
@@ -54,7 +54,13 @@ module _ (bs : List ℕ) where
   what-found v h e = rw e (go (stream bs) refl (stream-reads bs h))
     where
       go : (m : Reading) → stream bs ≡ m → Reads (512 * length bs) bs m → Found (surveyFrom 0 0 0 m)
-      go m e (reads-whole {ds} v b l) = record { runs = ds; whole-is = e; bytes = b; count = zero-add (length ds); total-is = ap totalOf (zero-add (totalRows ds)) }
+      go m e (reads-whole {ds} v b l) = record {
+        runs = ds;
+        whole-is = e;
+        bytes = b;
+        count = zero-add (length ds);
+        total-is = ap totalOf (zero-add (totalRows ds));
+      }
       go m e (reads-broken {ds} {r} {rest} v b l f) = record {
         runs = ds;
         reason = r;
@@ -98,14 +104,11 @@ module _ (bs f o n : List ℕ) where
       unfolding building
       eight e = as-table ∙ rw (w .whole-is, e)
 
-      or-true : (b : Bool) → b || true ≡ true
-      or-true true = refl
-      or-true false = refl
-
       pub past-so : t ≡ total.Past → BuiltIn bs f o n f o n (notBuilt 8)
       past-so e =
           refused-so (plain 8) 0
-          (eight (rw (le-leb two64 (totalRows (w .runs)) (Totals.past-is (totalRows (w .runs)) (sym e ∙ w .total-is))) (or-true (ltb (length f) (length (w .runs))))))
+          (eight (rw (le-leb two64 (totalRows (w .runs)) (Totals.past-is (totalRows (w .runs)) (sym e ∙ w .total-is)))
+          (or-true (ltb (length f) (length (w .runs))))))
 
       pub few-so : length f < k → BuiltIn bs f o n f o n (notBuilt 8)
       few-so h = refused-so (plain 8) 0 (eight (rw (lt-ltb (length f) (length (w .runs)) (omega (arith, w .count)))))
@@ -127,5 +130,6 @@ module _ (bs f o n : List ℕ) where
           columns = q .filled (w .runs) (w .whole-is) ∙ sym (ap (columnsAt (record { firsts = f; offsets = o; counts = n })) what-is);
         }
           where
-            numbers : (x y z : ℕ) → x ≡ length (w .runs) → y ≡ totalRows (w .runs) → z ≡ length (joined (w .runs)) → builtWith x y z ≡ builtOf (length bs) (gives (w .runs))
+            numbers : (x y z : ℕ) → x ≡ length (w .runs) → y ≡ totalRows (w .runs) → z ≡ length (joined (w .runs))
+                → builtWith x y z ≡ builtOf (length bs) (gives (w .runs))
             numbers x y z p q r = rw (p, q, r)

@@ -2,7 +2,6 @@
 use mathlib.Core.Path.{_≡_, refl, sym, ap, _∙_}
 use mathlib.Core.Logic.{_↔_}
 use Prim.Native.Nat.{ℕ, _*_}
-use native.Mathlib.Omega.{arith}
 use mathlib.Core.Bool.{Bool, true, false, not}
 use mathlib.Core.List.{List}
 use lib.ListN.{length}
@@ -11,15 +10,12 @@ use Rattle.format.specs.Digits.{AllBelow}
 use Rattle.format.specs.Runs.{Description, AllValid, joined}
 use Rattle.format.specs.Parse.{plain}
 use Rattle.format.specs.Streams.{Reading, whole, stream}
-use Rattle.format.proofs.Streams.{Reads, reads-whole, reads-broken, stream-post, joined-unique}
-use Rattle.format.proofs.StreamRoom.{stream-is}
+use Rattle.format.proofs.Streams.{Reads, reads-whole, reads-broken, joined-unique}
+use Rattle.format.proofs.StreamRoom.{stream-is, stream-reads}
+use Rattle.format.proofs.Tests.{never}
 use Rattle.index.specs.Entries.{Result, gives, refuses, unless, Entry, entries, same, sameEntry, checkedOf, checked}
 use Rattle.index.specs.Theorems.{IsIndex}
 use Rattle.index.proofs.Entries.{same-sound, same-refl, entry-sound, entry-refl}
-
-pub stream-reads : (bs : List ℕ) → AllBelow 256 bs → Reads (512 * length bs) bs (stream bs)
-unfolding stream
-stream-reads bs h = stream-post (512 * length bs) bs h
 
 pub data Checked (bs : List ℕ) (es : List Entry) : Result (List Description) → Type 0 where
   right : (i : IsIndex bs es) → Checked bs es (gives (i .runs))
@@ -33,7 +29,8 @@ module _ (bs : List ℕ) (h : AllBelow 256 bs) (es : List Entry) where
   unfolding checked
   what-checked = go (stream bs) refl (stream-reads bs h)
     where
-      test : (ds : List Description) (t : Bool) → same sameEntry es (entries ds) ≡ t → AllValid ds → bs ≡ joined ds → Checked bs es (unless (not t) 15 (gives ds))
+      test : (ds : List Description) (t : Bool) → same sameEntry es (entries ds) ≡ t → AllValid ds → bs ≡ joined ds
+          → Checked bs es (unless (not t) 15 (gives ds))
       test ds true e v b = right (record { runs = ds; valid = v; bytes = b; are = same-sound sameEntry entry-sound es (entries ds) (rw e tt) })
       test ds false e v b = wrong λ i.
           let f : T (same sameEntry es (entries ds)) = rw (i .are, runs-are i ds v b) (same-refl sameEntry entry-refl (entries ds)) in
@@ -43,8 +40,7 @@ module _ (bs : List ℕ) (h : AllBelow 256 bs) (es : List Entry) where
       go m e (reads-whole {ds} v b l) = test ds (same sameEntry es (entries ds)) refl v b
       go m e (reads-broken {ds} {r} {rest} v b l f) = wrong λ i.
           let g : stream bs ≡ whole (i .runs) = rw (i .bytes) (stream-is (i .runs) (i .valid)) in
-          let z : _≡_ {A = ℕ} 0 1 = cc in
-          omega arith
+          never (cc)
 
 module _ (bs : List ℕ) (h : AllBelow 256 bs) where
   pub exactly-whole : (ds : List Description) → (stream bs ≡ whole ds) ↔ (AllValid ds × (bs ≡ joined ds))

@@ -10,8 +10,10 @@ use borrow.Author.Tests.{eq-eqb, eqb-true}
 use Rattle.format.specs.Runs.{Description, rowCount, layout}
 use Rattle.format.specs.Parse.{plain}
 use Rattle.format.specs.Streams.{Reading, whole, broken, stream}
-use Rattle.index.specs.Entries.{Result, gives, refuses, unless, Entry, entriesFrom, entries, tableOf, same, sameEntry, checkedOf, checked, holder, lookup, reading}
-use Rattle.index.specs.Columns.{Columns, sumsBefore, byteCount, columns, sameColumns, alike, columnsAt, buildingIn, checkedColumns, checkedIn, holderIn, lookupIn, readingIn}
+use Rattle.index.specs.Entries.{Result, gives, refuses, unless, Entry, entriesFrom, entries, tableOf, same, sameEntry, checkedOf, checked, holder}
+use Rattle.index.specs.Entries.{lookup, reading}
+use Rattle.index.specs.Columns.{Columns, sumsBefore, byteCount, columns, sameColumns, alike, columnsAt, buildingIn, checkedColumns, checkedIn, holderIn}
+use Rattle.index.specs.Columns.{lookupIn, readingIn}
 use Rattle.index.specs.Theorems.{asColumns, Alike, ColumnsHold}
 
 -- the columns of a stream's entries are the stream's columns

@@ -15,7 +15,7 @@ use Rattle.format.specs.Parse.{plain}
 use Rattle.format.specs.Streams.{totalRows}
 use Rattle.index.specs.Entries.{Result, gives, refuses, Entry, entriesFrom, holdsRow, holder}
 use Rattle.index.specs.Theorems.{Holds}
-use Rattle.format.proofs.Tests.{and-e, and-i}
+use Rattle.format.proofs.Tests.{never, and-e, and-i}
 
 holds-row : (e : Entry) (r : ℕ) → Holds e r → T (holdsRow e r)
 holds-row e r h = and-i (leb (e .first) r) (ltb r (e .first + e .rows)) (le→leb (e .first) r (h .from)) (lt→ltb r (e .first + e .rows) (h .below))
@@ -28,10 +28,11 @@ row-holds e r t =
 -- what is given is one of the entries, and holds the row
 pub holder-sound : (r : ℕ) (es : List Entry) (e : Entry) → holder r es ≡ gives e → List·Memᴰ e es × Holds e r
 unfolding holder
-holder-sound r [] e g = let z : _≡_ {A = ℕ} 0 1 = cc in absurd (omega arith)
+holder-sound r [] e g = never (cc)
 holder-sound r (d ∷ es) e g = go (holdsRow d r) refl g (holder-sound r es e)
   where
-    go : (t : Bool) → holdsRow d r ≡ t → pick t (gives d) (holder r es) ≡ gives e → (holder r es ≡ gives e → List·Memᴰ e es × Holds e r) → List·Memᴰ e (d ∷ es) × Holds e r
+    go : (t : Bool) → holdsRow d r ≡ t → pick t (gives d) (holder r es) ≡ gives e → (holder r es ≡ gives e → List·Memᴰ e es × Holds e r)
+        → List·Memᴰ e (d ∷ es) × Holds e r
     go true f g ih =
         let s : e ≡ d = cc in
         (List·Memᴰ·head s, rw s (row-holds d r (rw f tt)))
@@ -50,11 +51,14 @@ what-held r f a (d ∷ ds) h = go (decLt r (f + rowCount d)) (what-held r (f + r
   where
     later : {m : Result Entry} → f + rowCount d ≤ r → Held r (f + rowCount d) (a + length (layout d)) ds m → Held r f a (d ∷ ds) m
     later l (held before behind c {e = x} e p q n s) =
-        held (d ∷ before) behind c {e = x} (ap (λ (l : List Description). d ∷ l) e) (omega (arith, p)) (omega (arith, q, length-append (layout d) (joined before))) n s
+        held (d ∷ before) behind c {e = x} (ap (λ (l : List Description). d ∷ l) e) (omega (arith, p))
+        (omega (arith, q, length-append (layout d) (joined before))) n s
     later l (unheld g) = unheld (omega (arith, g))
 
-    go : Dec (r < f + rowCount d) → (f + rowCount d ≤ r → Held r (f + rowCount d) (a + length (layout d)) ds (holder r (entriesFrom (f + rowCount d) (a + length (layout d)) ds)))
-        → Held r f a (d ∷ ds) (pick (leb f r && ltb r (f + rowCount d)) (gives (record { first = f; at = a; rows = rowCount d })) (holder r (entriesFrom (f + rowCount d) (a + length (layout d)) ds)))
+    go : Dec (r < f + rowCount d) → (f + rowCount d ≤ r
+        → Held r (f + rowCount d) (a + length (layout d)) ds (holder r (entriesFrom (f + rowCount d) (a + length (layout d)) ds)))
+        → Held r f a (d ∷ ds) (pick (leb f r && ltb r (f + rowCount d)) (gives (record { first = f; at = a; rows = rowCount d }))
+        (holder r (entriesFrom (f + rowCount d) (a + length (layout d)) ds)))
     go (yes l) ih = rw (le-leb f r h, lt-ltb r (f + rowCount d) l)
         (held [] ds d {e = record { first = f; at = a; rows = rowCount d }} refl (omega arith) (omega arith) refl (record { from = h; below = l }))
     go (no l) ih = rw (le-leb f r h, le-ltb r (f + rowCount d) (omega arith)) (later (omega arith) (ih (omega arith)))
@@ -77,7 +81,8 @@ holder-of r f a (d ∷ ds) e m h = go (List·Memᴰ·cases-cons m) (λ m. holder
   where
     go : (e ≡ record { first = f; at = a; rows = rowCount d }) ⊎ List·Memᴰ e (entriesFrom (f + rowCount d) (a + length (layout d)) ds)
         → (List·Memᴰ e (entriesFrom (f + rowCount d) (a + length (layout d)) ds) → holder r (entriesFrom (f + rowCount d) (a + length (layout d)) ds) ≡ gives e)
-        → pick (leb f r && ltb r (f + rowCount d)) (gives (record { first = f; at = a; rows = rowCount d })) (holder r (entriesFrom (f + rowCount d) (a + length (layout d)) ds)) ≡ gives e
+        → pick (leb f r && ltb r (f + rowCount d)) (gives (record { first = f; at = a; rows = rowCount d }))
+        (holder r (entriesFrom (f + rowCount d) (a + length (layout d)) ds)) ≡ gives e
     go (inl s) ih =
         let k : Holds (record { first = f; at = a; rows = rowCount d }) r = rw s at h in
         rw (le-leb f r (k .from), lt-ltb r (f + rowCount d) (k .below), s)

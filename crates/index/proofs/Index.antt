@@ -18,6 +18,7 @@ use Rattle.format.specs.Streams.{whole, stream, totalRows, joinedRows}
 use Rattle.format.proofs.Rows.{joined-count}
 use Rattle.format.proofs.StreamRoom.{stream-is, room-enough}
 use Rattle.format.proofs.Joined.{total-append, joined-append, rows-append, valid-behind}
+use Rattle.format.proofs.Tests.{never}
 use Rattle.index.specs.Entries.{Result, gives, refuses, numberOf, unless, Entry, entries, building, tableOf, holder, lookup, rowsFrom, reading}
 use Rattle.index.specs.Theorems.{IsIndex, Holds, LookupHolds, ReadingHolds, IndexHolds, IndexProved}
 use Rattle.index.proofs.Entries.{total-cons}
@@ -54,7 +55,7 @@ module _ (bs : List ℕ) (h : AllBelow 256 bs) where
     found-exactly e = (
       λ g. right-or-wrong bs h es
           (λ i. let p = holder-sound r (entries (i .runs)) e (sym (lookup-right es i r) ∙ g) in (i, rw (i .are) (p .0), p .1))
-          (λ n. let w = lookup-wrong n in let z : _≡_ {A = ℕ} 0 1 = cc in absurd (omega arith)),
+          (λ n. let w = lookup-wrong n in never (cc)),
       λ (i, m, k). lookup-right es i r ∙ holder-of r 0 0 (i .runs) e (rw (i .are) at m) k,
     )
 
@@ -79,16 +80,16 @@ module _ (bs : List ℕ) (h : AllBelow 256 bs) where
       exactly = found-exactly;
       only = found-only;
       found = found-below;
-      is-15 = (λ g i. never (lookup-held es i r) g, λ n. ap numberOf (lookup-wrong n));
+      is-15 = (λ g i. not-15 (lookup-held es i r) g, λ n. ap numberOf (lookup-wrong n));
       is-16 = (
         λ g. right-or-wrong bs h es (λ i. (i, none-exactly i .0 g)) (λ n. absurd (omega (arith, ap numberOf (lookup-wrong n)))),
         λ (i, l). none-exactly i .1 l,
       );
     }
       where
-        never : {ds : List Description} {m : Result Entry} → Held r 0 0 ds m → numberOf m ≢ 15
-        never (held before behind d s p q n k) = omega arith
-        never (unheld l) = omega arith
+        not-15 : {ds : List Description} {m : Result Entry} → Held r 0 0 ds m → numberOf m ≢ 15
+        not-15 (held before behind d s p q n k) = omega arith
+        not-15 (unheld l) = omega arith
 
   module _ (signed : Bool) (places : ℕ) (es : List Entry) (r : ℕ) where
     reading-wrong : (IsIndex bs es → ⊥) → reading signed places es bs r ≡ refuses (plain 15) 0
@@ -128,7 +129,8 @@ module _ (bs : List ℕ) (h : AllBelow 256 bs) where
     reads-through i e g = go (rw g at (lookup-held es i r))
       where
         go : Held r 0 0 (i .runs) (gives e)
-            → (ds : List Description) × (stream (drop (e .at) bs) ≡ whole ds) × (drop r (joinedRows signed (i .runs)) ≡ drop (r - e .first) (joinedRows signed ds))
+            → (ds : List Description) × (stream (drop (e .at) bs) ≡ whole ds)
+            × (drop r (joinedRows signed (i .runs)) ≡ drop (r - e .first) (joinedRows signed ds))
         go (held before behind d s p q n k) =
             let b : bs ≡ joined before ++ joined (d ∷ behind) = i .bytes ∙ ap joined s ∙ joined-append before (d ∷ behind) in
             let c : r ≡ length (joinedRows signed before) + (r - e .first) = omega (arith, p, k .from, joined-count signed before) in (

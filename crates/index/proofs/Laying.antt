@@ -21,6 +21,7 @@ use Rattle.format.proofs.Reading.{run-inj, run-not-refused}
 use Rattle.format.proofs.RunComplete.{parse-complete}
 use Rattle.format.proofs.Rows.{row-bounds, i64-count}
 use Rattle.format.proofs.Streams.{into-got, stream-whole, joined-unique}
+use Rattle.format.proofs.Tests.{never}
 use Rattle.util.proofs.Grow.{back-is}
 use Rattle.index.specs.Walk.{Ready, RowsLaid}
 
@@ -56,7 +57,7 @@ module _ (s : List ℕ) (at skip : ℕ) (signed : Bool) (out : List ℤ) (y : Re
     not-refused f e = run-not-refused (runOf d) f (sym ran ∙ e)
 
     pub not-ended : a ≡ answer.End → ⊥
-    not-ended e = let q : answer.Run (runOf d) ≡ answer.End = sym ran ∙ e in let z : _≡_ {A = ℕ} 0 1 = cc in omega arith
+    not-ended e = let q : answer.Run (runOf d) ≡ answer.End = sym ran ∙ e in never (cc)
 
   -- there are so many bytes ..
   pub bytes-within : at + length (layout d) ≤ length s
@@ -89,7 +90,8 @@ module _ (s : List ℕ) (at skip : ℕ) (signed : Bool) (out : List ℤ) (y : Re
     all-rows =
         let m : n + totalRows b ≡ rowCount d + totalRows b - skip = omega (arith, y .skips) in
         ap (λ (x : ℕ). (piece ++ joinedRows signed b) ++ drop x out) m
-        ∙ ap (λ (x : List ℤ). x ++ drop (rowCount d + totalRows b - skip) out) (sym (drop-append-le skip (i64Rows signed d) (joinedRows signed b) (omega (arith, i64-count signed d, y .skips))))
+        ∙ ap (λ (x : List ℤ). x ++ drop (rowCount d + totalRows b - skip) out)
+        (sym (drop-append-le skip (i64Rows signed d) (joinedRows signed b) (omega (arith, i64-count signed d, y .skips))))
 
     module _ (out₁ part : List ℤ) (c : out₁ ≡ take n (drop skip held′) ++ drop n out) (next : ℕ) (k : next ≡ at + length (layout d)) (r : Stream)
         (g : StreamRead s next signed (drop n out₁) part r) where
@@ -110,7 +112,8 @@ module _ (s : List ℕ) (at skip : ℕ) (signed : Bool) (out : List ℤ) (y : Re
 
       reads : readAll (length (drop n out₁)) (drop next s) ≡ whole b
       unfolding totalRows
-      reads = ap (readAll (length (drop n out₁))) rest-is ∙ stream-whole (length (drop n out₁)) b (y .valid .1) (omega (arith, y .room, y .skips, ap length tail-is, length-drop n out))
+      reads = ap (readAll (length (drop n out₁))) rest-is
+          ∙ stream-whole (length (drop n out₁)) b (y .valid .1) (omega (arith, y .room, y .skips, ap length tail-is, length-drop n out))
 
       part-is : part ≡ joinedRows signed b ++ drop (totalRows b) (drop n out₁)
       part-is = rw reads at (g .places)
@@ -119,10 +122,12 @@ module _ (s : List ℕ) (at skip : ℕ) (signed : Bool) (out : List ℤ) (y : Re
       done =
           back-is out₁ part (joinedRows signed b) n (totalRows b) part-is
           ∙ ap (λ (x : List ℤ). (x ++ joinedRows signed b) ++ drop (n + totalRows b) out₁) front-is
-          ∙ ap (λ (x : List ℤ). (piece ++ joinedRows signed b) ++ x) (sym (drop-drop (totalRows b) n out₁) ∙ ap (λ (x : List ℤ). drop (totalRows b) x) tail-is ∙ drop-drop (totalRows b) n out)
+          ∙ ap (λ (x : List ℤ). (piece ++ joinedRows signed b) ++ x)
+          (sym (drop-drop (totalRows b) n out₁) ∙ ap (λ (x : List ℤ). drop (totalRows b) x) tail-is ∙ drop-drop (totalRows b) n out)
 
       pub laid-is : RowsLaid s at skip signed out (take n out₁ ++ (part ++ drop (length out₁ - n) (drop n out₁)))
       laid-is = record { laid = λ ds v w. done ∙ same ds (joined-unique (d ∷ b) ds (y .valid) v (sym (y .bytes) ∙ w)) }
         where
-          same : (ds : List Description) → d ∷ b ≡ ds → (piece ++ joinedRows signed b) ++ drop (n + totalRows b) out ≡ drop skip (joinedRows signed ds) ++ drop (totalRows ds - skip) out
+          same : (ds : List Description) → d ∷ b ≡ ds
+              → (piece ++ joinedRows signed b) ++ drop (n + totalRows b) out ≡ drop skip (joinedRows signed ds) ++ drop (totalRows ds - skip) out
           same ds u = all-rows ∙ ap (λ (x : List Description). drop skip (joinedRows signed x) ++ drop (totalRows x - skip) out) u

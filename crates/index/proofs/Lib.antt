@@ -5,7 +5,7 @@ pub mod Held
 pub mod Checked
 pub mod Building
 pub mod Own
-pub mod Turns
+pub mod MeasuredRun
 pub mod Index
 pub mod Columns
 pub mod Totals

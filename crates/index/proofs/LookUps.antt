@@ -9,6 +9,7 @@ use Rattle.format.specs.Fields.{pick}
 use Rattle.format.specs.Runs.{Description}
 use Rattle.format.specs.Parse.{plain}
 use Rattle.format.specs.Streams.{Reading, whole, broken, stream}
+use Rattle.format.proofs.Tests.{never}
 use Rattle.index.specs.Entries.{gives, refuses, unless, holdsRow}
 use Rattle.index.specs.Columns.{Columns, checkedColumns, checkedIn, holderIn, lookupIn}
 use Rattle.index.specs.Promises.{foundOf, foundAt, notFound, LookedUp}
@@ -26,13 +27,20 @@ holder-at r (f ∷ fs) (o ∷ os) [] a b h = absurd (omega arith)
 holder-at r (f ∷ fs) (o ∷ os) (n ∷ ns) a b h = go (holdsRow (record { first = f; at = 0; rows = n }) r) h (holder-at r fs os ns (omega arith) (omega arith))
   where
     go : (t : Bool) → pick t 0 (suc (placeOf r fs ns)) < length (f ∷ fs)
-        → (placeOf r fs ns < length fs → holderIn r fs os ns ≡ gives (record { first = getD fs (placeOf r fs ns) 0; at = getD os (placeOf r fs ns) 0; rows = getD ns (placeOf r fs ns) 0 }))
+        → (placeOf r fs ns < length fs
+        → holderIn r fs os ns
+        ≡ gives (record { first = getD fs (placeOf r fs ns) 0; at = getD os (placeOf r fs ns) 0; rows = getD ns (placeOf r fs ns) 0 }))
         → pick t (gives (record { first = f; at = o; rows = n })) (holderIn r fs os ns)
-        ≡ gives (record { first = getD (f ∷ fs) (pick t 0 (suc (placeOf r fs ns))) 0; at = getD (o ∷ os) (pick t 0 (suc (placeOf r fs ns))) 0; rows = getD (n ∷ ns) (pick t 0 (suc (placeOf r fs ns))) 0 })
+        ≡ gives (record {
+          first = getD (f ∷ fs) (pick t 0 (suc (placeOf r fs ns))) 0;
+          at = getD (o ∷ os) (pick t 0 (suc (placeOf r fs ns))) 0;
+          rows = getD (n ∷ ns) (pick t 0 (suc (placeOf r fs ns))) 0;
+        })
     go true h ih = refl
     go false h ih = ih (omega arith)
 
-pub holder-none : (r : ℕ) (fs os ns : List ℕ) → length os ≡ length fs → length ns ≡ length fs → length fs ≤ placeOf r fs ns → holderIn r fs os ns ≡ refuses (plain 16) 0
+pub holder-none : (r : ℕ) (fs os ns : List ℕ) → length os ≡ length fs → length ns ≡ length fs → length fs ≤ placeOf r fs ns
+    → holderIn r fs os ns ≡ refuses (plain 16) 0
 unfolding holderIn placeOf
 holder-none r [] os ns a b h = refl
 holder-none r (f ∷ fs) [] ns a b h = refl
@@ -67,7 +75,7 @@ module _ (bs f o n : List ℕ) where
       where
         go : (m : Reading) → stream bs ≡ m → rightFrom 0 0 f o n m ≡ true → (ds : List Description) × (stream bs ≡ whole ds) × (checkedIn c bs ≡ gives ds)
         go (whole ds) q e = (ds, q, checked-is ∙ ap (checkedColumns c) q ∙ ap (λ (t : Bool). unless (not t) 15 (gives ds)) e)
-        go (broken ds r rest) q e = let z : _≡_ {A = ℕ} 0 1 = cc in absurd (omega arith)
+        go (broken ds r rest) q e = never (cc)
 
   -- ---- what looking up answers
 

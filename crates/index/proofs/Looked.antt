@@ -108,5 +108,8 @@ module _ (bs f o n : List ℕ) (r : ℕ) where
   what-looked v h e = rw e (go (looked h))
     where
       go : {m : Result Entry} → Looked m → After (foundOf m)
-      go (looked-no x p g) = λ signed out. record { answer = sym (ap previewOf (g signed (length out))); places = sym (ap (previewPlaces out) (g signed (length out))) }
+      go (looked-no x p g) = λ signed out. record {
+        answer = sym (ap previewOf (g signed (length out)));
+        places = sym (ap (previewPlaces out) (g signed (length out)));
+      }
       go (looked-yes e t) = t

@@ -2,7 +2,6 @@
 use mathlib.Core.Path.{_≡_, refl, sym, ap, _∙_}
 use mathlib.Core.Logic.{_≢_}
 use Prim.Native.Nat.{ℕ}
-use native.Mathlib.Omega.{arith}
 use mathlib.Core.Bool.{Bool, true, false, not}
 use mathlib.Core.List.{List, _++_, map}
 use lib.ListN.{length, take, drop, length-map}
@@ -11,6 +10,7 @@ use Rattle.format.specs.Digits.{AllBelow}
 use Rattle.format.specs.Runs.{Description, rowCount}
 use Rattle.format.specs.Parse.{plain, cut}
 use Rattle.format.specs.Answers as answers
+use Rattle.format.proofs.Tests.{never}
 use Rattle.index.specs.Entries.{Result, gives, refuses, numberOf, unless, Entry, entries, building, lookup}
 use Rattle.index.specs.Columns.{Columns, sumsBefore, byteCount, columnsAt, alike, buildingIn, lookupIn}
 use Rattle.index.specs.Theorems.{PromisesHold, asColumns}
@@ -26,13 +26,14 @@ use Rattle.index.proofs.Index.{lookup-holds}
 use Rattle.index.proofs.Previews.{sums-length}
 
 -- what was built, by the answer
-built-runs : (total : ℕ) (s : Sizes) (m : Result (List Description)) → built.Index s ≡ builtOf total m → (ds : List Description) × (m ≡ gives ds) × (s .entries ≡ length ds)
+built-runs : (total : ℕ) (s : Sizes) (m : Result (List Description)) → built.Index s ≡ builtOf total m
+    → (ds : List Description) × (m ≡ gives ds) × (s .entries ≡ length ds)
 built-runs total s (gives ds) e = (ds, refl, ap entriesIn e)
   where
     entriesIn : Built → ℕ
     entriesIn (built.Index z) = z .entries
     entriesIn (built.Refused f) = 0
-built-runs total s (refuses r at) e = let z : _≡_ {A = ℕ} 0 1 = cc in absurd (omega arith)
+built-runs total s (refuses r at) e = never (cc)
 
 as-built : (f o n : ℕ) (bs : List ℕ) (ds : List Description) → buildingIn f o n bs ≡ gives ds → building f bs ≡ gives ds
 unfolding buildingIn
@@ -40,11 +41,11 @@ as-built f o n bs ds e = go (alike f o n) e
   where
     go : (t : Bool) → unless (not t) 15 (building f bs) ≡ gives ds → building f bs ≡ gives ds
     go true e = e
-    go false e = let z : _≡_ {A = ℕ} 0 1 = cc in absurd (omega arith)
+    go false e = never (cc)
 
 -- an answer of 15 is a refusal with 15
 fifteen : (m : Result Entry) → foundOf m ≡ notFound 15 → numberOf m ≡ 15
-fifteen (gives e) q = let z : _≡_ {A = ℕ} 0 1 = cc in absurd (omega arith)
+fifteen (gives e) q = never (cc)
 fifteen (refuses (plain k) p) q = ap numberIn q
   where
     numberIn : Found → ℕ
@@ -69,9 +70,14 @@ abbrev first-of : ℕ → Columns → Columns
 first-of k c = record { firsts = take k (c .firsts); offsets = take k (c .offsets); counts = take k (c .counts) }
 
 its-columns : (ds : List Description) (c : Columns) → first-of (length ds) (columnsAt c (gives ds)) ≡ asColumns (entries ds)
-its-columns ds c = rw (firsts-in ds (drop (length ds) (c .firsts)), offsets-in ds (drop (length ds) (c .offsets)), counts-in ds (drop (length ds) (c .counts))) (sym (columns-are ds))
+its-columns ds c = rw (
+  firsts-in ds (drop (length ds) (c .firsts)),
+  offsets-in ds (drop (length ds) (c .offsets)),
+  counts-in ds (drop (length ds) (c .counts)),
+) (sym (columns-are ds))
 
-built-never-15 : (input first at counts f o n : List ℕ) (s : Sizes) (row : ℕ) (r : Found) → AllBelow 256 input → BuiltIn input first at counts f o n (built.Index s)
+built-never-15 : (input first at counts f o n : List ℕ) (s : Sizes) (row : ℕ) (r : Found) → AllBelow 256 input
+    → BuiltIn input first at counts f o n (built.Index s)
     → LookedUp input (record { firsts = take (s .entries) f; offsets = take (s .entries) o; counts = take (s .entries) n }) row r → r ≢ notFound 15
 built-never-15 input first at counts f o n s row r h b l e =
     let (ds, m, k) = built-runs (length input) s (buildingIn (length first) (length at) (length counts) input) (b .answer) in

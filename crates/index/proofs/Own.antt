@@ -18,11 +18,12 @@ use Rattle.format.proofs.Rows.{row-bounds}
 use Rattle.format.proofs.Runs.{layout-pos, Outcome, nothing, run, refusal, outcome}
 use Rattle.format.proofs.Streams.{Reads, reads-broken, into-got, into-end, into-refused}
 use Rattle.format.proofs.Joined.{rows-le}
-use Rattle.format.proofs.StreamRoom.{not-empty}
+use Rattle.format.proofs.StreamRoom.{not-empty, stream-reads}
 use Rattle.format.proofs.Never.{reasonNumber, never-8}
+use Rattle.format.proofs.Tests.{never}
 use Rattle.index.specs.Entries as Entries
 use Rattle.index.specs.Entries.{Result, gives, refuses, numberOf, buildingOf, building}
-use Rattle.index.proofs.Checked.{stream-reads, exactly-whole}
+use Rattle.index.proofs.Checked.{exactly-whole}
 use Rattle.index.proofs.Building.{full}
 
 -- reading a run never refuses with 8, so the stream's own refusal is never 8
@@ -30,11 +31,10 @@ pub own-never-8 : (bs : List ℕ) → AllBelow 256 bs → (ds : List Description
 own-never-8 bs h ds r rest e = go (rw e at (stream-reads bs h))
   where
     own : (m : ℕ) → (rest ≢ [] → 512 ≤ m) → into m (parse rest) ≡ refused r → {p : Parsed Description} → parse rest ≡ p → Outcome rest p → reasonNumber r ≢ 8
-    own m l f q (nothing z) = let z : _≡_ {A = ℕ} 0 1 = cc (into-end m) in absurd (omega arith)
+    own m l f q (nothing z) = never (cc (into-end m))
     own m l f q (run {d} {rest = s} t) =
         let k : 512 ≤ m = l λ z. omega (arith, layout-pos d, length-append (layout d) s, ap length (sym (t .split) ∙ z)) in
-        let z : _≡_ {A = ℕ} 0 1 = cc (into-got m d s (omega (arith, row-bounds d (t .ok)))) in
-        absurd (omega arith)
+        never (cc (into-got m d s (omega (arith, row-bounds d (t .ok)))))
     own m l f q (refusal {r = x} z) =
         let y : r ≡ x = cc (into-refused m x) in
         rw y (never-8 rest x q)

@@ -17,6 +17,7 @@ use Rattle.format.specs.Streams.{totalRows, joinedRows}
 use Rattle.format.specs.declared.RowNumber.{RowNumber}
 use Rattle.format.proofs.Rows.{joined-count}
 use Rattle.format.proofs.Joined.{total-append, joined-append, rows-append, valid-behind}
+use Rattle.format.proofs.Tests.{never}
 use Rattle.index.specs.Entries.{gives, refuses, previewPlaces}
 use Rattle.index.specs.Columns.{Columns, sumsBefore, readingIn}
 use Rattle.index.specs.Promises.{previewOf, readRows, notRead, ReadFrom}
@@ -48,13 +49,14 @@ left-many x y r p e = go (ltb p (x + y - r)) refl e
   where
     go : (t : Bool) → ltb p (x + y - r) ≡ t → left.TooMany ≡ pick t left.TooMany (left.Rows (record { rows = x + y - r })) → p < x + y - r
     go true q e = ltb-true p (x + y - r) q
-    go false q e = let z : _≡_ {A = ℕ} 0 1 = cc in absurd (omega arith)
+    go false q e = never (cc)
 
 pub left-rows : (x y r p k : ℕ) → left.Rows (record { rows = k }) ≡ leftOf x y r p → (k ≡ x + y - r) × (k ≤ p)
 left-rows x y r p k e = go (ltb p (x + y - r)) refl e
   where
-    go : (t : Bool) → ltb p (x + y - r) ≡ t → left.Rows (record { rows = k }) ≡ pick t left.TooMany (left.Rows (record { rows = x + y - r })) → (k ≡ x + y - r) × (k ≤ p)
-    go true q e = let z : _≡_ {A = ℕ} 0 1 = cc in absurd (omega arith)
+    go : (t : Bool) → ltb p (x + y - r) ≡ t → left.Rows (record { rows = k }) ≡ pick t left.TooMany (left.Rows (record { rows = x + y - r }))
+        → (k ≡ x + y - r) × (k ≤ p)
+    go true q e = never (cc)
     go false q e =
         let u : _≡_ {A = RowNumber} (record { rows = k }) (record { rows = x + y - r }) = cc in
         let w : k ≡ x + y - r = ap (λ (n : RowNumber). n .rows) u in
@@ -96,7 +98,8 @@ module _ (bs f o n : List ℕ) (r : ℕ) where
     row-below = omega (arith, last-is, total-is, t .below)
 
     rest-is : drop at bs ≡ joined (t .run ∷ t .behind)
-    rest-is = ap (drop at) (t .bytes ∙ joined-append (t .before) (t .run ∷ t .behind)) ∙ drop-at (joined (t .before)) (joined (t .run ∷ t .behind)) at (sym (t .at-is))
+    rest-is = ap (drop at) (t .bytes ∙ joined-append (t .before) (t .run ∷ t .behind))
+        ∙ drop-at (joined (t .before)) (joined (t .run ∷ t .behind)) at (sym (t .at-is))
 
     pub ready : (places : ℕ) → totalRows ds - r ≤ places → Ready bs at (r - first) places
     ready places l = record {
@@ -104,7 +107,12 @@ module _ (bs f o n : List ℕ) (r : ℕ) where
       behind = t .behind;
       valid = valid-behind (t .before) (t .run ∷ t .behind) (t .valid);
       bytes = rest-is;
-      within = omega (arith, t .at-is, ap length (t .bytes ∙ joined-append (t .before) (t .run ∷ t .behind)), length-append (joined (t .before)) (joined (t .run ∷ t .behind)));
+      within = omega (
+        arith,
+        t .at-is,
+        ap length (t .bytes ∙ joined-append (t .before) (t .run ∷ t .behind)),
+        length-append (joined (t .before)) (joined (t .run ∷ t .behind)),
+      );
       skips = omega (arith, t .from, t .below);
       room = omega (arith, total-is, total-cons (t .run) (t .behind), t .from, l);
     }
@@ -131,10 +139,12 @@ module _ (bs f o n : List ℕ) (r : ℕ) where
       rows-long : length (drop r (joinedRows signed ds)) ≡ totalRows ds - r
       rows-long = length-drop r (joinedRows signed ds) ∙ ap (λ (x : ℕ). x - r) (joined-count signed ds)
 
-      pub rows-so : (k : ℕ) → k ≡ totalRows ds - r → k ≤ length out → (out′ : List ℤ) → RowsLaid bs at (r - first) signed out out′ → ReadFrom bs c r signed out out′ (readRows k)
+      pub rows-so : (k : ℕ) → k ≡ totalRows ds - r → k ≤ length out → (out′ : List ℤ) → RowsLaid bs at (r - first) signed out out′
+          → ReadFrom bs c r signed out out′ (readRows k)
       rows-so k q l out′ w =
           let e = reading-is false (le-ltb (length out) (totalRows ds - r) (omega arith)) in
-          let m : totalRows (t .run ∷ t .behind) - (r - first) ≡ length (drop r (joinedRows signed ds)) = omega (arith, rows-long, total-is, total-cons (t .run) (t .behind), t .from) in
+          let m : totalRows (t .run ∷ t .behind) - (r - first) ≡ length (drop r (joinedRows signed ds)) =
+          omega (arith, rows-long, total-is, total-cons (t .run) (t .behind), t .from) in
           record {
             answer = ap readRows (q ∙ sym rows-long) ∙ sym (ap previewOf e);
             places =

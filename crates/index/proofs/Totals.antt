@@ -7,6 +7,7 @@ use lib.Dec.{leb, eqb}
 use borrow.Author.Tests.{le-leb, lt-leb, leb-true, leb-false, eq-eqb, ne-eqb}
 use Rattle.format.specs.Fields.{pick, two64}
 use Rattle.format.specs.declared.RowNumber.{RowNumber}
+use Rattle.format.proofs.Tests.{never}
 use Rattle.index.specs.declared.walk.Total.{Total}
 use Rattle.index.specs.declared.walk.Total.the-variants.{Rows, Past}
 use Rattle.index.specs.Walk.{totalOf, sameThree}
@@ -38,13 +39,13 @@ module _ (m : ℕ) where
     where
       go : {t : Total} → Counts m t → Rows (record { rows = k }) ≡ t → (k ≡ m) × (m < two64)
       go (counts-rows h) e = let q : _≡_ {A = RowNumber} (record { rows = k }) (record { rows = m }) = cc in (ap (λ (n : RowNumber). n .rows) q, h)
-      go (counts-past h) e = let z : _≡_ {A = ℕ} 0 1 = cc in absurd (omega arith)
+      go (counts-past h) e = never (cc)
 
   pub past-is : Past ≡ totalOf m → two64 ≤ m
   past-is e = go (counts m) e
     where
       go : {t : Total} → Counts m t → Past ≡ t → two64 ≤ m
-      go (counts-rows h) e = let z : _≡_ {A = ℕ} 0 1 = cc in absurd (omega arith)
+      go (counts-rows h) e = never (cc)
       go (counts-past h) e = h
 
 -- ---- more rows

@@ -42,12 +42,14 @@ pub record Entry : Type 0 where
 -- the entries of runs before which there are so many rows and bytes
 unfoldable pub entriesFrom : ℕ → ℕ → List Description → List Entry
 entriesFrom first at [] = []
-entriesFrom first at (d ∷ ds) = record { first = first; at = at; rows = rowCount d } ∷ entriesFrom (first + rowCount d) (at + length (layout d)) ds
+entriesFrom first at (d ∷ ds) =
+    record { first = first; at = at; rows = rowCount d } ∷ entriesFrom (first + rowCount d) (at + length (layout d)) ds
 
 abbrev pub entries : List Description → List Entry
 entries ds = entriesFrom 0 0 ds
 
--- ---- BUILDING: the stream's own refusal, then 8 if an entry lacks a place or the rows pass 2^64 - 1. What is built is given by the stream's runs.
+-- ---- BUILDING: the stream's own refusal, then 8 if an entry lacks a place
+-- or the rows pass 2^64 - 1. What is built is given by the stream's runs.
 
 abbrev pub buildingOf : ℕ → Reading → Result (List Description)
 buildingOf places (broken ds r rest) = refuses r (length (joined ds))
@@ -96,7 +98,8 @@ lookup es bs r = then (checked es bs) λ ds. holder r es
 
 -- row r of these runs and all after it
 abbrev pub rowsFrom : Bool → ℕ → ℕ → List Description → Result (List ℤ)
-rowsFrom signed places r ds = unless (leb (totalRows ds) r) 16 (unless (ltb places (totalRows ds - r)) 8 (gives (drop r (joinedRows signed ds))))
+rowsFrom signed places r ds =
+    unless (leb (totalRows ds) r) 16 (unless (ltb places (totalRows ds - r)) 8 (gives (drop r (joinedRows signed ds))))
 
 unfoldable pub reading : Bool → ℕ → List Entry → List ℕ → ℕ → Result (List ℤ)
 reading signed places es bs r = then (checked es bs) (rowsFrom signed places r)

@@ -53,13 +53,15 @@ module _ (bs : List ℕ) where
     pub exactly : (places : ℕ) (ds : List Description)
         → (building places bs ≡ gives ds) ↔ (AllValid ds × (bs ≡ joined ds) × (length ds ≤ places) × (totalRows ds < two64))
     -- the stream's own refusal, at the byte where the refused run begins; then 8; either with the table as it was
-    pub own : (places : ℕ) (ds : List Description) (r : Reason) (rest : List ℕ) → stream bs ≡ broken ds r rest → building places bs ≡ refuses r (length (joined ds))
+    pub own : (places : ℕ) (ds : List Description) (r : Reason) (rest : List ℕ) → stream bs ≡ broken ds r rest
+        → building places bs ≡ refuses r (length (joined ds))
     pub is-8 : (places : ℕ) (ds : List Description) → AllValid ds → bs ≡ joined ds → (places < length ds) ⊎ (two64 ≤ totalRows ds)
         → building places bs ≡ refuses (plain 8) 0
     -- 8 exactly there: the stream's own refusal is never 8
     pub exactly-8 : (places : ℕ) → (numberOf (building places bs) ≡ 8)
         ↔ ((ds : List Description) × AllValid ds × (bs ≡ joined ds) × ((places < length ds) ⊎ (two64 ≤ totalRows ds)))
-    pub untouched : (table : List Entry) (r : Reason) (at : ℕ) → building (length table) bs ≡ refuses r at → tableOf table (building (length table) bs) ≡ table
+    pub untouched : (table : List Entry) (r : Reason) (at : ℕ) → building (length table) bs ≡ refuses r at
+        → tableOf table (building (length table) bs) ≡ table
     -- what is built is right, so that no lookup in it gives 15, and there is no other
     pub right : (table : List Entry) (ds : List Description) → building (length table) bs ≡ gives ds
         → IsIndex bs (take (length ds) (tableOf table (building (length table) bs)))
@@ -75,8 +77,8 @@ module _ (bs : List ℕ) where
     pub is-15 : (numberOf (lookup es bs r) ≡ 15) ↔ (IsIndex bs es → ⊥)
     pub is-16 : (numberOf (lookup es bs r) ≡ 16) ↔ ((i : IsIndex bs es) × (totalRows (i .runs) ≤ r))
 
-  -- ---- READING FROM A ROW gives the whole stream's rows without the first r; and what lookup's entry is for: the bytes from its offset on are a whole
-  -- stream, whose rows without the first r - first are the same
+  -- ---- READING FROM A ROW gives the whole stream's rows without the first r; and what lookup's entry is for: the bytes from its offset on
+  -- are a whole stream, whose rows without the first r - first are the same
   pub record ReadingHolds (signed : Bool) (places : ℕ) (es : List Entry) (r : ℕ) : Type 0 where
     pub rows : (i : IsIndex bs es) → r < totalRows (i .runs) → totalRows (i .runs) - r ≤ places
         → reading signed places es bs r ≡ gives (drop r (joinedRows signed (i .runs)))
@@ -85,7 +87,8 @@ module _ (bs : List ℕ) where
     pub is-8 : (numberOf (reading signed places es bs r) ≡ 8)
         ↔ ((i : IsIndex bs es) × (r < totalRows (i .runs)) × (places < totalRows (i .runs) - r))
     pub through : (i : IsIndex bs es) (e : Entry) → lookup es bs r ≡ gives e
-        → (ds : List Description) × (stream (drop (e .at) bs) ≡ whole ds) × (drop r (joinedRows signed (i .runs)) ≡ drop (r - e .first) (joinedRows signed ds))
+        → (ds : List Description) × (stream (drop (e .at) bs) ≡ whole ds)
+        × (drop r (joinedRows signed (i .runs)) ≡ drop (r - e .first) (joinedRows signed ds))
 
   pub record IndexHolds : Type 0 where
     pub the-stream : StreamHolds
@@ -131,5 +134,7 @@ pub record PromisesHold : Type 0 where
   pub lookup-same : (input : List ℕ) (c : Columns) (row : ℕ) (r r′ : Found) → LookedUp input c row r → LookedUp input c row r′ → r ≡ r′
   pub reading-same : (input : List ℕ) (c : Columns) (row : ℕ) (signed : Bool) (out out′ out″ : List ℤ) (r r′ : Preview)
       → ReadFrom input c row signed out out′ r → ReadFrom input c row signed out out″ r′ → (r ≡ r′) × (out′ ≡ out″)
-  pub never-15 : (input first at counts f o n : List ℕ) (s : Sizes) (row : ℕ) (r : Found) → AllBelow 256 input → BuiltIn input first at counts f o n (built.Index s)
-      → LookedUp input (record { firsts = take (s .entries) f; offsets = take (s .entries) o; counts = take (s .entries) n }) row r → r ≢ notFound 15
+  pub never-15 : (input first at counts f o n : List ℕ) (s : Sizes) (row : ℕ) (r : Found) → AllBelow 256 input
+      → BuiltIn input first at counts f o n (built.Index s)
+      → LookedUp input (record { firsts = take (s .entries) f; offsets = take (s .entries) o; counts = take (s .entries) n }) row r
+      → r ≢ notFound 15

@@ -56,7 +56,8 @@ pub record Roomy (input : List ℕ) (places offsets counts : ℕ) : Type 0 where
 -- .. and are filled with them
 pub record Filled (input first at counts first′ at′ counts′ : List ℕ) : Type 0 where
   pub filled : (ds : List Description) → stream input ≡ whole ds
-      → record { firsts = first′; offsets = at′; counts = counts′ } ≡ columnsAt (record { firsts = first; offsets = at; counts = counts }) (gives ds)
+      → record { firsts = first′; offsets = at′; counts = counts′ }
+      ≡ columnsAt (record { firsts = first; offsets = at; counts = counts }) (gives ds)
 
 -- the rows from r on, where the last entry is known: more than the places, or so many
 abbrev pub leftOf : ℕ → ℕ → ℕ → ℕ → Left

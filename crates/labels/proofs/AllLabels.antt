@@ -10,7 +10,7 @@ use lib.ListN.{length, drop, getD}
 use lib.Seq.{drop-at}
 use lib.IntN.{ℤ}
 use Rattle.format.specs.Fields.{pick}
-use Rattle.format.proofs.Tests.{T-true, is-false}
+use Rattle.format.proofs.Tests.{never, T-true, is-false}
 use Rattle.present.proofs.Columns.{spread-length}
 use Rattle.labels.specs.declared.LabelColumn.{LabelColumn}
 use Rattle.labels.specs.Labels.{addUp, isName, nameAt, fallbackOf}
@@ -23,7 +23,7 @@ use Rattle.labels.specs.ColumnLaws.{AllLabelsHold, AllLabelsDetermined}
 use Rattle.labels.proofs.Labels.{adds, added}
 use Rattle.labels.proofs.OffsetLoop.{offsets-length, begins-at}
 use Rattle.labels.proofs.ColumnOutcome.{too-few, enough-places, room-of, comes-18, comes-19, comes-8, comes-all}
-use Rattle.labels.proofs.ColumnRefusals.{every-18, bad-19, never, not-before, all-good, adds-19, adds-18}
+use Rattle.labels.proofs.ColumnRefusals.{every-18, bad-19, never-refused, not-before, all-good, adds-19, adds-18}
 use Rattle.labels.proofs.ColumnRows.{numberAt, nameFor, served, good-before, label-served, column-at}
 
 -- ---- each answer
@@ -42,18 +42,18 @@ module _ (flags : List ℕ) (numbers lengths : List ℤ) (block : List ℕ) (c :
           → ColumnSaid flags numbers lengths block c (labelsAnswer (length flags) outcome)
       go false a d t f =
           rw (comes-18 flags numbers lengths (length block) c a)
-          (eighteen (λ u. let s : false ≡ true = sym a ∙ added lengths block u in let y : _≡_ {A = ℕ} 0 1 = cc in omega arith))
+          (eighteen (λ u. let s : false ≡ true = sym a ∙ added lengths block u in never (cc)))
       go true a (yes h) t f =
           rw (comes-19 flags numbers lengths (length block) c a h)
           (nineteen (goodRows lengths flags numbers) h (bad-19 flags numbers lengths block a h)
-          (λ k l q. never flags numbers lengths block a k 19 (omega arith) l q))
+          (λ k l q. never-refused flags numbers lengths block a k 19 (omega arith) l q))
       go true a (no h) true f =
           rw (comes-8 flags numbers lengths (length block) c a (omega arith) f)
-          (eight (adds lengths block a) (λ row l q. never flags numbers lengths block a row 19 l (omega arith) q)
-          (λ m. let s : true ≡ false = sym f ∙ enough-places flags lengths c m in let y : _≡_ {A = ℕ} 0 1 = cc in omega arith))
+          (eight (adds lengths block a) (λ row l q. never-refused flags numbers lengths block a row 19 l (omega arith) q)
+          (λ m. let s : true ≡ false = sym f ∙ enough-places flags lengths c m in never (cc)))
       go true a (no h) false f =
           rw (comes-all flags numbers lengths (length block) c a (omega arith) f)
-          (all-rows (adds lengths block a) (λ row l q. never flags numbers lengths block a row 19 l (omega arith) q)
+          (all-rows (adds lengths block a) (λ row l q. never-refused flags numbers lengths block a row 19 l (omega arith) q)
           (room-of flags lengths c f))
 
   -- the first row that is refused with 19
@@ -177,12 +177,12 @@ all-labels-hold flags numbers lengths block c c′ r p = record {
         go false s z = refl
 
     as-was : (k : ℕ) (o : LabelOutcome) → labelsAnswer (length flags) o ≡ columnRefused k → labelsAt flags numbers lengths c o ≡ c
-    as-was k gives e = let y : _≡_ {A = ℕ} 0 1 = cc in absurd (omega arith)
+    as-was k gives e = never (cc)
     as-was k (refuses n) e = refl
     as-was k (refusesRow n row) e = refl
 
     as-was-row : (k row : ℕ) (o : LabelOutcome) → labelsAnswer (length flags) o ≡ rowRefused k row → labelsAt flags numbers lengths c o ≡ c
-    as-was-row k row gives e = let y : _≡_ {A = ℕ} 0 1 = cc in absurd (omega arith)
+    as-was-row k row gives e = never (cc)
     as-was-row k row (refuses n) e = refl
     as-was-row k row (refusesRow n row′) e = refl
 

@@ -1,13 +1,13 @@
 -- The call is three tests and then the columns: so what the code tests, in its order, says what comes of it. Assumes nothing.
 use mathlib.Core.Path.{_≡_, refl}
 use Prim.Native.Nat.{ℕ, _<_, _≤_}
-use native.Mathlib.Omega.{arith}
 use mathlib.Core.Bool.{Bool, true, false, _||_}
 use mathlib.Core.List.{List, _++_}
 use lib.ListN.{length, drop}
 use lib.Dec.{ltb}
 use lib.IntN.{ℤ}
 use borrow.Author.Tests.{lt-ltb, le-ltb, ltb-false}
+use Rattle.format.proofs.Tests.{never}
 use Rattle.labels.specs.declared.LabelColumn.{LabelColumn}
 use Rattle.labels.specs.Labels.{addUpTo}
 use Rattle.labels.specs.RowPass.{RowsLaid}
@@ -24,9 +24,9 @@ module _ (flags : List ℕ) (lengths : List ℤ) (p : LabelPlaces) where
       go : (x y z : Bool) → ltb (length (p .offsets)) (length lengths) ≡ x → ltb (length (p .starts)) (length flags) ≡ y
           → ltb (length (p .sizes)) (length flags) ≡ z
           → x || (y || z) ≡ false → LabelRoom flags lengths p
-      go true y z p q s e = let n : _≡_ {A = ℕ} 0 1 = cc in absurd (omega arith)
-      go false true z p q s e = let n : _≡_ {A = ℕ} 0 1 = cc in absurd (omega arith)
-      go false false true p q s e = let n : _≡_ {A = ℕ} 0 1 = cc in absurd (omega arith)
+      go true y z p q s e = never (cc)
+      go false true z p q s e = never (cc)
+      go false false true p q s e = never (cc)
       go false false false p q s e = record { offsets = ltb-false _ _ p; starts = ltb-false _ _ q; sizes = ltb-false _ _ s }
 
   pub too-few : (LabelRoom flags lengths p → ⊥) → tooFewPlaces (length lengths) (length flags) p ≡ true

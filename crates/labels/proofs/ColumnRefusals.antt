@@ -9,6 +9,7 @@ use mathlib.Core.List.{List, []}
 use lib.ListN.{length, getD}
 use lib.IntN.{ℤ}
 use Rattle.format.specs.Fields.{pick}
+use Rattle.format.proofs.Tests.{never}
 use Rattle.labels.specs.declared.Label.{Label}
 use Rattle.labels.specs.declared.Label.the-variants.{Name, Fallback, Refused}
 use Rattle.labels.specs.Labels.{addUp, isName, nameAt, fallbackOf, refusedWith}
@@ -30,8 +31,8 @@ two-numbers j k e = ap numberOf e
 module _ (flags : List ℕ) (numbers lengths : List ℤ) (block : List ℕ) where
   -- a name and a fallback are no refusals
   no-refusal : (t : Bool) (s z n k : ℕ) → pick t (nameAt s z) (fallbackOf n) ≡ refusedWith k → ⊥
-  no-refusal true s z n k e = let y : _≡_ {A = ℕ} 0 1 = cc in omega arith
-  no-refusal false s z n k e = let y : _≡_ {A = ℕ} 0 1 = cc in omega arith
+  no-refusal true s z n k e = never (cc)
+  no-refusal false s z n k e = never (cc)
 
   pub every-18 : addUp lengths block ≡ false → (row : ℕ) → row < length flags → RowRefused flags numbers lengths block 18 row
   every-18 a row h fall = not-added lengths numbers flags block fall row h (rw a)
@@ -41,8 +42,8 @@ module _ (flags : List ℕ) (numbers lengths : List ℤ) (block : List ℕ) wher
     bad-19 h fall = label-bad lengths numbers flags block (goodRows lengths flags numbers) h a fall (good-first lengths flags numbers h)
 
     -- a row before the first bad one is not refused at all
-    pub never : (row k : ℕ) → row < length flags → row < goodRows lengths flags numbers → RowRefused flags numbers lengths block k row → ⊥
-    never row k h g q =
+    pub never-refused : (row k : ℕ) → row < length flags → row < goodRows lengths flags numbers → RowRefused flags numbers lengths block k row → ⊥
+    never-refused row k h g q =
         no-refusal (isName (getD flags row 0)) _ _ _ k (sym (label-served lengths numbers flags block row h a []
         (good-before lengths flags numbers row g)) ∙ q [])
 
@@ -51,7 +52,7 @@ module _ (flags : List ℕ) (numbers lengths : List ℤ) (block : List ℕ) wher
     not-before row h q = go (decLt row (goodRows lengths flags numbers))
       where
         go : Dec (row < goodRows lengths flags numbers) → goodRows lengths flags numbers ≤ row
-        go (yes l) = absurd (never row 19 h l q)
+        go (yes l) = absurd (never-refused row 19 h l q)
         go (no l) = omega arith
 
     pub all-good : NoneNineteen flags numbers lengths block → length flags ≤ goodRows lengths flags numbers

@@ -10,6 +10,7 @@ use lib.Seq.{drop-cons, drop-drop}
 use lib.IntN.{ℤ, pos, negsuc}
 use borrow.Author.Tests.{lt-ltb, le-ltb, lt-leb}
 use Rattle.format.specs.Fields.{pick}
+use Rattle.format.proofs.Tests.{never}
 use Rattle.present.specs.Present.{rowsFor, present, spread}
 use Rattle.present.proofs.Columns.{spread-length, row-at}
 use Rattle.labels.specs.declared.Label.{Label}
@@ -108,9 +109,9 @@ module _ (lengths numbers : List ℤ) (flags block : List ℕ) (row : ℕ) (h : 
       go : (t b : Bool) → pick t b true ≡ false
           → pick t (pick b (nameFor lengths number) (refusedWith 19)) (fallbackOf (length fall))
           ≡ refusedWith 19
-      go true true f = let z : _≡_ {A = ℕ} 0 1 = cc in absurd (omega arith)
+      go true true f = never (cc)
       go true false f = refl
-      go false b f = let z : _≡_ {A = ℕ} 0 1 = cc in absurd (omega arith)
+      go false b f = never (cc)
 
   pub label-served : served lengths flags numbers row ≡ true
       → label lengths numbers flags block fall row
@@ -121,7 +122,7 @@ module _ (lengths numbers : List ℤ) (flags block : List ℕ) (row : ℕ) (h : 
           → pick t (pick b (nameFor lengths number) (refusedWith 19)) (fallbackOf (length fall))
           ≡ pick t (nameFor lengths number) (fallbackOf (length fall))
       go true true f = refl
-      go true false f = let z : _≡_ {A = ℕ} 0 1 = cc in absurd (omega arith)
+      go true false f = never (cc)
       go false b f = refl
 
 -- ---- what the columns hold

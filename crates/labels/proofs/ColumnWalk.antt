@@ -13,6 +13,7 @@ use lib.Dec.{ltb}
 use lib.IntN.{ℤ, pos, negsuc}
 use borrow.Author.Tests.{ltb-true}
 use Rattle.format.specs.Fields.{pick}
+use Rattle.format.proofs.Tests.{never}
 use Rattle.present.specs.Present.{rowsFor}
 use Rattle.present.proofs.SpreadLoop.{any-default}
 use Rattle.labels.specs.declared.Whole.the-variants.{Number, Below}
@@ -23,7 +24,7 @@ use Rattle.labels.specs.Column.{nextInside, hasNumber, goodRows}
 -- ---- the next number
 
 pub whole-below : (z : ℤ) → wholeOf z ≡ Below → size z ≡ 0
-whole-below (pos j) e = let y : _≡_ {A = ℕ} 0 1 = cc in absurd (omega arith)
+whole-below (pos j) e = never (cc)
 whole-below (negsuc j) e = refl
 
 module _ (lengths numbers : List ℤ) (at : ℕ) where
@@ -38,7 +39,7 @@ module _ (lengths numbers : List ℤ) (at : ℕ) where
     next-below e = there ∙ go (getD numbers at (pos 0)) e
       where
         go : (z : ℤ) → wholeOf z ≡ Below → nextInside lengths (z ∷ drop (suc at) numbers) ≡ false
-        go (pos j) e = let y : _≡_ {A = ℕ} 0 1 = cc in absurd (omega arith)
+        go (pos j) e = never (cc)
         go (negsuc j) e = refl
 
     pub next-number : (k : ℕ) → wholeOf (getD numbers at (pos 0)) ≡ Number k → nextInside lengths (drop at numbers) ≡ ltb k (length lengths)
@@ -46,7 +47,7 @@ module _ (lengths numbers : List ℤ) (at : ℕ) where
       where
         go : (z : ℤ) → wholeOf z ≡ Number k → nextInside lengths (z ∷ drop (suc at) numbers) ≡ ltb k (length lengths)
         go (pos j) e = let y : j ≡ k = cc in rw y
-        go (negsuc j) e = let y : _≡_ {A = ℕ} 0 1 = cc in absurd (omega arith)
+        go (negsuc j) e = never (cc)
 
   -- a number that is there and of the dictionary
   pub record Inside : Type 0 where
@@ -58,11 +59,11 @@ module _ (lengths numbers : List ℤ) (at : ℕ) where
     where
       by : (z : ℤ) → nextInside lengths (z ∷ drop (suc at) numbers) ≡ true → size z < length lengths
       by (pos j) e = ltb-true j (length lengths) e
-      by (negsuc j) e = let y : _≡_ {A = ℕ} 0 1 = cc in absurd (omega arith)
+      by (negsuc j) e = never (cc)
 
       go : Dec (at < length numbers) → Inside
       go (yes h) = record { here = h; small = by (getD numbers at (pos 0)) (sym (there h) ∙ t) }
-      go (no h) = let f : false ≡ true = sym (next-missing (omega arith)) ∙ t in let y : _≡_ {A = ℕ} 0 1 = cc in absurd (omega arith)
+      go (no h) = let f : false ≡ true = sym (next-missing (omega arith)) ∙ t in never (cc)
 
 -- what is made of each number
 pub mapped-at : (g : ℤ → ℕ) (numbers : List ℤ) (at : ℕ) → at < length numbers → getD (map g numbers) at 0 ≡ g (getD numbers at (pos 0))

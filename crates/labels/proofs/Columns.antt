@@ -4,7 +4,7 @@ use mathlib.Core.Path.{_≡_, refl, ap, _∙_}
 use Prim.Native.Nat.{ℕ, zero, suc, _+_, _<_, _≤_}
 use mathlib.Core.Logic.{_≢_}
 use native.Mathlib.Omega.{arith}
-use mathlib.Core.Bool.{Bool, true, false, not, _&&_}
+use mathlib.Core.Bool.{Bool, true, false, not, _&&_, and-false}
 use mathlib.Core.List.{List, [], _∷_}
 use lib.ListN.{length, drop, getD}
 use lib.Seq.{drop-cons}
@@ -12,6 +12,7 @@ use lib.Dec.{eqb, ltb}
 use lib.IntN.{ℤ, pos, negsuc}
 use borrow.Author.Tests.{ne-eqb, eq-eqb, lt-ltb, le-ltb, le-leb, lt-leb}
 use Rattle.format.specs.Fields.{pick}
+use Rattle.format.proofs.Tests.{never}
 use Rattle.labels.specs.declared.Whole.the-variants.{Number, Below}
 use Rattle.labels.specs.Whole.{wholeOf}
 use Rattle.labels.specs.Labels.{size, total, noneBelow, addUpTo, addUp, startOf, sizeOf, entryOf, nameAt, fallbackOf}
@@ -34,22 +35,18 @@ begin l n = let s : 0 + total l ≡ total l = omega arith in rw s
 -- an entry below 0 spoils them all ..
 spoilt : (z : ℤ) (zs : List ℤ) (sum n : ℕ) → wholeOf z ≡ Below → leftOver (z ∷ zs) sum n ≡ false
 unfolding leftOver noneBelow
-spoilt (pos k) zs sum n e = let y : _≡_ {A = ℕ} 0 1 = cc in absurd (omega arith)
+spoilt (pos k) zs sum n e = never (cc)
 spoilt (negsuc k) zs sum n e = refl
 
 -- .. and one that passes what is left of the block too
 passed : (z : ℤ) (zs : List ℤ) (sum n k : ℕ) → wholeOf z ≡ Number k → n < sum + k → leftOver (z ∷ zs) sum n ≡ false
 unfolding leftOver noneBelow total
-passed (negsuc j) zs sum n k e h = let y : _≡_ {A = ℕ} 0 1 = cc in absurd (omega arith)
-passed (pos j) zs sum n k e h = let y : j ≡ k = cc in rw (ne-eqb (sum + (j + total zs)) n (λ f. omega arith)) (none (noneBelow zs))
-  where
-    none : (b : Bool) → (b && false) ≡ false
-    none true = refl
-    none false = refl
+passed (negsuc j) zs sum n k e h = never (cc)
+passed (pos j) zs sum n k e h = let y : j ≡ k = cc in rw (ne-eqb (sum + (j + total zs)) n (λ f. omega arith)) (and-false (noneBelow zs))
 
 step : (z : ℤ) (zs : List ℤ) (sum n k : ℕ) → wholeOf z ≡ Number k → leftOver (z ∷ zs) sum n ≡ leftOver zs (sum + k) n
 unfolding leftOver noneBelow total
-step (negsuc j) zs sum n k e = let y : _≡_ {A = ℕ} 0 1 = cc in absurd (omega arith)
+step (negsuc j) zs sum n k e = never (cc)
 step (pos j) zs sum n k e =
     let y : j ≡ k = cc in
     let s : sum + (j + total zs) ≡ sum + k + total zs = omega arith in
@@ -81,7 +78,7 @@ adds-whole l b i a h e =
     let n : NoneBelow l = adds l b a .none-below in
     let s : pos (sizeOf l i) ≡ getD l i (pos 0) = size-is l i n in
     let w : wholeOf (pos (sizeOf l i)) ≡ Below = ap wholeOf s ∙ e in
-    let y : _≡_ {A = ℕ} 0 1 = cc in omega arith
+    never (cc)
 
 pub adds-start : (l : List ℤ) (n k : ℕ) → addUpTo l n ≡ true → startOf l k ≤ n
 adds-start l n k a = omega (arith, start-le l k, adds-total l n a)
@@ -89,7 +86,7 @@ adds-start l n k a = omega (arith, start-le l k, adds-total l n a)
 -- a number of a column, as the code finds it
 pub whole-natural : (z : ℤ) (k : ℕ) → wholeOf z ≡ Number k → size z ≡ k
 whole-natural (pos j) k e = cc
-whole-natural (negsuc j) k e = let y : _≡_ {A = ℕ} 0 1 = cc in absurd (omega arith)
+whole-natural (negsuc j) k e = never (cc)
 
 pub size-at : (l : List ℤ) (i k : ℕ) → wholeOf (getD l i (pos 0)) ≡ Number k → sizeOf l i ≡ k
 unfolding sizeOf
@@ -115,7 +112,7 @@ module _ (lengths numbers : List ℤ) (at : ℕ) where
     below e = there ∙ go (getD numbers at (pos 0)) e
       where
         go : (z : ℤ) → wholeOf z ≡ Below → numbered lengths z ≡ refusedWith 19
-        go (pos k) e = let y : _≡_ {A = ℕ} 0 1 = cc in absurd (omega arith)
+        go (pos k) e = never (cc)
         go (negsuc k) e = refl
 
     as-pick : (k : ℕ) → wholeOf (getD numbers at (pos 0)) ≡ Number k
@@ -125,7 +122,7 @@ module _ (lengths numbers : List ℤ) (at : ℕ) where
       where
         go : (z : ℤ) → wholeOf z ≡ Number k → numbered lengths z ≡ pick (ltb k (length lengths)) (nameAt (startOf lengths k) (sizeOf lengths k)) (refusedWith 19)
         go (pos j) e = let y : j ≡ k = cc in rw y
-        go (negsuc j) e = let y : _≡_ {A = ℕ} 0 1 = cc in absurd (omega arith)
+        go (negsuc j) e = never (cc)
 
     pub outside : (k : ℕ) → wholeOf (getD numbers at (pos 0)) ≡ Number k → length lengths ≤ k → named lengths numbers at ≡ refusedWith 19
     outside k e o = as-pick k e ∙ rw (le-ltb k (length lengths) o)

@@ -11,8 +11,7 @@ use lib.IntN.{ℤ, pos, negsuc}
 use lib.Signed.{leZ-yes, yes-nonNeg}
 use borrow.Author.Tests.{le-leb, lt-leb, leb-true, leb-false, lt-ltb, ltb-true, ltb-false, eq-eqb}
 use Rattle.format.specs.Fields.{pick}
-use Rattle.format.proofs.Widths.{and-left, and-right}
-use Rattle.format.proofs.Tests.{T-true, is-false}
+use Rattle.format.proofs.Tests.{never, T-true, is-false, and-left, and-right}
 use Rattle.labels.specs.declared.Label.{Label}
 use Rattle.labels.specs.Labels.{total, noneBelow, addUpTo, addUp, startOf, sizeOf, isName, entryOf, nameAt, fallbackOf, refusedWith}
 use Rattle.labels.specs.Labels.{numbered, named, label, partOf}
@@ -80,7 +79,7 @@ module _ (lengths numbers : List ℤ) (flags block fall : List ℕ) (row : ℕ) 
   module _ (h : row < length flags) (a : AddUp lengths block) (n : Name lengths numbers flags block fall row) where
     says-numbered : (z : ℤ) → entryOf flags row < length numbers → getD numbers (entryOf flags row) (pos 0) ≡ z → Says (numbered lengths z)
     unfolding numbered
-    says-numbered (negsuc k) l e = nineteen h a n (λ j m. let z : _≡_ {A = ℕ} 0 1 = cc in omega arith)
+    says-numbered (negsuc k) l e = nineteen h a n (λ j m. never (cc))
     says-numbered (pos k) l e = go (ltb k (length lengths)) refl
       where
         go : (t : Bool) → ltb k (length lengths) ≡ t → Says (pick t (nameAt (startOf lengths k) (sizeOf lengths k)) (refusedWith 19))
@@ -102,7 +101,7 @@ module _ (lengths numbers : List ℤ) (flags block fall : List ℕ) (row : ℕ) 
       go : (r a n : Bool) → leb (length flags) row ≡ r → addUp lengths block ≡ a → isName (getD flags row 0) ≡ n
           → Says (pick r (refusedWith 16) (pick (not a) (refusedWith 18) (pick n (named lengths numbers (entryOf flags row)) (fallbackOf (length fall)))))
       go true a n p q s = sixteen (leb-true (length flags) row p)
-      go false false n p q s = eighteen (leb-false (length flags) row p) (λ a. let z : false ≡ true = sym q ∙ added lengths block a in let z′ : _≡_ {A = ℕ} 0 1 = cc in omega arith)
+      go false false n p q s = eighteen (leb-false (length flags) row p) (λ a. let z : false ≡ true = sym q ∙ added lengths block a in never (cc))
       go false true true p q s = says-named (leb-false (length flags) row p) (adds lengths block q) (rw s tt)
       go false true false p q s = no-name (leb-false (length flags) row p) (adds lengths block q) (λ t. rw s at t)
 

@@ -14,10 +14,12 @@ use Rattle.lines.specs.Line
 
 -- (the `unfolding` line opens all that computes: whoever says `unfolding written` computes with it)
 unfoldable written : List ℕ → List ℕ
-unfolding Digits.number Digits.digits Fields.widths Fields.width Fields.leastOf Fields.leastWidth Fields.negative Fields.zigzag Fields.row Fields.blockBytes Fields.lastBelow
+unfolding Digits.number Digits.digits Fields.widths Fields.width Fields.leastOf Fields.leastWidth Fields.negative Fields.zigzag Fields.row Fields.blockBytes
+    Fields.lastBelow
     Runs.patchesFrom Runs.patches Runs.lastIsSkip Runs.taken Runs.shared Runs.outside Runs.outOfPlace Runs.tooLarge Runs.layout
     Rows.steps Rows.walk Rows.baseValue Rows.patchAt Rows.patchedRows Rows.rowsOf Rows.asI64 Rows.i64Rows
-    Parse.bytes Parse.block Parse.varint Parse.shortRun Parse.directRun Parse.fixedBody Parse.deltaBody Parse.deltaRun Parse.patchedBody Parse.patchedRun Parse.byKind Parse.parse Parse.into
+    Parse.bytes Parse.block Parse.varint Parse.shortRun Parse.directRun Parse.fixedBody Parse.deltaBody Parse.deltaRun Parse.patchedBody Parse.patchedRun
+    Parse.byKind Parse.parse Parse.into
     Hexadecimal.hexValue Hexadecimal.allHex Hexadecimal.hexBytes Decimal.decimalIn Decimal.decimal Decimal.rowText Decimal.rowsText
     Line.badLine Line.replyText Line.frameOf Line.frameText Line.answerText
 written line = Line.answerText line

@@ -18,6 +18,7 @@ use Rattle.format.specs.Promises.{RunRead, answerOf, runPlaces}
 use Rattle.format.specs.declared.Answer.{Answer}
 use Rattle.format.specs.declared.Answer.the-variants.{End, Run, Refused}
 use Rattle.format.proofs.Rows.{i64-count}
+use Rattle.format.proofs.Tests.{never}
 use Rattle.text.specs.Ascii.{ascii}
 use Rattle.text.specs.Hexadecimal.{allHex, hexBytes}
 use Rattle.text.specs.Decimal.{rowText, rowsText}
@@ -58,7 +59,14 @@ module _ (line frame : List ℕ) where
           pub bad-flag : 1 < getD frame 0 0 → Framed line frame 0
           unfolding badLine
           bad-flag h =
-              framed-none (rw (ne-eqb (length line) 0 some, ne-eqb (length line % 2) 1 even, le-ltb 8800 (length line) short, hex, flag-is, lt-ltb 1 (getD frame 0 0) h))
+              framed-none (rw (
+                ne-eqb (length line) 0 some,
+                ne-eqb (length line % 2) 1 even,
+                le-ltb 8800 (length line) short,
+                hex,
+                flag-is,
+                lt-ltb 1 (getD frame 0 0) h,
+              ))
 
           pub framed : getD frame 0 0 ≤ 1 → Framed line frame (length line / 2)
           unfolding badLine frameOf
@@ -110,18 +118,12 @@ answered-unique a b = (a .count ∙ sym (b .count), a .places ∙ sym (b .places
 -- the rows that were read fit the places
 into-rows : (n : ℕ) (m : Parsed Description) (d : Description) (rest : List ℕ) → into n m ≡ got d rest → rowCount d ≤ n
 unfolding into
-into-rows n end d rest e =
-    let z : _≡_ {A = ℕ} 0 1 = cc in
-    absurd (omega arith)
-into-rows n (refused r) d rest e =
-    let z : _≡_ {A = ℕ} 0 1 = cc in
-    absurd (omega arith)
+into-rows n end d rest e = never (cc)
+into-rows n (refused r) d rest e = never (cc)
 into-rows n (got b s) d rest e = by (ltb n (rowCount b)) refl e
   where
     by : (t : Bool) → ltb n (rowCount b) ≡ t → unless t 8 (got b s) ≡ got d rest → rowCount d ≤ n
-    by true f e =
-        let z : _≡_ {A = ℕ} 0 1 = cc in
-        absurd (omega arith)
+    by true f e = never (cc)
     by false f e =
         let z : b ≡ d = cc in
         rw z at (ltb-false n (rowCount b) f)
@@ -134,7 +136,8 @@ pub record Reads (frame : List ℕ) (signed : Bool) (out′ : List ℤ) (r : Ans
 pub reads : (frame : List ℕ) (signed : Bool) (out out′ : List ℤ) (r : Answer) → length out ≡ 512 → RunRead frame 1 signed out out′ r → Reads frame signed out′ r
 reads frame signed out out′ r l g = by (into 512 (parse (drop 1 frame))) refl (rw l at (g .answer)) (rw l at (g .places))
   where
-    by : (x : Parsed Description) → into 512 (parse (drop 1 frame)) ≡ x → r ≡ answerOf 1 (length frame - 1) x → out′ ≡ runPlaces signed out x → Reads frame signed out′ r
+    by : (x : Parsed Description) → into 512 (parse (drop 1 frame)) ≡ x → r ≡ answerOf 1 (length frame - 1) x → out′ ≡ runPlaces signed out x
+        → Reads frame signed out′ r
     by end e a p = record { few = rw a (omega arith); words = rw (a, e) }
     by (refused n) e a p = record { few = rw a (omega arith); words = rw (a, e) }
     by (got d rest) e a p = record {
@@ -143,7 +146,8 @@ reads frame signed out out′ r l g = by (into 512 (parse (drop 1 frame))) refl 
     }
 
 -- the frame's first byte and the run after it
-pub frame-text : (frame : List ℕ) → 0 < length frame → frameText frame ≡ readingText (length frame - 1) (eqb (getD frame 0 0) 1) (into 512 (parse (drop 1 frame)))
+pub frame-text : (frame : List ℕ) → 0 < length frame
+    → frameText frame ≡ readingText (length frame - 1) (eqb (getD frame 0 0) 1) (into 512 (parse (drop 1 frame)))
 unfolding frameText
 frame-text [] h = absurd (omega arith)
 frame-text (flag ∷ run) h =

@@ -53,7 +53,8 @@ readingText total signed m = replyText (answerOf 1 total m) (rowsIn signed m)
 unfoldable pub frameOf : List ℕ → List ℕ
 frameOf line = pick (badLine line) [] (hexBytes line)
 
--- The first byte is the flag, the rest one run; bytes after it aren't read. No run has more than 512 rows, so that 512 places are room for any.
+-- The first byte is the flag, the rest one run; bytes after it aren't read.
+-- No run has more than 512 rows, so that 512 places are room for any.
 unfoldable pub frameText : List ℕ → List ℕ
 frameText [] = ascii "bad line"
 frameText (flag ∷ run) = readingText (length run) (eqb flag 1) (into 512 (parse run))

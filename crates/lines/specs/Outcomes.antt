@@ -1,4 +1,5 @@
--- Any two outcomes that a promise of this room allows are equal: the answer and every lent place at exit, of bad lines and too little room too.
+-- Any two outcomes that a promise of this room allows are equal: the answer
+-- and every lent place at exit, of bad lines and too little room too.
 -- Assumes nothing.
 use mathlib.Core.Path.{_≡_}
 use Prim.Native.Nat.{ℕ}

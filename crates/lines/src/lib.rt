@@ -132,8 +132,8 @@ fn put_frame(frame: &[u8], out: &mut [u8]) -> ByteOffset
     ByteOffset { bytes: end }
 }
 
-// The answer line to a line (its bytes without the newline), in the first bytes of `out`: how many they are. Nothing is written where `out` has
-// fewer bytes than any answer line needs.
+// The answer line to a line (its bytes without the newline), in the first bytes of `out`: how many they are. Nothing is written where `out`
+// has fewer bytes than any answer line needs.
 pub fn answer_line(line: &[u8], out: &mut [u8]) -> usize
     ensures { λ r. ⌜ Answered (now (line .entry)) (now (out .entry)) (now (out .exit)) r ⌝ }
 {

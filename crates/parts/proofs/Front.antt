@@ -11,6 +11,7 @@ use Rattle.format.specs.Fields.{pick, width, Block, bytesFor, lastBelow}
 use Rattle.format.specs.Runs.{Description, patches, tooLarge, outOfPlace, entryWidth}
 use Rattle.format.specs.Parse
 use Rattle.format.specs.Parse.{Reason, plain, cutIn, unfinished, Parsed, end, got, refused, then, unless, bytes, block, varint, codeOf, rowsLess, parse}
+use Rattle.format.proofs.Tests.{never}
 
 -- reading is refused, since the input ended too soon (true) or for good (false)
 pub data Stops {A : Type 0} (b : Bool) : Parsed A → Type 0 where
@@ -46,7 +47,8 @@ unfolding block
 block-even c w n s t e = go (bytes-even c (bytesFor (n * w)) s t e)
   where
     go : {m m′ : Parsed (List ℕ)} → Even m m′
-        → Even (then m λ v rest. got (Parse.unpack w n (Rattle.format.specs.Digits.number 256 v)) rest) (then m′ λ v rest. got (Parse.unpack w n (Rattle.format.specs.Digits.number 256 v)) rest)
+        → Even (then m λ v rest. got (Parse.unpack w n (Rattle.format.specs.Digits.number 256 v)) rest)
+        (then m′ λ v rest. got (Parse.unpack w n (Rattle.format.specs.Digits.number 256 v)) rest)
     go (even-got e) = even-got e
     go (even-cut c c′) = even-cut c c′
 
@@ -58,9 +60,7 @@ not-unless : {A B : Type 0} {m : Parsed A} (t : Bool) (n : ℕ) → eqb n 1 ≡ 
 not-unless {A = A} {B = B} true n h k = go
   where
     go : Stops {A = A} true (refused (plain n)) → B
-    go (stops e) =
-        let z : _≡_ {A = ℕ} 0 1 = cc in
-        absurd (omega arith)
+    go (stops e) = never (cc)
 not-unless false n h k = k
 
 -- ---- a varint that lies in the first bytes
@@ -146,8 +146,10 @@ module _ (x y : List ℕ) (e : length x ≡ length y) where
         by-rows false = delta-alike (codeOf a) (rowsLess a b - 1) p h
 
         by-code : (t : Bool)
-            → Stops how (pick t (Parse.fixedBody (rowsLess a b + 1) (p ++ x)) (unless (eqb (rowsLess a b) 0) 4 (Parse.deltaBody (codeOf a) (rowsLess a b - 1) (p ++ x))))
-            → Stops how (pick t (Parse.fixedBody (rowsLess a b + 1) (p ++ y)) (unless (eqb (rowsLess a b) 0) 4 (Parse.deltaBody (codeOf a) (rowsLess a b - 1) (p ++ y))))
+            → Stops how (pick t (Parse.fixedBody (rowsLess a b + 1) (p ++ x))
+            (unless (eqb (rowsLess a b) 0) 4 (Parse.deltaBody (codeOf a) (rowsLess a b - 1) (p ++ x))))
+            → Stops how (pick t (Parse.fixedBody (rowsLess a b + 1) (p ++ y))
+            (unless (eqb (rowsLess a b) 0) 4 (Parse.deltaBody (codeOf a) (rowsLess a b - 1) (p ++ y))))
         by-code true = fixed-alike (rowsLess a b + 1) p h
         by-code false = by-rows (eqb (rowsLess a b) 0)
 
@@ -171,7 +173,8 @@ module _ (x y : List ℕ) (e : length x ≡ length y) where
       body : List ℕ → Parsed Description
       body bs =
           then (bytes 6 bw bs) λ base s. then (block 13 (width code) rows s) λ k t. then (block 14 (entryWidth pc gw) len t) λ l rest.
-          unless (tooLarge (width code) (patches (width pc) (l .values))) 3 (unless (outOfPlace (width pc) rows (l .values)) 7 (got (Rattle.format.specs.Runs.patched code base pc gw k l) rest))
+          unless (tooLarge (width code) (patches (width pc) (l .values))) 3
+          (unless (outOfPlace (width pc) rows (l .values)) 7 (got (Rattle.format.specs.Runs.patched code base pc gw k l) rest))
 
       by-widths : (t : Bool) → Stops true (unless t 2 (body (p ++ x))) → Stops true (unless t 2 (body (p ++ y)))
       by-widths true = λ u. u

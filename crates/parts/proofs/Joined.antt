@@ -22,12 +22,10 @@ use Rattle.format.specs.Parts.{onPart, stateOf, answered, bufferAfter}
 use Rattle.format.proofs.Cut.{Extends, ext-refused, ext-cut, parse-ext}
 use Rattle.format.proofs.Length.{unfinished-short}
 use Rattle.format.proofs.Parts.{take-min}
+use Rattle.format.proofs.Tests.{never, T-true}
 use Rattle.parts.specs.Steps.{Begun, Joins, Goes, goes, holds, byAnswer, isCut, isWhole, isRefused}
 use Rattle.parts.proofs.Front.{Stops, stops, alike, delta-told, patient}
 use Rattle.parts.proofs.Seen.{Same, same, cut-is}
-
-is-true : (b : Bool) → T b → b ≡ true
-is-true true t = refl
 
 pub take-both : (h k : ℕ) (d : List ℕ) → h ≤ length d → take (h + k) d ≡ take h d ++ take k (drop h d)
 take-both h k d l =
@@ -91,12 +89,12 @@ module _ (s : PartReader) (part buffer : List ℕ) (h k : ℕ) (g : Begun s part
       go m p (run _) f = rw (size, ne-eqb h 0 (λ z. absurd (omega (arith, g .some))), ← (g .seen))
       go m p (runs.refusal {r} _) f = by-kind (unfinished r) refl
         where
-          by-kind : (u : Bool) → unfinished r ≡ u → paste buffer h part k ≡ bufferAfter (take (s .held) buffer) part buffer (onPart (stateOf s buffer) part (refused r) .reply)
+          by-kind : (u : Bool) → unfinished r ≡ u
+              → paste buffer h part k ≡ bufferAfter (take (s .held) buffer) part buffer (onPart (stateOf s buffer) part (refused r) .reply)
           by-kind true u = rw (u, size) (whole (unfinished-short all r below p (rw u tt)))
           by-kind false u =
               let t : isRefused (answered (onPart (stateOf s buffer) part (refused r) .reply)) ≡ true = rw u in
-              let z : _≡_ {A = ℕ} 0 1 = cc in
-              absurd (omega arith)
+              never (cc)
 
   -- a short repeat or a direct run is not refused
   pub not-refused : getD buffer 0 0 / 64 < 2 → isRefused (answered (goes s part buffer .reply)) ≡ false
@@ -111,19 +109,15 @@ module _ (s : PartReader) (part buffer : List ℕ) (h k : ℕ) (g : Begun s part
       go (got d rest) e = refl
       go (refused r) e =
           let u : T (unfinished r) = patient (getD buffer 0 0) (take (s .held - 1) (drop 1 buffer) ++ part) r d (sym (ap parse first) ∙ e) in
-          rw (is-true (unfinished r) u)
+          rw (T-true (unfinished r) u)
 
   -- the front and the length say that the run is unfinished: all is held
   module _ (signed : Bool) (out : List ℤ) (a : Answer) (long : 22 ≤ h) (m : RunMeasured (take (h + k) buffer) 0 a) (cut : isCut a ≡ true) (buffer′ : List ℕ)
       (p : buffer′ ≡ paste buffer h part k) where
     told : (total : ℕ) (m : Parsed Description) → isCut (answerOf 0 total m) ≡ true → Stops true m
     unfolding isCut
-    told total end e =
-        let z : _≡_ {A = ℕ} 0 1 = cc in
-        absurd (omega arith)
-    told total (got d rest) e =
-        let z : _≡_ {A = ℕ} 0 1 = cc in
-        absurd (omega arith)
+    told total end e = never (cc)
+    told total (got d rest) e = never (cc)
     told total (refused r) e = stops {r = r} (sym (cut-is total r) ∙ e)
 
     here : Stops true (parse (take h buffer ++ take k (drop h buffer)))
@@ -143,9 +137,11 @@ module _ (s : PartReader) (part buffer : List ℕ) (h k : ℕ) (g : Begun s part
         bs = take (s .held) buffer ++ take k part
 
         count : length bs ≡ h + k
-        count = length-append (take (s .held) buffer) (take k part) ∙ ap (λ (n : ℕ). n + length (take k part)) size ∙ ap (λ (n : ℕ). h + n) (length-take-le k part few-part)
+        count = length-append (take (s .held) buffer) (take k part) ∙ ap (λ (n : ℕ). n + length (take k part)) size
+            ∙ ap (λ (n : ℕ). h + n) (length-take-le k part few-part)
 
-        go : (m : Parsed Description) → parse bs ≡ m → Stops true m → Goes s part buffer buffer′ signed out out (holds s (h + k) (length part)) (goes s part buffer)
+        go : (m : Parsed Description) → parse bs ≡ m → Stops true m
+            → Goes s part buffer buffer′ signed out out (holds s (h + k) (length part)) (goes s part buffer)
         go m e (stops {r} u) =
             let short : length bs < 4356 = unfinished-short bs r (append-below 256 bs (drop k part) (rw (sym split) at below)) e (rw u tt) in
             let n : k ≡ length part = omega (arith, g .seen, count) in
@@ -172,16 +168,15 @@ module _ (s : PartReader) (part buffer : List ℕ) (h k : ℕ) (g : Begun s part
     all-is : take (s .held) buffer ++ part ≡ getD buffer 0 0 ∷ ((rest ++ take k part) ++ drop k part)
     all-is =
         ap (λ (x : List ℕ). x ++ part) (sym front-is ∙ begins)
-        ∙ ap (λ (x : List ℕ). getD buffer 0 0 ∷ x) (ap (λ (x : List ℕ). rest ++ x) (sym (take-append-drop k part)) ∙ sym (append-assoc rest (take k part) (drop k part)))
+        ∙ ap (λ (x : List ℕ). getD buffer 0 0 ∷ x)
+        (ap (λ (x : List ℕ). rest ++ x) (sym (take-append-drop k part)) ∙ sym (append-assoc rest (take k part) (drop k part)))
 
     not-told : (total : ℕ) (m : Parsed Description) → isWhole (answerOf 0 total m) ≡ true → Stops false m → ⊥
     unfolding isWhole
-    not-told total m e (stops {r} u) =
-        let z : _≡_ {A = ℕ} 0 1 = cc in
-        absurd (omega arith)
+    not-told total m e (stops {r} u) = never (cc)
 
-    never : Stops false (parse (getD buffer 0 0 ∷ (rest ++ take k part))) → ⊥
-    never u =
+    never-told : Stops false (parse (getD buffer 0 0 ∷ (rest ++ take k part))) → ⊥
+    never-told u =
         let l : length (take k part) ≡ length (take k (drop h buffer))
         = length-take-le k part few-part ∙ sym (length-take-le k (drop h buffer) (omega (arith, in-lent, length-drop h buffer))) in
         let f : 22 ≤ length (getD buffer 0 0 ∷ rest) = omega (arith, ap length begins, length-take-le h buffer (omega (arith, in-lent))) in
@@ -199,16 +194,22 @@ module _ (s : PartReader) (part buffer : List ℕ) (h k : ℕ) (g : Begun s part
         bs-below = append-below 256 bs (drop k part) (rw all-is at below)
 
         count : length bs ≡ h + k
-        count = omega (arith, length-append (getD buffer 0 0 ∷ rest) (take k part), ap length begins, length-take-le h buffer (omega (arith, in-lent)), length-take-le k part few-part)
+        count = omega (
+          arith,
+          length-append (getD buffer 0 0 ∷ rest) (take k part),
+          ap length begins,
+          length-take-le h buffer (omega (arith, in-lent)),
+          length-take-le k part few-part,
+        )
 
         on-refusal : (r : Reason) → unfinished r ≡ false → parse (bs ++ drop k part) ≡ refused r → (m : Parsed Description) → parse bs ≡ m
             → Extends (drop k part) m (refused r) → ⊥
-        on-refusal r u q m e ext-refused = never (rw e (stops {r = r} u))
+        on-refusal r u q m e ext-refused = never-told (rw e (stops {r = r} u))
         on-refusal r u q m e (ext-cut {n} c) =
             let short : length bs < 4356 = unfinished-short bs n bs-below e c in
             let none : drop k part ≡ [] = drop-of-length-le part {i = k} (omega (arith, g .seen, count)) in
             let p : parse bs ≡ refused r = ap parse (sym (append-nil bs)) ∙ ap (λ (x : List ℕ). parse (bs ++ x)) (sym none) ∙ q in
-            never (rw p (stops {r = r} u))
+            never-told (rw p (stops {r = r} u))
 
         go : (m : Parsed Description) → parse (take (s .held) buffer ++ part) ≡ m → isRefused (answered (onPart (stateOf s buffer) part m .reply)) ≡ false
         go end e = refl

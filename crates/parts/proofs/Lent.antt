@@ -80,6 +80,7 @@ module _ (s : PartReader) (z : s .held ≡ 0) (part buffer : List ℕ) (signed :
   pub from-part : (buffer′ : List ℕ) → buffer′ ≡ paste buffer 0 part (r .reader .held) → Goes s part buffer buffer′ signed out out′ r (goes s part buffer)
   from-part buffer′ p = record {
     step = stepped;
-    lent = p ∙ ap (paste buffer 0 part) size-is ∙ kept-here .lent ∙ sym (ap (λ (held : List ℕ). bufferAfter held part buffer (goes s part buffer .reply)) empty);
+    lent = p ∙ ap (paste buffer 0 part) size-is ∙ kept-here .lent
+        ∙ sym (ap (λ (held : List ℕ). bufferAfter held part buffer (goes s part buffer .reply)) empty);
     places = same-part .places;
   }

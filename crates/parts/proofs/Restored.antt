@@ -11,17 +11,14 @@ use Rattle.format.specs.Digits.{AllBelow}
 use Rattle.format.specs.declared.PartReader.{PartReader}
 use Rattle.format.specs.declared.PartStep.{PartStep}
 use Rattle.format.specs.Parts.{Reply, handed, more, broke, ended, answered, bufferAfter}
+use Rattle.format.proofs.Tests.{never}
 use Rattle.parts.specs.Steps.{Begun, Joins, Goes, goes, isRefused}
 use Rattle.parts.proofs.Joined.{take-both, few-part, in-lent, kept-lent}
 
 pub left-lent : (held part buffer : List ℕ) (a : Reply) → isRefused (answered a) ≡ true → buffer ≡ bufferAfter held part buffer a
 unfolding isRefused
-left-lent held part buffer (handed h) e =
-    let z : _≡_ {A = ℕ} 0 1 = cc in
-    absurd (omega arith)
-left-lent held part buffer more e =
-    let z : _≡_ {A = ℕ} 0 1 = cc in
-    absurd (omega arith)
+left-lent held part buffer (handed h) e = never (cc)
+left-lent held part buffer more e = never (cc)
 left-lent held part buffer (broke f) e = refl
 left-lent held part buffer ended e = refl
 
@@ -30,7 +27,8 @@ module _ (d part z : List ℕ) (h k : ℕ) (l : h + k ≤ length d) (lp : k ≤ 
   pub restored : paste (paste d h part k) h (paste z 0 (drop h d) k) k ≡ d
   restored =
       let start : take h (paste d h part k) ≡ take h d
-      = ap (take h) (append-assoc (take h d) (take k part) (drop (h + k) d)) ∙ take-at (take h d) (take k part ++ drop (h + k) d) h (length-take-le h d (omega arith)) in
+      = ap (take h) (append-assoc (take h d) (take k part) (drop (h + k) d))
+      ∙ take-at (take h d) (take k part ++ drop (h + k) d) h (length-take-le h d (omega arith)) in
       let zero-on : 0 + k ≡ k = omega arith in
       let middle : take k (paste z 0 (drop h d) k) ≡ take k (drop h d)
       = ap (λ (n : ℕ). take n (paste z 0 (drop h d) k)) (sym zero-on) ∙ take-paste z 0 (drop h d) k (omega arith) (omega (arith, length-drop h d)) in
@@ -39,7 +37,8 @@ module _ (d part z : List ℕ) (h k : ℕ) (l : h + k ≤ length d) (lp : k ≤ 
       ∙ ap (λ (x : List ℕ). (take h d ++ take k (drop h d)) ++ x) (drop-paste d h part k (omega arith) lp)
       ∙ ap (λ (x : List ℕ). x ++ drop (h + k) d) (sym (take-both h k d (omega arith))) ∙ take-append-drop (h + k) d
 
-module _ (s : PartReader) (part buffer buffer′ : List ℕ) (h k : ℕ) (g : Begun s part buffer h k) (b : AllBelow 256 buffer) (c : AllBelow 256 part) (signed : Bool)
+module _ (s : PartReader) (part buffer buffer′ : List ℕ) (h k : ℕ) (g : Begun s part buffer h k) (b : AllBelow 256 buffer) (c : AllBelow 256 part)
+    (signed : Bool)
     (out out′ : List ℤ) (r : PartStep) (j : Joins s part buffer buffer′ h k signed out out′ r (goes s part buffer)) where
   said : isRefused (r .answer) ≡ isRefused (answered (goes s part buffer .reply))
   said = ap (λ (x : PartStep). isRefused (x .answer)) (j .step)
@@ -61,7 +60,8 @@ module _ (s : PartReader) (part buffer buffer′ : List ℕ) (h k : ℕ) (g : Be
   put-back z saved buffer″ l e p t = record {
     step = j .step;
     lent = p ∙ ap (λ (x : List ℕ). paste x h saved k) (j .lent) ∙ ap (λ (x : List ℕ). paste (paste buffer h part k) h x k) e
-        ∙ ap (λ (x : List ℕ). paste (paste buffer h part k) h (paste z 0 x k) k) (take-all (length buffer - h) (drop h buffer) (omega (arith, length-drop h buffer)))
+        ∙ ap (λ (x : List ℕ). paste (paste buffer h part k) h (paste z 0 x k) k)
+        (take-all (length buffer - h) (drop h buffer) (omega (arith, length-drop h buffer)))
         ∙ restored buffer part z h k (in-lent s part buffer h k g b c) (few-part s part buffer h k g b c) l
         ∙ left-lent (take (s .held) buffer) part buffer (goes s part buffer .reply) (sym said ∙ t);
     places = j .places;

@@ -106,7 +106,8 @@ module _ (s : PartReader) (buffer : List ℕ) (signed : Bool) (out : List ℤ) w
         let c : close (room buffer out) (stateOf s buffer) ≡ onClose (stateOf s buffer) (parse (take (s .held) buffer))
         = goes-on (room buffer out) (s .standing) _ _ enough-closes e in
         record {
-          step = rw c (ap (byLast s) (rw sub-zero at (g .answer) ∙ ap (answerOf 0 (length (take k buffer))) i ∙ ap (λ (x : List ℕ). answerOf 0 (length x) (parse (take (s .held) buffer))) front) ∙ by-step (parse (take (s .held) buffer)));
+          step = rw c (ap (byLast s) (rw sub-zero at (g .answer) ∙ ap (answerOf 0 (length (take k buffer))) i
+              ∙ ap (λ (x : List ℕ). answerOf 0 (length x) (parse (take (s .held) buffer))) front) ∙ by-step (parse (take (s .held) buffer)));
           places = rw c (g .places ∙ ap (runPlaces signed out) i ∙ by-places (parse (take (s .held) buffer)));
         }
       where

@@ -24,6 +24,7 @@ use Rattle.format.specs.Parts.{refusalFrom, onPart, stepOf, placesAfter, room}
 use Rattle.format.proofs.Cut.{refused-stays}
 use Rattle.format.proofs.Length.{unfinished-short}
 use Rattle.format.proofs.Parts.{into-all}
+use Rattle.format.proofs.Tests.{never}
 use Rattle.parts.specs.Steps.{goes, fieldFrom, fromFirst, cutShort, byAnswer}
 
 -- a refusal's bytes, counted from the run's first and then from the first part
@@ -37,9 +38,7 @@ from-run at total (cut n left) =
 -- a refusal of a run that is not unfinished names no field, so the bytes behind do not matter
 any-total : (at total total′ : ℕ) (r : Reason) → unfinished r ≡ false → refusalFrom at total r ≡ refusalFrom at total′ r
 any-total at total total′ (plain n) u = refl
-any-total at total total′ (cut n left) u =
-    let z : _≡_ {A = ℕ} 0 1 = cc in
-    absurd (omega arith)
+any-total at total total′ (cut n left) u = never (cc)
 
 pub cut-is : (total : ℕ) (r : Reason) → cutShort (refusal 0 total r .number) (refusal 0 total r .cut) ≡ unfinished r
 unfolding cutShort
@@ -111,4 +110,14 @@ module _ (s : PartReader) (part buffer : List ℕ) (signed : Bool) (out out′ :
               record { step = rw (ea, p, cut-is (length bs) r, u, size l); places = rw (p, u) eo }
           by-kind false u =
               let p : parse (held ++ part) ≡ refused r = ap parse all ∙ refused-stays bs q r e (rw u tt) in
-              record { step = rw (ea, p, cut-is (length bs) r, u, from-run (s .at .bytes) (length bs) r ∙ any-total (s .at .bytes) (length bs) (length (held ++ part)) r u); places = rw (p, u) eo }
+              record {
+                step = rw (
+                  ea,
+                  p,
+                  cut-is (length bs) r,
+                  u,
+                  from-run (s .at .bytes) (length bs) r
+                      ∙ any-total (s .at .bytes) (length bs) (length (held ++ part)) r u,
+                );
+                places = rw (p, u) eo;
+              }

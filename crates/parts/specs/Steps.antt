@@ -38,7 +38,8 @@ pub record Begun (s : PartReader) (part buffer : List ℕ) (h k : ℕ) : Type 0 
   pub seen : k ≡ min (length part) (4356 - h)
 
 -- it is read in the lent bytes, whatever the answer is
-pub record Joins (s : PartReader) (part buffer buffer′ : List ℕ) (h k : ℕ) (signed : Bool) (out out′ : List ℤ) (r : PartStep) (c : Call) : Type 0 where
+pub record Joins (s : PartReader) (part buffer buffer′ : List ℕ) (h k : ℕ) (signed : Bool) (out out′ : List ℤ) (r : PartStep)
+    (c : Call) : Type 0 where
   pub step : r ≡ stepOf s c
   pub lent : buffer′ ≡ paste buffer h part k
   pub places : out′ ≡ placesAfter signed out (c .reply)
@@ -55,7 +56,11 @@ tooFew s = still s (Refused (refusing 8 0))
 
 -- all of the part is taken, and the bytes seen are held
 abbrev pub holds : PartReader → ℕ → ℕ → PartStep
-holds s seen part = record { answer = More; taken = record { bytes = part }; reader = record { held = seen; at = s .at; standing = Opened } }
+holds s seen part = record {
+  answer = More;
+  taken = record { bytes = part };
+  reader = record { held = seen; at = s .at; standing = Opened };
+}
 
 -- nothing is taken, and the reader stops
 abbrev pub stops : PartReader → Standing → PartAnswer → PartStep
@@ -107,7 +112,8 @@ isRefused End = false
 unfoldable pub byAnswer : PartReader → ℕ → ℕ → ℕ → Answer → PartStep
 byAnswer s held seen part answer.End = holds s seen part
 byAnswer s held seen part (answer.Run r) = hands s (r .consumed .bytes - held) r
-byAnswer s held seen part (answer.Refused f) = pick (cutShort (f .number) (f .cut)) (holds s seen part) (refuses s (fromFirst (s .at .bytes) f))
+byAnswer s held seen part (answer.Refused f) =
+    pick (cutShort (f .number) (f .cut)) (holds s seen part) (refuses s (fromFirst (s .at .bytes) f))
 
 -- the closing call of an open reader
 unfoldable pub byLast : PartReader → Answer → PartStep

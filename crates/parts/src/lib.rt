@@ -68,7 +68,8 @@ fn join_or_restore(
     requires { ⌜ 512 ≤ length (now out) ⌝ }
     requires { ⌜ more .bytes ≤ length (now saved) ⌝ }
     requires { ⌜ Begun reader (now part) (now buffer) (held .bytes) (more .bytes) ⌝ }
-    ensures { λ r. ⌜ Goes reader (now (part .entry)) (now (buffer .entry)) (now (buffer .exit)) signed (now (out .entry)) (now (out .exit)) r (goes reader (now (part .entry)) (now (buffer .entry))) ⌝ }
+    ensures { λ r. ⌜ Goes reader (now (part .entry)) (now (buffer .entry)) (now (buffer .exit)) signed (now (out .entry))
+        (now (out .exit)) r (goes reader (now (part .entry)) (now (buffer .entry))) ⌝ }
 {
     let h = held.bytes;
     let k = more.bytes;
@@ -104,7 +105,8 @@ fn restoring(
 ) -> PartStep
     requires { ⌜ 512 ≤ length (now out) ⌝ }
     requires { ⌜ Begun reader (now part) (now buffer) (held .bytes) (more .bytes) ⌝ }
-    ensures { λ r. ⌜ Goes reader (now (part .entry)) (now (buffer .entry)) (now (buffer .exit)) signed (now (out .entry)) (now (out .exit)) r (goes reader (now (part .entry)) (now (buffer .entry))) ⌝ }
+    ensures { λ r. ⌜ Goes reader (now (part .entry)) (now (buffer .entry)) (now (buffer .exit)) signed (now (out .entry))
+        (now (out .exit)) r (goes reader (now (part .entry)) (now (buffer .entry))) ⌝ }
 {
     let k = more.bytes;
     if k <= 128 {
@@ -115,8 +117,8 @@ fn restoring(
     join_or_restore(reader, part, held, more, signed, buffer, &mut saved, out)
 }
 
-// A patched or delta run that began before the part. If its front is held, that and the length tell whether it stays unfinished: then what stands
-// after the bytes held does not matter. Otherwise the call may refuse.
+// A patched or delta run that began before the part. If its front is held, that and the length tell whether it stays unfinished: then what
+// stands after the bytes held does not matter. Otherwise the call may refuse.
 fn begun(
     reader: PartReader,
     part: &[u8],
@@ -128,7 +130,8 @@ fn begun(
 ) -> PartStep
     requires { ⌜ 512 ≤ length (now out) ⌝ }
     requires { ⌜ Begun reader (now part) (now buffer) (held .bytes) (more .bytes) ⌝ }
-    ensures { λ r. ⌜ Goes reader (now (part .entry)) (now (buffer .entry)) (now (buffer .exit)) signed (now (out .entry)) (now (out .exit)) r (goes reader (now (part .entry)) (now (buffer .entry))) ⌝ }
+    ensures { λ r. ⌜ Goes reader (now (part .entry)) (now (buffer .entry)) (now (buffer .exit)) signed (now (out .entry))
+        (now (out .exit)) r (goes reader (now (part .entry)) (now (buffer .entry))) ⌝ }
 {
     let h = held.bytes;
     let k = more.bytes;
@@ -160,7 +163,8 @@ fn opened(
 ) -> PartStep
     requires { ⌜ 512 ≤ length (now out) ⌝ }
     requires { ⌜ 4356 ≤ length (now buffer) ⌝ }
-    ensures { λ r. ⌜ Goes reader (now (part .entry)) (now (buffer .entry)) (now (buffer .exit)) signed (now (out .entry)) (now (out .exit)) r (goes reader (now (part .entry)) (now (buffer .entry))) ⌝ }
+    ensures { λ r. ⌜ Goes reader (now (part .entry)) (now (buffer .entry)) (now (buffer .exit)) signed (now (out .entry))
+        (now (out .exit)) r (goes reader (now (part .entry)) (now (buffer .entry))) ⌝ }
 {
     let h = number::least(reader.held, buffer.len());
     let n = part.len();
@@ -204,7 +208,8 @@ pub fn take(
     buffer: &mut [u8],
     out: &mut [i64],
 ) -> PartStep
-    ensures { λ r. ⌜ Takes reader (now (part .entry)) (now (buffer .entry)) (now (buffer .exit)) signed (now (out .entry)) (now (out .exit)) r ⌝ }
+    ensures { λ r. ⌜ Takes reader (now (part .entry)) (now (buffer .entry)) (now (buffer .exit)) signed (now (out .entry))
+        (now (out .exit)) r ⌝ }
 {
     if out.len() < Kind::MAX_ROWS {
         return steps::too_few(reader);

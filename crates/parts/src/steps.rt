@@ -1,7 +1,9 @@
-// What a call of the reader in parts comes to, by what the run reader said of the bytes looked at: the answer, the bytes taken, and the reader after it.
+// What a call of the reader in parts comes to, by what the run reader said of
+// the bytes looked at: the answer, the bytes taken, and the reader after it.
 ghost use mathlib.Core.Path.{_≡_};
 ghost use Prim.Native.Nat.{_-_};
-ghost use Rattle.parts.specs.Steps.{still, tooFew, holds, stops, refuses, hands, fromFirst, cutShort, isCut, isWhole, isRefused, byAnswer, byLast};
+ghost use Rattle.parts.specs.Steps.{still, tooFew, holds, stops, refuses, hands, fromFirst, cutShort, isCut, isWhole, isRefused};
+ghost use Rattle.parts.specs.Steps.{byAnswer, byLast};
 use format::Answer;
 use format::ByteOffset;
 use format::CutField;

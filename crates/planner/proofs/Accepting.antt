@@ -13,19 +13,14 @@ use borrow.Author.Tests.{eqb-true, eq-eqb, le-leb, lt-leb, leb-true, leb-false}
 use Rattle.format.specs.Fields.{pick}
 use Rattle.format.specs.Runs.{Description, joined}
 use Rattle.format.specs.Parse.{Parsed, end, got, refused}
+use Rattle.format.proofs.Tests.{never, both, not-so}
 use Rattle.planner.specs.declared.segment.Segment.{Segment}
 use Rattle.planner.specs.declared.Checked.{Checked}
 use Rattle.planner.specs.declared.Checked.the-variants as checked
-use Rattle.planner.specs.Check.{Columns, equalLengths, segments, covers, runOf, isRun, before, allRuns, runs, accepted, wide, Column, planned, direct, eight, column, told, checkedAs}
-use Rattle.planner.proofs.Segments.{both}
-use Rattle.planner.specs.Laws.{sumRows, Covers, Accept, none, more, Accepted, Answers, as-planned, as-direct, as-eight, Checks, accepts, rejects, CheckExactlyHolds}
-
-differs : {t : Bool} → t ≡ false → t ≡ true → ⊥
-differs e f = let z : _≡_ {A = ℕ} 0 1 = cc in omega arith
-
-flat : (t : Bool) → (t ≡ true → ⊥) → t ≡ false
-flat true h = absurd (h refl)
-flat false h = refl
+use Rattle.planner.specs.Check.{Columns, equalLengths, segments, covers, runOf, isRun, before, allRuns, runs, accepted, wide, Column}
+use Rattle.planner.specs.Check.{planned, direct, eight, column, told, checkedAs}
+use Rattle.planner.specs.Laws.{sumRows, Covers, Accept, none, more, Accepted, Answers, as-planned, as-direct, as-eight, Checks}
+use Rattle.planner.specs.Laws.{accepts, rejects, CheckExactlyHolds}
 
 -- ---- the segments cover the rows from `at` on
 
@@ -81,9 +76,9 @@ module _ (signed : Bool) (rows : List ℤ) where
       go : (m : Parsed Description) → runOf signed rows s ≡ m → (isRun m && allRuns signed rows ss) ≡ true
           → (allRuns signed rows ss ≡ true → Accept signed rows ss (runs signed rows ss))
           → Accept signed rows (s ∷ ss) (before m (runs signed rows ss))
-      go end f e ih = let z : _≡_ {A = ℕ} 0 1 = cc in absurd (omega arith)
+      go end f e ih = never (cc)
       go (got d rest) f e ih = more f (ih e)
-      go (refused r) f e ih = let z : _≡_ {A = ℕ} 0 1 = cc in absurd (omega arith)
+      go (refused r) f e ih = never (cc)
 
   all-accept : {ss : List Segment} {ds : List Description} → Accept signed rows ss ds
       → (allRuns signed rows ss ≡ true) × (runs signed rows ss ≡ ds)
@@ -94,7 +89,8 @@ module _ (signed : Bool) (rows : List ℤ) where
   module _ (c : Columns) (room : ℕ) where
     -- the four tests
     pub tests : accepted signed rows c room ≡ true
-        → (equalLengths c ≡ true) × (covers (length rows) 0 (segments c) ≡ true) × (allRuns signed rows (segments c) ≡ true) × (length (joined (runs signed rows (segments c))) ≤ room)
+        → (equalLengths c ≡ true) × (covers (length rows) 0 (segments c) ≡ true) × (allRuns signed rows (segments c) ≡ true)
+        × (length (joined (runs signed rows (segments c))) ≤ room)
     unfolding accepted
     tests e =
         let bytes : ℕ = length (joined (runs signed rows (segments c))) in
@@ -123,29 +119,30 @@ module _ (signed : Bool) (rows : List ℤ) where
         go : (t u : Bool) → accepted signed rows c room ≡ t → leb (length (joined (wide signed rows))) room ≡ u
             → Answers signed rows c room (pick t (planned (runs signed rows (segments c))) (pick u (direct (wide signed rows)) eight))
         go true u e f = as-planned (of-accepted e)
-        go false true e f = as-direct (λ ds a. differs e (to-accepted a .0)) (leb-true (length (joined (wide signed rows))) room f)
-        go false false e f = as-eight (λ ds a. differs e (to-accepted a .0)) (leb-false (length (joined (wide signed rows))) room f)
+        go false true e f = as-direct (λ ds a. never (cc (to-accepted a .0))) (leb-true (length (joined (wide signed rows))) room f)
+        go false false e f = as-eight (λ ds a. never (cc (to-accepted a .0))) (leb-false (length (joined (wide signed rows))) room f)
 
     answered : {r : Column} → Answers signed rows c room r → column signed rows c room ≡ r
     unfolding column
     answered (as-planned a) = let p = to-accepted a in rw (p .0, p .1)
     answered (as-direct h l) =
-        rw (flat (accepted signed rows c room) (λ e. h _ (of-accepted e)), le-leb (length (joined (wide signed rows))) room l)
+        rw (not-so (accepted signed rows c room) (λ e. h _ (of-accepted e)), le-leb (length (joined (wide signed rows))) room l)
     answered (as-eight h l) =
-        rw (flat (accepted signed rows c room) (λ e. h _ (of-accepted e)), lt-leb (length (joined (wide signed rows))) room l)
+        rw (not-so (accepted signed rows c room) (λ e. h _ (of-accepted e)), lt-leb (length (joined (wide signed rows))) room l)
 
     checks : Checks signed rows c room (checkedAs signed rows c room)
     unfolding checkedAs
     checks = go (accepted signed rows c room) refl
       where
-        go : (t : Bool) → accepted signed rows c room ≡ t → Checks signed rows c room (pick t (checked.Accepted (told (runs signed rows (segments c)))) checked.Rejected)
+        go : (t : Bool) → accepted signed rows c room ≡ t
+            → Checks signed rows c room (pick t (checked.Accepted (told (runs signed rows (segments c)))) checked.Rejected)
         go true e = accepts (of-accepted e)
-        go false e = rejects (λ ds a. differs e (to-accepted a .0))
+        go false e = rejects (λ ds a. never (cc (to-accepted a .0)))
 
     checked-as : {r : Checked} → Checks signed rows c room r → checkedAs signed rows c room ≡ r
     unfolding checkedAs
     checked-as (accepts a) = let p = to-accepted a in rw (p .0, p .1)
-    checked-as (rejects h) = rw (flat (accepted signed rows c room) (λ e. h _ (of-accepted e)))
+    checked-as (rejects h) = rw (not-so (accepted signed rows c room) (λ e. h _ (of-accepted e)))
 
 pub check-exactly : CheckExactlyHolds
 check-exactly signed rows c room = record {

@@ -44,7 +44,9 @@ module _ (signed : Bool) (rows : List ℤ) (c : Columns) (room : ℕ) where
       left = rw e (segment-next c k h)
 
       pub along-out : n ≡ 0 → checked.Rejected ≡ checkedAs signed rows c room
-      along-out z = sym (a .so-far ∙ rw left (verdict-out signed rows room k row bytes s (drop (k + 1) (segments c)) (a .row-in) (none signed rows row s anyRun n r z)))
+      along-out z = sym (a .so-far
+          ∙ rw left (verdict-out signed rows room k row bytes s (drop (k + 1) (segments c)) (a .row-in)
+          (none signed rows row s anyRun n r z)))
 
       pub along-taken : (n ≡ 0 → ⊥) → Taken signed rows row s anyRun n
       along-taken z = some signed rows row s anyRun n r z

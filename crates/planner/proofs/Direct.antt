@@ -70,7 +70,8 @@ module _ (signed : Bool) (part : List ℤ) where
   run-good : 1 ≤ length part → length part ≤ 512 → AllI64 part → Valid run × (i64Rows signed run ≡ part)
   unfolding run
   run-good l m h =
-      let e : writing signed Direct 31 (map asU64 part) (length (layout run)) ≡ got run [] = written signed Direct 31 (map asU64 part) (length (layout run)) (run-accepted l m h) (le-refl _) in
+      let e : writing signed Direct 31 (map asU64 part) (length (layout run)) ≡ got run [] =
+      written signed Direct 31 (map asU64 part) (length (layout run)) (run-accepted l m h) (le-refl _) in
       let b = reads-back signed Direct 31 part (length (layout run)) h e in
       (b .0, b .2)
 
@@ -81,7 +82,8 @@ module _ (signed : Bool) (part : List ℤ) where
 -- ---- all parts
 
 module _ (signed : Bool) where
-  wide-good : (fuel : ℕ) (rows : List ℤ) → length rows ≤ fuel → AllI64 rows → AllValid (map (run signed) (parts fuel rows)) × (joinedRows signed (map (run signed) (parts fuel rows)) ≡ rows)
+  wide-good : (fuel : ℕ) (rows : List ℤ) → length rows ≤ fuel → AllI64 rows
+      → AllValid (map (run signed) (parts fuel rows)) × (joinedRows signed (map (run signed) (parts fuel rows)) ≡ rows)
   unfolding parts joinedRows
   wide-good zero [] l h = (tt, refl)
   wide-good zero (z ∷ rows) l h = absurd (omega arith)

@@ -30,7 +30,8 @@ cols starts counts forms widths = record { starts = starts; counts = counts; for
 
 unfoldable seen : Columns → ℕ → Seen
 unfolding told zigzagged shortestIn shortest stored stepsOf baseDelta valuesOf described every haveForm fitWidth writing
-    keptWidths keptCodes among isKept isKeptWidth patchesAbove entriesFrom leastFrom codeFor patchCode gapWidth baseSize baseBytes PatchedWriting.parts writingPatched
+    keptWidths keptCodes among isKept isKeptWidth patchesAbove entriesFrom leastFrom codeFor patchCode gapWidth baseSize baseBytes
+    PatchedWriting.parts writingPatched
     segmentsFrom covers writeIn allRuns runs accepted parts wide column
 seen c room = bytesOf (column false (pos 7 ∷ pos 7 ∷ pos 7 ∷ pos 9 ∷ []) c room)
 
@@ -75,6 +76,12 @@ too-wide : seen (cols (0 ∷ 3 ∷ []) (3 ∷ 1 ∷ []) (0 ∷ 1 ∷ []) (1 ∷ 
 unfolding seen
 too-wide = refl
 
-no-rows : seen (record { starts = 0 ∷ 3 ∷ 3 ∷ []; counts = 3 ∷ 0 ∷ 1 ∷ []; forms = 0 ∷ 1 ∷ 1 ∷ []; widths = 1 ∷ 3 ∷ 3 ∷ []; bases = 0 ∷ 0 ∷ 0 ∷ [] }) 34 ≡ as-direct wideRun
+no-rows : seen (record {
+  starts = 0 ∷ 3 ∷ 3 ∷ [];
+  counts = 3 ∷ 0 ∷ 1 ∷ [];
+  forms = 0 ∷ 1 ∷ 1 ∷ [];
+  widths = 1 ∷ 3 ∷ 3 ∷ [];
+  bases = 0 ∷ 0 ∷ 0 ∷ [];
+}) 34 ≡ as-direct wideRun
 unfolding seen
 no-rows = refl

@@ -1,10 +1,10 @@
 -- The direct runs of 64 bits, laid as a proposal: the check accepts it, and its runs are those. Assumes nothing.
 use mathlib.Core.Path.{_≡_, refl, sym, ap, _∙_}
-use Prim.Native.Nat.{ℕ, zero, suc, _+_, _-_, _*_, _/_, _<_, _≤_, min}
+use Prim.Native.Nat.{ℕ, zero, suc, _+_, _-_, _*_, _<_, _≤_, min}
 use native.Mathlib.Omega.{arith}
 use native.Mathlib.Nat.{le-refl}
 use native.Mathlib.Decide.{decLt}
-use mathlib.Core.Bool.{Bool, true, false, _&&_, not}
+use mathlib.Core.Bool.{Bool, true, _&&_}
 use mathlib.Core.List.{List, [], _∷_, map}
 use lib.ListN.{length, take, drop, set, length-set, length-drop, length-take}
 use lib.Seq.{length-take-le, drop-drop, getD-take, getD-set-same, getD-set-other}
@@ -16,13 +16,14 @@ use Rattle.format.specs.Rows.{asU64}
 use Rattle.format.specs.Parse.{got}
 use Rattle.format.specs.Writing.{AllI64}
 use Rattle.format.proofs.Writing.{written}
+use Rattle.format.proofs.Tests.{both}
 use Rattle.proposer.specs.Proposed.{Proposed}
 use Rattle.planner.specs.declared.segment.Segment.{Segment}
 use Rattle.planner.specs.Check.{Columns, proposal, segments, covers, anyRun, writeIn, runOf, parts, wide}
 use Rattle.planner.specs.Laws.{Accept, none, more}
 use Rattle.planner.specs.Walk.{segmentAt}
 use Rattle.planner.specs.Plan.{firstOf, Sound, directRuns, havePlaces, directAt, DirectLaid}
-use Rattle.planner.proofs.Segments.{both, segment-next, segment-none}
+use Rattle.planner.proofs.Segments.{segment-next, segment-none}
 use Rattle.planner.proofs.Accepting.{covers-exactly}
 use Rattle.planner.proofs.Direct.{fit-take, fit-drop, run, run-accepted, run-bytes}
 use Rattle.planner.proofs.Widely.{take-least, no-part}
@@ -49,15 +50,6 @@ all-places n c h =
       in-bases = leb-true n (length (c .bases)) (p .1);
     }
 
--- by the test's answer
-pub no-fit : (r fit : Bool) → r ≡ fit → not r ≡ true → fit ≡ false
-no-fit true fit e h = let z : _≡_ {A = ℕ} 0 1 = cc in absurd (omega arith)
-no-fit false fit e h = sym e
-
-pub all-fit : (r fit : Bool) → r ≡ fit → not r ≡ false → fit ≡ true
-all-fit true fit e h = sym e
-all-fit false fit e h = let z : _≡_ {A = ℕ} 0 1 = cc in absurd (omega arith)
-
 -- ---- one after another into the places
 
 module _ (rows : ℕ) (c : Columns) (k : ℕ) where
@@ -65,10 +57,12 @@ module _ (rows : ℕ) (c : Columns) (k : ℕ) where
   laid-none j h = absurd (omega arith)
 
   pub laid-on : (n : ℕ) → k < n → Proposed (c .starts) (c .counts) (c .forms) (c .widths) (c .bases) n → DirectLaid rows c k
-      → DirectLaid rows (proposal (set (c .starts) k (512 * k)) (set (c .counts) k (min 512 (rows - 512 * k))) (set (c .forms) k 1) (set (c .widths) k 31) (set (c .bases) k 0)) (k + 1)
+      → DirectLaid rows (proposal (set (c .starts) k (512 * k)) (set (c .counts) k (min 512 (rows - 512 * k))) (set (c .forms) k 1)
+      (set (c .widths) k 31) (set (c .bases) k 0)) (k + 1)
   laid-on n h p d j l = go (decLt j k)
     where
-      go : Dec (j < k) → segmentAt (proposal (set (c .starts) k (512 * k)) (set (c .counts) k (min 512 (rows - 512 * k))) (set (c .forms) k 1) (set (c .widths) k 31) (set (c .bases) k 0)) j ≡ directAt rows j
+      go : Dec (j < k) → segmentAt (proposal (set (c .starts) k (512 * k)) (set (c .counts) k (min 512 (rows - 512 * k)))
+          (set (c .forms) k 1) (set (c .widths) k 31) (set (c .bases) k 0)) j ≡ directAt rows j
       go (yes m) =
           let z : (j ≡ k → ⊥) = λ e. omega (arith, m, e) in
           rw (
@@ -115,13 +109,16 @@ module _ (c₀ c : Columns) (n : ℕ) (p : Proposed (c₀ .starts) (c₀ .counts
     in-bases = omega (arith, b, p .in-bases);
   }
 
-module _ (rows runs : ℕ) (c₀ c : Columns) (k : ℕ) (l : Laying rows runs c₀ c k) (h : k < runs) (p : Proposed (c₀ .starts) (c₀ .counts) (c₀ .forms) (c₀ .widths) (c₀ .bases) runs) where
+module _ (rows runs : ℕ) (c₀ c : Columns) (k : ℕ) (l : Laying rows runs c₀ c k) (h : k < runs)
+    (p : Proposed (c₀ .starts) (c₀ .counts) (c₀ .forms) (c₀ .widths) (c₀ .bases) runs) where
   -- there are places for the next
   pub next-places : Proposed (c .starts) (c .counts) (c .forms) (c .widths) (c .bases) runs
   next-places = same-places c₀ c runs p (l .starts) (l .counts) (l .forms) (l .widths) (l .bases)
 
   pub laying-on : (row count : ℕ) → row ≡ 512 * k → count ≡ min 512 (rows - row)
-      → Laying rows runs c₀ (proposal (set (c .starts) k row) (set (c .counts) k count) (set (c .forms) k 1) (set (c .widths) k 31) (set (c .bases) k 0)) (k + 1)
+      → Laying rows runs c₀
+      (proposal (set (c .starts) k row) (set (c .counts) k count) (set (c .forms) k 1) (set (c .widths) k 31) (set (c .bases) k 0))
+      (k + 1)
   laying-on row count e f = record {
     few = omega arith;
     starts = length-set (c .starts) k row ∙ l .starts;
@@ -140,7 +137,8 @@ first-direct fuel [] h m = absurd (omega arith)
 first-direct zero (z ∷ l) h m = absurd (omega arith)
 first-direct (suc fuel) (z ∷ l) h m = let e : suc fuel - 1 ≡ fuel = omega arith in rw e refl
 
-module _ (signed : Bool) (rows : List ℤ) (i : AllI64 rows) (c : Columns) (n : ℕ) (e : n ≡ directRuns (length rows)) (l : length (c .starts) ≡ n) (d : DirectLaid (length rows) c n) where
+module _ (signed : Bool) (rows : List ℤ) (i : AllI64 rows) (c : Columns) (n : ℕ) (e : n ≡ directRuns (length rows))
+    (l : length (c .starts) ≡ n) (d : DirectLaid (length rows) c n) where
   next : (k : ℕ) → k < n → drop k (segments c) ≡ directAt (length rows) k ∷ drop (k + 1) (segments c)
   next k h = segment-next c k (omega (arith, h, l)) ∙ ap (λ (s : Segment). s ∷ drop (k + 1) (segments c)) (d k h)
 
@@ -168,8 +166,10 @@ module _ (signed : Bool) (rows : List ℤ) (i : AllI64 rows) (c : Columns) (n : 
         (run-accepted signed part (omega (arith, m, o, e, h)) fits (fit-take 512 (drop (512 * k) rows) (fit-drop (512 * k) rows i)))
         (omega (arith, run-bytes signed part, fits)))
 
-  accepts : (m k fuel : ℕ) → k + m ≡ n → length rows - 512 * k ≤ fuel → Accept signed rows (drop k (segments c)) (map (run signed) (parts fuel (drop (512 * k) rows)))
-  accepts zero k fuel h f = rw (segment-none c k (omega (arith, h, l)), no-part fuel (drop (512 * k) rows) (omega (arith, length-drop (512 * k) rows, e, h))) none
+  accepts : (m k fuel : ℕ) → k + m ≡ n → length rows - 512 * k ≤ fuel
+      → Accept signed rows (drop k (segments c)) (map (run signed) (parts fuel (drop (512 * k) rows)))
+  accepts zero k fuel h f =
+      rw (segment-none c k (omega (arith, h, l)), no-part fuel (drop (512 * k) rows) (omega (arith, length-drop (512 * k) rows, e, h))) none
   accepts (suc m) k fuel h f =
       let o = length-drop (512 * k) rows in
       let z : 512 * k + 512 ≡ 512 * (k + 1) = omega arith in

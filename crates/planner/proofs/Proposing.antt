@@ -1,22 +1,24 @@
 -- What the planner proposes is sound, since it has passed the check; and what follows of a sound proposal. Assumes nothing.
-use mathlib.Core.Path.{_≡_, refl, sym, ap, _∙_}
+use mathlib.Core.Path.{_≡_, refl, sym, ap}
 use Prim.Native.Nat.{ℕ, zero, suc, _+_, _*_, _/_, _<_, _≤_}
 use native.Mathlib.Omega.{arith}
 use mathlib.Core.Bool.{Bool, true, false}
 use mathlib.Core.List.{List}
-use lib.ListN.{length, take}
+use lib.ListN.{length}
 use lib.Seq.{length-take-le}
 use lib.IntN.{ℤ}
 use lib.Dec.{ltb}
 use borrow.Author.Tests.{eq-eqb, ltb-false}
 use Rattle.format.specs.Runs.{Description, joined}
+use Rattle.format.proofs.Tests.{never}
 use Rattle.proposer.specs.Proposed.{Proposed}
 use Rattle.planner.specs.declared.Checked.{Checked}
 use Rattle.planner.specs.declared.Checked.the-variants as checked
 use Rattle.planner.specs.declared.Columned.{Columned}
 use Rattle.planner.specs.Check.{Columns, equalLengths, segmentsFrom, wide, planned, told, checkedAs}
 use Rattle.planner.specs.Laws.{Accepted, as-planned, Checks, accepts, rejects}
-use Rattle.planner.specs.Plan.{firstOf, Sound, Proposes, no-rows, no-places, some, as-proposed, PlanHolds, PlanProposes, Kept, dropped, kept, Fallback, too-few, laid}
+use Rattle.planner.specs.Plan.{firstOf, Sound, Proposes, no-rows, no-places, some, as-proposed, PlanHolds, PlanProposes, Kept}
+use Rattle.planner.specs.Plan.{dropped, kept, Fallback, too-few, laid}
 use Rattle.planner.proofs.Accepting.{check-exactly}
 use Rattle.planner.proofs.Direct.{wide-holds}
 
@@ -49,7 +51,7 @@ module _ (signed : Bool) (rows : List ℤ) (c : Columns) (k : ℕ) (p : Proposed
           let n : length (joined ds) ≡ t .bytes .bytes = ap (λ (x : Columned). x .bytes .bytes) b in
           let l = ltb-false (2 * ((length rows + 511) / 512) + 8 * length rows) (t .bytes .bytes) f in
           record { runs = ds; places = p; accepted = in-room (length (joined (wide signed rows))) a (omega (arith, n, wide-holds signed rows .bytes, l)) }
-      go r (rejects x) h = let z : _≡_ {A = ℕ} 0 1 = cc in absurd (omega arith)
+      go r (rejects x) h = never (cc)
 
 pub plan-holds : PlanHolds
 plan-holds signed rows c k (no-rows e) h = absurd (h refl)
@@ -64,12 +66,10 @@ unfolding segmentsFrom
 sound-some signed rows c zero o s = absurd (omega (arith, o, s .accepted .covering .ends))
 sound-some signed rows c (suc k) o s = omega arith
 
-clash : {X : Type 0} → true ≡ false → X
-clash h = let z : _≡_ {A = ℕ} 0 1 = cc in absurd (omega arith)
-
 pub plan-proposes : PlanProposes
-plan-proposes signed rows c k (no-rows e) = record { for-rows = λ o h. absurd (omega (arith, o, e)); for-none = λ z. refl; when-none = λ z o. absurd (omega (arith, o, e)) }
-plan-proposes signed rows c k (no-places e) = record { for-rows = λ o h. clash (sym h ∙ e); for-none = λ z. refl; when-none = λ z o. e }
+plan-proposes signed rows c k (no-rows e) =
+    record { for-rows = λ o h. absurd (omega (arith, o, e)); for-none = λ z. refl; when-none = λ z o. absurd (omega (arith, o, e)) }
+plan-proposes signed rows c k (no-places e) = record { for-rows = λ o h. never (cc); for-none = λ z. refl; when-none = λ z o. e }
 plan-proposes signed rows c k (some o s) = record {
   for-rows = λ u h. (sound-some signed rows c k o s, s);
   for-none = λ z. absurd (omega (arith, o, z));

@@ -18,7 +18,8 @@ use Rattle.format.proofs.Streams.{stream-whole}
 use Rattle.planner.specs.declared.segment.Segment.{Segment}
 use Rattle.planner.specs.declared.ColumnAnswer.{ColumnAnswer}
 use Rattle.planner.specs.Check.{Columns, segmentsFrom, segments, anyRun, Column, planned, direct, eight, column, columnBytes, toldAs}
-use Rattle.planner.specs.Laws.{sumRows, Accept, none, more, Accepted, Answers, as-planned, as-direct, Reads, WhateverProposed, when-planned, when-direct, when-eight, Whatever, CheckDetermined, ColumnDetermined}
+use Rattle.planner.specs.Laws.{sumRows, Accept, none, more, Accepted, Answers, as-planned, as-direct, Reads, WhateverProposed}
+use Rattle.planner.specs.Laws.{when-planned, when-direct, when-eight, Whatever, CheckDetermined, ColumnDetermined}
 use Rattle.planner.proofs.Accepting.{check-exactly}
 use Rattle.planner.proofs.Direct.{fit-take, fit-drop, wide-is}
 use Rattle.planner.proofs.Writers.{stands}
@@ -41,7 +42,8 @@ module _ (signed : Bool) where
   -- the runs of segments that cover the rows from `at` on
   module _ (rows : List ℤ) (h : AllI64 rows) where
     runs-are : (at : ℕ) {ss : List Segment} {ds : List Description} → Accept signed rows ss ds → AllBases ss
-        → ((first : List Segment) (s : Segment) (others : List Segment) → ss ≡ first ++ (s ∷ others) → s .start ≡ at + sumRows first) → at + sumRows ss ≡ length rows
+        → ((first : List Segment) (s : Segment) (others : List Segment) → ss ≡ first ++ (s ∷ others) → s .start ≡ at + sumRows first)
+        → at + sumRows ss ≡ length rows
         → AllValid ds × (joinedRows signed ds ≡ drop at rows)
     unfolding joinedRows AllBases
     runs-are at none hb b e =
@@ -51,7 +53,8 @@ module _ (signed : Bool) where
         let z : s .start ≡ at = b [] s ss refl ∙ omega arith in
         let part : List ℤ = take (s .count) (drop (s .start) rows) in
         let g = stands signed (s .form) (s .width) (s .base) part anyRun (fit-take (s .count) (drop (s .start) rows) (fit-drop (s .start) rows h)) (hb .0) f in
-        let r = runs-are (at + s .count) a (hb .1) (λ first t others y. b (s ∷ first) t others (ap (λ (l : List Segment). s ∷ l) y) ∙ omega arith) (omega (arith, e)) in
+        let r = runs-are (at + s .count) a (hb .1) (λ first t others y. b (s ∷ first) t others (ap (λ (l : List Segment). s ∷ l) y)
+        ∙ omega arith) (omega (arith, e)) in
         ((g .valid, r .0), rw (g .rows-are, r .1, z, ← (drop-drop (s .count) at rows)) (take-append-drop (s .count) (drop at rows)))
 
   module _ (rows : List ℤ) (h : AllI64 rows) (c : Columns) (hb : AllBelow two64 (c .bases)) (room : ℕ) where
@@ -63,7 +66,8 @@ module _ (signed : Bool) where
 
     planned-good : {ds : List Description} → Accepted signed rows c room ds → Good ds
     planned-good a =
-        let r = runs-are rows h 0 (a .writers) (bases-from (c .starts) (c .counts) (c .forms) (c .widths) (c .bases) hb) (λ first s others z. a .covering .begins first s others z ∙ omega arith) (omega (arith, a .covering .ends)) in
+        let r = runs-are rows h 0 (a .writers) (bases-from (c .starts) (c .counts) (c .forms) (c .widths) (c .bases) hb)
+        (λ first s others z. a .covering .begins first s others z ∙ omega arith) (omega (arith, a .covering .ends)) in
         record { fits = a .fits; valid = r .0; rows-are = r .1 }
 
     of-planned : {ds : List Description} → Answers signed rows c room (planned ds) → Good ds
@@ -72,7 +76,8 @@ module _ (signed : Bool) where
     of-direct : {ds : List Description} → Answers signed rows c room (direct ds) → Good ds
     of-direct (as-direct never l) = let w = wide-is signed rows h in record { fits = l; valid = w .0; rows-are = w .1 }
 
-reads : (signed : Bool) (rows : List ℤ) (out out′ : List ℕ) (ds : List Description) → length (joined ds) ≤ length out → AllValid ds → joinedRows signed ds ≡ rows
+reads : (signed : Bool) (rows : List ℤ) (out out′ : List ℕ) (ds : List Description) → length (joined ds) ≤ length out → AllValid ds
+    → joinedRows signed ds ≡ rows
     → out′ ≡ joined ds ++ drop (length (joined ds)) out → Reads signed rows out out′ ds
 reads signed rows out out′ ds l v e p =
     let n : totalRows ds ≡ length rows = sym (joined-count signed ds) ∙ ap (λ zs. length zs) e in

@@ -9,17 +9,10 @@ use lib.ListN.{length, drop, getD, drop-of-length-le}
 use lib.Seq.{getD-drop}
 use lib.Dec.{eqb}
 use borrow.Author.Tests.{eqb-true}
+use Rattle.format.proofs.Tests.{both}
 use Rattle.planner.specs.declared.segment.Segment.{Segment}
 use Rattle.planner.specs.Check.{Columns, proposal, equalLengths, segmentsFrom, segments, covers}
 use Rattle.planner.specs.Walk.{segmentAt}
-
-pub both : (a b : Bool) → (a && b) ≡ true → (a ≡ true) × (b ≡ true)
-both true b e = (refl, e)
-both false b e = let z : _≡_ {A = ℕ} 0 1 = cc in absurd (omega arith)
-
-pub and-false : (a b : Bool) → b ≡ false → (a && b) ≡ false
-and-false true b e = e
-and-false false b e = refl
 
 -- the columns are as long as the first, where the test says so
 pub record Equal (c : Columns) : Type 0 where
@@ -50,7 +43,8 @@ segments-from k [] counts forms widths bases h = absurd (omega arith)
 segments-from zero (x ∷ starts) counts forms widths bases h = refl
 segments-from (suc k) (x ∷ starts) counts forms widths bases h =
     let e : (l : List ℕ) → getD (drop 1 l) k 0 ≡ getD l (suc k) 0 = λ l. getD-drop 1 l k 0 ∙ ap (λ (i : ℕ). getD l i 0) (omega arith) in
-    rw (← (e counts), ← (e forms), ← (e widths), ← (e bases)) (segments-from k starts (drop 1 counts) (drop 1 forms) (drop 1 widths) (drop 1 bases) (omega arith))
+    rw (← (e counts), ← (e forms), ← (e widths), ← (e bases))
+    (segments-from k starts (drop 1 counts) (drop 1 forms) (drop 1 widths) (drop 1 bases) (omega arith))
 
 pub segment-next : (c : Columns) (k : ℕ) → k < length (c .starts) → drop k (segments c) ≡ segmentAt c k ∷ drop (k + 1) (segments c)
 segment-next c k h = rw add-one (segments-from k (c .starts) (c .counts) (c .forms) (c .widths) (c .bases) h)

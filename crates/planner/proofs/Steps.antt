@@ -2,7 +2,7 @@
 use mathlib.Core.Path.{_≡_, refl, sym, ap, _∙_}
 use Prim.Native.Nat.{ℕ, zero, suc, _-_, _<_, _≤_}
 use native.Mathlib.Omega.{arith}
-use mathlib.Core.Bool.{Bool, true, false, not, _&&_}
+use mathlib.Core.Bool.{Bool, true, false, not, and-false}
 use mathlib.Core.List.{List, [], map}
 use lib.ListN.{length, take, drop}
 use lib.Dec.{leb, eqb, leb→le}
@@ -21,27 +21,23 @@ use Rattle.format.specs.Writing.{between, countAllowed, haveForm, widthAllowed,
 use Rattle.format.specs.PatchedWriting.{writingPatched, PatchedWritten}
 use Rattle.format.proofs.Kept.{no-code-kept, wide-not-kept}
 use Rattle.format.proofs.Patterns.{as-back}
+use Rattle.format.proofs.Tests.{never, both}
 use Rattle.writer.specs.Sizes.{sizeIn}
 use Rattle.planner.specs.declared.segment.Segment.{Segment}
 use Rattle.planner.specs.Check.{writeIn, isRun}
 use Rattle.planner.specs.Walk.{formOf, inPlace, stepIn, Ran}
-use Rattle.planner.proofs.Segments.{both}
 
 -- ---- nothing accepted: no bytes, and nothing touched
 
 pub ran-none : (m : Parsed Description) (out : List ℕ) → isRun m ≡ false → Ran m out out 0
 ran-none end out e = record { size = refl; places = refl }
-ran-none (got d rest) out e = let z : _≡_ {A = ℕ} 0 1 = cc in absurd (omega arith)
+ran-none (got d rest) out e = never (cc)
 ran-none (refused r) out e = record { size = refl; places = refl }
 
 -- whichever of the two applies
 no-second : (a : Bool) → isRun (unless a 9 (refused (plain 10))) ≡ false
 no-second true = refl
 no-second false = refl
-
-and-no : (a b : Bool) → b ≡ false → not (a && b) ≡ true
-and-no true b e = rw e
-and-no false b e = refl
 
 -- no form has a width above 255
 too-wide : (f : Form) (w : ℕ) → 255 < w → widthAllowed f w ≡ false
@@ -52,7 +48,7 @@ too-wide PackedDelta w h = rw (le-leb 1 w (omega arith), no-code-kept w (omega a
 
 run-wide : (signed : Bool) (f : Form) (w : ℕ) (rs : List ℕ) (room : ℕ) → 255 < w → isRun (writing signed f w rs room) ≡ false
 unfolding writing
-run-wide signed f w rs room h = rw (and-no (haveForm f rs) (widthAllowed f w) (too-wide f w h)) (no-second (not (countAllowed f (length rs))))
+run-wide signed f w rs room h = rw (too-wide f w h, and-false (haveForm f rs)) (no-second (not (countAllowed f (length rs))))
 
 patched-wide : (base w : ℕ) (rs : List ℕ) (room : ℕ) → 255 < w → isRun (writingPatched base w rs room) ≡ false
 unfolding writingPatched

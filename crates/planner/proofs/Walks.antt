@@ -3,7 +3,7 @@ use mathlib.Core.Path.{_≡_, refl, _∙_}
 use Prim.Native.Nat.{ℕ, suc, _+_, _-_, _<_, _≤_}
 use native.Mathlib.Omega.{arith}
 use native.Mathlib.Nat.{add-zero, zero-add}
-use mathlib.Core.Bool.{Bool, true, false, _&&_}
+use mathlib.Core.Bool.{Bool, true, false, _&&_, and-false}
 use mathlib.Core.List.{List, [], _∷_, _++_}
 use lib.ListN.{length, take, drop, length-append, length-take, length-drop}
 use lib.Dec.{eqb, leb}
@@ -14,6 +14,7 @@ use Rattle.format.specs.Runs.{Description, rowCount, layout, joined}
 use Rattle.format.specs.Parse.{plain, Parsed, end, got, refused}
 use Rattle.format.specs.Streams.{totalRows}
 use Rattle.format.proofs.Runs.{layout-pos}
+use Rattle.format.proofs.Tests.{never, both}
 use Rattle.writer.specs.Sizes.{sizeIn}
 use Rattle.planner.specs.declared.segment.Segment.{Segment}
 use Rattle.planner.specs.declared.Columned.{Columned}
@@ -21,7 +22,7 @@ use Rattle.planner.specs.declared.Checked.{Checked}
 use Rattle.planner.specs.declared.Checked.the-variants as checked
 use Rattle.planner.specs.Check.{Columns, equalLengths, segments, covers, anyRun, runIn, runOf, isRun, allRuns, runs, accepted, checkedAs}
 use Rattle.planner.specs.Walk.{stepIn, Ran}
-use Rattle.planner.proofs.Segments.{both, and-false, covers-le, covers-over}
+use Rattle.planner.proofs.Segments.{covers-le, covers-over}
 use Rattle.planner.proofs.Writers.{rows-given, in-room}
 
 module _ (signed : Bool) (rows : List ℤ) where
@@ -92,7 +93,7 @@ module _ (signed : Bool) (rows : List ℤ) where
             → isRun (pick (a && b) (runOf signed rows s) (refused (plain 10))) ≡ false → verdict k row bytes (s ∷ ss) ≡ checked.Rejected
         go false b t f g w z = rw f
         go true false t f g w z = rw (f, covers-over (length rows) (row + s .count) ss (omega (arith, leb-false (s .count) (length rows - row) g)))
-        go true true t f g w z = rw (f, z, and-false (covers (length rows) (row + s .count) ss) false refl)
+        go true true t f g w z = rw (f, z, and-false (covers (length rows) (row + s .count) ss))
 
     module _ (k row bytes : ℕ) (s : Segment) (ss : List Segment) (n : ℕ) (t : Taken row s anyRun n) where
       abbrev ds : List Description
@@ -110,15 +111,17 @@ module _ (signed : Bool) (rows : List ℤ) where
       verdict-next =
           let e : k + suc (length ds) ≡ k + 1 + length ds = omega arith in
           let f : row + (rowCount (t .which) + totalRows ds) ≡ row + s .count + totalRows ds = omega (arith, its-rows) in
-          let g : bytes + length (layout (t .which) ++ joined ds) ≡ bytes + n + length (joined ds) = omega (arith, length-append (layout (t .which)) (joined ds), t .size) in
+          let g : bytes + length (layout (t .which) ++ joined ds) ≡ bytes + n + length (joined ds) =
+          omega (arith, length-append (layout (t .which)) (joined ds), t .size) in
           rw (eq-eqb (s .start) row (t .here), t .written, e, f, g)
 
       pub verdict-full : bytes ≤ room → room - bytes < n → verdict k row bytes (s ∷ ss) ≡ checked.Rejected
       unfolding verdict runs joined
       verdict-full h l =
           let p : leb (bytes + length (joined (runs signed rows (s ∷ ss)))) room ≡ false =
-          rw (t .written) (lt-leb (bytes + length (layout (t .which) ++ joined ds)) room (omega (arith, length-append (layout (t .which)) (joined ds), t .size))) in
-          rw (and-false (covers (length rows) row (s ∷ ss) && allRuns signed rows (s ∷ ss)) (leb (bytes + length (joined (runs signed rows (s ∷ ss)))) room) p)
+          rw (t .written) (lt-leb (bytes + length (layout (t .which) ++ joined ds)) room
+          (omega (arith, length-append (layout (t .which)) (joined ds), t .size))) in
+          rw (p, and-false (covers (length rows) row (s ∷ ss) && allRuns signed rows (s ∷ ss)))
 
     pub verdict-short : (k row bytes : ℕ) → row < length rows → verdict k row bytes [] ≡ checked.Rejected
     unfolding verdict covers
@@ -151,7 +154,7 @@ module _ (signed : Bool) (rows : List ℤ) where
     where
       go : (m : Parsed Description) → runOf signed rows s ≡ m → isRun m ≡ true → s .start ≡ row → covers (length rows) (row + s .count) ss ≡ true
           → allRuns signed rows ss ≡ true → Next row s ss
-      go end w z a b c = let z : _≡_ {A = ℕ} 0 1 = cc in absurd (omega arith)
+      go end w z a b c = never (cc)
       go (got d rest) w z a b c = record {
         which = d;
         rest = rest;
@@ -162,11 +165,12 @@ module _ (signed : Bool) (rows : List ℤ) where
         writers = c;
         runs-are = rw w;
       }
-      go (refused r) w z a b c = let z : _≡_ {A = ℕ} 0 1 = cc in absurd (omega arith)
+      go (refused r) w z a b c = never (cc)
 
   -- its step, in any room that holds the run
   pub next-ran : (row : ℕ) (s : Segment) (ss : List Segment) (x : Next row s ss) (out out′ : List ℕ) (n : ℕ) → length (layout (x .which)) ≤ length out
-      → Ran (stepIn signed rows row s (length out)) out out′ n → (n ≡ length (layout (x .which))) × (out′ ≡ layout (x .which) ++ drop (length (layout (x .which))) out)
+      → Ran (stepIn signed rows row s (length out)) out out′ n
+      → (n ≡ length (layout (x .which))) × (out′ ≡ layout (x .which) ++ drop (length (layout (x .which))) out)
   unfolding stepIn
   next-ran row s ss x out out′ n h r =
       let w = in-room signed (s .form) (s .width) (s .base) (take (s .count) (drop (s .start) rows)) anyRun (x .written) .elsewhere (length out) h in

@@ -43,7 +43,8 @@ drop-least l = go (decLe 512 (length l))
         ap (λ (n : ℕ). drop n l) e
     go (no h) = drop-of-length-le l {i = 512} (omega arith) ∙ sym (drop-of-length-le l {i = min 512 (length l)} (omega arith))
 
-first-part : (fuel : ℕ) (l : List ℤ) → 0 < length l → length l ≤ fuel → parts fuel l ≡ take (min 512 (length l)) l ∷ parts (fuel - 1) (drop (min 512 (length l)) l)
+first-part : (fuel : ℕ) (l : List ℤ) → 0 < length l → length l ≤ fuel
+    → parts fuel l ≡ take (min 512 (length l)) l ∷ parts (fuel - 1) (drop (min 512 (length l)) l)
 unfolding parts
 first-part fuel [] h m = absurd (omega arith)
 first-part zero (z ∷ l) h m = absurd (omega arith)
@@ -124,7 +125,8 @@ module _ (signed : Bool) (rows : List ℤ) (out₀ : List ℕ) where
       first : parts (w .fuel) (drop row rows) ≡ part ∷ parts (w .fuel - 1) (drop (row + n) rows)
       first =
           let m : min 512 (length (drop row rows)) ≡ n = omega (arith, length-drop row rows, e) in
-          rw (m, drop-drop n row rows) at (first-part (w .fuel) (drop row rows) (omega (arith, length-drop row rows)) (omega (arith, length-drop row rows, w .enough)))
+          rw (m, drop-drop n row rows) at
+          (first-part (w .fuel) (drop row rows) (omega (arith, length-drop row rows)) (omega (arith, length-drop row rows, w .enough)))
 
       here : Grown (joined (wide signed rows)) out₀ out bytes (layout (run signed part) ++ joined (left (w .fuel - 1) (row + n)))
       unfolding joined
@@ -142,7 +144,8 @@ module _ (signed : Bool) (rows : List ℤ) (out₀ : List ℕ) where
       unfolding run
       got-it =
           written signed Direct 31 (map asU64 part) (length lent)
-          (run-accepted signed part (omega (arith, e, length-take n (drop row rows), length-drop row rows)) (omega (arith, e, length-take n (drop row rows))) (fit-take n (drop row rows) (fit-drop row rows i)))
+          (run-accepted signed part (omega (arith, e, length-take n (drop row rows), length-drop row rows))
+          (omega (arith, e, length-take n (drop row rows))) (fit-take n (drop row rows) (fit-drop row rows i)))
           fits
 
       pub wide-next : (given : List ℕ) (size : ℕ) → Ran (writing signed Direct 31 (map asU64 part) (length lent)) lent given size

@@ -19,7 +19,7 @@ use Rattle.format.specs.Writing.{stored, minus, baseDelta, falls, valuesOf, des
 use Rattle.format.specs.PatchedWriting.{differences, run, parts, headerHolds, writingPatched}
 use Rattle.format.proofs.Rows.{byte-bounds}
 use Rattle.format.proofs.Runs.{got-inj}
-use Rattle.format.proofs.Tests.{between-le}
+use Rattle.format.proofs.Tests.{never, between-le}
 use Rattle.format.proofs.Steps.{later-steps}
 use Rattle.format.proofs.Writing.{reads-back, patterns-lt, patterns-back}
 use Rattle.promises.proofs.PatchedValid.{header-room, described as patched-described}
@@ -37,14 +37,15 @@ pub record InRoom (write : ℕ → Parsed Description) (room : ℕ) (d : Descrip
 abbrev tested : Bool → Bool → Bool → Description → ℕ → Parsed Description
 tested a b c d room = unless a 9 (unless b 10 (unless c 11 (unless (ltb room (length (layout d))) 8 (got d []))))
 
-tested-run : (a b c : Bool) (d : Description) (room : ℕ) {d′ : Description} {rest : List ℕ} → tested a b c d room ≡ got d′ rest → InRoom (tested a b c d) room d′ rest
-tested-run true b c d room e = let z : _≡_ {A = ℕ} 0 1 = cc in absurd (omega arith)
-tested-run false true c d room e = let z : _≡_ {A = ℕ} 0 1 = cc in absurd (omega arith)
-tested-run false false true d room e = let z : _≡_ {A = ℕ} 0 1 = cc in absurd (omega arith)
+tested-run : (a b c : Bool) (d : Description) (room : ℕ) {d′ : Description} {rest : List ℕ} → tested a b c d room ≡ got d′ rest
+    → InRoom (tested a b c d) room d′ rest
+tested-run true b c d room e = never (cc)
+tested-run false true c d room e = never (cc)
+tested-run false false true d room e = never (cc)
 tested-run false false false d room {d′} {rest} e = go (ltb room (length (layout d))) refl e
   where
     go : (t : Bool) → ltb room (length (layout d)) ≡ t → unless t 8 (got d []) ≡ got d′ rest → InRoom (tested false false false d) room d′ rest
-    go true f e = let z : _≡_ {A = ℕ} 0 1 = cc in absurd (omega arith)
+    go true f e = never (cc)
     go false f e =
         let n : length (layout d) ≡ length (layout d′) = ap (λ (x : Description). length (layout x)) (got-inj e .0) in
         record {
@@ -72,7 +73,7 @@ in-room signed (suc zero) width base part room e = run-in-room signed Direct wid
 in-room signed (suc (suc zero)) width base part room e = run-in-room signed FixedDelta width (map asU64 part) room e
 in-room signed (suc (suc (suc zero))) width base part room e = run-in-room signed PackedDelta width (map asU64 part) room e
 in-room signed (suc (suc (suc (suc zero)))) width base part room e = patched-in-room base width (map asU64 part) room e
-in-room signed (suc (suc (suc (suc (suc n))))) width base part room e = let z : _≡_ {A = ℕ} 0 1 = cc in absurd (omega arith)
+in-room signed (suc (suc (suc (suc (suc n))))) width base part room e = never (cc)
 
 -- ---- a run has as many rows as are given
 
@@ -83,17 +84,18 @@ described-rows signed Direct w rs h = length-map rs (stored signed)
 described-rows signed FixedDelta w rs h = refl
 described-rows signed PackedDelta w rs h = later-steps (falls (baseDelta rs)) rs (between-le 2 512 (length rs) h .0)
 
-run-rows : (signed : Bool) (f : Form) (w : ℕ) (rs : List ℕ) (room : ℕ) {d : Description} {rest : List ℕ} → writing signed f w rs room ≡ got d rest → rowCount d ≡ length rs
+run-rows : (signed : Bool) (f : Form) (w : ℕ) (rs : List ℕ) (room : ℕ) {d : Description} {rest : List ℕ}
+    → writing signed f w rs room ≡ got d rest → rowCount d ≡ length rs
 unfolding writing
 run-rows signed f w rs room {d} {rest} e =
     go (countAllowed f (length rs)) (haveForm f rs && widthAllowed f w) (fitWidth signed f w rs) (ltb room (length (layout (described signed f w rs)))) refl e
   where
     go : (a b c few : Bool) → countAllowed f (length rs) ≡ a
         → unless (not a) 9 (unless (not b) 10 (unless (not c) 11 (unless few 8 (got (described signed f w rs) [])))) ≡ got d rest → rowCount d ≡ length rs
-    go false b c few z e = let z : _≡_ {A = ℕ} 0 1 = cc in absurd (omega arith)
-    go true false c few z e = let z : _≡_ {A = ℕ} 0 1 = cc in absurd (omega arith)
-    go true true false few z e = let z : _≡_ {A = ℕ} 0 1 = cc in absurd (omega arith)
-    go true true true true z e = let z : _≡_ {A = ℕ} 0 1 = cc in absurd (omega arith)
+    go false b c few z e = never (cc)
+    go true false c few z e = never (cc)
+    go true true false few z e = never (cc)
+    go true true true true z e = never (cc)
     go true true true false z e = ap (λ (x : Description). rowCount x) (sym (got-inj e .0)) ∙ described-rows signed f w rs (rw z tt)
 
 -- ---- what is accepted is a run, and stands for the rows
@@ -102,20 +104,22 @@ run-rows signed f w rs room {d} {rest} e =
 patched-held : (base w : ℕ) (rs : List ℕ) (room : ℕ) {d : Description} {rest : List ℕ} → writingPatched base w rs room ≡ got d rest
     → (run (parts base w rs) ≡ d) × T (between 1 512 (length rs)) × T (headerHolds (parts base w rs))
 unfolding writingPatched
-patched-held base w rs room {d} {rest} e = go (between 1 512 (length rs)) (isKeptWidth w) (headerHolds (parts base w rs)) (ltb room (length (layout (run (parts base w rs))))) e
+patched-held base w rs room {d} {rest} e =
+    go (between 1 512 (length rs)) (isKeptWidth w) (headerHolds (parts base w rs)) (ltb room (length (layout (run (parts base w rs))))) e
   where
     go : (a k h few : Bool) → unless (not a) 9 (unless (not (k && h)) 10 (unless few 8 (got (run (parts base w rs)) []))) ≡ got d rest
         → (run (parts base w rs) ≡ d) × T a × T h
-    go false k h few e = let z : _≡_ {A = ℕ} 0 1 = cc in absurd (omega arith)
-    go true false h few e = let z : _≡_ {A = ℕ} 0 1 = cc in absurd (omega arith)
-    go true true false few e = let z : _≡_ {A = ℕ} 0 1 = cc in absurd (omega arith)
-    go true true true true e = let z : _≡_ {A = ℕ} 0 1 = cc in absurd (omega arith)
+    go false k h few e = never (cc)
+    go true false h few e = never (cc)
+    go true true false few e = never (cc)
+    go true true true true e = never (cc)
     go true true true false e = (got-inj e .0, tt, tt)
 
 patched-rows : (base w : ℕ) (rs : List ℕ) (room : ℕ) {d : Description} {rest : List ℕ} → writingPatched base w rs room ≡ got d rest → rowCount d ≡ length rs
 unfolding parts
 patched-rows base w rs room e =
-    ap (λ (x : Description). rowCount x) (sym (patched-held base w rs room e .0)) ∙ length-map (differences base rs) (λ d. d % 2 ^ w) ∙ length-map rs (λ r. minus r base)
+    ap (λ (x : Description). rowCount x) (sym (patched-held base w rs room e .0)) ∙ length-map (differences base rs) (λ d. d % 2 ^ w)
+    ∙ length-map rs (λ r. minus r base)
 
 pub rows-given : (signed : Bool) (form width base : ℕ) (part : List ℤ) (room : ℕ) {d : Description} {rest : List ℕ}
     → writeIn signed form width base part room ≡ got d rest → rowCount d ≡ length part
@@ -125,7 +129,7 @@ rows-given signed (suc zero) width base part room e = run-rows signed Direct wid
 rows-given signed (suc (suc zero)) width base part room e = run-rows signed FixedDelta width (map asU64 part) room e ∙ length-map part asU64
 rows-given signed (suc (suc (suc zero))) width base part room e = run-rows signed PackedDelta width (map asU64 part) room e ∙ length-map part asU64
 rows-given signed (suc (suc (suc (suc zero)))) width base part room e = patched-rows base width (map asU64 part) room e ∙ length-map part asU64
-rows-given signed (suc (suc (suc (suc (suc n))))) width base part room e = let z : _≡_ {A = ℕ} 0 1 = cc in absurd (omega arith)
+rows-given signed (suc (suc (suc (suc (suc n))))) width base part room e = never (cc)
 
 -- under the flag
 pub record StandsFor (signed : Bool) (part : List ℤ) (d : Description) : Type 0 where
@@ -146,7 +150,8 @@ module _ (base w : ℕ) (part : List ℤ) (room : ℕ) {d : Description} {rest :
   by-patched : (signed : Bool) → AllI64 part → base < two64 → StandsFor signed part d
   unfolding i64Rows
   by-patched signed h hb =
-      let g = patched-described base w (map asU64 part) (header-room (parts base w (map asU64 part)) .0 (held .2)) signed hb (patterns-lt part h) (counted .0) (counted .1) in
+      let g = patched-described base w (map asU64 part) (header-room (parts base w (map asU64 part)) .0 (held .2)) signed hb
+      (patterns-lt part h) (counted .0) (counted .1) in
       record { valid = subst Valid (held .0) (g .valid); rows-are = ap (i64Rows signed) (sym (held .0)) ∙ ap (map asI64) (g .has-rows) ∙ patterns-back part h }
 
 pub stands : (signed : Bool) (form width base : ℕ) (part : List ℤ) (room : ℕ) {d : Description} {rest : List ℕ} → AllI64 part → base < two64
@@ -157,7 +162,7 @@ stands signed (suc zero) width base part room h hb e = by-writer signed Direct w
 stands signed (suc (suc zero)) width base part room h hb e = by-writer signed FixedDelta width part room h e
 stands signed (suc (suc (suc zero))) width base part room h hb e = by-writer signed PackedDelta width part room h e
 stands signed (suc (suc (suc (suc zero)))) width base part room h hb e = by-patched base width part room e signed h hb
-stands signed (suc (suc (suc (suc (suc n))))) width base part room h hb e = let z : _≡_ {A = ℕ} 0 1 = cc in absurd (omega arith)
+stands signed (suc (suc (suc (suc (suc n))))) width base part room h hb e = never (cc)
 
 pub room-for-any : RoomForAny
 room-for-any signed form width base part room d rest h hb = (

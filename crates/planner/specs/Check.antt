@@ -1,5 +1,5 @@
--- THE CHECK (FORMAT.md, "Column writer"): a proposal of segments for a column of rows, when it is accepted, and what is written. Nothing here says how segments are
--- found.
+-- THE CHECK (FORMAT.md, "Column writer"): a proposal of segments for a column of rows, when it is accepted, and what is written. Nothing
+-- here says how segments are found.
 -- Assumes nothing.
 use mathlib.Core.Path.{_≡_}
 use Prim.Native.Nat.{ℕ, zero, suc, _+_}
@@ -41,8 +41,8 @@ equalLengths c =
     eqb (length (c .counts)) (length (c .starts)) && eqb (length (c .forms)) (length (c .starts))
     && eqb (length (c .widths)) (length (c .starts)) && eqb (length (c .bases)) (length (c .starts))
 
--- a segment is the k-th of each column: first row, rows, form (0 short repeat, 1 direct, 2 fixed delta, 3 packed delta, 4 patched), width (bytes, code, code,
--- code, W in bits), base (its 64 bits)
+-- a segment is the k-th of each column: first row, rows, form (0 short repeat, 1 direct, 2 fixed delta, 3 packed delta, 4 patched), width
+-- (bytes, code, code, code, W in bits), base (its 64 bits)
 unfoldable pub segmentsFrom : List ℕ → List ℕ → List ℕ → List ℕ → List ℕ → List Segment
 segmentsFrom [] counts forms widths bases = []
 segmentsFrom (start ∷ starts) counts forms widths bases =
@@ -98,10 +98,12 @@ unfoldable pub runs : Bool → List ℤ → List Segment → List Description
 runs signed rows [] = []
 runs signed rows (s ∷ ss) = before (runOf signed rows s) (runs signed rows ss)
 
--- ---- ACCEPTED exactly if the segments cover all rows in order with no overlap and no gap, each run's writer accepts its segment, and the output has room
+-- ---- ACCEPTED exactly if the segments cover all rows in order with no overlap and no gap, each run's writer accepts its segment,
+-- and the output has room
 unfoldable pub accepted : Bool → List ℤ → Columns → ℕ → Bool
 accepted signed rows c room =
-    equalLengths c && covers (length rows) 0 (segments c) && allRuns signed rows (segments c) && leb (length (joined (runs signed rows (segments c)))) room
+    equalLengths c && covers (length rows) 0 (segments c) && allRuns signed rows (segments c)
+    && leb (length (joined (runs signed rows (segments c)))) room
 
 -- ---- ELSE direct runs of 64 bits, 512 rows each and the rest last
 

@@ -18,13 +18,15 @@ use Rattle.planner.specs.declared.Checked.{Checked}
 use Rattle.planner.specs.declared.Checked.the-variants as checked
 use Rattle.planner.specs.declared.ColumnAnswer.{ColumnAnswer}
 use Rattle.planner.specs.declared.ColumnAnswer.the-variants as answer
-use Rattle.planner.specs.Check.{Columns, equalLengths, segments, anyRun, writeIn, runOf, wide, Column, planned, direct, eight, column, told, checkedAs, Wrote}
+use Rattle.planner.specs.Check.{Columns, equalLengths, segments, anyRun, writeIn, runOf, wide, Column, planned, direct, eight, column}
+use Rattle.planner.specs.Check.{told, checkedAs, Wrote}
 
 -- Room enough is enough: what a writer accepts in some room is what it accepts with room for any run, where that room holds it.
 abbrev pub RoomForAny : Type 0
 RoomForAny =
     (signed : Bool) (form width base : ℕ) (part : List ℤ) (room : ℕ) (d : Description) (rest : List ℕ) → AllI64 part → base < two64
-    → (writeIn signed form width base part room ≡ got d rest) ↔ ((writeIn signed form width base part anyRun ≡ got d rest) × (length (layout d) ≤ room))
+    → (writeIn signed form width base part room ≡ got d rest)
+    ↔ ((writeIn signed form width base part anyRun ≡ got d rest) × (length (layout d) ≤ room))
 
 -- ---- ACCEPTED, in words: the rows of the segments before it say where a segment begins; all of them are the column's
 
@@ -52,7 +54,8 @@ module _ (signed : Bool) (rows : List ℤ) where
   -- each answer, exactly when
   pub data Answers (c : Columns) (room : ℕ) : Column → Type 0 where
     as-planned : {ds : List Description} → Accepted c room ds → Answers c room (planned ds)
-    as-direct : ((ds : List Description) → Accepted c room ds → ⊥) → length (joined (wide signed rows)) ≤ room → Answers c room (direct (wide signed rows))
+    as-direct : ((ds : List Description) → Accepted c room ds → ⊥) → length (joined (wide signed rows)) ≤ room
+        → Answers c room (direct (wide signed rows))
     as-eight : ((ds : List Description) → Accepted c room ds → ⊥) → room < length (joined (wide signed rows)) → Answers c room eight
 
   pub data Checks (c : Columns) (room : ℕ) : Checked → Type 0 where
@@ -101,7 +104,8 @@ Whatever =
 
 abbrev pub CheckDetermined : Type 0
 CheckDetermined =
-    (signed : Bool) (rows : List ℤ) (c : Columns) (room : ℕ) (r r′ : Checked) → r ≡ checkedAs signed rows c room → r′ ≡ checkedAs signed rows c room → r ≡ r′
+    (signed : Bool) (rows : List ℤ) (c : Columns) (room : ℕ) (r r′ : Checked) → r ≡ checkedAs signed rows c room
+    → r′ ≡ checkedAs signed rows c room → r ≡ r′
 
 abbrev pub ColumnDetermined : Type 0
 ColumnDetermined =

@@ -1,4 +1,5 @@
--- The check in front of the writer of whole columns (FORMAT.md, "Column writer"): its meaning, its theorems, and what its inner functions are stated with.
+-- The check in front of the writer of whole columns (FORMAT.md, "Column writer"):
+-- its meaning, its theorems, and what its inner functions are stated with.
 pub mod Check
 pub mod Laws
 pub mod Walk

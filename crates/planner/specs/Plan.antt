@@ -1,5 +1,5 @@
--- THE PLANNER'S PROPOSAL has no one right value: how well it cuts is measured. What holds of it whatever it is: the check accepts it in as much room as the
--- direct runs of 64 bits take, and there is one wherever there are rows, and places for the direct runs. Assumes nothing.
+-- THE PLANNER'S PROPOSAL has no one right value: how well it cuts is measured. What holds of it whatever it is: the check accepts it in as
+-- much room as the direct runs of 64 bits take, and there is one wherever there are rows, and places for the direct runs. Assumes nothing.
 use mathlib.Core.Path.{_≡_}
 use Prim.Native.Nat.{ℕ, _+_, _-_, _*_, _/_, _<_, _≤_, min}
 use mathlib.Core.Bool.{Bool, true, false, _&&_}
@@ -30,10 +30,11 @@ directRuns rows = (rows + 511) / 512
 
 abbrev pub havePlaces : ℕ → Columns → Bool
 havePlaces n c =
-    leb n (length (c .starts)) && leb n (length (c .counts)) && leb n (length (c .forms)) && leb n (length (c .widths)) && leb n (length (c .bases))
+    leb n (length (c .starts)) && leb n (length (c .counts)) && leb n (length (c .forms)) && leb n (length (c .widths))
+    && leb n (length (c .bases))
 
--- THE PROMISE, of the columns as they stand at exit and of the number of segments that is answered: none where there are no rows, or where a column has fewer
--- places than there are direct runs; else a sound proposal
+-- THE PROMISE, of the columns as they stand at exit and of the number of segments that is answered: none where there are no rows, or where
+-- a column has fewer places than there are direct runs; else a sound proposal
 pub data Proposes (signed : Bool) (rows : List ℤ) (c : Columns) : ℕ → Type 0 where
   no-rows : length rows ≡ 0 → Proposes signed rows c 0
   no-places : havePlaces (directRuns (length rows)) c ≡ false → Proposes signed rows c 0
@@ -54,7 +55,8 @@ pub data AsProposed (signed : Bool) (rows : List ℤ) (c : Columns) : Type 0 whe
       → ((room : ℕ) → length (joined ds) ≤ room → column signed rows c room ≡ planned ds) → AsProposed signed rows c
 
 abbrev pub PlanHolds : Type 0
-PlanHolds = (signed : Bool) (rows : List ℤ) (c : Columns) (k : ℕ) → Proposes signed rows c k → (k ≡ 0 → ⊥) → AsProposed signed rows (firstOf k c)
+PlanHolds = (signed : Bool) (rows : List ℤ) (c : Columns) (k : ℕ) → Proposes signed rows c k → (k ≡ 0 → ⊥)
+    → AsProposed signed rows (firstOf k c)
 
 -- ---- for the functions of the planner
 

@@ -46,7 +46,9 @@ pub(crate) fn walk(
     room: ByteOffset,
 ) -> Checked
     requires { ⌜ equalLengths (proposal (now first) (now counts) (now forms) (now widths) (now bases)) ≡ true ⌝ }
-    ensures { λ r. ⌜ r ≡ checkedAs signed (now (rows .entry)) (proposal (now (first .entry)) (now (counts .entry)) (now (forms .entry)) (now (widths .entry)) (now (bases .entry))) (room .bytes) ⌝ }
+    ensures { λ r. ⌜ r ≡ checkedAs signed (now (rows .entry))
+        (proposal (now (first .entry)) (now (counts .entry)) (now (forms .entry)) (now (widths .entry)) (now (bases .entry)))
+        (room .bytes) ⌝ }
 {
     let limit = room.bytes;
     let mut run = bytes_room();
@@ -89,7 +91,8 @@ pub(crate) fn sound(
     k: usize,
 ) -> usize
     requires { ⌜ Proposed (now first) (now counts) (now forms) (now widths) (now bases) k ⌝ }
-    ensures { λ r. ⌜ Kept signed (now (rows .entry)) (proposal (now (first .entry)) (now (counts .entry)) (now (forms .entry)) (now (widths .entry)) (now (bases .entry))) r ⌝ }
+    ensures { λ r. ⌜ Kept signed (now (rows .entry))
+        (proposal (now (first .entry)) (now (counts .entry)) (now (forms .entry)) (now (widths .entry)) (now (bases .entry))) r ⌝ }
 {
     let any = ByteOffset { bytes: usize::MAX };
     let c = walk(

@@ -59,7 +59,8 @@ fn lay(
     bases: &mut [u64],
 )
     requires { ⌜ (runs ≡ directRuns (rows .rows)) × Proposed (now first) (now counts) (now forms) (now widths) (now bases) runs ⌝ }
-    ensures { λ _. ⌜ DirectLaid (rows .rows) (proposal (now (first .exit)) (now (counts .exit)) (now (forms .exit)) (now (widths .exit)) (now (bases .exit))) runs ⌝ }
+    ensures { λ _. ⌜ DirectLaid (rows .rows)
+        (proposal (now (first .exit)) (now (counts .exit)) (now (forms .exit)) (now (widths .exit)) (now (bases .exit))) runs ⌝ }
 {
     let n = rows.rows;
     let mut k: usize = 0;
@@ -85,7 +86,8 @@ pub(crate) fn propose(
     widths: &mut [u64],
     bases: &mut [u64],
 ) -> usize
-    ensures { λ r. ⌜ FallsBack (now (rows .entry)) (proposal (now (first .exit)) (now (counts .exit)) (now (forms .exit)) (now (widths .exit)) (now (bases .exit))) r ⌝ }
+    ensures { λ r. ⌜ FallsBack (now (rows .entry))
+        (proposal (now (first .exit)) (now (counts .exit)) (now (forms .exit)) (now (widths .exit)) (now (bases .exit))) r ⌝ }
 {
     write::know(rows);
     let n = RowNumber { rows: rows.len() };

@@ -28,8 +28,10 @@ pub(crate) fn at(
     bases: &[u64],
     k: usize,
 ) -> Segment
-    requires { ⌜ (k < length (now first)) × (k < length (now counts)) × (k < length (now forms)) × (k < length (now widths)) × (k < length (now bases)) ⌝ }
-    ensures { λ r. ⌜ r ≡ segmentAt (proposal (now (first .entry)) (now (counts .entry)) (now (forms .entry)) (now (widths .entry)) (now (bases .entry))) k ⌝ }
+    requires { ⌜ (k < length (now first)) × (k < length (now counts)) × (k < length (now forms)) × (k < length (now widths))
+        × (k < length (now bases)) ⌝ }
+    ensures { λ r. ⌜ r ≡ segmentAt
+        (proposal (now (first .entry)) (now (counts .entry)) (now (forms .entry)) (now (widths .entry)) (now (bases .entry))) k ⌝ }
 {
     Segment {
         start: first[k],
@@ -58,7 +60,8 @@ fn form_of(form: u64) -> Form
 
 // Some rows as the segment's run: its bytes, or 0 where the writer does not accept them. No form has a width above 255.
 fn write(part: &[i64], signed: bool, s: Segment, out: &mut [u8]) -> ByteOffset
-    ensures { λ r. ⌜ Ran (writeIn signed (s .form) (s .width) (s .base) (now (part .entry)) (length (now (out .entry)))) (now (out .entry)) (now (out .exit)) (r .bytes) ⌝ }
+    ensures { λ r. ⌜ Ran (writeIn signed (s .form) (s .width) (s .base) (now (part .entry)) (length (now (out .entry)))) (now (out .entry))
+        (now (out .exit)) (r .bytes) ⌝ }
 {
     if 255 < s.width {
         return ByteOffset { bytes: 0 };
@@ -112,7 +115,8 @@ pub(crate) fn step(
     out: &mut [u8],
 ) -> ByteOffset
     requires { ⌜ at .rows ≤ length (now rows) ⌝ }
-    ensures { λ r. ⌜ Ran (stepIn signed (now (rows .entry)) (at .rows) s (length (now (out .entry)))) (now (out .entry)) (now (out .exit)) (r .bytes) ⌝ }
+    ensures { λ r. ⌜ Ran (stepIn signed (now (rows .entry)) (at .rows) s (length (now (out .entry)))) (now (out .entry))
+        (now (out .exit)) (r .bytes) ⌝ }
 {
     let row = at.rows;
     let end = RowNumber { rows: rows.len() };

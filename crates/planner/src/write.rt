@@ -32,8 +32,12 @@ pub(crate) fn planned(
     bases: &[u64],
     out: &mut [u8],
 )
-    requires { ⌜ accepted signed (now rows) (proposal (now first) (now counts) (now forms) (now widths) (now bases)) (length (now out)) ≡ true ⌝ }
-    ensures { λ _. ⌜ ColumnLaid (Check.runs signed (now (rows .entry)) (segments (proposal (now (first .entry)) (now (counts .entry)) (now (forms .entry)) (now (widths .entry)) (now (bases .entry))))) (now (out .entry)) (now (out .exit)) ⌝ }
+    requires { ⌜ accepted signed (now rows) (proposal (now first) (now counts) (now forms) (now widths) (now bases)) (length (now out))
+        ≡ true ⌝ }
+    ensures { λ _. ⌜ ColumnLaid
+        (Check.runs signed (now (rows .entry))
+        (segments (proposal (now (first .entry)) (now (counts .entry)) (now (forms .entry)) (now (widths .entry)) (now (bases .entry)))))
+        (now (out .entry)) (now (out .exit)) ⌝ }
 {
     let mut k: usize = 0;
     let mut row: usize = 0;
@@ -100,7 +104,8 @@ pub(crate) fn part_rows(left: RowNumber) -> RowNumber
 // Some rows as a direct run of 64 bits: its bytes.
 fn wide_run(rows: &[i64], signed: bool, at: RowNumber, n: RowNumber, out: &mut [u8]) -> ByteOffset
     requires { ⌜ at .rows + n .rows ≤ length (now rows) ⌝ }
-    ensures { λ r. ⌜ Ran (writing signed Form.Direct 31 (map asU64 (take (n .rows) (drop (at .rows) (now (rows .entry))))) (length (now (out .entry)))) (now (out .entry)) (now (out .exit)) (r .bytes) ⌝ }
+    ensures { λ r. ⌜ Ran (writing signed Form.Direct 31 (map asU64 (take (n .rows) (drop (at .rows) (now (rows .entry)))))
+        (length (now (out .entry)))) (now (out .entry)) (now (out .exit)) (r .bytes) ⌝ }
 {
     let row = at.rows;
     let count = n.rows;

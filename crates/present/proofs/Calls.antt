@@ -10,6 +10,7 @@ use lib.Dec.{ltb}
 use lib.IntN.{ℤ}
 use borrow.Author.Tests.{ne-eqb, eq-eqb, le-ltb, lt-ltb, eqb-true, eqb-false, ltb-true, ltb-false}
 use Rattle.format.specs.Fields.{pick}
+use Rattle.format.proofs.Tests.{never}
 use Rattle.present.specs.declared.answer.Spread.{Spread}
 use Rattle.present.specs.Present.{present, spread, SpreadOutcome, gives, refuses, linedUp, spreading, spreadOver, notSpread}
 use Rattle.present.specs.Present.{spreadAnswer, spreadPlaces, SpreadOut}
@@ -96,7 +97,7 @@ spreads-hold flags rows fill out out′ r p = record {
   where
     as-was : (n : ℕ) (o : SpreadOutcome) → spreadAnswer o ≡ notSpread n → spreadPlaces out o ≡ out
     as-was n (refuses m) e = refl
-    as-was n (gives column) e = let z : _≡_ {A = ℕ} 0 1 = cc in absurd (omega arith)
+    as-was n (gives column) e = never (cc)
 
     all-long : (a b : Bool) → ltb (length out) (length flags) ≡ b
         → length (spreadPlaces out (pick (not a) (refuses 21) (pick b (refuses 8) (gives (spread fill flags rows))))) ≡ length out

@@ -71,7 +71,8 @@ module _ (m : ℕ) (bs : List ℕ) (d : ByteRun) (s : List ℕ) (v : ValidRun d)
       rw (← (length-append (runLayout d) (joinedRuns ds)))
       (no-control (d ∷ ds) (v, w) (omega (arith, l, length-append (runBytes d) (joinedBytes ds), length-run d)) (e ∙ ap (λ (x : List ℕ). runLayout d ++ x) f))
   later k field (in-run ds c rest w l f h) =
-      let i : length (runLayout d ++ joinedRuns ds) + 1 ≡ length (runLayout d) + (length (joinedRuns ds) + 1) = omega (arith, length-append (runLayout d) (joinedRuns ds)) in
+      let i : length (runLayout d ++ joinedRuns ds) + 1 ≡ length (runLayout d) + (length (joinedRuns ds) + 1) =
+      omega (arith, length-append (runLayout d) (joinedRuns ds)) in
       rw (← i)
       (in-run (d ∷ ds) c rest (v, w) (omega (arith, l, length-append (runBytes d) (joinedBytes ds), length-run d))
       (e ∙ ap (λ (x : List ℕ). runLayout d ++ x) f ∙ sym (append-assoc (runLayout d) (joinedRuns ds) (c ∷ rest))) h)

@@ -21,9 +21,11 @@ module _ (t : List ℕ) (r : Reason) (stuck : (f m : ℕ) → 0 < m → length t
       → byteRuns f m (joinedRuns ds ++ t) ≡ refused r
   unfolding byteRuns joinedRuns joinedBytes
   behind-runs f m [] v l h = stuck f m (omega arith) h
-  behind-runs zero m (d ∷ ds) v l h = absurd (omega (arith, h, layout-pos d, length-append (runLayout d ++ joinedRuns ds) t, length-append (runLayout d) (joinedRuns ds)))
+  behind-runs zero m (d ∷ ds) v l h =
+      absurd (omega (arith, h, layout-pos d, length-append (runLayout d ++ joinedRuns ds) t, length-append (runLayout d) (joinedRuns ds)))
   behind-runs (suc f) m (d ∷ ds) v l h =
-      let k : length (runBytes d ++ joinedBytes ds) ≡ byteCount d + length (joinedBytes ds) = omega (arith, length-append (runBytes d) (joinedBytes ds), length-run d) in
+      let k : length (runBytes d ++ joinedBytes ds) ≡ byteCount d + length (joinedBytes ds) =
+      omega (arith, length-append (runBytes d) (joinedBytes ds), length-run d) in
       rw (
         ne-eqb m 0 (omega arith),
         append-assoc (runLayout d) (joinedRuns ds) t,
@@ -45,7 +47,8 @@ stuck-cut c rest k (suc f) m h l = rw (ne-eqb m 0 (omega arith), cut-run c rest 
 pub line : (m : ℕ) (bs : List ℕ) {k field : ℕ} → CutShort bs m k field → byteRuns (length bs) m bs ≡ refused (cutIn k (drop field bs))
 line m bs (no-control ds v l e) =
     rw (e, drop-of-length-le (joinedRuns ds) {i = length (joinedRuns ds)} (le-refl _))
-    (rw (append-nil (joinedRuns ds)) at (behind-runs [] (cutIn 6 []) stuck-none (length (joinedRuns ds)) m ds v l (rw (append-nil (joinedRuns ds)) (le-refl _))))
+    (rw (append-nil (joinedRuns ds)) at
+    (behind-runs [] (cutIn 6 []) stuck-none (length (joinedRuns ds)) m ds v l (rw (append-nil (joinedRuns ds)) (le-refl _))))
 line m bs (in-run ds c rest v l e h) =
     rw (e, drop-append-add (joinedRuns ds) (c ∷ rest) 1) (behind-runs (c ∷ rest) (cutIn 13 rest) (stuck-cut c rest h) _ m ds v l (le-refl _))
 

@@ -23,6 +23,7 @@ use Rattle.format.proofs.Below.{below-drop}
 use Rattle.format.proofs.Runs.{got-inj}
 use Rattle.format.proofs.ByteRuns.{ValidNeeded}
 use Rattle.format.proofs.Booleans.{booleans-complete, booleans-sound}
+use Rattle.format.proofs.Tests.{never}
 use Rattle.promises.specs.BooleansAndValues.{CutShort, Hold, BooleansExactly, BooleansHold, ValueHolds}
 use Rattle.promises.proofs.BooleanFates.{Fate, all-read, stops, fate}
 use Rattle.promises.proofs.BooleanLines.{line, field-le}
@@ -60,23 +61,19 @@ module _ (input : List ℕ) (at n : ℕ) (out out′ : List ℕ) (r : Answer) (p
         (rw (stop, e) at (p .answer), rw stop at (p .places))
 
     unheld : (ds : List ByteRun) → Hold bs n ds → ⊥
-    unheld ds h =
-        let y : _≡_ {A = ℕ} 0 1 = cc (read-back ds h, stop) in
-        omega arith
+    unheld ds h = never (cc (read-back ds h, stop))
 
   -- a run is no refusal, and no refusal with a byte is one without
   run-no-refusal : (b : ℕ) (f : Refusal) → r ≡ ran Booleans 1 n b → r ≡ Refused f → ⊥
-  run-no-refusal b f e g =
-      let z : _≡_ {A = ℕ} 0 1 = cc in
-      omega arith
+  run-no-refusal b f e g = never (cc)
 
   byte-or-none : (k l b : ℕ) → r ≡ refusedAt k at → r ≡ cutAt l at b → ⊥
   byte-or-none k l b e g =
       let q : None ≡ At _ = ap answerCut (sym e ∙ g) in
-      let z : _≡_ {A = ℕ} 0 1 = cc in
-      omega arith
+      never (cc)
 
-  same-field : (k field k′ byte : ℕ) → CutShort bs (bytesFor n) k field → r ≡ cutAt k′ at byte → (field : ℕ) × CutShort bs (bytesFor n) k′ field × (byte ≡ at + field)
+  same-field : (k field k′ byte : ℕ) → CutShort bs (bytesFor n) k field → r ≡ cutAt k′ at byte
+      → (field : ℕ) × CutShort bs (bytesFor n) k′ field × (byte ≡ at + field)
   unfolding byteOf
   same-field k field k′ byte c e =
       let f : cutAt k at (at + field) ≡ cutAt k′ at byte = sym (off k field c .0) ∙ e in

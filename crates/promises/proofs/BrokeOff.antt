@@ -8,7 +8,8 @@ use mathlib.Core.List.{List}
 use lib.ListN.{length, drop}
 use Rattle.promises.specs.OneRunExactly.{OneRunExactly}
 use Rattle.promises.specs.Refusals
-use Rattle.promises.specs.Refusals.{Table, refusal-1, refusal-2, refusal-3, refusal-4, refusal-5, refusal-7, refusal-8, CutLine, CutNumber, six, twelve, thirteen, fourteen, Answers, baseBytes, listFrom}
+use Rattle.promises.specs.Refusals.{Table, refusal-1, refusal-2, refusal-3, refusal-4, refusal-5, refusal-7, refusal-8, CutLine}
+use Rattle.promises.specs.Refusals.{CutNumber, six, twelve, thirteen, fourteen, Answers, baseBytes, listFrom}
 use Rattle.promises.specs.BrokeOff.{Ended, in-value, in-direct, in-first-row, in-base-delta, in-magnitudes, in-patched, BrokeOffHolds}
 use Rattle.promises.proofs.OneRunExactly.{one-run-exactly}
 use Rattle.promises.proofs.Refusals.{answers, field-pos}

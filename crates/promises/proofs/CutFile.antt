@@ -22,6 +22,7 @@ use Rattle.format.proofs.Runs.{layout-below}
 use Rattle.format.proofs.Cut.{cut-number}
 use Rattle.format.proofs.Joined.{joined-append, valid-behind}
 use Rattle.format.proofs.Streams.{into-refused, stream-broken}
+use Rattle.format.proofs.Tests.{never}
 use Rattle.promises.specs.CutFile.{EndInside, CutBetween, in-header, in-field, Inside, Refuses, LacksRoom, CutFileHolds}
 use Rattle.promises.specs.WholeStreamExactly.{IsWhole}
 use Rattle.promises.specs.Refusals.{TableGives, by-number, by-field}
@@ -145,12 +146,10 @@ module _ (input : List ℕ) (at : ℕ) (signed : Bool) (out out′ : List ℤ) (
       go : Dec (length out < totalRows (i .before)) → ⊥
       go (yes l) =
           let a = room-lacking l .answer in
-          let z : _≡_ {A = ℕ} 0 1 = cc in
-          omega arith
+          never (cc)
       go (no l) =
           let a = cut-refused (omega arith) .answer in
-          let z : _≡_ {A = ℕ} 0 1 = cc in
-          omega arith
+          never (cc)
 
 pub cut-file : CutFileHolds
 cut-file input at signed out out′ r s n ds v i e = record {

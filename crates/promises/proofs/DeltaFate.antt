@@ -46,7 +46,9 @@ module _ (places a b : ℕ) (s : List ℕ) (k : a / 64 ≡ 3) where
     delta-run : DeltaRun (a ∷ b ∷ s)
     delta-run = record { headed = record { is-kind = k; header = omega arith }; not-4 = not-4 }
 
-    pub delta-body : parse (a ∷ b ∷ s) ≡ (then (varint (cutIn 12 s) 10 s) λ v t. then (varint (cutIn 12 t) 10 t) λ w rest. afterVarints (codeOf a) (rowsLess a b + 1) v w rest)
+    pub delta-body : parse (a ∷ b ∷ s)
+        ≡ (then (varint (cutIn 12 s) 10 s) λ v t. then (varint (cutIn 12 t) 10 t) λ w rest. afterVarints (codeOf a)
+        (rowsLess a b + 1) v w rest)
     unfolding parse Parse.byKind Parse.deltaRun Parse.fixedBody Parse.deltaBody
     delta-body = rw k (go (codeOf a) not-4)
       where
@@ -64,10 +66,12 @@ module _ (places a b : ℕ) (s : List ℕ) (k : a / 64 ≡ 3) where
         → parse (a ∷ b ∷ s) ≡ (then (varint (cutIn 12 rest) 10 rest) λ w t. afterVarints (codeOf a) (rowsLess a b + 1) v w t)
     behind-first v rest e h = delta-body ∙ rw (e, varint-complete _ 10 v rest h)
 
-    pub behind-both : (v w rest : List ℕ) → s ≡ v ++ (w ++ rest) → Varint 10 v → Varint 10 w → parse (a ∷ b ∷ s) ≡ afterVarints (codeOf a) (rowsLess a b + 1) v w rest
+    pub behind-both : (v w rest : List ℕ) → s ≡ v ++ (w ++ rest) → Varint 10 v → Varint 10 w
+        → parse (a ∷ b ∷ s) ≡ afterVarints (codeOf a) (rowsLess a b + 1) v w rest
     behind-both v w rest e h g = behind-first v (w ++ rest) e h ∙ rw (varint-complete _ 10 w rest g)
 
-    pub magnitudes-cut : (c : ℕ) (v w rest : List ℕ) → length rest < magnitudeBytes c (rowsLess a b + 1) → afterVarints c (rowsLess a b + 1) v w rest ≡ refused (cutIn 13 rest)
+    pub magnitudes-cut : (c : ℕ) (v w rest : List ℕ) → length rest < magnitudeBytes c (rowsLess a b + 1)
+        → afterVarints c (rowsLess a b + 1) v w rest ≡ refused (cutIn 13 rest)
     magnitudes-cut zero v w rest h = absurd (omega (arith, h))
     magnitudes-cut (suc c) v w rest h = rw (block-cut rest 0 13 (width (suc c)) (rowsLess a b + 1 - 2) (omega (arith, h)))
 
@@ -77,7 +81,8 @@ module _ (places a b : ℕ) (s : List ℕ) (k : a / 64 ≡ 3) where
     magnitudes-fate (suc c) e v w rest f h g = go (decLt (length rest) (magnitudeBytes (suc c) (rowsLess a b + 1)))
       where
         go : Dec (length rest < magnitudeBytes (suc c) (rowsLess a b + 1)) → Fate places (a ∷ b ∷ s) (afterVarints (suc c) (rowsLess a b + 1) v w rest)
-        go (yes l) = rw (magnitudes-cut (suc c) v w rest l) (cut-there _ _ (behind-two a b s v w rest f) (Refusals.in-magnitudes v w rest delta-run f h g (rw e l)))
+        go (yes l) = rw (magnitudes-cut (suc c) v w rest l)
+            (cut-there _ _ (behind-two a b s v w rest f) (Refusals.in-magnitudes v w rest delta-run f h g (rw e l)))
         go (no l) = rw (block-here rest 0 13 (width (suc c)) (rowsLess a b + 1 - 2) (omega arith)) a-run
 
     second : (v rest : List ℕ) → s ≡ v ++ rest → Varint 10 v → {m : Parsed (List ℕ)} → VarintRead (cutIn 12 rest) 9 rest m

@@ -37,7 +37,13 @@ each-width = record {
   fixed-runs = λ rows first base a b c d.
       valid-back _ _ (record { head = record { code-fits = omega arith; some-rows = a; rows-fit = b }; first-varint = c; base-varint = d }) (λ signed. refl);
   delta-runs = λ code first base k a b c d e f.
-      valid-back _ _ (record { head = record { code-fits = b; some-rows = omega arith; rows-fit = c }; not-fixed = a; first-varint = d; base-varint = e; block = f }) (λ signed. refl);
+      valid-back _ _ (record {
+        head = record { code-fits = b; some-rows = omega arith; rows-fit = c };
+        not-fixed = a;
+        first-varint = d;
+        base-varint = e;
+        block = f;
+      }) (λ signed. refl);
   patched-runs = λ code base pc gw k l a b c d e f g h i j m n o p q.
       valid-back _ _ (record {
         head = record { code-fits = a; some-rows = b; rows-fit = c };

@@ -22,6 +22,7 @@ use Rattle.format.proofs.Cut.{refused-stays}
 use Rattle.format.specs.declared.Standing.the-variants.{Opened, Broken}
 use Rattle.format.specs.Parts as reader
 use Rattle.format.specs.Parts.{State, onPart, takePart}
+use Rattle.format.proofs.Tests.{never}
 use Rattle.promises.specs.Parts.{Fed, goOn, offer, feed, joinedParts, starting}
 
 -- ---- what stands after some bytes
@@ -45,7 +46,8 @@ pub data Result (at : ℕ) (bs : List ℕ) : Fed → Type 0 where
   waiting : (ds : List Description) {rest : List ℕ} → AllValid ds → bs ≡ joined ds ++ rest → Waits rest
       → Result at bs (record { runs = starting at ds; state = record { held = rest; at = after at ds; standing = Opened } })
   barred : (ds : List Description) (rest : List ℕ) {h : List ℕ} (n : ℕ) → AllValid ds → bs ≡ joined ds ++ rest → Waits h → parse rest ≡ refused (plain n)
-      → T (not (eqb n 1)) → Result at bs (record { runs = starting at ds; state = record { held = h; at = after at ds; standing = Broken (refusing n (after at ds)) } })
+      → T (not (eqb n 1)) → Result at bs
+      (record { runs = starting at ds; state = record { held = h; at = after at ds; standing = Broken (refusing n (after at ds)) } })
 
 -- a run before them
 consed : {at : ℕ} {bs rest : List ℕ} {d : Description} {f : Fed} → Valid d → bs ≡ layout d ++ rest → Result ((at + length (layout d)) % two64) rest f
@@ -67,12 +69,8 @@ prefixed rest (d ∷ ds) v e t = consed (v .0) (e ∙ append-assoc (layout d) (j
 
 -- what waits does not begin with a whole run
 none-whole : {h : List ℕ} (d : Description) (s : List ℕ) → Waits h → Valid d → h ≡ layout d ++ s → ⊥
-none-whole d s (nothing-held z) v e =
-    let z : _≡_ {A = ℕ} 0 1 = cc (parse-empty, parse-complete d s v) in
-    omega arith
-none-whole d s (begun b p u) v e =
-    let z : _≡_ {A = ℕ} 0 1 = cc (parse-complete d s v) in
-    omega arith
+none-whole d s (nothing-held z) v e = never (cc (parse-empty, parse-complete d s v))
+none-whole d s (begun b p u) v e = never (cc (parse-complete d s v))
 
 -- so a run that the part makes whole ends in the part, and what is not taken of the part is what is behind the run
 module _ (h part rest : List ℕ) (d : Description) (w : Waits h) (v : Valid d) (e : h ++ part ≡ layout d ++ rest) where
@@ -94,7 +92,8 @@ module _ (h part rest : List ℕ) (d : Description) (w : Waits h) (v : Valid d) 
   untaken : drop (length part - length rest) part ≡ rest
   untaken =
       let k : length h + (length part - length rest) ≡ length (layout d) = omega (arith, ends-in, lengths) in
-      sym (drop-append-add h part (length part - length rest)) ∙ ap (λ (i : ℕ). drop i (h ++ part)) k ∙ ap (drop (length (layout d))) e ∙ drop-append-seam (layout d) rest
+      sym (drop-append-add h part (length part - length rest)) ∙ ap (λ (i : ℕ). drop i (h ++ part)) k ∙ ap (drop (length (layout d))) e
+      ∙ drop-append-seam (layout d) rest
 
 pub offered : (calls : ℕ) (h : List ℕ) (at : ℕ) (part : List ℕ) → Waits h → AllBelow 256 (h ++ part) → length part < calls
     → Result at (h ++ part) (offer calls (record { held = h; at = at; standing = Opened }) part)
@@ -106,7 +105,8 @@ offered (suc calls) h at part w b l = go (parse (h ++ part)) refl (outcome (h ++
     s = record { held = h; at = at; standing = Opened }
 
     go : (m : Parsed Description) → parse (h ++ part) ≡ m → Outcome (h ++ part) m
-        → ((k : ℕ) (rest : List ℕ) → AllBelow 256 rest → length rest < calls → Result k rest (offer calls (record { held = []; at = k; standing = Opened }) rest))
+        → ((k : ℕ) (rest : List ℕ) → AllBelow 256 rest → length rest < calls
+        → Result k rest (offer calls (record { held = []; at = k; standing = Opened }) rest))
         → Result at (h ++ part) (goOn (λ t rest. offer calls t rest) part (onPart s part m) (onPart s part m .reply))
     go m e (nothing z) ih = waiting [] tt refl (nothing-held z)
     go m e (run {d} {rest} t) ih =
@@ -135,7 +135,8 @@ pub fed : (h : List ℕ) (at : ℕ) (ps : List (List ℕ)) → Waits h → AllBe
 unfolding feed starting after joined
 fed h at [] w c = waiting [] tt (append-nil h) w
 fed h at (p ∷ ps) w c =
-    go (offered (suc (length p)) h at p w (below-append 256 h p (bytes-held w) (append-below 256 p (joinedParts ps) c)) (omega arith)) (λ h′ at′ w′. fed h′ at′ ps w′ behind)
+    go (offered (suc (length p)) h at p w (below-append 256 h p (bytes-held w) (append-below 256 p (joinedParts ps) c)) (omega arith))
+    (λ h′ at′ w′. fed h′ at′ ps w′ behind)
   where
     behind : AllBelow 256 (joinedParts ps)
     behind = rw (drop-append-seam p (joinedParts ps)) at (below-drop 256 (length p) (p ++ joinedParts ps) c)

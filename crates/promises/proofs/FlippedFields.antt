@@ -80,7 +80,8 @@ laid {input} {at} {d} h =
     record { ok = t .ok; split = sym (h .split) ∙ t .split }
 
 -- a header has one meaning
-pub head-same : (kind code code′ n n′ : ℕ) → ValidHead code n → ValidHead code′ n′ → head₀ kind code n ≡ head₀ kind code′ n′ → head₁ n ≡ head₁ n′ → (code ≡ code′) × (n ≡ n′)
+pub head-same : (kind code code′ n n′ : ℕ) → ValidHead code n → ValidHead code′ n′ → head₀ kind code n ≡ head₀ kind code′ n′
+    → head₁ n ≡ head₁ n′ → (code ≡ code′) × (n ≡ n′)
 head-same kind code code′ n n′ v v′ e f = omega arith
 
 -- two blocks of one size, whose bytes lie in lists that differ in one place as far as the first block goes

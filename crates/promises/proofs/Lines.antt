@@ -13,7 +13,8 @@ use Rattle.format.proofs.RunComplete.{parse-complete}
 use Rattle.format.proofs.Streams.{into-refused}
 use Rattle.format.proofs.Tests.{T-true, is-false}
 use Rattle.promises.specs.Refusals
-use Rattle.promises.specs.Refusals.{Table, refusal-1, refusal-2, refusal-3, refusal-4, refusal-5, refusal-7, refusal-8, CutLine, TableGives, by-number, by-field}
+use Rattle.promises.specs.Refusals.{Table, refusal-1, refusal-2, refusal-3, refusal-4, refusal-5, refusal-7, refusal-8, CutLine}
+use Rattle.promises.specs.Refusals.{TableGives, by-number, by-field}
 use Rattle.promises.specs.Refusals.{TenthAbove, Unended, Headed, PatchedRun, DeltaRun, magnitudeBytes, listFrom, listTo, entries, valueBytes, baseBytes}
 use Rattle.promises.proofs.PatchCases.{too-large, out-of-place}
 use Rattle.promises.proofs.Fates.{tenth-above, unended}
@@ -56,10 +57,13 @@ line-cut bs (Refusals.in-base-delta v rest r e h t) =
     (λ a b s r e. behind-first 0 a b s (r .headed .is-kind) (r .not-4) v rest e h ∙ rw (unended (cutIn 12 rest) 10 rest t, behind-one a b s v rest e))
     bs (r .headed .header) r e
 line-cut bs (Refusals.in-rows h l) =
-    two (λ x. Headed 1 x → length x < 2 + valueBytes x → parse x ≡ refused (cutIn 13 (drop 2 x))) (λ a b s h l. direct-cut 0 a b s (h .is-kind) l) bs (h .header) h l
+    two (λ x. Headed 1 x → length x < 2 + valueBytes x → parse x ≡ refused (cutIn 13 (drop 2 x)))
+    (λ a b s h l. direct-cut 0 a b s (h .is-kind) l) bs (h .header) h l
 line-cut bs (Refusals.in-magnitudes v w rest r e h g l) =
-    two (λ x. DeltaRun x → drop 2 x ≡ v ++ (w ++ rest) → length rest < magnitudeBytes (Refusals.code x) (Refusals.rows x) → parse x ≡ refused (cutIn 13 (drop (2 + (length v + length w)) x)))
-    (λ a b s r e l. behind-both 0 a b s (r .headed .is-kind) (r .not-4) v w rest e h g ∙ magnitudes-cut 0 a b s (r .headed .is-kind) (r .not-4) (codeOf a) v w rest l ∙ rw (behind-two a b s v w rest e))
+    two (λ x. DeltaRun x → drop 2 x ≡ v ++ (w ++ rest) → length rest < magnitudeBytes (Refusals.code x) (Refusals.rows x)
+    → parse x ≡ refused (cutIn 13 (drop (2 + (length v + length w)) x)))
+    (λ a b s r e l. behind-both 0 a b s (r .headed .is-kind) (r .not-4) v w rest e h g
+    ∙ magnitudes-cut 0 a b s (r .headed .is-kind) (r .not-4) (codeOf a) v w rest l ∙ rw (behind-two a b s v w rest e))
     bs (r .headed .header) r e l
 line-cut bs (Refusals.in-values r m l) =
     four (λ x. PatchedRun x → 4 + baseBytes x ≤ length x → length x < listFrom x → parse x ≡ refused (cutIn 13 (drop (4 + baseBytes x) x)))

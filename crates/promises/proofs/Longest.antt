@@ -4,10 +4,9 @@ use mathlib.Core.Path.{_≡_, refl, _∙_}
 use mathlib.Core.Logic.{inl, inr}
 use Prim.Native.Nat.{ℕ, zero, suc, _^_, _<_}
 use native.Mathlib.Omega.{arith}
-use mathlib.Core.Bool.{Bool, true, false, not}
 use lib.ListN.{replicate, getD-replicate}
 use lib.Pow.{pow-pos}
-use lib.Dec.{T}
+use lib.Dec.{not-T}
 use Rattle.format.specs.Fields
 use Rattle.format.specs.Runs.{Description, patched, Valid, patches, tooLarge, outOfPlace}
 use Rattle.format.proofs.Rows.{below-replicate, byteCount, bytes-count, byte-bounds}
@@ -35,10 +34,6 @@ in-place (inl (l, s)) = s
 in-place (inr (inl (i, j, p, l, f, g))) = omega (arith, places 31 i (f .there), places 31 j (g .there), f .here, g .here)
 in-place (inr (inr (j, p, f, l))) = omega (arith, places 31 j (f .there), f .here, f .there)
 
-refuted : (b : Bool) → (T b → ⊥) → T (not b)
-refuted true h = h tt
-refuted false h = tt
-
 valid : Valid long
 unfolding Fields.widths Fields.width Fields.leastOf Fields.leastWidth
 valid = record {
@@ -53,8 +48,8 @@ valid = record {
   not-2 = omega arith;
   block = record { count = refl; fits = below-replicate _ 512 0 (pow-pos 64); padFits = omega arith };
   list = record { count = refl; fits = below-replicate _ 31 entry (omega arith); padFits = omega arith };
-  not-3 = refuted (tooLarge 64 (patches 56 (replicate 31 entry))) (λ h. fitting (too-large 56 64 (replicate 31 entry) .0 h));
-  not-7 = refuted (outOfPlace 56 512 (replicate 31 entry)) (λ h. in-place (out-of-place 56 512 (replicate 31 entry) .0 h));
+  not-3 = not-T (tooLarge 64 (patches 56 (replicate 31 entry))) (λ h. fitting (too-large 56 64 (replicate 31 entry) .0 h));
+  not-7 = not-T (outOfPlace 56 512 (replicate 31 entry)) (λ h. in-place (out-of-place 56 512 (replicate 31 entry) .0 h));
 }
 
 as-long : byteCount long ≡ 4356

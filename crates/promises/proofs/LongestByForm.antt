@@ -55,7 +55,12 @@ described-le signed f w rs a = rw (bytes-count (described signed f w rs)) (by f 
     by PackedDelta a =
         let n = between-le 2 512 (length rs) (a .count) in
         let m : length (valuesOf signed PackedDelta rs) ≤ 510 = omega (arith, n, later-steps (falls (baseDelta rs)) rs (n .0)) in
-        omega (arith, shortest-le (firstOf signed rs), shortest-le (zigzagged (baseDelta rs)), fields-le (length (valuesOf signed PackedDelta rs)) (width w) 510 64 m (width-le w))
+        omega (
+          arith,
+          shortest-le (firstOf signed rs),
+          shortest-le (zigzagged (baseDelta rs)),
+          fields-le (length (valuesOf signed PackedDelta rs)) (width w) 510 64 m (width-le w),
+        )
 
 module _ (signed : Bool) (f : Form) (w : ℕ) (rs : List ℕ) (places : ℕ) where
   abbrev D : Description

@@ -24,8 +24,8 @@ use Rattle.format.specs.Writing.{between, AllI64}
 use Rattle.format.specs.PatchedWriting
 use Rattle.format.specs.PatchedWriting.{differences, patchesAbove, codeFor, baseSize, patchesIn, Parts, run, parts, headerHolds, writingPatched}
 use Rattle.format.proofs.Rows.{byteCount, bytes-count}
-use Rattle.format.proofs.Widths.{least-le, width-window, and-right}
-use Rattle.format.proofs.Tests.{between-le, T-true}
+use Rattle.format.proofs.Widths.{least-le, width-window}
+use Rattle.format.proofs.Tests.{never, between-le, T-true, and-right}
 use Rattle.format.proofs.Runs.{got-inj}
 use Rattle.format.proofs.PatchedWriting.{ds-below, length-ds, size-is}
 use Rattle.promises.specs.LongestWritten.{AsLong, LongestWritten}
@@ -80,31 +80,47 @@ module _ (base w : ℕ) (rs : List ℕ) where
   bounded places = go (between 1 512 (length rs)) (isKeptWidth w && headerHolds p) (ltb places (length (layout (run p)))) refl refl refl
     where
       other : (n : ℕ) → (n ≡ 8 → ⊥) → Bounded places (refused (plain n))
-      other n h = record { no-longer = λ d rest e. let z : _≡_ {A = ℕ} 0 1 = cc in absurd (omega arith); never-8 = λ l e. let z : n ≡ 8 = cc in h z }
+      other n h = record { no-longer = λ d rest e. never (cc); never-8 = λ l e. let z : n ≡ 8 = cc in h z }
 
       go : (a b few : Bool) → between 1 512 (length rs) ≡ a → (isKeptWidth w && headerHolds p) ≡ b → ltb places (length (layout (run p))) ≡ few
           → Bounded places (unless (not a) 9 (unless (not b) 10 (unless few 8 (got (run p) []))))
       go false b few s t u = other 9 (λ e. omega arith)
       go true false few s t u = other 10 (λ e. omega arith)
-      go true true few s t u = by few u (patched-le (header-room p .0 (and-right (isKeptWidth w) (headerHolds p) (rw t tt))) (between-le 1 512 (length rs) (rw s tt) .1))
+      go true true few s t u =
+          by few u (patched-le (header-room p .0 (and-right (isKeptWidth w) (headerHolds p) (rw t tt)))
+          (between-le 1 512 (length rs) (rw s tt) .1))
         where
           by : (few : Bool) → ltb places (length (layout (run p))) ≡ few → length (layout (run p)) ≤ 4108 → Bounded places (unless few 8 (got (run p) []))
           by true u l = record {
-            no-longer = λ d rest e. let z : _≡_ {A = ℕ} 0 1 = cc in absurd (omega arith);
+            no-longer = λ d rest e. never (cc);
             never-8 = λ h e. omega (arith, ltb-true places (length (layout (run p))) u);
           }
-          by false u l = record { no-longer = λ d rest e. rw (← (got-inj e .0)) l; never-8 = λ h e. let z : _≡_ {A = ℕ} 0 1 = cc in omega arith }
+          by false u l = record { no-longer = λ d rest e. rw (← (got-inj e .0)) l; never-8 = λ h e. never (cc) }
 
 -- ---- any 512 rows at 64 bits, with a base of eight bytes
 
 module _ (base : ℕ) (rs : List ℕ) (s : baseSize base ≡ 8) (n : length rs ≡ 512) where
   has-room : Room (parts base 64 rs)
-  unfolding parts PatchedWriting.entriesFrom PatchedWriting.codeFor PatchedWriting.patchCode PatchedWriting.gapWidth PatchedWriting.leastFrom Writing.every Fields.width Fields.widths
-  has-room = record { code-fits = omega arith; eight = rw (size-is base 64 rs, s) (omega arith); not-2 = rw (no-patch base rs) (omega arith); entries-fit = omega (arith, no-list base rs) }
+  unfolding parts PatchedWriting.entriesFrom PatchedWriting.codeFor PatchedWriting.patchCode PatchedWriting.gapWidth
+      PatchedWriting.leastFrom Writing.every Fields.width Fields.widths
+  has-room = record {
+    code-fits = omega arith;
+    eight = rw (size-is base 64 rs, s) (omega arith);
+    not-2 = rw (no-patch base rs) (omega arith);
+    entries-fit = omega (arith, no-list base rs);
+  }
 
   as-long : length (layout (run (parts base 64 rs))) ≡ 4108
   unfolding parts
-  as-long = rw (bytes-count (run (parts base 64 rs)), is-width base 64 rs has-room, length-ds base 64 rs, n, size-is base 64 rs, s, no-list base rs) (omega arith)
+  as-long = rw (
+    bytes-count (run (parts base 64 rs)),
+    is-width base 64 rs has-room,
+    length-ds base 64 rs,
+    n,
+    size-is base 64 rs,
+    s,
+    no-list base rs,
+  ) (omega arith)
 
   is-formed : (isKeptWidth 64 && headerHolds (parts base 64 rs)) ≡ true
   unfolding Kept.isKeptWidth Kept.keptWidths Kept.among

@@ -1,7 +1,6 @@
 -- Demand 2, from the laws of one run. Assumes nothing.
 use mathlib.Core.Path.{_≡_, sym, _∙_}
 use Prim.Native.Nat.{ℕ, _≤_}
-use native.Mathlib.Omega.{arith}
 use mathlib.Core.List.{List, []}
 use lib.ListN.{length, drop}
 use lib.IntN.{ℤ}
@@ -14,6 +13,7 @@ use Rattle.format.proofs.Below.{below-drop}
 use Rattle.format.proofs.RunComplete.{parse-complete}
 use Rattle.format.proofs.Runs.{parse-empty, layout-unique}
 use Rattle.format.proofs.Streams.{Into, into-nothing, into-run, into-refusal, into-outcome, into-got, into-end}
+use Rattle.format.proofs.Tests.{never}
 use Rattle.promises.specs.OneRunExactly.{Begins, IsRun, OneRunExactlyHolds}
 
 module _ (bs : List ℕ) (at total : ℕ) (out : List ℤ) (r : Answer) where
@@ -21,22 +21,14 @@ module _ (bs : List ℕ) (at total : ℕ) (out : List ℤ) (r : Answer) where
   read-run d b l = rw (b .bytes, parse-complete d (b .rest) (b .valid)) (into-got (length out) d (b .rest) l)
 
   begins : {m : Parsed Description} → Into (length out) bs m → r ≡ answerOf at total m → IsRun r → (d : Description) × Begins bs d × (rowCount d ≤ length out)
-  begins (into-nothing z) a (kind, width, rows, bytes, w) =
-      let z : _≡_ {A = ℕ} 0 1 = cc in
-      absurd (omega arith)
+  begins (into-nothing z) a (kind, width, rows, bytes, w) = never (cc)
   begins (into-run {d} {rest} t l) a w = (d, record { valid = t .ok; rest = rest; bytes = t .split }, l)
-  begins (into-refusal z) a (kind, width, rows, bytes, w) =
-      let z : _≡_ {A = ℕ} 0 1 = cc in
-      absurd (omega arith)
+  begins (into-refusal z) a (kind, width, rows, bytes, w) = never (cc)
 
   empty : {m : Parsed Description} → Into (length out) bs m → r ≡ answerOf at total m → r ≡ End → bs ≡ []
   empty (into-nothing z) a w = z
-  empty (into-run {d} {rest} t l) a w =
-      let z : _≡_ {A = ℕ} 0 1 = cc in
-      absurd (omega arith)
-  empty (into-refusal z) a w =
-      let z : _≡_ {A = ℕ} 0 1 = cc in
-      absurd (omega arith)
+  empty (into-run {d} {rest} t l) a w = never (cc)
+  empty (into-refusal z) a w = never (cc)
 
 pub one-run-exactly : OneRunExactlyHolds
 one-run-exactly input h at signed out out′ r s =

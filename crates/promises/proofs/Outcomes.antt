@@ -7,10 +7,13 @@ use native.Mathlib.Decide.{decLt}
 use Rattle.format.specs.Fields.{width, widths, two64, Narrowest}
 use Rattle.format.specs.Kept.{nextKept}
 use Rattle.format.proofs.Kept.{narrowest-next, narrowest-kept-unique}
-use Rattle.promises.specs.Outcomes.{Determines, RunDetermined, StreamDetermined, RunMeasuredDetermined, StreamMeasuredDetermined, BooleansDetermined, ValueDetermined, WriterDetermined, NarrowestDetermined, PatchedDetermined, EquationDetermined, StartDetermined, PartDetermined, ClosingDetermined}
+use Rattle.promises.specs.Outcomes.{Determines, RunDetermined, StreamDetermined, RunMeasuredDetermined, StreamMeasuredDetermined}
+use Rattle.promises.specs.Outcomes.{BooleansDetermined, ValueDetermined, WriterDetermined, NarrowestDetermined, PatchedDetermined}
+use Rattle.promises.specs.Outcomes.{EquationDetermined, StartDetermined, PartDetermined, ClosingDetermined}
 
 -- a promise that says what the places and the answer are
-pub determined : {P A : Type 0} (Allows : P → A → Type 0) (p₀ : P) (r₀ : A) → Allows p₀ r₀ → ((p : P) (r : A) → Allows p r → (p ≡ p₀) × (r ≡ r₀)) → Determines P A Allows
+pub determined : {P A : Type 0} (Allows : P → A → Type 0) (p₀ : P) (r₀ : A) → Allows p₀ r₀
+    → ((p : P) (r : A) → Allows p r → (p ≡ p₀) × (r ≡ r₀)) → Determines P A Allows
 determined Allows p₀ r₀ h f = record {
   some-outcome = (p₀, r₀, h);
   same-places = λ p p′ r r′ a b. f p r a .0 ∙ sym (f p′ r′ b .0);
@@ -89,7 +92,8 @@ pub start-determined : StartDetermined
 start-determined = equation-determined _ _
 
 pub part-determined : PartDetermined
-part-determined s part buffer signed out = determined _ _ _ (record { step = refl; lent = refl; places = refl }) (λ p r a. (pair (a .lent) (a .places), a .step))
+part-determined s part buffer signed out =
+    determined _ _ _ (record { step = refl; lent = refl; places = refl }) (λ p r a. (pair (a .lent) (a .places), a .step))
 
 pub closing-determined : ClosingDetermined
 closing-determined s buffer signed out = determined _ _ _ (record { step = refl; places = refl }) (λ p r a. (a .places, a .step))

@@ -15,7 +15,8 @@ use Rattle.format.proofs.RunComplete.{parse-complete}
 use Rattle.format.proofs.Streams.{into-refused, stream-whole, stream-broken, Reads, reads-whole, reads-broken, stream-post}
 use Rattle.format.specs.Parts as reader
 use Rattle.format.specs.Parts.{State, start, onPart, takePart, close}
-use Rattle.promises.specs.Parts.{Fed, GivenInParts, feed, joinedParts, readParts, starting, streamGives, rowsIn, SameAsStream, AnyCut, AtOnce, ByThatCall, Begins}
+use Rattle.promises.specs.Parts.{Fed, GivenInParts, feed, joinedParts, readParts, starting, streamGives, rowsIn, SameAsStream, AnyCut}
+use Rattle.promises.specs.Parts.{AtOnce, ByThatCall, Begins}
 use Rattle.promises.proofs.Feeding.{nothing-held, begun, after, Result, waiting, barred, fed}
 
 -- ---- starts and rows of runs one after another

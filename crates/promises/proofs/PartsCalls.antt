@@ -21,6 +21,7 @@ use Rattle.format.specs.Parts as reader
 use Rattle.format.specs.Parts.{Handed, Reply, handed, more, broke, ended, State, Call, onPart, takePart, close, answered, room}
 use Rattle.format.proofs.Below.{below-append}
 use Rattle.format.proofs.Runs.{Outcome, nothing, run, refusal, outcome}
+use Rattle.format.proofs.Tests.{never}
 use Rattle.promises.specs.Parts.{Fed, goOn, offer, NoRun}
 use Rattle.promises.specs.PartsCalls.{Lent}
 use Rattle.promises.proofs.Feeding.{Waits, nothing-held, bytes-held, Result, waiting, barred, offered, ends-in, lengths}
@@ -37,33 +38,27 @@ pub record Onward (bytes : List ℕ) (c : Call) : Type 0 where
   pub some : 0 < c .taken
   pub within : c .taken ≤ length bytes
 
-pub onward : {s : State} (bytes : List ℕ) (h : Handed) → Ready s → AllBelow 256 bytes → takePart 512 s bytes .reply ≡ handed h → Onward bytes (takePart 512 s bytes)
+pub onward : {s : State} (bytes : List ℕ) (h : Handed) → Ready s → AllBelow 256 bytes → takePart 512 s bytes .reply ≡ handed h
+    → Onward bytes (takePart 512 s bytes)
 unfolding takePart reader.inPlaces reader.unlessStopped onPart
-onward bytes h (broken) b e =
-    let z : _≡_ {A = ℕ} 0 1 = cc in
-    absurd (omega arith)
+onward bytes h (broken) b e = never (cc)
 onward bytes h (opened {h = held} {at} w) b e = go (parse (held ++ bytes)) (outcome (held ++ bytes) (below-append 256 held bytes (bytes-held w) b)) e
   where
     s : State
     s = record { held = held; at = at; standing = Opened }
 
     go : (m : Parsed Description) → Outcome (held ++ bytes) m → onPart s bytes m .reply ≡ handed h → Onward bytes (onPart s bytes m)
-    go m (nothing z) e =
-        let z : _≡_ {A = ℕ} 0 1 = cc in
-        absurd (omega arith)
+    go m (nothing z) e = never (cc)
     go m (run {d} {rest} t) e =
-        let l : 0 < length bytes - length rest = omega (arith, ends-in held bytes rest d w (t .ok) (t .split), lengths held bytes rest d w (t .ok) (t .split)) in
+        let l : 0 < length bytes - length rest =
+        omega (arith, ends-in held bytes rest d w (t .ok) (t .split), lengths held bytes rest d w (t .ok) (t .split)) in
         record { ready = opened (nothing-held refl); some = l; within = omega arith }
     go m (refusal {r} z) e = by-kind (unfinished r) e
       where
         by-kind : (u : Bool) → pick u (reader.hold s bytes) (reader.refuse s (length (held ++ bytes)) r) .reply ≡ handed h
             → Onward bytes (pick u (reader.hold s bytes) (reader.refuse s (length (held ++ bytes)) r))
-        by-kind true e =
-            let z : _≡_ {A = ℕ} 0 1 = cc in
-            absurd (omega arith)
-        by-kind false e =
-            let z : _≡_ {A = ℕ} 0 1 = cc in
-            absurd (omega arith)
+        by-kind true e = never (cc)
+        by-kind false e = never (cc)
 
 -- after a part
 pub ready-after : {s : State} (bytes : List ℕ) → Ready s → AllBelow 256 bytes → Ready (offer (suc (length bytes)) s bytes .state)
@@ -77,7 +72,8 @@ ready-after bytes (opened {h} {at} w) b = go (offered (suc (length bytes)) h at 
 
 -- ---- what a reply becomes
 
-pub no-run : (again : State → List ℕ → Fed) (bytes : List ℕ) (c : Call) (a : Reply) → NoRun (answered a) → goOn again bytes c a ≡ record { runs = []; state = c .state }
+pub no-run : (again : State → List ℕ → Fed) (bytes : List ℕ) (c : Call) (a : Reply) → NoRun (answered a)
+    → goOn again bytes c a ≡ record { runs = []; state = c .state }
 no-run again bytes c (handed h) n = absurd n
 no-run again bytes c more n = refl
 no-run again bytes c (broke f) n = refl
@@ -93,15 +89,9 @@ pub gave : (a : Reply) {at : ByteOffset} {x : run.Run} → answered a ≡ said.R
 gave (handed h) {at} {x} e =
     let p : record { bytes = h .at } ≡ at = cc in
     record { given = h; reply = refl; start = ap (λ (o : ByteOffset). o .bytes) (sym p); named = cc }
-gave more e =
-    let z : _≡_ {A = ℕ} 0 1 = cc in
-    absurd (omega arith)
-gave (broke f) e =
-    let z : _≡_ {A = ℕ} 0 1 = cc in
-    absurd (omega arith)
-gave ended e =
-    let z : _≡_ {A = ℕ} 0 1 = cc in
-    absurd (omega arith)
+gave more e = never (cc)
+gave (broke f) e = never (cc)
+gave ended e = never (cc)
 
 -- ---- calls with room are calls with 512 places
 

@@ -69,7 +69,8 @@ offers-is {signed} {s} {buffer} {b} {bytes} (gives {t = u} {buffer′} {out} {ou
     let n : r .taken .bytes ≡ c .taken = ap (λ (y : PartStep). y .taken .bytes) (t .step) ∙ ap (λ (y : Call). y .taken) same in
     let left : List ℕ = drop (r .taken .bytes) bytes in
     let d : Did signed u b hs (offer calls (stateOf (r .reader) buffer′) left)
-    = offers-is rest (below-drop 256 (r .taken .bytes) bytes below) (rw k (o .ready)) calls (omega (arith, length-drop (r .taken .bytes) bytes, o .some, o .within, n)) in
+    = offers-is rest (below-drop 256 (r .taken .bytes) bytes below) (rw k (o .ready)) calls
+    (omega (arith, length-drop (r .taken .bytes) bytes, o .some, o .within, n)) in
     let f : Fed = offer calls (c .state) (drop (c .taken) bytes) in
     let moved : offer calls (stateOf (r .reader) buffer′) left ≡ f
     = ap (λ (y : State). offer calls y left) k ∙ ap (λ (m : ℕ). offer calls (c .state) (drop m bytes)) n in
@@ -89,7 +90,8 @@ map-append : (f : Handed → Shown) (xs ys : List Handed) → map f (xs ++ ys) �
 map-append f [] ys = refl
 map-append f (x ∷ xs) ys = ap (λ (zs : List Shown). f x ∷ zs) (map-append f xs ys)
 
-offered-is : {signed : Bool} {s t : PartReader} {buffer b : List ℕ} {ps : List (List ℕ)} {hs : List Shown} → Offered signed s buffer ps hs t b → AllBelow 256 (joinedParts ps)
+offered-is : {signed : Bool} {s t : PartReader} {buffer b : List ℕ} {ps : List (List ℕ)} {hs : List Shown}
+    → Offered signed s buffer ps hs t b → AllBelow 256 (joinedParts ps)
     → Ready (stateOf s buffer) → Did signed t b hs (feed (stateOf s buffer) ps)
 unfolding feed
 offered-is no-part below ready = record { runs = refl; state = refl }

@@ -28,6 +28,7 @@ use Rattle.format.specs.Parts.{State, Reply, answered, stateOf, heldAfter, buff
 use Rattle.promises.specs.Parts.{Follows, FollowsClosing, RefusedLeaves}
 use Rattle.format.proofs.Length.{unfinished-short}
 use Rattle.format.proofs.Parts.{take-min}
+use Rattle.format.proofs.Tests.{never}
 
 module _ (s : PartReader) (part buffer : List ℕ) where
   abbrev held : List ℕ
@@ -48,7 +49,8 @@ module _ (s : PartReader) (part buffer : List ℕ) where
 
   -- an open reader's call
   follows-open : (m : Parsed Description) → Outcome (held ++ part) m → parse (held ++ part) ≡ m → AllBelow 256 (held ++ part) → 4356 ≤ length buffer
-      → take (heldAfter (s .held) (onPart (stateOf s buffer) part m) (onPart (stateOf s buffer) part m .reply)) (bufferAfter held part buffer (onPart (stateOf s buffer) part m .reply))
+      → take (heldAfter (s .held) (onPart (stateOf s buffer) part m) (onPart (stateOf s buffer) part m .reply))
+      (bufferAfter held part buffer (onPart (stateOf s buffer) part m .reply))
       ≡ onPart (stateOf s buffer) part m .state .held
   unfolding onPart
   follows-open m (nothing z) e b l = holding (omega (arith, ap length z)) l
@@ -56,7 +58,9 @@ module _ (s : PartReader) (part buffer : List ℕ) where
   follows-open m (refusal {r} z) e b l = go (unfinished r) refl
     where
       go : (u : Bool) → unfinished r ≡ u
-          → take (heldAfter (s .held) (pick u (reader.hold (stateOf s buffer) part) (reader.refuse (stateOf s buffer) (length (held ++ part)) r)) (pick u (reader.hold (stateOf s buffer) part) (reader.refuse (stateOf s buffer) (length (held ++ part)) r) .reply))
+          → take (heldAfter (s .held)
+          (pick u (reader.hold (stateOf s buffer) part) (reader.refuse (stateOf s buffer) (length (held ++ part)) r))
+          (pick u (reader.hold (stateOf s buffer) part) (reader.refuse (stateOf s buffer) (length (held ++ part)) r) .reply))
           (bufferAfter held part buffer (pick u (reader.hold (stateOf s buffer) part) (reader.refuse (stateOf s buffer) (length (held ++ part)) r) .reply))
           ≡ pick u (reader.hold (stateOf s buffer) part) (reader.refuse (stateOf s buffer) (length (held ++ part)) r) .state .held
       go true u = holding (omega (arith, unfinished-short (held ++ part) r b e (rw u tt))) l
@@ -81,7 +85,8 @@ follows s part buffer buffer′ signed out out′ r b c t =
     here = take (s .held) buffer
 
     call : Bool → Standing → Call
-    call u x = pick u (reader.idle (stateOf s buffer) (reader.broke (refusing 8 0))) (unlessStopped x (reader.idle (stateOf s buffer)) (onPart (stateOf s buffer) part (parse (here ++ part))))
+    call u x = pick u (reader.idle (stateOf s buffer) (reader.broke (refusing 8 0)))
+        (unlessStopped x (reader.idle (stateOf s buffer)) (onPart (stateOf s buffer) part (parse (here ++ part))))
 
     by : (u : Bool) → ltb (room buffer out) 512 ≡ u → (x : Standing)
         → take (heldAfter (s .held) (call u x) (call u x .reply)) (bufferAfter here part buffer (call u x .reply)) ≡ call u x .state .held
@@ -100,9 +105,12 @@ follows-closing s buffer signed out out′ r t =
     ∙ ap (λ (x : List ℕ). record { held = x; at = d .state .at; standing = d .state .standing }) (by (ltb (room buffer out) 512) (s .standing))
   where
     call : Bool → Standing → Call
-    call u x = pick u (reader.idle (stateOf s buffer) (reader.broke (refusing 8 0))) (unlessStopped x (reader.idle (stateOf s buffer)) (onClose (stateOf s buffer) (parse (take (s .held) buffer))))
+    call u x = pick u (reader.idle (stateOf s buffer) (reader.broke (refusing 8 0)))
+        (unlessStopped x (reader.idle (stateOf s buffer)) (onClose (stateOf s buffer) (parse (take (s .held) buffer))))
 
-    by-parse : (m : Parsed Description) → take (heldAfter (s .held) (onClose (stateOf s buffer) m) (onClose (stateOf s buffer) m .reply)) buffer ≡ onClose (stateOf s buffer) m .state .held
+    by-parse : (m : Parsed Description)
+        → take (heldAfter (s .held) (onClose (stateOf s buffer) m) (onClose (stateOf s buffer) m .reply)) buffer
+        ≡ onClose (stateOf s buffer) m .state .held
     by-parse end = refl
     by-parse (got d rest) = refl
     by-parse (refused r) = refl
@@ -125,31 +133,21 @@ module _ (f : Refusal) where
 
       on-refusal : (r : Reason) (u : Bool) → answered (pick u (reader.hold s part) (reader.refuse s (length (s .held ++ part)) r) .reply) ≡ said.Refused f
           → pick u (reader.hold s part) (reader.refuse s (length (s .held ++ part)) r) .taken ≡ 0
-      on-refusal r true e =
-          let z : _≡_ {A = ℕ} 0 1 = cc in
-          absurd (omega arith)
+      on-refusal r true e = never (cc)
       on-refusal r false e = refl
 
       by : (u : Bool) (x : Standing) (m : Parsed Description) → answered (call u x m .reply) ≡ said.Refused f → call u x m .taken ≡ 0
       by true x m e = refl
       by false (Broken b) m e = refl
       by false Closed m e = refl
-      by false Opened end e =
-          let z : _≡_ {A = ℕ} 0 1 = cc in
-          absurd (omega arith)
-      by false Opened (got d rest) e =
-          let z : _≡_ {A = ℕ} 0 1 = cc in
-          absurd (omega arith)
+      by false Opened end e = never (cc)
+      by false Opened (got d rest) e = never (cc)
       by false Opened (refused r) e = on-refusal r (unfinished r) e
 
   as-before : (held part buffer : List ℕ) (signed : Bool) (out : List ℤ) (a : Reply) → answered a ≡ said.Refused f
       → (bufferAfter held part buffer a ≡ buffer) × (placesAfter signed out a ≡ out)
-  as-before held part buffer signed out (reader.handed h) e =
-      let z : _≡_ {A = ℕ} 0 1 = cc in
-      absurd (omega arith)
-  as-before held part buffer signed out reader.more e =
-      let z : _≡_ {A = ℕ} 0 1 = cc in
-      absurd (omega arith)
+  as-before held part buffer signed out (reader.handed h) e = never (cc)
+  as-before held part buffer signed out reader.more e = never (cc)
   as-before held part buffer signed out (reader.broke b) e = (refl, refl)
   as-before held part buffer signed out reader.ended e = (refl, refl)
 

@@ -23,8 +23,10 @@ use Rattle.promises.specs.Refusals
 use Rattle.promises.specs.Refusals.{Table, by-number, by-field}
 use Rattle.promises.proofs.Refusals.{refusals, field-pos}
 use Rattle.promises.proofs.BrokeOff.{others, cut-numbers}
-use Rattle.promises.specs.Parts.{Fed, joinedParts, OfUnfinished, in-header, in-field, TheNumbers, WhenRefused, NoRun, Repeats, AfterRefusal, AfterLast, AfterClosing, TooFewPlaces, MorePlaces, HeldBelow}
+use Rattle.promises.specs.Parts.{Fed, joinedParts, OfUnfinished, in-header, in-field, TheNumbers, WhenRefused, NoRun, Repeats}
+use Rattle.promises.specs.Parts.{AfterRefusal, AfterLast, AfterClosing, TooFewPlaces, MorePlaces, HeldBelow}
 use Rattle.format.proofs.Length.{unfinished-short}
+use Rattle.format.proofs.Tests.{never}
 use Rattle.promises.proofs.Feeding.{Waits, nothing-held, begun, Result, waiting, barred}
 use Rattle.promises.proofs.Parts.{all-fed}
 
@@ -57,20 +59,14 @@ when-refused places s part b h o f =
 
     by-kind : (r : Reason) → parse bs ≡ refused r → (u : Bool) → unfinished r ≡ u
         → pick u (reader.hold s part) (reader.refuse s (length bs) r) .reply ≡ broke f → Refuses
-    by-kind r p true u e =
-        let z : _≡_ {A = ℕ} 0 1 = cc in
-        absurd (omega arith)
+    by-kind r p true u e = never (cc)
     by-kind r p false u e =
         let q : refusalFrom (s .at) (length bs) r ≡ f = cc in
         (r, p, q, λ n. rw u at (the-numbers bs b r p (s .at) .1 (rw q n)))
 
     fore : (m : Parsed Description) → parse bs ≡ m → onPart s part m .reply ≡ broke f → Refuses
-    fore end p e =
-        let z : _≡_ {A = ℕ} 0 1 = cc in
-        absurd (omega arith)
-    fore (got d rest) p e =
-        let z : _≡_ {A = ℕ} 0 1 = cc in
-        absurd (omega arith)
+    fore end p e = never (cc)
+    fore (got d rest) p e = never (cc)
     fore (refused r) p e = by-kind r p (unfinished r) refl e
 
     back : (r : Reason) → parse bs ≡ refused r → refusalFrom (s .at) (length bs) r ≡ f → (OfUnfinished (f .number) → ⊥) → (u : Bool) → unfinished r ≡ u
@@ -135,26 +131,18 @@ after-refusal places s part f h e =
     all f e
   where
     by-kind : (r : Reason) (u : Bool) → Sticks (pick u (reader.hold s part) (reader.refuse s (length (s .held ++ part)) r))
-    by-kind r true f e =
-        let z : _≡_ {A = ℕ} 0 1 = cc in
-        absurd (omega arith)
+    by-kind r true f e = never (cc)
     by-kind r false f e = (refl, refusal-repeats _ f (cc))
 
     by-parse : (m : Parsed Description) → Sticks (onPart s part m)
-    by-parse end f e =
-        let z : _≡_ {A = ℕ} 0 1 = cc in
-        absurd (omega arith)
-    by-parse (got d rest) f e =
-        let z : _≡_ {A = ℕ} 0 1 = cc in
-        absurd (omega arith)
+    by-parse end f e = never (cc)
+    by-parse (got d rest) f e = never (cc)
     by-parse (refused r) f e = by-kind r (unfinished r) f e
 
     by-standing : (t : Standing) → s .standing ≡ t → Sticks (reader.unlessStopped t (reader.idle s) (onPart s part (parse (s .held ++ part))))
     by-standing Opened p f e = by-parse (parse (s .held ++ part)) f e
     by-standing (Broken g) p f e = (refl, refusal-repeats s f (cc))
-    by-standing Closed p f e =
-        let z : _≡_ {A = ℕ} 0 1 = cc in
-        absurd (omega arith)
+    by-standing Closed p f e = never (cc)
 
 -- ---- what is held
 

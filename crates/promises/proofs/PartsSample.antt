@@ -18,10 +18,14 @@ byte-by-byte : readParts ((10 ∷ []) ∷ (1 ∷ []) ∷ [] ∷ (44 ∷ []) ∷ 
       runs = record { at = 0; run = short 5 (1 ∷ 44 ∷ []) } ∷ record { at = 3; run = direct 3 (record { values = 1 ∷ 2 ∷ 3 ∷ []; pad = 0 }) } ∷ [];
       answer = ended;
     }
-unfolding Parts.feed Parts.offer reader.takePart reader.close reader.inPlaces reader.unlessStopped reader.onPart reader.onClose Parse.parse Parse.byKind Parse.shortRun Parse.directRun Parse.block Parse.bytes Fields.width Fields.widths Digits.number Digits.digits Runs.layout Fields.blockBytes
+unfolding Parts.feed Parts.offer reader.takePart reader.close reader.inPlaces reader.unlessStopped reader.onPart reader.onClose Parse.parse
+    Parse.byKind Parse.shortRun Parse.directRun Parse.block Parse.bytes Fields.width Fields.widths Digits.number Digits.digits
+    Runs.layout Fields.blockBytes
 byte-by-byte = refl
 
 cut-short : readParts ((10 ∷ 1 ∷ 44 ∷ 70 ∷ []) ∷ (2 ∷ 18 ∷ []) ∷ [])
     ≡ record { runs = record { at = 0; run = short 5 (1 ∷ 44 ∷ []) } ∷ []; answer = broke (cutting 13 3 5) }
-unfolding Parts.feed Parts.offer reader.takePart reader.close reader.inPlaces reader.unlessStopped reader.onPart reader.onClose Parse.parse Parse.byKind Parse.shortRun Parse.directRun Parse.block Parse.bytes Fields.width Fields.widths Digits.number Digits.digits Runs.layout Fields.blockBytes
+unfolding Parts.feed Parts.offer reader.takePart reader.close reader.inPlaces reader.unlessStopped reader.onPart reader.onClose Parse.parse
+    Parse.byKind Parse.shortRun Parse.directRun Parse.block Parse.bytes Fields.width Fields.widths Digits.number Digits.digits
+    Runs.layout Fields.blockBytes
 cut-short = refl

@@ -4,7 +4,7 @@ use Prim.Native.Nat.{ℕ, _*_, _≤_}
 use native.Mathlib.Omega.{arith}
 use mathlib.Core.List.{List, _++_}
 use lib.ListN.{length, length-append}
-use lib.Dec.{eqb}
+use lib.Dec.{eqb, T-not}
 use Rattle.format.specs.declared.Refusal.{Refusal}
 use Rattle.format.specs.declared.Stream.{Stream}
 use Rattle.format.specs.declared.Standing.the-variants.{Opened, Broken}
@@ -19,7 +19,7 @@ use Rattle.format.specs.Parts.{refusalFrom, broke, ended, close}
 use Rattle.format.proofs.Below.{behind-below}
 use Rattle.format.proofs.Joined.{rows-le}
 use Rattle.format.proofs.Runs.{parse-empty}
-use Rattle.format.proofs.Tests.{never-both}
+use Rattle.format.proofs.Tests.{never}
 use Rattle.promises.specs.Parts.{Fed, GivenInParts, joinedParts, starting, lastAnswer, rowsIn, OfUnfinished, Stands, BeforeClosing, EnoughRoom}
 use Rattle.promises.proofs.Feeding.{nothing-held, begun, after, Result, waiting, barred}
 use Rattle.promises.proofs.Parts.{rows-of, all-fed, same-as-stream}
@@ -35,14 +35,14 @@ before-closing ps h n l = go (all-fed ps h) (ap (λ (g : GivenInParts). g .answe
     -- open: the stream's answer is the end, or one of the five
     opened : ((f : Refusal) → lastAnswer w ≡ broke f → OfUnfinished (f .number)) → Stands Opened w
     opened u = record {
-      refused = λ f. ((λ e. let z : _≡_ {A = ℕ} 0 1 = cc in absurd (omega arith)), λ (e, n). absurd (n (u f e)));
+      refused = λ f. ((λ e. never (cc)), λ (e, n). absurd (n (u f e)));
       still-open = ((λ e. u), λ v. refl);
     }
 
     go : {f : Fed} → Result 0 (joinedParts ps) f → close 512 (f .state) .reply ≡ lastAnswer w → Stands (f .state .standing) w
     go (waiting ds v e (nothing-held z)) c =
         let q : ended ≡ lastAnswer w = rw (z, parse-empty) at c in
-        opened (λ f g. let y : _≡_ {A = ℕ} 0 1 = cc in absurd (omega arith))
+        opened (λ f g. never (cc))
     go (waiting ds {rest} v e (begun {r} b p u)) c =
         let q : broke (refusalFrom (after 0 ds) (length rest) r) ≡ lastAnswer w = rw p at c in
         opened (λ f g.
@@ -50,13 +50,13 @@ before-closing ps h n l = go (all-fed ps h) (ap (λ (g : GivenInParts). g .answe
         rw y at (the-numbers rest b r p (after 0 ds) .0 u))
     go (barred ds rest k v e w′ p u) c =
         let b : AllBelow 256 rest = behind-below 256 (joined ds) rest (rw e at h) in
-        let none : OfUnfinished k → ⊥ = λ o. never-both (eqb k 1) (the-numbers rest b (plain k) p 0 .1 o) u in
+        let none : OfUnfinished k → ⊥ = λ o. T-not (eqb k 1) u (the-numbers rest b (plain k) p 0 .1 o) in
         record {
           refused = λ f. (
             (λ g. let y : refusing k (after 0 ds) ≡ f = cc in (sym c ∙ ap broke y, rw (← y) none)),
             λ (g, o). let y : refusing k (after 0 ds) ≡ f = cc in ap Broken y,
           );
-          still-open = ((λ g. let z : _≡_ {A = ℕ} 0 1 = cc in absurd (omega arith)), λ o. absurd (none (o _ (sym c))));
+          still-open = ((λ g. never (cc)), λ o. absurd (none (o _ (sym c))));
         }
 
 pub enough-room : EnoughRoom

@@ -7,13 +7,14 @@ use native.Mathlib.Omega.{arith}
 use mathlib.Core.Bool.{not, _||_}
 use mathlib.Core.List.{List, [], _∷_}
 use lib.ListN.{length, getD}
-use lib.Dec.{T, leb, leb→le, le→leb}
+use lib.Dec.{T, leb, leb→le, le→leb, T-not}
 use borrow.Author.Tests.{eq-eqb, ne-eqb}
 use Rattle.format.specs.Runs.{patchOf, isSkip, patchesFrom, patches, lastIsSkip, taken, shared, outside, patchLimit, tooLarge, outOfPlace}
 use Rattle.format.specs.Rows.{patchAt}
-use Rattle.format.proofs.Tests.{never-both, not-left, not-right}
+use Rattle.format.proofs.Tests.{not-left, not-right, or-cases, or-left, or-right, either}
 use Rattle.promises.specs.PatchLists.{Names, LastIsSkip, TooLarge, OutOfPlace}
-use Rattle.promises.proofs.PatchNames.{or-cases, or-left, or-right, either, at-limit, past, rest, From, from-here, from-there, from-back, from-zero, of-skip, of-entry, some-names, names-some, names-taken, shared-names, names-shared}
+use Rattle.promises.proofs.PatchNames.{at-limit, past, rest, From, from-here, from-there, from-back, from-zero, of-skip, of-entry}
+use Rattle.promises.proofs.PatchNames.{some-names, names-some, names-taken, shared-names, names-shared}
 
 -- ---- the last entry, and the patch at a place
 
@@ -43,16 +44,18 @@ module _ (pw : ℕ) where
   patch-there before (e ∷ es) j p f n = go j f (either (isSkip pw e)) (patch-there (past pw before e) es)
     where
       go : (j : ℕ) → From pw before (e ∷ es) j p → T (isSkip pw e) ⊎ T (not (isSkip pw e))
-          → ((j p : ℕ) → From pw (past pw before e) es j p → T (not (shared (rest pw before e es))) → patchAt p (rest pw before e es) ≡ patchOf pw (getD es j 0))
+          → ((j p : ℕ) → From pw (past pw before e) es j p → T (not (shared (rest pw before e es)))
+          → patchAt p (rest pw before e es) ≡ patchOf pw (getD es j 0))
           → patchAt p (patchesFrom pw before (e ∷ es)) ≡ patchOf pw (getD (e ∷ es) j 0)
-      go zero f (inl s) ih = absurd (never-both (isSkip pw e) s (f .no-skip))
+      go zero f (inl s) ih = absurd (T-not (isSkip pw e) (f .no-skip) s)
       go zero f (inr s) ih = rw (of-entry pw before e es s, eq-eqb p (past pw before e) (from-zero pw before e es p f))
       go (suc j) f (inl s) ih = rw (of-skip pw before e es s) (ih j p (from-back pw before e es j p f) (rw (of-skip pw before e es s) at n))
       go (suc j) f (inr s) ih =
           let m : T (not (taken (past pw before e) (rest pw before e es) || shared (rest pw before e es))) = rw (of-entry pw before e es s) at n in
           let ne : p ≢ past pw before e =
-          λ z. never-both (taken (past pw before e) (rest pw before e es)) (names-taken pw (past pw before e) (past pw before e) es j (rw z at (from-back pw before e es j p f)))
-          (not-left (taken (past pw before e) (rest pw before e es)) (shared (rest pw before e es)) m) in
+          λ z. T-not (taken (past pw before e) (rest pw before e es))
+          (not-left (taken (past pw before e) (rest pw before e es)) (shared (rest pw before e es)) m)
+          (names-taken pw (past pw before e) (past pw before e) es j (rw z at (from-back pw before e es j p f))) in
           rw (of-entry pw before e es s, ne-eqb p (past pw before e) ne)
           (ih j p (from-back pw before e es j p f) (not-right (taken (past pw before e) (rest pw before e es)) (shared (rest pw before e es)) m))
 
@@ -102,7 +105,8 @@ module _ (pw : ℕ) where
       of (inl h) = or-left (lastIsSkip pw es) (shared (patchesFrom pw 0 es) || outside rows (patchesFrom pw 0 es)) (names-last es h)
       of (inr (inl (i, j, p, l, f, g))) =
           or-right (lastIsSkip pw es) (shared (patchesFrom pw 0 es) || outside rows (patchesFrom pw 0 es))
-          (or-left (shared (patchesFrom pw 0 es)) (outside rows (patchesFrom pw 0 es)) (names-shared pw 0 es i j p l (from-named es i p f) (from-named es j p g)))
+          (or-left (shared (patchesFrom pw 0 es)) (outside rows (patchesFrom pw 0 es))
+          (names-shared pw 0 es i j p l (from-named es i p f) (from-named es j p g)))
       of (inr (inr (j, p, f, l))) =
           or-right (lastIsSkip pw es) (shared (patchesFrom pw 0 es) || outside rows (patchesFrom pw 0 es))
           (or-right (shared (patchesFrom pw 0 es)) (outside rows (patchesFrom pw 0 es))

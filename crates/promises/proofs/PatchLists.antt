@@ -9,7 +9,7 @@ use mathlib.Core.Bool.{Bool, true, false, not}
 use mathlib.Core.List.{List, _++_}
 use lib.ListN.{length, getD, drop, List·getD-append, List·getD-map}
 use lib.Seq.{drop-at}
-use lib.Dec.{T}
+use lib.Dec.{T, T-not}
 use lib.IntN.{ℤ, pos}
 use Rattle.format.specs.declared.Answer.{Answer}
 use Rattle.format.specs.Answers.{refusedAt}
@@ -23,7 +23,7 @@ use Rattle.format.proofs.Fields.{any-block}
 use Rattle.format.proofs.RunComplete.{noList, patched-read}
 use Rattle.format.proofs.Rows.{i64-count}
 use Rattle.format.proofs.Streams.{into-got, into-refused}
-use Rattle.format.proofs.Tests.{never-both, not-left, not-right}
+use Rattle.format.proofs.Tests.{not-left, not-right}
 use Rattle.promises.specs.PatchLists.{TooLarge, OutOfPlace, Patched, EitherWay, with-3, with-7, with-8, with-rows, PatchLists}
 use Rattle.promises.proofs.Sums.{sums}
 use Rattle.promises.proofs.PatchCases.{patch-there, patch-none, named-from, from-named, too-large, out-of-place}
@@ -36,14 +36,20 @@ module _ (code : ℕ) (base : List ℕ) (pc gw : ℕ) (k l : Block) (out out′ 
       → getD out′ p (pos 0) ≡ asI64 ((baseValue base + (getD (k .values) p 0 + patchAt p (patches (width pc) (l .values)) * 2 ^ width code)) % two64)
   unfolding i64Rows asI64
   row-at p h =
-      rw (places, List·getD-append (i64Rows signed (patched code base pc gw k l)) (drop (length (k .values)) out) (pos 0) p (omega (arith, i64-count signed (patched code base pc gw k l))))
+      rw (
+        places,
+        List·getD-append (i64Rows signed (patched code base pc gw k l)) (drop (length (k .values)) out) (pos 0) p
+            (omega (arith, i64-count signed (patched code base pc gw k l))),
+      )
       (List·getD-map asI64 (rowsOf signed (patched code base pc gw k l)) p 0 ∙ ap asI64 (sums .patched-row signed code base pc gw k l p h))
 
   rows-patched : T (not (outOfPlace (width pc) (length (k .values)) (l .values))) → (p : ℕ) → p < length (k .values) → Patched code base pc k l out′ p
   unfolding outOfPlace patches
   rows-patched n p h =
       let es : List ℕ = l .values in
-      let m : T (not (shared (patchesFrom (width pc) 0 es))) = not-left (shared (patchesFrom (width pc) 0 es)) (outside (length (k .values)) (patchesFrom (width pc) 0 es)) (not-right (lastIsSkip (width pc) es) _ n) in
+      let m : T (not (shared (patchesFrom (width pc) 0 es))) =
+      not-left (shared (patchesFrom (width pc) 0 es)) (outside (length (k .values)) (patchesFrom (width pc) 0 es))
+      (not-right (lastIsSkip (width pc) es) _ n) in
       record {
         named = λ j f. row-at p h ∙ rw (patch-there (width pc) 0 es j p (from-named (width pc) es j p f) m);
         other = λ f. row-at p h ∙ rw (patch-none (width pc) 0 es p (λ j g. f j (named-from (width pc) es j p g)), zero-mul, add-zero);
@@ -67,10 +73,10 @@ module _ (code : ℕ) (base : List ℕ) (pc gw : ℕ) (k l : Block) (v : Valid (
   refused-with n q = (rw (q, into-refused (length out)) at (h .answer), rw (q, into-refused (length out)) at (h .places))
 
   no-large : large ≡ false → TooLarge (width code) (width pc) (l .values) → ⊥
-  no-large s o = never-both large (too-large (width pc) (width code) (l .values) .1 o) (rw s tt)
+  no-large s o = T-not large (rw s tt) (too-large (width pc) (width code) (l .values) .1 o)
 
   none-misplaced : misplaced ≡ false → OutOfPlace (width pc) (length (k .values)) (l .values) → ⊥
-  none-misplaced t o = never-both misplaced (out-of-place (width pc) (length (k .values)) (l .values) .1 o) (rw t tt)
+  none-misplaced t o = T-not misplaced (rw t tt) (out-of-place (width pc) (length (k .values)) (l .values) .1 o)
 
   by-room : large ≡ false → misplaced ≡ false → Dec (length out < length (k .values)) → EitherWay code base pc gw k l at out out′ r
   by-room s t (yes n) =
@@ -95,7 +101,8 @@ module _ (code : ℕ) (base : List ℕ) (pc gw : ℕ) (k l : Block) (v : Valid (
         rows = rows-patched code base pc gw k l out out′ signed places (rw t tt);
         others =
             ap (drop (length (k .values))) places
-            ∙ drop-at (i64Rows signed (patched code base pc gw k l)) (drop (length (k .values)) out) (length (k .values)) (i64-count signed (patched code base pc gw k l));
+            ∙ drop-at (i64Rows signed (patched code base pc gw k l)) (drop (length (k .values)) out) (length (k .values))
+            (i64-count signed (patched code base pc gw k l));
       })
 
   by-list : (s t : Bool) → large ≡ s → misplaced ≡ t → EitherWay code base pc gw k l at out out′ r

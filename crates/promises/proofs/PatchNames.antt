@@ -6,31 +6,15 @@ use native.Mathlib.Omega.{arith}
 use mathlib.Core.Bool.{Bool, true, false, not, _||_}
 use mathlib.Core.List.{List, [], _∷_}
 use lib.ListN.{length, getD}
-use lib.Dec.{T, leb, eqb, eqb→eq, leb→le, le→leb}
+use lib.Dec.{T, leb, eqb, eqb→eq, leb→le, le→leb, T-not}
 use borrow.Author.Tests.{eq-eqb}
 use Rattle.format.specs.Fields.{pick}
 use Rattle.format.specs.Runs.{Patch, patchOf, gapOf, isSkip, patchesFrom, taken, shared, patchLimit}
 use Rattle.format.proofs.RunComplete.{limit-is}
-use Rattle.format.proofs.Tests.{never-both}
+use Rattle.format.proofs.Tests.{or-cases, or-left, or-right, either}
 use Rattle.promises.specs.PatchLists.{placeOf}
 
 -- ---- tests
-
-pub or-cases : (a b : Bool) → T (a || b) → T a ⊎ T b
-or-cases true b h = inl tt
-or-cases false b h = inr h
-
-pub or-left : (a b : Bool) → T a → T (a || b)
-or-left true b h = tt
-or-left false b h = absurd h
-
-pub or-right : (a b : Bool) → T b → T (a || b)
-or-right true b h = tt
-or-right false b h = h
-
-pub either : (b : Bool) → T b ⊎ T (not b)
-either true = inl tt
-either false = inr tt
 
 same : (a b : ℕ) → a ≡ b → T (eqb a b)
 same a b e = rw (eq-eqb a b e) tt
@@ -118,10 +102,13 @@ module _ (pw : ℕ) where
         go : (j : ℕ) → From before (e ∷ es) j p → T (of (patchAs (e ∷ es) j p)) → T (isSkip pw e) ⊎ T (not (isSkip pw e))
             → ((j p : ℕ) → From (past before e) es j p → T (of (patchAs es j p)) → T (test (rest before e es)))
             → T (test (patchesFrom pw before (e ∷ es)))
-        go zero f t (inl s) ih = absurd (never-both (isSkip pw e) s (f .no-skip))
-        go zero f t (inr s) ih = rw (of-entry before e es s, one) (or-left (of (named before e)) (test (rest before e es)) (rw (from-zero before e es p f) at t))
+        go zero f t (inl s) ih = absurd (T-not (isSkip pw e) (f .no-skip) s)
+        go zero f t (inr s) ih =
+            rw (of-entry before e es s, one) (or-left (of (named before e)) (test (rest before e es)) (rw (from-zero before e es p f) at t))
         go (suc j) f t (inl s) ih = rw (of-skip before e es s) (ih j p (from-back before e es j p f) t)
-        go (suc j) f t (inr s) ih = rw (of-entry before e es s, one) (or-right (of (named before e)) (test (rest before e es)) (ih j p (from-back before e es j p f) t))
+        go (suc j) f t (inr s) ih =
+            rw (of-entry before e es s, one)
+            (or-right (of (named before e)) (test (rest before e es)) (ih j p (from-back before e es j p f) t))
 
   -- a place is taken: an entry names it
   taken-names : (p before : ℕ) (es : List ℕ) → T (taken p (patchesFrom pw before es)) → (j : ℕ) × From before es j p
@@ -166,11 +153,13 @@ module _ (pw : ℕ) where
           → ((i j p : ℕ) → i < j → From (past before e) es i p → From (past before e) es j p → T (shared (rest before e es)))
           → T (shared (patchesFrom pw before (e ∷ es)))
       go i zero l f g s ih = absurd (omega (arith, l))
-      go zero (suc j) l f g (inl s) ih = absurd (never-both (isSkip pw e) s (f .no-skip))
+      go zero (suc j) l f g (inl s) ih = absurd (T-not (isSkip pw e) (f .no-skip) s)
       go zero (suc j) l f g (inr s) ih =
           rw (of-entry before e es s)
-          (or-left (taken (past before e) (rest before e es)) (shared (rest before e es)) (names-taken (past before e) (past before e) es j (rw (from-zero before e es p f) at (from-back before e es j p g))))
+          (or-left (taken (past before e) (rest before e es)) (shared (rest before e es))
+          (names-taken (past before e) (past before e) es j (rw (from-zero before e es p f) at (from-back before e es j p g))))
       go (suc i) (suc j) l f g (inl s) ih = rw (of-skip before e es s) (ih i j p (omega (arith, l)) (from-back before e es i p f) (from-back before e es j p g))
       go (suc i) (suc j) l f g (inr s) ih =
           rw (of-entry before e es s)
-          (or-right (taken (past before e) (rest before e es)) (shared (rest before e es)) (ih i j p (omega (arith, l)) (from-back before e es i p f) (from-back before e es j p g)))
+          (or-right (taken (past before e) (rest before e es)) (shared (rest before e es))
+          (ih i j p (omega (arith, l)) (from-back before e es i p f) (from-back before e es j p g)))

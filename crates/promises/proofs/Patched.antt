@@ -56,10 +56,12 @@ module _ (signed : Bool) (base w : ℕ) (rs : List ℕ) (hb : base < two64) (hr 
       let pc : patchCode (patchesIn base w rs) ≡ d .pc = width-same _ (d .pc) (no-less-code signed base w rs hb d e) (v .patch-code) (omega (arith, q)) in
       let entries : d .list .values ≡ map (field (width (d .pc))) (entriesOf base w rs) =
       rw (kept-is signed base w rs hb d e)
-      (same-entries (width (d .pc)) 0 (d .list .values) (c .only-skips) (gaps-256 signed base w rs hb d e) (rw (length-map (entriesOf base w rs) (field _), kept-is signed base w rs hb d e) at (n .entries b q g))) in
+      (same-entries (width (d .pc)) 0 (d .list .values) (c .only-skips) (gaps-256 signed base w rs hb d e)
+      (rw (length-map (entriesOf base w rs) (field _), kept-is signed base w rs hb d e) at (n .entries b q g))) in
       same-parts d (parts base w rs)
       (sym (width-same (codeFor w) (d .code) found (v .head .code-fits) (omega (arith, e .has-width, is-width base w rs r))))
-      (rw (e .has-base) at (same-base (d .base) (v .some-bytes) (v .eight) (v .bytes) (λ z. c .no-sign (sym (e .has-base) ∙ z)) (rw (e .has-base) (omega (arith, b, size-is base w rs)))))
+      (rw (e .has-base) at (same-base (d .base) (v .some-bytes) (v .eight) (v .bytes) (λ z. c .no-sign (sym (e .has-base) ∙ z))
+      (rw (e .has-base) (omega (arith, b, size-is base w rs)))))
       (sym pc)
       (sym g)
       (same-block (d .values) _ (sym (rw (e .has-base, e .has-width, e .has-rows) at (its-lows signed d v hd))) (c .values-pad))

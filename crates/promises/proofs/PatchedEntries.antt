@@ -4,7 +4,7 @@ use mathlib.Core.Logic.{_⊎_, inl, inr}
 use Prim.Native.Nat.{ℕ, zero, suc, _+_, _-_, _*_, _/_, _^_, _<_, _≤_}
 use native.Mathlib.Nat.{add-zero}
 use native.Mathlib.Omega.{arith}
-use mathlib.Core.Bool.{Bool, true, false, not}
+use mathlib.Core.Bool.{Bool, true, false, not, and-false}
 use mathlib.Core.List.{List, [], _∷_, _++_, map}
 use lib.ListN.{length, replicate, length-append, length-replicate}
 use lib.Dec.{T, leb, eqb, eqb→eq}
@@ -15,12 +15,12 @@ use Rattle.format.specs.Digits.{AllBelow}
 use Rattle.format.specs.Fields.{pick}
 use Rattle.format.specs.Runs.{Patch, patchOf, gapOf, isSkip, patchesFrom, lastIsSkip, tooLarge}
 use Rattle.format.proofs.RunComplete.{limit-is}
-use Rattle.format.proofs.Widths.{and-left, and-right}
 use Rattle.format.specs.PatchedWriting.{patchesAbove, Entry, skip, skipsIn, entriesFrom, field}
 use Rattle.promises.specs.Patched.{OnlySkips}
 use Rattle.format.proofs.Again.{below-mono}
 use Rattle.format.proofs.PatchedWriting.{gaps-255, skip-next}
-use Rattle.promises.proofs.PatchedPlaces.{or-not, and-false, Rising, rising-from, kept}
+use Rattle.format.proofs.Tests.{and-left, and-right, or-not}
+use Rattle.promises.proofs.PatchedPlaces.{Rising, rising-from, kept}
 
 -- ---- NO LIST IS SHORTER: of those that have these patches, each gap at most 255
 
@@ -28,7 +28,8 @@ no-entries : (before : ℕ) → length (entriesFrom before []) ≡ 0
 unfolding entriesFrom
 no-entries before = refl
 
-length-entries : (before : ℕ) (q : Patch) (qs : List Patch) → length (entriesFrom before (q ∷ qs)) ≡ skipsIn (q .place - before) + suc (length (entriesFrom (q .place) qs))
+length-entries : (before : ℕ) (q : Patch) (qs : List Patch)
+    → length (entriesFrom before (q ∷ qs)) ≡ skipsIn (q .place - before) + suc (length (entriesFrom (q .place) qs))
 unfolding entriesFrom
 length-entries before q qs = simp (length-append, length-replicate)
 
@@ -58,9 +59,11 @@ pub least-gaps : (gw pw before : ℕ) (es : List ℕ) → OnlySkips pw es → Al
     → AllBelow (2 ^ gw) (map (λ e. e .gap) (entriesFrom before (kept (patchesFrom pw before es))))
 unfolding patchesFrom kept entriesFrom
 least-gaps gw pw before [] o h g = tt
-least-gaps gw pw before (e ∷ es) o h g = by (isSkip pw e) refl (o .0) (patchesFrom pw (before + gapOf pw e) es) (least-gaps gw pw (before + gapOf pw e) es (o .1) (h .1) (g .1))
+least-gaps gw pw before (e ∷ es) o h g =
+    by (isSkip pw e) refl (o .0) (patchesFrom pw (before + gapOf pw e) es) (least-gaps gw pw (before + gapOf pw e) es (o .1) (h .1) (g .1))
   where
-    by : (t : Bool) → isSkip pw e ≡ t → T (isSkip pw e) ⊎ (1 ≤ patchOf pw e) → (qs : List Patch) → AllBelow (2 ^ gw) (map (λ e. e .gap) (entriesFrom (before + gapOf pw e) (kept qs)))
+    by : (t : Bool) → isSkip pw e ≡ t → T (isSkip pw e) ⊎ (1 ≤ patchOf pw e) → (qs : List Patch)
+        → AllBelow (2 ^ gw) (map (λ e. e .gap) (entriesFrom (before + gapOf pw e) (kept qs)))
         → AllBelow (2 ^ gw) (map (λ e. e .gap) (entriesFrom before (kept (pick t qs (record { place = before + gapOf pw e; patch = patchOf pw e } ∷ qs)))))
     by true k c qs ih =
         let s : gapOf pw e ≡ 255 = eqb→eq (gapOf pw e) 255 (and-left (eqb (gapOf pw e) 255) (eqb (patchOf pw e) 0) (rw k tt)) in
@@ -81,9 +84,10 @@ module _ (pw : ℕ) where
   is-skip = rw (high 255 pw (pow-pos pw), low 255 pw (pow-pos pw))
 
   no-skip : (gap patch : ℕ) → 1 ≤ patch → patch < 2 ^ pw → isSkip pw (gap * 2 ^ pw + patch) ≡ false
-  no-skip gap patch h l = rw (low gap pw l) (and-false (eqb (gapOf pw (gap * 2 ^ pw + patch)) 255) (eqb patch 0) (ne-eqb patch 0 (λ e. omega arith)))
+  no-skip gap patch h l = rw (low gap pw l, ne-eqb patch 0 (λ e. omega arith)) (and-false (eqb (gapOf pw (gap * 2 ^ pw + patch)) 255))
 
-  skips-read : (before n : ℕ) (es : List Entry) → patchesFrom pw before (map (field pw) (replicate n skip ++ es)) ≡ patchesFrom pw (before + 255 * n) (map (field pw) es)
+  skips-read : (before n : ℕ) (es : List Entry)
+      → patchesFrom pw before (map (field pw) (replicate n skip ++ es)) ≡ patchesFrom pw (before + 255 * n) (map (field pw) es)
   unfolding patchesFrom
   skips-read before zero es = rw (add-zero before)
   skips-read before (suc n) es =
@@ -121,13 +125,15 @@ module _ (pw : ℕ) where
       let n : ℕ = skipsIn (q .place - before) in
       let gap : ℕ = q .place - before - 255 * n in
       last-behind (replicate n skip) (record { gap = gap; patch = q .patch }) (entriesFrom (q .place) qs)
-      ∙ last-of (gap * 2 ^ pw + q .patch) (map (field pw) (entriesFrom (q .place) qs)) (no-skip gap (q .patch) (s .0) (b .0)) (last-no-skip (q .place) qs (s .1) (b .1))
+      ∙ last-of (gap * 2 ^ pw + q .patch) (map (field pw) (entriesFrom (q .place) qs)) (no-skip gap (q .patch) (s .0) (b .0))
+      (last-no-skip (q .place) qs (s .1) (b .1))
 
   skips-only : (n : ℕ) (es : List Entry) → OnlySkips pw (map (field pw) es) → OnlySkips pw (map (field pw) (replicate n skip ++ es))
   skips-only zero es o = o
   skips-only (suc n) es o = (inl (rw is-skip tt), skips-only n es o)
 
-  pub only-skips : (before : ℕ) (qs : List Patch) → AllSome qs → AllBelow (2 ^ pw) (map (λ q. q .patch) qs) → OnlySkips pw (map (field pw) (entriesFrom before qs))
+  pub only-skips : (before : ℕ) (qs : List Patch) → AllSome qs → AllBelow (2 ^ pw) (map (λ q. q .patch) qs)
+      → OnlySkips pw (map (field pw) (entriesFrom before qs))
   unfolding entriesFrom
   only-skips before [] s b = tt
   only-skips before (q ∷ qs) s b = skips-only (skipsIn (q .place - before)) _ (inr (rw (low _ pw (b .0)) (s .0)), only-skips (q .place) qs (s .1) (b .1))
@@ -155,19 +161,22 @@ above-small w (q ∷ qs) b =
 -- ---- ONE LIST ONLY: of those without other entries, the shortest is that of the entries
 
 behind-skip : (pw before e : ℕ) (es : List ℕ) (qs : List Patch) → e ≡ field pw skip → suc (length es) ≤ length (entriesFrom before qs)
-    → length (entriesFrom (before + 255) qs) ≤ length es → (length es ≤ length (entriesFrom (before + 255) qs) → es ≡ map (field pw) (entriesFrom (before + 255) qs))
+    → length (entriesFrom (before + 255) qs) ≤ length es
+    → (length es ≤ length (entriesFrom (before + 255) qs) → es ≡ map (field pw) (entriesFrom (before + 255) qs))
     → e ∷ es ≡ map (field pw) (entriesFrom before qs)
 behind-skip pw before e es [] k l f ih = absurd (omega (arith, no-entries before))
 behind-skip pw before e es (q ∷ qs) k l f ih =
     let s = skip-next before q qs (omega (arith, length-entries before q qs, length-entries (before + 255) q qs)) in
     rw s (ap₂ (λ (x : ℕ) (t : List ℕ). x ∷ t) k (ih (omega (arith, ap (λ (t : List Entry). length t) s))))
 
-pub same-entries : (pw before : ℕ) (es : List ℕ) → OnlySkips pw es → AllBelow 256 (map (gapOf pw) es) → length es ≤ length (entriesFrom before (kept (patchesFrom pw before es)))
+pub same-entries : (pw before : ℕ) (es : List ℕ) → OnlySkips pw es → AllBelow 256 (map (gapOf pw) es)
+    → length es ≤ length (entriesFrom before (kept (patchesFrom pw before es)))
     → es ≡ map (field pw) (entriesFrom before (kept (patchesFrom pw before es)))
 unfolding patchesFrom kept entriesFrom
 same-entries pw before [] o g l = refl
 same-entries pw before (e ∷ es) o g l =
-    by (isSkip pw e) refl (o .0) (patchesFrom pw (before + gapOf pw e) es) l (fewest pw (before + gapOf pw e) es (g .1)) (same-entries pw (before + gapOf pw e) es (o .1) (g .1))
+    by (isSkip pw e) refl (o .0) (patchesFrom pw (before + gapOf pw e) es) l (fewest pw (before + gapOf pw e) es (g .1))
+    (same-entries pw (before + gapOf pw e) es (o .1) (g .1))
   where
     by : (t : Bool) → isSkip pw e ≡ t → T (isSkip pw e) ⊎ (1 ≤ patchOf pw e) → (qs : List Patch)
         → suc (length es) ≤ length (entriesFrom before (kept (pick t qs (record { place = before + gapOf pw e; patch = patchOf pw e } ∷ qs))))

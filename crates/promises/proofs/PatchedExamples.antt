@@ -19,7 +19,9 @@ abbrev narrower : Parts
 narrower = record { code = 0; base = 0 ∷ []; pc = 0; gw = 1; values = padded (0 ∷ 0 ∷ 0 ∷ []); list = padded (2 ∷ 3 ∷ []) }
 
 narrower-describes : (signed : Bool) → Describes signed 0 1 (0 ∷ 0 ∷ 2 ∷ []) narrower
-unfolding Digits.number Digits.digits Fields.widths Fields.width Fields.leastOf Fields.leastWidth Fields.blockBytes Writing.every Runs.patchesFrom Runs.patches Runs.lastIsSkip Runs.taken Runs.shared Runs.outside Runs.outOfPlace Runs.tooLarge Rows.baseValue Rows.patchAt Rows.patchedRows Rows.rowsOf
+unfolding Digits.number Digits.digits Fields.widths Fields.width Fields.leastOf Fields.leastWidth Fields.blockBytes Writing.every
+    Runs.patchesFrom Runs.patches Runs.lastIsSkip Runs.taken Runs.shared Runs.outside Runs.outOfPlace Runs.tooLarge Rows.baseValue
+    Rows.patchAt Rows.patchedRows Rows.rowsOf
 narrower-describes signed = record {
   valid = record {
     head = record { code-fits = omega arith; some-rows = omega arith; rows-fit = omega arith };

@@ -6,13 +6,13 @@ use native.Mathlib.Omega.{arith}
 use mathlib.Core.Bool.{Bool, true, false}
 use mathlib.Core.List.{List, _∷_}
 use lib.ListN.{length, take, drop}
+use lib.Dec.{T-not}
 use borrow.Author.Tests.{lt-ltb, le-ltb}
 use Rattle.format.specs.Fields.{width, bytesFor}
 use Rattle.format.specs.Runs.{Description, patched, patches, tooLarge, outOfPlace, entryWidth}
 use Rattle.format.specs.Parse
 use Rattle.format.specs.Parse.{plain, cutIn, got, refused, unless, codeOf, rowsLess, parse}
 use Rattle.format.proofs.Reading.{bytes-here, bytes-cut, blockAt, block-here, block-cut}
-use Rattle.format.proofs.Tests.{never-both}
 use Rattle.promises.specs.Refusals
 use Rattle.promises.specs.Refusals.{refusal-2, refusal-3, refusal-7, by-number, by-field}
 use Rattle.promises.specs.Refusals.{PatchedRun, listFrom, listTo, entries}
@@ -96,7 +96,7 @@ module _ (places a b c e : ℕ) (s : List ℕ) (k : a / 64 ≡ 2) where
             by-line (by-number (refusal-7 (
               patched-run,
               h,
-              λ o. never-both (tooLarge value (patches (width pc) (entries bs))) (too-large (width pc) value (entries bs) .1 o) (rw e tt),
+              λ o. T-not (tooLarge value (patches (width pc) (entries bs))) (rw e tt) (too-large (width pc) value (entries bs) .1 o),
               out-of-place (width pc) rows (entries bs) .0 (rw f tt),
             )))
         listed d rest h false false e f = a-run

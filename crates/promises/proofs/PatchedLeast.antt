@@ -65,7 +65,8 @@ module _ (signed : Bool) (d : Parts) (v : Valid (run d)) (hb : baseValue (d .bas
   its-rise =
       let n = not-right (lastIsSkip (width (d .pc)) (d .list .values)) _ (v .not-7) in
       let rows : ℕ = length (d .values .values) in
-      rw (zero-add rows) (rises (width (d .pc)) 0 rows (d .list .values) (not-left (shared its-qs) (outside rows its-qs) n) (not-right (shared its-qs) (outside rows its-qs) n))
+      rw (zero-add rows) (rises (width (d .pc)) 0 rows (d .list .values) (not-left (shared its-qs) (outside rows its-qs) n)
+      (not-right (shared its-qs) (outside rows its-qs) n))
 
   -- UNIQUE: its patches that are not 0 are what is above the low bits, and its values are these
   pub its-kept : patchesAbove (width (d .code)) 0 its-differences ≡ kept its-qs

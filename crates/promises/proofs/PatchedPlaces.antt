@@ -4,7 +4,7 @@ use Prim.Native.Nat.{ℕ, suc, _+_, _-_, _*_, _/_, _^_, _<_, _≤_}
 use native.Mathlib.Nat.{add-comm}
 use native.Mathlib.Omega.{arith}
 use native.Mathlib.Decide.{ℕ-discrete}
-use mathlib.Core.Bool.{Bool, true, false, not, _&&_, _||_}
+use mathlib.Core.Bool.{Bool, true, false, not, _||_}
 use mathlib.Core.List.{List, [], _∷_, map}
 use lib.ListN.{length}
 use lib.Dec.{T, leb, eqb, nleb→lt}
@@ -16,18 +16,8 @@ use Rattle.format.specs.Fields.{pick, two64}
 use Rattle.format.specs.Runs.{Patch, patchOf, gapOf, isSkip, patchesFrom, taken, shared, outside, tooLarge}
 use Rattle.format.specs.Rows.{patchAt, patchedRows, plus}
 use Rattle.format.proofs.RunComplete.{limit-is}
-use Rattle.format.proofs.Tests.{not-left, not-right}
+use Rattle.format.proofs.Tests.{not-left, not-right, or-not}
 use Rattle.format.specs.PatchedWriting.{lows, patchesAbove}
-
--- ---- tests
-
-pub or-not : (a b : Bool) → T (not a) → T (not b) → T (not (a || b))
-or-not true b h k = h
-or-not false b h k = k
-
-pub and-false : (a b : Bool) → b ≡ false → (a && b) ≡ false
-and-false true b e = e
-and-false false b e = refl
 
 -- ---- PLACES that rise strictly, from `low` on and below `end`
 
@@ -52,10 +42,13 @@ pub rises : (pw before end : ℕ) (es : List ℕ) → T (not (shared (patchesFro
     → Rising before end (patchesFrom pw before es)
 unfolding patchesFrom shared outside
 rises pw before end [] s o = tt
-rises pw before end (e ∷ es) s o = by (isSkip pw e) (before + gapOf pw e) (patchesFrom pw (before + gapOf pw e) es) (omega arith) s o (rises pw (before + gapOf pw e) end es)
+rises pw before end (e ∷ es) s o =
+    by (isSkip pw e) (before + gapOf pw e) (patchesFrom pw (before + gapOf pw e) es) (omega arith) s o
+    (rises pw (before + gapOf pw e) end es)
   where
     by : (t : Bool) (at : ℕ) (qs : List Patch) → before ≤ at → T (not (shared (pick t qs (record { place = at; patch = patchOf pw e } ∷ qs))))
-        → T (not (outside end (pick t qs (record { place = at; patch = patchOf pw e } ∷ qs)))) → (T (not (shared qs)) → T (not (outside end qs)) → Rising at end qs)
+        → T (not (outside end (pick t qs (record { place = at; patch = patchOf pw e } ∷ qs))))
+        → (T (not (shared qs)) → T (not (outside end qs)) → Rising at end qs)
         → Rising before end (pick t qs (record { place = at; patch = patchOf pw e } ∷ qs))
     by true at qs h s o ih = rising-from at before end qs h (ih s o)
     by false at qs h s o ih = (
@@ -75,7 +68,8 @@ pub rising-unshared : (low end : ℕ) (qs : List Patch) → Rising low end qs �
 unfolding shared
 rising-unshared low end [] r = tt
 rising-unshared low end (q ∷ qs) r =
-    or-not (taken (q .place) qs) (shared qs) (rising-free (q .place) (suc (q .place)) end qs (omega arith) (r .2)) (rising-unshared (suc (q .place)) end qs (r .2))
+    or-not (taken (q .place) qs) (shared qs) (rising-free (q .place) (suc (q .place)) end qs (omega arith) (r .2))
+    (rising-unshared (suc (q .place)) end qs (r .2))
 
 pub rising-inside : (low end : ℕ) (qs : List Patch) → Rising low end qs → T (not (outside end qs))
 unfolding outside
@@ -115,7 +109,8 @@ unfolding tooLarge patchAt
 patch-fits w p [] t = pow-pos (64 - w)
 patch-fits w p (q ∷ qs) t =
     let u : T (not (leb (2 ^ (64 - w)) (q .patch) || tooLarge w qs)) = rw (limit-is w) at t in
-    by (eqb p (q .place)) (nleb→lt _ _ (not-left (leb (2 ^ (64 - w)) (q .patch)) (tooLarge w qs) u)) (patch-fits w p qs (not-right (leb (2 ^ (64 - w)) (q .patch)) (tooLarge w qs) u))
+    by (eqb p (q .place)) (nleb→lt _ _ (not-left (leb (2 ^ (64 - w)) (q .patch)) (tooLarge w qs) u))
+    (patch-fits w p qs (not-right (leb (2 ^ (64 - w)) (q .patch)) (tooLarge w qs) u))
   where
     by : (u : Bool) → q .patch < 2 ^ (64 - w) → patchAt p qs < 2 ^ (64 - w) → pick u (q .patch) (patchAt p qs) < 2 ^ (64 - w)
     by true h k = h
@@ -143,7 +138,8 @@ kept [] = []
 kept (q ∷ qs) = pick (eqb (q .patch) 0) (kept qs) (q ∷ kept qs)
 
 -- UNIQUE: what is above the values are the patches that are not 0, each at its place ..
-pub above-sums : (w : ℕ) (vs : List ℕ) (qs : List Patch) (p : ℕ) → AllBelow (2 ^ w) vs → Rising p (p + length vs) qs → patchesAbove w p (sums w qs p vs) ≡ kept qs
+pub above-sums : (w : ℕ) (vs : List ℕ) (qs : List Patch) (p : ℕ) → AllBelow (2 ^ w) vs → Rising p (p + length vs) qs
+    → patchesAbove w p (sums w qs p vs) ≡ kept qs
 unfolding sums patchesAbove kept patchAt
 above-sums w [] [] p b r = refl
 above-sums w [] (q ∷ qs) p b r = absurd (omega (arith, r .0, r .1))
@@ -177,6 +173,11 @@ sums-above w p (d ∷ ds) = by (eqb (d / 2 ^ w) 0) refl (sums-above w (suc p) ds
   where
     by : (t : Bool) → eqb (d / 2 ^ w) 0 ≡ t → sums w (patchesAbove w (suc p) ds) (suc p) (lows w ds) ≡ ds
         → sums w (pick t (patchesAbove w (suc p) ds) (record { place = p; patch = d / 2 ^ w } ∷ patchesAbove w (suc p) ds)) p (lows w (d ∷ ds)) ≡ d ∷ ds
-    by true e ih = rw (patch-below p (suc p) _ (patchesAbove w (suc p) ds) (omega arith) (above-rises w (suc p) ds), ih, ← (eqb-true (d / 2 ^ w) 0 e), split d w)
+    by true e ih = rw (
+      patch-below p (suc p) _ (patchesAbove w (suc p) ds) (omega arith) (above-rises w (suc p) ds),
+      ih,
+      ← (eqb-true (d / 2 ^ w) 0 e),
+      split d w,
+    )
     by false e ih =
         rw (eq-eqb p p refl, sums-drop w (record { place = p; patch = d / 2 ^ w }) (patchesAbove w (suc p) ds) (suc p) (lows w ds) (omega arith), ih, split d w)

@@ -23,9 +23,8 @@ use Rattle.format.proofs.Patterns.{as-lt}
 use Rattle.format.proofs.Rows.{rows-count}
 use Rattle.format.proofs.Streams.{into-got}
 use Rattle.format.proofs.RunComplete.{parse-complete}
-use Rattle.format.proofs.Tests.{between-le, le-between, and-i, T-true}
+use Rattle.format.proofs.Tests.{between-le, le-between, and-i, T-true, and-left, and-right}
 use Rattle.format.proofs.Writing.{patterns-lt, patterns-back}
-use Rattle.format.proofs.Widths.{and-left, and-right}
 use Rattle.format.specs.Kept.{isKeptWidth}
 use Rattle.format.specs.PatchedWriting.{Parts, run, parts, headerHolds, writingPatched, PatchedWritten}
 use Rattle.promises.specs.Patched.{Describes, PatchedMeaning, Some, PatchedTable, PatchedTableHolds, PatchedReadsBack}
@@ -76,7 +75,8 @@ module _ (signed : Bool) (rows : List ℤ) (base : ℤ) (w : ℕ) (h : AllI64 ro
   counts = rw (length-map rows asU64) (λ t. between-le 1 512 (length rows) t, λ n. le-between 1 512 (length rows) (n .0) (n .1))
 
   means : T counted → PatchedMeaning signed (asU64 base) w rs
-  means t = patched-meaning signed (asU64 base) w rs (as-lt base hb) (patterns-lt rows h) (between-le 1 512 (length rs) t .0) (between-le 1 512 (length rs) t .1)
+  means t = patched-meaning signed (asU64 base) w rs (as-lt base hb) (patterns-lt rows h) (between-le 1 512 (length rs) t .0)
+      (between-le 1 512 (length rs) t .1)
 
   some-counted : Some signed base w rows → T counted
   some-counted s =

@@ -15,15 +15,17 @@ use Rattle.format.specs.Runs.{Patch, Valid, patches, shared, outside, outOfPlac
 use Rattle.format.specs.Rows.{rowsOf, plus}
 use Rattle.format.specs.Writing.{minus}
 use Rattle.format.proofs.Digits.{digits-below}
-use Rattle.format.proofs.Widths.{and-left, and-right, least-holds}
+use Rattle.format.proofs.Widths.{least-holds}
 use Rattle.format.proofs.Rows.{width-le}
 use Rattle.format.proofs.Steps.{map-back}
-use Rattle.format.proofs.Tests.{and-i}
-use Rattle.format.specs.PatchedWriting.{differences, lows, entriesFrom, field, codeFor, patchCode, gapWidth, baseSize, baseBytes, Parts, run, patchesIn, parts, headerHolds}
+use Rattle.format.proofs.Tests.{and-i, and-left, and-right, or-not}
+use Rattle.format.specs.PatchedWriting.{differences, lows, entriesFrom, field, codeFor, patchCode, gapWidth, baseSize, baseBytes, Parts}
+use Rattle.format.specs.PatchedWriting.{run, patchesIn, parts, headerHolds}
 use Rattle.promises.specs.Patched.{Describes}
 use Rattle.promises.proofs.PatchedBase.{base-value}
-use Rattle.format.proofs.PatchedWriting.{size-low, below-mods, code-width, code-fits, gap-8, gap-1, gap-holds, fields-below, fields-gaps, qs-64, qs-below, es-below, length-ds, size-is, above-below, ds-below}
-use Rattle.promises.proofs.PatchedPlaces.{Rising, rising-unshared, rising-inside, or-not, rows-sums, above-rises, sums-above}
+use Rattle.format.proofs.PatchedWriting.{size-low, below-mods, code-width, code-fits, gap-8, gap-1, gap-holds, fields-below, fields-gaps}
+use Rattle.format.proofs.PatchedWriting.{qs-64, qs-below, es-below, length-ds, size-is, above-below, ds-below}
+use Rattle.promises.proofs.PatchedPlaces.{Rising, rising-unshared, rising-inside, rows-sums, above-rises, sums-above}
 use Rattle.promises.proofs.PatchedEntries.{entries-read, last-no-skip, above-some, above-small}
 
 there : (base x : ℕ) → base < two64 → x < two64 → plus base (minus x base) ≡ x
@@ -81,7 +83,8 @@ module _ (base w : ℕ) (rs : List ℕ) where
   unfolding outOfPlace
   in-place =
       rw (last-no-skip pw 0 qs (above-some w 0 ds) (qs-below base w rs), its-patches)
-      (or-not (shared qs) (outside (length (lows w ds)) qs) (rising-unshared 0 (length (lows w ds)) qs qs-rise) (rising-inside 0 (length (lows w ds)) qs qs-rise))
+      (or-not (shared qs) (outside (length (lows w ds)) qs) (rising-unshared 0 (length (lows w ds)) qs qs-rise)
+      (rising-inside 0 (length (lows w ds)) qs qs-rise))
 
   -- not too large: what is above w bits has 64 - w
   small : w ≤ 64 → T (not (tooLarge w qs))
@@ -107,7 +110,12 @@ module _ (base w : ℕ) (rs : List ℕ) where
       entries-fit = r .entries-fit;
       not-2 = r .not-2;
       block = record { count = refl; fits = rw is-width (below-mods (λ d. d) (2 ^ w) (pow-pos w) ds); padFits = pow-pos _ };
-      list = record { count = refl; fits = fields-below pw (gapWidth (entriesFrom 0 qs)) _ (entriesFrom 0 qs) (least-holds _ (r .not-2)) (gap-holds 0 qs) (es-below base w rs); padFits = pow-pos _ };
+      list = record {
+        count = refl;
+        fits = fields-below pw (gapWidth (entriesFrom 0 qs)) _ (entriesFrom 0 qs) (least-holds _ (r .not-2))
+            (gap-holds 0 qs) (es-below base w rs);
+        padFits = pow-pos _;
+      };
       not-3 = rw (is-width, its-patches) (small (rw is-width at (width-le (codeFor w))));
       not-7 = in-place;
     }

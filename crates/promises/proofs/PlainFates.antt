@@ -38,7 +38,8 @@ module _ (places a b : ℕ) (s : List ℕ) (k : a / 64 ≡ 1) where
   direct-cut h = rw (k, block-cut (a ∷ b ∷ s) 2 13 (width (codeOf a)) (rowsLess a b + 1) (omega arith))
 
   direct-got : 2 + bytesFor ((rowsLess a b + 1) * width (codeOf a)) ≤ length (a ∷ b ∷ s)
-      → parse (a ∷ b ∷ s) ≡ got (direct (codeOf a) (blockAt (a ∷ b ∷ s) 2 (width (codeOf a)) (rowsLess a b + 1))) (drop (2 + bytesFor ((rowsLess a b + 1) * width (codeOf a))) (a ∷ b ∷ s))
+      → parse (a ∷ b ∷ s) ≡ got (direct (codeOf a) (blockAt (a ∷ b ∷ s) 2 (width (codeOf a)) (rowsLess a b + 1)))
+      (drop (2 + bytesFor ((rowsLess a b + 1) * width (codeOf a))) (a ∷ b ∷ s))
   unfolding parse Parse.byKind Parse.directRun
   direct-got h = rw (k, block-here (a ∷ b ∷ s) 2 13 (width (codeOf a)) (rowsLess a b + 1) (omega arith))
 

@@ -19,8 +19,10 @@ use Rattle.format.specs.Promises.{answerOf}
 use Rattle.format.proofs.Posts.{Took}
 use Rattle.format.proofs.Below.{below-drop}
 use Rattle.format.proofs.Runs.{parse-sound}
+use Rattle.format.proofs.Tests.{never}
 use Rattle.promises.specs.Refusals
-use Rattle.promises.specs.Refusals.{Table, refusal-8, CutLine, CutNumber, six, twelve, thirteen, fourteen, TableGives, by-number, by-field, RefusalsHold, AnswersHold}
+use Rattle.promises.specs.Refusals.{Table, refusal-8, CutLine, CutNumber, six, twelve, thirteen, fourteen, TableGives, by-number}
+use Rattle.promises.specs.Refusals.{by-field, RefusalsHold, AnswersHold}
 use Rattle.promises.proofs.Fates.{Fate, no-run, a-run, by-line}
 use Rattle.promises.proofs.Fated.{fate}
 use Rattle.promises.proofs.Lines.{line}
@@ -29,19 +31,16 @@ pub refusals : RefusalsHold
 unfolding into
 refusals places bs h r = (λ e. to (fate places bs h) refl e, λ t. line places bs t)
   where
-    room : {d : Description} {rest : List ℕ} (t : Bool) → ltb places (rowCount d) ≡ t → parse bs ≡ got d rest → unless t 8 (got d rest) ≡ refused r → TableGives places bs r
+    room : {d : Description} {rest : List ℕ} (t : Bool) → ltb places (rowCount d) ≡ t → parse bs ≡ got d rest
+        → unless t 8 (got d rest) ≡ refused r → TableGives places bs r
     room {d} {rest} true l f e =
         let k : plain 8 ≡ r = cc in
         let t : Took bs layout Valid d rest = parse-sound bs d rest h f in
         subst (λ (x : Reason). TableGives places bs x) k (by-number (refusal-8 (d, rest, t .ok, t .split, ltb-true places (rowCount d) l)))
-    room {d} {rest} false l f e =
-        let z : _≡_ {A = ℕ} 0 1 = cc in
-        absurd (omega arith)
+    room {d} {rest} false l f e = never (cc)
 
     to : {m : Parsed Description} → Fate places bs m → parse bs ≡ m → into places m ≡ refused r → TableGives places bs r
-    to no-run f e =
-        let z : _≡_ {A = ℕ} 0 1 = cc in
-        absurd (omega arith)
+    to no-run f e = never (cc)
     to (a-run {d} {rest}) f e = room (ltb places (rowCount d)) refl f e
     to (by-line {r = q} t) f e =
         let k : q ≡ r = cc in
@@ -56,7 +55,8 @@ field-le bs (Refusals.in-base r l) = r .headed .header
 field-le bs (Refusals.in-first-row r t) = r .headed .header
 field-le bs (Refusals.in-base-delta v rest r e h t) = omega (arith, r .headed .header, length-drop 2 bs, ap length e, length-append v rest)
 field-le bs (Refusals.in-rows h l) = h .header
-field-le bs (Refusals.in-magnitudes v w rest r e h g l) = omega (arith, r .headed .header, length-drop 2 bs, ap length e, length-append v (w ++ rest), length-append w rest)
+field-le bs (Refusals.in-magnitudes v w rest r e h g l) =
+    omega (arith, r .headed .header, length-drop 2 bs, ap length e, length-append v (w ++ rest), length-append w rest)
 field-le bs (Refusals.in-values r m l) = m
 field-le bs (Refusals.in-list r m l) = m
 
@@ -71,13 +71,10 @@ field-pos bs (Refusals.in-magnitudes v w rest r e h g l) = (omega arith, thirtee
 field-pos bs (Refusals.in-values r m l) = (omega arith, thirteen)
 field-pos bs (Refusals.in-list r m l) = (omega arith, fourteen)
 
-answer-refused : (at total : ℕ) (f : Refusal) (m : Parsed Description) → answerOf at total m ≡ Refused f → (r : Reason) × (m ≡ refused r) × (refusal at total r ≡ f)
-answer-refused at total f end e =
-    let z : _≡_ {A = ℕ} 0 1 = cc in
-    absurd (omega arith)
-answer-refused at total f (got d rest) e =
-    let z : _≡_ {A = ℕ} 0 1 = cc in
-    absurd (omega arith)
+answer-refused : (at total : ℕ) (f : Refusal) (m : Parsed Description) → answerOf at total m ≡ Refused f
+    → (r : Reason) × (m ≡ refused r) × (refusal at total r ≡ f)
+answer-refused at total f end e = never (cc)
+answer-refused at total f (got d rest) e = never (cc)
 answer-refused at total f (refused r) e =
     let z : refusal at total r ≡ f = cc in
     (r, refl, z)
@@ -91,20 +88,19 @@ module _ (places at : ℕ) (bs : List ℕ) (n : ℕ) where
   of-number (by-number t) e = subst (λ (x : ℕ). Table places bs x) (ap (λ (f : Refusal). f .number) e) t
   of-number (by-field l) e =
       let q : At _ ≡ None = ap (λ (f : Refusal). f .cut) e in
-      let z : _≡_ {A = ℕ} 0 1 = cc in
-      absurd (omega arith)
+      never (cc)
 
   pub field-here : (field : ℕ) → CutLine bs n field → refusal at (length bs) (cutIn n (drop field bs)) ≡ cutting n at (at + field)
   field-here field l =
       let e : length bs - length (drop field bs) ≡ field = omega (arith, length-drop field bs, field-le bs l) in
       rw e
 
-  of-field : (byte : ℕ) {r : Reason} → TableGives places bs r → refusal at (length bs) r ≡ cutting n at byte → (field : ℕ) × CutLine bs n field × (byte ≡ at + field)
+  of-field : (byte : ℕ) {r : Reason} → TableGives places bs r → refusal at (length bs) r ≡ cutting n at byte
+      → (field : ℕ) × CutLine bs n field × (byte ≡ at + field)
   unfolding byteOf
   of-field byte (by-number t) e =
       let q : None ≡ At _ = ap (λ (f : Refusal). f .cut) e in
-      let z : _≡_ {A = ℕ} 0 1 = cc in
-      absurd (omega arith)
+      never (cc)
   of-field byte (by-field {n = k} {field} l) e =
       let j : at + (length bs - length (drop field bs)) ≡ byte = ap (λ (f : Refusal). byteOf (f .cut)) e in
       (field, subst (λ (x : ℕ). CutLine bs x field) (ap (λ (f : Refusal). f .number) e) l, omega (arith, j, length-drop field bs, field-le bs l))

@@ -28,9 +28,15 @@ writer-table rows signed form width out out′ r p =
   where
     go : (a b c e : Bool) → countAllowed form (length (map asU64 rows)) ≡ a → (haveForm form (map asU64 rows) && widthAllowed form width) ≡ b
         → fitWidth signed form width (map asU64 rows) ≡ c → ltb (length out) (length (layout (described signed form width (map asU64 rows)))) ≡ e
-        → Outcome rows signed form width out (answerOf 0 0 (unless (not a) 9 (unless (not b) 10 (unless (not c) 11 (unless e 8 (got (described signed form width (map asU64 rows)) []))))))
+        → Outcome rows signed form width out
+        (answerOf 0 0 (unless (not a) 9
+        (unless (not b) 10 (unless (not c) 11 (unless e 8 (got (described signed form width (map asU64 rows)) []))))))
     go false b c e p q s t = refusal-9 (rw (length-map rows asU64) at p)
     go true false c e p q s t = refusal-10 (rw (length-map rows asU64) at p) q
     go true true false e p q s t = refusal-11 (rw (length-map rows asU64) at p) q s
-    go true true true true p q s t = refusal-8 (rw (length-map rows asU64) at p) q s (ltb-true (length out) (length (layout (described signed form width (map asU64 rows)))) t)
-    go true true true false p q s t = written (rw (length-map rows asU64) at p) q s (ltb-false (length out) (length (layout (described signed form width (map asU64 rows)))) t)
+    go true true true true p q s t =
+        refusal-8 (rw (length-map rows asU64) at p) q s
+        (ltb-true (length out) (length (layout (described signed form width (map asU64 rows)))) t)
+    go true true true false p q s t =
+        written (rw (length-map rows asU64) at p) q s
+        (ltb-false (length out) (length (layout (described signed form width (map asU64 rows)))) t)

@@ -9,13 +9,13 @@ use lib.ListN.{length, getD, take}
 use lib.Dec.{leb}
 use lib.Pow.{pow-mono, pow-pos}
 use borrow.Author.Tests.{lt-leb, le-leb}
-use Rattle.format.specs.Digits.{AllBelow, number}
+use Rattle.format.specs.Digits.{AllBelow, number, sum}
 use Rattle.format.specs.Fields.{two64, negative, width, Block, Varint}
 use Rattle.format.specs.Runs.{Patch, fixed, delta, patched, patches}
 use Rattle.format.specs.Rows.{steps, walk, patchedRows, patchAt, plus, rowsOf, baseValue}
 use Rattle.format.proofs.Varints.{varint-lt}
 use Rattle.format.proofs.Rows.{width-le, row-lt}
-use Rattle.promises.specs.Sums.{sum, firstRow, firstStep, Sums}
+use Rattle.promises.specs.Sums.{firstRow, firstStep, Sums}
 
 steps-at : (n x step i : ℕ) → x < two64 → i < n → getD (steps n x step) i 0 ≡ (x + i * step) % two64
 unfolding steps

@@ -1,7 +1,6 @@
 -- Demand 3, from the law of streams. Assumes nothing.
 use mathlib.Core.Path.{_≡_, sym, _∙_}
 use Prim.Native.Nat.{ℕ, _≤_}
-use native.Mathlib.Omega.{arith}
 use mathlib.Core.Bool.{Bool}
 use mathlib.Core.List.{List, [], _∷_, _++_}
 use lib.ListN.{length, drop}
@@ -12,6 +11,7 @@ use Rattle.format.specs.Streams.{Reading, whole, readAll, totalRows}
 use Rattle.format.specs.Promises.{streamAnswer}
 use Rattle.format.proofs.Below.{below-drop}
 use Rattle.format.proofs.Streams.{Reads, reads-whole, reads-broken, stream-post, stream-whole, joined-unique, last-snoc}
+use Rattle.format.proofs.Tests.{never}
 use Rattle.promises.specs.WholeStreamExactly.{LaidOut, IsWhole, WholeStreamExactlyHolds}
 
 module _ (bs : List ℕ) (at : ℕ) (signed : Bool) (out out′ : List ℤ) (r : Stream) where
@@ -19,9 +19,7 @@ module _ (bs : List ℕ) (at : ℕ) (signed : Bool) (out out′ : List ℤ) (r :
   laid-out : {m : Reading} → Reads (length out) bs m → r ≡ streamAnswer at m → IsWhole r
       → (ds : List Description) × LaidOut bs ds × (totalRows ds ≤ length out)
   laid-out (reads-whole {ds} v e l) a w = (ds, record { valid = v; bytes = e }, l)
-  laid-out (reads-broken v e l f) a (rows, bytes, last, w) =
-      let z : _≡_ {A = ℕ} 0 1 = cc in
-      absurd (omega arith)
+  laid-out (reads-broken v e l f) a (rows, bytes, last, w) = never (cc)
 
   read-whole : (ds : List Description) → LaidOut bs ds → totalRows ds ≤ length out → readAll (length out) bs ≡ whole ds
   read-whole ds d l = rw (d .bytes) (stream-whole (length out) ds (d .valid) l)

@@ -1,5 +1,5 @@
--- Booleans and byte values: what the promises of their readers say, as "exactly when". Stated for every input of bytes, position, number asked for and
--- lent places.
+-- Booleans and byte values: what the promises of their readers say, as "exactly when". Stated for every input of bytes, position, number
+-- asked for and lent places.
 -- Assumes nothing.
 use mathlib.Core.Path.{_≡_}
 use mathlib.Core.Logic.{_↔_}
@@ -32,13 +32,15 @@ behind c = pick (ltb c 128) 1 (256 - c)
 -- (the number, and the byte, counted from the first of bs, where the cut field begins)
 pub data CutShort (bs : List ℕ) (m : ℕ) : ℕ → ℕ → Type 0 where
   -- .. the control byte is missing (6), which would stand behind them
-  no-control : (ds : List ByteRun) → AllValidRuns ds → length (joinedBytes ds) < m → bs ≡ joinedRuns ds → CutShort bs m 6 (length (joinedRuns ds))
+  no-control : (ds : List ByteRun) → AllValidRuns ds → length (joinedBytes ds) < m → bs ≡ joinedRuns ds
+      → CutShort bs m 6 (length (joinedRuns ds))
   -- .. or the next run is cut behind its control byte c (13)
   in-run : (ds : List ByteRun) (c : ℕ) (rest : List ℕ) → AllValidRuns ds → length (joinedBytes ds) < m → bs ≡ joinedRuns ds ++ (c ∷ rest)
       → length rest < behind c → CutShort bs m 13 (length (joinedRuns ds) + 1)
 
 pub record BooleansExactly (bs : List ℕ) (at n : ℕ) (out out′ : List ℕ) (r : Answer) : Type 0 where
-  -- n booleans are read where the bytes hold them and there is room: each of the runs is consumed whole, the booleans stand in the first places ..
+  -- n booleans are read where the bytes hold them and there is room:
+  -- each of the runs is consumed whole, the booleans stand in the first places ..
   pub answer : (ds : List ByteRun) → Hold bs n ds → n ≤ length out → r ≡ ran Booleans 1 n (length (joinedRuns ds))
   pub places : (ds : List ByteRun) → Hold bs n ds → n ≤ length out → out′ ≡ booleansOf n ds ++ drop n out
   -- .. by one list of runs only
@@ -63,4 +65,5 @@ pub record ValueExactly (bs : List ℕ) (at n : ℕ) (part : List ℕ) (r : Answ
 
 abbrev pub ValueHolds : Type 0
 ValueHolds =
-    (input : List ℕ) (at n : ℕ) (part : List ℕ) (r : Answer) → ValueRead input at n r → ValueGiven input at n part → ValueExactly (drop at input) at n part r
+    (input : List ℕ) (at n : ℕ) (part : List ℕ) (r : Answer) → ValueRead input at n r → ValueGiven input at n part
+    → ValueExactly (drop at input) at n part r

@@ -1,4 +1,5 @@
--- Where a field is cut (FORMAT.md, "Places and cut bytes"): what this leaves alone, and that its four numbers are together "the input ends".
+-- Where a field is cut (FORMAT.md, "Places and cut bytes"): what this leaves alone,
+-- and that its four numbers are together "the input ends".
 -- Stated of the promise of the run reader, for every input of bytes, position, flag and lent places.
 -- Assumes nothing.
 use mathlib.Core.Path.{_≡_}
@@ -16,7 +17,8 @@ use Rattle.format.specs.Runs.{Description, rowCount, layout}
 use Rattle.format.specs.Rows.{i64Rows}
 use Rattle.format.specs.Promises.{kindOf, widthOf, RunRead}
 use Rattle.promises.specs.OneRunExactly.{Begins, IsRun}
-use Rattle.promises.specs.Refusals.{Headed, PatchedRun, DeltaRun, Unended, CutNumber, size, code, rows, valueBytes, magnitudeBytes, listTo}
+use Rattle.promises.specs.Refusals.{Headed, PatchedRun, DeltaRun, Unended, CutNumber, size, code, rows, valueBytes, magnitudeBytes}
+use Rattle.promises.specs.Refusals.{listTo}
 
 -- the four together: the input ends before the run does
 pub data Ended (bs : List ℕ) : Type 0 where

@@ -20,8 +20,8 @@ use Rattle.promises.specs.Refusals.{CutNumber}
 abbrev pub EndInside : ℕ → List Description → Type 0
 EndInside n ds = (n < length (joined ds)) × ((k : ℕ) → n ≢ length (joined (take k ds)))
 
--- the refusal of a run that begins at the byte `from`, where the input ends at the byte `to`: 1 in its header, else 6, 12, 13 or 14 with the byte where
--- the cut field begins, which lies in the run, at or before the end
+-- the refusal of a run that begins at the byte `from`, where the input ends at the byte `to`: 1 in its header, else 6, 12, 13 or 14 with
+-- the byte where the cut field begins, which lies in the run, at or before the end
 pub data CutBetween (from to : ℕ) : Refusal → Type 0 where
   in-header : CutBetween from to (refusing 1 from)
   in-field : {n byte : ℕ} → CutNumber n → from < byte → byte ≤ to → CutBetween from to (cutting n from byte)

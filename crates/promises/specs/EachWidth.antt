@@ -1,5 +1,6 @@
--- The user's first question: does each bit width work, at each run length? For every width code and every length the layout of any values, with any
--- padding bits, is read back as those values, under both flags. The rows of delta and patched runs are given as sums in specs/Sums.antt.
+-- The user's first question: does each bit width work, at each run length? For every width code and every length the layout of any values,
+-- with any padding bits, is read back as those values, under both flags.
+-- The rows of delta and patched runs are given as sums in specs/Sums.antt.
 -- Assumes nothing.
 use mathlib.Core.Path.{_≡_}
 use Prim.Native.Nat.{ℕ, _+_, _<_, _≤_}
@@ -12,7 +13,8 @@ use Rattle.format.specs.declared.Answer.{Answer}
 use Rattle.format.specs.Answers.{ran}
 use Rattle.format.specs.Digits.{AllBelow, number}
 use Rattle.format.specs.Fields.{width, row, Block, IsBlock, Varint}
-use Rattle.format.specs.Runs.{Description, short, direct, fixed, delta, patched, rowCount, layout, patches, tooLarge, outOfPlace, entryWidth}
+use Rattle.format.specs.Runs.{Description, short, direct, fixed, delta, patched, rowCount, layout, patches, tooLarge, outOfPlace}
+use Rattle.format.specs.Runs.{entryWidth}
 use Rattle.format.specs.Rows.{asI64, i64Rows}
 use Rattle.format.specs.Promises.{kindOf, widthOf, RunRead}
 
@@ -38,8 +40,8 @@ pub record EachWidth : Type 0 where
   pub delta-runs : (code : ℕ) (first base : List ℕ) (k : Block) → 1 ≤ code → code < 32 → length (k .values) + 2 ≤ 512
       → Varint 10 first → Varint 10 base → IsBlock (width code) (length (k .values)) k
       → ReadBack (delta code first base k) (λ signed. i64Rows signed (delta code first base k))
-  -- patched: each code, each length from 1 to 512, each base of 1 to 8 bytes, each patch code and gap width that refusal 2 leaves, each list
-  -- of up to 31 entries whose patches fit and that is not out of place
+  -- patched: each code, each length from 1 to 512, each base of 1 to 8 bytes, each patch code and gap width that refusal 2 leaves, each
+  -- list of up to 31 entries whose patches fit and that is not out of place
   pub patched-runs : (code : ℕ) (base : List ℕ) (pc gw : ℕ) (k l : Block) → code < 32 → 1 ≤ length (k .values) → length (k .values) ≤ 512
       → 1 ≤ length base → length base ≤ 8 → AllBelow 256 base → pc < 32 → 1 ≤ gw → gw ≤ 8 → length (l .values) < 32
       → width pc + gw ≤ 64

@@ -1,5 +1,5 @@
--- The user's demands, as statements over the definitions that the contracts cite; the theorems stand in proofs/. docs/FORMAT.md is the text that
--- each of them is checked against.
+-- The user's demands, as statements over the definitions that the contracts cite; the theorems stand in proofs/. docs/FORMAT.md is the text
+-- that each of them is checked against.
 -- FORMAT.md's sample runs and its table of refusals
 pub mod Table
 pub mod Samples

@@ -27,10 +27,12 @@ pub record Determines (P A : Type 0) (Allows : P → A → Type 0) : Type 0 wher
 
 -- for every input, position, flag and lent places
 abbrev pub RunDetermined : Type 0
-RunDetermined = (input : List ℕ) (at : ℕ) (signed : Bool) (out : List ℤ) → Determines (List ℤ) Answer (λ p r. RunRead input at signed out p r)
+RunDetermined = (input : List ℕ) (at : ℕ) (signed : Bool) (out : List ℤ)
+    → Determines (List ℤ) Answer (λ p r. RunRead input at signed out p r)
 
 abbrev pub StreamDetermined : Type 0
-StreamDetermined = (input : List ℕ) (at : ℕ) (signed : Bool) (out : List ℤ) → Determines (List ℤ) Stream (λ p r. StreamRead input at signed out p r)
+StreamDetermined = (input : List ℕ) (at : ℕ) (signed : Bool) (out : List ℤ)
+    → Determines (List ℤ) Stream (λ p r. StreamRead input at signed out p r)
 
 -- the measures lend no place: for every input and position
 abbrev pub RunMeasuredDetermined : Type 0
@@ -49,17 +51,20 @@ ValueDetermined = (input : List ℕ) (at n : ℕ) → Determines (List ℕ) Answ
 
 -- for all rows, flags, forms and widths, and all lent places
 abbrev pub WriterDetermined : Type 0
-WriterDetermined = (rows : List ℤ) (signed : Bool) (form : Form) (width : ℕ) (out : List ℕ) → Determines (List ℕ) Answer (λ p r. Written rows signed form width out p r)
+WriterDetermined = (rows : List ℤ) (signed : Bool) (form : Form) (width : ℕ) (out : List ℕ)
+    → Determines (List ℕ) Answer (λ p r. Written rows signed form width out p r)
 
 -- for all rows, bases and widths, and all lent places
 abbrev pub PatchedDetermined : Type 0
-PatchedDetermined = (rows : List ℤ) (base : ℤ) (width : ℕ) (out : List ℕ) → Determines (List ℕ) Answer (λ p r. PatchedWritten rows base width out p r)
+PatchedDetermined = (rows : List ℤ) (base : ℤ) (width : ℕ) (out : List ℕ)
+    → Determines (List ℕ) Answer (λ p r. PatchedWritten rows base width out p r)
 
 -- with no lent place: the narrowest code of every number of 64 bits
 abbrev pub NarrowestDetermined : Type 0
 NarrowestDetermined = (x : ℕ) → x < two64 → Determines (Unit {0}) ℕ (λ p r. NarrowestKept x r)
 
--- a promise that is an equation, `r ≡ ..`, of a call with no lent place: the constructors of the answers, and every other function like them
+-- a promise that is an equation, `r ≡ ..`, of a call with no lent place:
+-- the constructors of the answers, and every other function like them
 abbrev pub EquationDetermined : Type 1
 EquationDetermined = (A : Type 0) (a : A) → Determines (Unit {0}) A (λ p r. r ≡ a)
 
@@ -67,11 +72,13 @@ EquationDetermined = (A : Type 0) (a : A) → Determines (Unit {0}) A (λ p r. r
 abbrev pub StartDetermined : Type 0
 StartDetermined = Determines (Unit {0}) PartReader (λ p r. r ≡ fresh)
 
--- the lent bytes and places, and what a call with a part does: for every reader, part, flag and all that is lent; the closing call leaves the lent bytes
+-- the lent bytes and places, and what a call with a part does: for every reader, part, flag and all that is lent;
+-- the closing call leaves the lent bytes
 abbrev pub PartDetermined : Type 0
 PartDetermined =
     (s : PartReader) (part buffer : List ℕ) (signed : Bool) (out : List ℤ)
     → Determines (List ℕ × List ℤ) PartStep (λ p r. Takes s part buffer (p .0) signed out (p .1) r)
 
 abbrev pub ClosingDetermined : Type 0
-ClosingDetermined = (s : PartReader) (buffer : List ℕ) (signed : Bool) (out : List ℤ) → Determines (List ℤ) PartStep (λ p r. Closes s buffer signed out p r)
+ClosingDetermined = (s : PartReader) (buffer : List ℕ) (signed : Bool) (out : List ℤ)
+    → Determines (List ℤ) PartStep (λ p r. Closes s buffer signed out p r)

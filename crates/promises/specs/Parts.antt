@@ -1,5 +1,6 @@
--- The reader in parts (FORMAT.md, "Reader in parts"): what a whole list of parts gives, and that it is what the whole-stream reader gives of the joined
--- bytes, however they are cut. Stated of the calls as format defines them; the code's promises are equations with these calls.
+-- The reader in parts (FORMAT.md, "Reader in parts"): what a whole list of parts gives, and that it is what the whole-stream reader gives
+-- of the joined bytes, however they are cut. Stated of the calls as format defines them;
+-- the code's promises are equations with these calls.
 -- Assumes nothing.
 use mathlib.Core.Path.{_≡_}
 use mathlib.Core.Logic.{_↔_}
@@ -27,7 +28,8 @@ use Rattle.format.specs.Parse.{Reason, unfinished, refused, parse}
 use Rattle.format.specs.Answers.{refusing}
 use Rattle.format.specs.Streams.{Reading, readAll, runsOf}
 use Rattle.format.specs.Promises.{streamAnswer}
-use Rattle.format.specs.Parts.{refusalFrom, Handed, Reply, handed, more, broke, ended, State, start, Call, idle, handOut, takePart, close, stateOf, answered, room, Takes, Closes}
+use Rattle.format.specs.Parts.{refusalFrom, Handed, Reply, handed, more, broke, ended, State, start, Call, idle, handOut, takePart, close}
+use Rattle.format.specs.Parts.{stateOf, answered, room, Takes, Closes}
 use Rattle.promises.specs.Refusals.{CutNumber}
 
 -- the runs that some calls handed out, and the state after them
@@ -44,7 +46,8 @@ goOn again part c more = record { runs = []; state = c .state }
 goOn again part c (broke f) = record { runs = []; state = c .state }
 goOn again part c ended = record { runs = []; state = c .state }
 
--- a part is offered until it is all taken or refused, in at most `calls` calls: each run takes a byte at least, so one call more than bytes is enough
+-- a part is offered until it is all taken or refused, in at most `calls` calls:
+-- each run takes a byte at least, so one call more than bytes is enough
 unfoldable pub offer : ℕ → State → List ℕ → Fed
 offer zero s part = record { runs = []; state = s }
 offer (suc calls) s part = goOn (λ t rest. offer calls t rest) part (takePart 512 s part) (takePart 512 s part .reply)
@@ -84,7 +87,8 @@ cutModulo (field.At b) = field.At (record { bytes = b .bytes % two64 })
 
 abbrev pub lastAnswer : Stream → Reply
 lastAnswer (Whole c) = ended
-lastAnswer (Refused f c) = broke (record { number = f .number; place = record { bytes = f .place .bytes % two64 }; cut = cutModulo (f .cut) })
+lastAnswer (Refused f c) =
+    broke (record { number = f .number; place = record { bytes = f .place .bytes % two64 }; cut = cutModulo (f .cut) })
 
 abbrev pub streamGives : Reading → GivenInParts
 streamGives m = record { runs = starting 0 (runsOf m); answer = lastAnswer (streamAnswer 0 m) }
@@ -94,8 +98,8 @@ unfoldable pub rowsIn : List Handed → ℕ
 rowsIn [] = 0
 rowsIn (h ∷ hs) = rowCount (h .run) + rowsIn hs
 
--- ---- THE THEOREM: for every list of parts, the runs, their starts and the answer after closing are those of the whole-stream reader over the joined
--- bytes, exactly with room enough for the rows
+-- ---- THE THEOREM: for every list of parts, the runs, their starts and the answer after closing are those of the whole-stream reader over
+-- the joined bytes, exactly with room enough for the rows
 abbrev pub SameAsStream : Type 0
 SameAsStream = (ps : List (List ℕ)) → AllBelow 256 (joinedParts ps) → (n : ℕ)
     → (readParts ps ≡ streamGives (readAll n (joinedParts ps))) ↔ (rowsIn (readParts ps .runs) ≤ n)
@@ -104,7 +108,8 @@ SameAsStream = (ps : List (List ℕ)) → AllBelow 256 (joinedParts ps) → (n :
 abbrev pub AnyCut : Type 0
 AnyCut = (ps qs : List (List ℕ)) → AllBelow 256 (joinedParts ps) → joinedParts ps ≡ joinedParts qs → readParts ps ≡ readParts qs
 
--- before closing, what is handed out is all that the whole-stream reader reads in the bytes so far: no run whose last byte is there is kept back ..
+-- before closing, what is handed out is all that the whole-stream reader reads in the bytes so far:
+-- no run whose last byte is there is kept back ..
 abbrev pub AtOnce : Type 0
 AtOnce = (ps : List (List ℕ)) → AllBelow 256 (joinedParts ps) → (n : ℕ) → rowsIn (feed start ps .runs) ≤ n
     → feed start ps .runs ≡ starting 0 (runsOf (readAll n (joinedParts ps)))
@@ -119,8 +124,8 @@ abbrev pub Begins : Type 0
 Begins = (ps qs : List (List ℕ)) → AllBelow 256 (joinedParts ps ++ joinedParts qs) → (n : ℕ) → rowsIn (feed start (ps ++ qs) .runs) ≤ n
     → (hs : List Handed) × (starting 0 (runsOf (readAll n (joinedParts ps ++ joinedParts qs))) ≡ feed start ps .runs ++ hs)
 
--- an unfinished run's refusals are 1, 6, 12, 13 and 14: an open reader refuses a part exactly if the run reader, over the bytes held and the part's, gives
--- another
+-- an unfinished run's refusals are 1, 6, 12, 13 and 14: an open reader refuses a part exactly if the run reader, over the bytes held and
+-- the part's, gives another
 pub data OfUnfinished : ℕ → Type 0 where
   in-header : OfUnfinished 1
   in-field : {n : ℕ} → CutNumber n → OfUnfinished n
@@ -130,9 +135,11 @@ TheNumbers = (bs : List ℕ) → AllBelow 256 bs → (r : Reason) → parse bs �
     → T (unfinished r) ↔ OfUnfinished (refusalFrom at (length bs) r .number)
 
 abbrev pub WhenRefused : Type 0
-WhenRefused = (places : ℕ) (s : State) (part : List ℕ) → AllBelow 256 (s .held ++ part) → 512 ≤ places → s .standing ≡ Opened → (f : Refusal)
+WhenRefused = (places : ℕ) (s : State) (part : List ℕ) → AllBelow 256 (s .held ++ part) → 512 ≤ places
+    → s .standing ≡ Opened → (f : Refusal)
     → (takePart places s part .reply ≡ broke f)
-    ↔ ((r : Reason) × (parse (s .held ++ part) ≡ refused r) × (refusalFrom (s .at) (length (s .held ++ part)) r ≡ f) × (OfUnfinished (f .number) → ⊥))
+    ↔ ((r : Reason) × (parse (s .held ++ part) ≡ refused r) × (refusalFrom (s .at) (length (s .held ++ part)) r ≡ f)
+    × (OfUnfinished (f .number) → ⊥))
 
 -- Before the closing call: a reader stands refused exactly if the whole-stream reader, over the bytes so far, gives a refusal other than
 -- these five, and with the same one (place and cut byte counted from the first part modulo 2^64). Else it is open.
@@ -172,7 +179,8 @@ AfterLast = (places : ℕ) (s : State) (a : Reply) → 512 ≤ places → close 
     → (close places s .taken ≡ 0) × Repeats (close places s .state) a
 
 abbrev pub AfterClosing : Type 0
-AfterClosing = (ps : List (List ℕ)) → AllBelow 256 (joinedParts ps) → Repeats (close 512 (feed start ps .state) .state) (readParts ps .answer)
+AfterClosing = (ps : List (List ℕ)) → AllBelow 256 (joinedParts ps)
+    → Repeats (close 512 (feed start ps .state) .state) (readParts ps .answer)
 
 -- 8 changes nothing, whatever the state: the call may be made again
 pub record NoRoom (places : ℕ) (s : State) : Type 0 where
@@ -194,17 +202,21 @@ MorePlaces = (places : ℕ) (s : State) → 512 ≤ places → AsIn512 places s
 abbrev pub HeldBelow : Type 0
 HeldBelow = (ps : List (List ℕ)) → AllBelow 256 (joinedParts ps) → length (feed start ps .state .held) < 4356
 
--- After a call with a part the reader and the lent bytes stand for that call's state: so the code's calls, one after another, do what `feed` does.
+-- After a call with a part the reader and the lent bytes stand for that call's state:
+-- so the code's calls, one after another, do what `feed` does.
 abbrev pub Follows : Type 0
-Follows = (s : PartReader) (part buffer buffer′ : List ℕ) (signed : Bool) (out out′ : List ℤ) (r : PartStep) → AllBelow 256 buffer → AllBelow 256 part
-    → Takes s part buffer buffer′ signed out out′ r → stateOf (r .reader) buffer′ ≡ takePart (room buffer out) (stateOf s buffer) part .state
+Follows = (s : PartReader) (part buffer buffer′ : List ℕ) (signed : Bool) (out out′ : List ℤ) (r : PartStep)
+    → AllBelow 256 buffer → AllBelow 256 part
+    → Takes s part buffer buffer′ signed out out′ r
+    → stateOf (r .reader) buffer′ ≡ takePart (room buffer out) (stateOf s buffer) part .state
 
 -- and so after the closing call, which leaves the lent bytes
 abbrev pub FollowsClosing : Type 0
 FollowsClosing = (s : PartReader) (buffer : List ℕ) (signed : Bool) (out out′ : List ℤ) (r : PartStep)
     → Closes s buffer signed out out′ r → stateOf (r .reader) buffer ≡ close (room buffer out) (stateOf s buffer) .state
 
--- A call that refuses takes nothing, and leaves every lent byte and every lent place as it was (the closing call leaves the lent bytes, whatever it answers).
+-- A call that refuses takes nothing, and leaves every lent byte and every lent place as it was (the closing call leaves the lent bytes,
+-- whatever it answers).
 pub record Untouched (buffer buffer′ : List ℕ) (out out′ : List ℤ) (r : PartStep) : Type 0 where
   pub taken : r .taken .bytes ≡ 0
   pub lent : buffer′ ≡ buffer

@@ -1,5 +1,5 @@
--- The reader in parts, by its functions' promises alone: the calls, one after another, and that what they give is what the whole-stream reader gives of
--- the joined bytes.
+-- The reader in parts, by its functions' promises alone: the calls, one after another, and that what they give is what the whole-stream
+-- reader gives of the joined bytes.
 -- Assumes nothing.
 use mathlib.Core.Path.{_≡_}
 use Prim.Native.Nat.{ℕ, _≤_}
@@ -37,9 +37,11 @@ pub record Lent (buffer : List ℕ) (out : List ℤ) : Type 0 where
 
 -- one part, offered until it is all taken or refused: the lent bytes are left alone between the calls, and each call has places of its own
 pub data Offers (signed : Bool) : PartReader → List ℕ → List ℕ → List Shown → PartReader → List ℕ → Type 0 where
-  last : {s : PartReader} {part buffer buffer′ : List ℕ} {out out′ : List ℤ} {r : PartStep} → Lent buffer out → Takes s part buffer buffer′ signed out out′ r
+  last : {s : PartReader} {part buffer buffer′ : List ℕ} {out out′ : List ℤ} {r : PartStep} → Lent buffer out
+      → Takes s part buffer buffer′ signed out out′ r
       → NoRun (r .answer) → Offers signed s buffer part [] (r .reader) buffer′
-  gives : {s t : PartReader} {part buffer buffer′ b : List ℕ} {out out′ : List ℤ} {r : PartStep} {at : ByteOffset} {x : run.Run} {hs : List Shown}
+  gives : {s t : PartReader} {part buffer buffer′ b : List ℕ} {out out′ : List ℤ} {r : PartStep} {at : ByteOffset}
+      {x : run.Run} {hs : List Shown}
       → Lent buffer out → Takes s part buffer buffer′ signed out out′ r → r .answer ≡ said.Run at x
       → Offers signed (r .reader) buffer′ (drop (r .taken .bytes) part) hs t b
       → Offers signed s buffer part (record { at = at .bytes; run = x; rows = take (x .rows .rows) out′ } ∷ hs) t b
@@ -47,18 +49,20 @@ pub data Offers (signed : Bool) : PartReader → List ℕ → List ℕ → List 
 -- one part after another
 pub data Offered (signed : Bool) : PartReader → List ℕ → List (List ℕ) → List Shown → PartReader → List ℕ → Type 0 where
   no-part : {s : PartReader} {buffer : List ℕ} → Offered signed s buffer [] [] s buffer
-  a-part : {s t u : PartReader} {buffer b c p : List ℕ} {ps : List (List ℕ)} {hs ks : List Shown} → Offers signed s buffer p hs t b → Offered signed t b ps ks u c
+  a-part : {s t u : PartReader} {buffer b c p : List ℕ} {ps : List (List ℕ)} {hs ks : List Shown} → Offers signed s buffer p hs t b
+      → Offered signed t b ps ks u c
       → Offered signed s buffer (p ∷ ps) (hs ++ ks) u c
 
--- From a fresh reader, whatever stood in the lent bytes: the runs, with their starts and rows, and the answer of the closing call are `readParts`'s, which
--- are the whole stream's.
+-- From a fresh reader, whatever stood in the lent bytes: the runs, with their starts and rows, and the answer of the closing call are
+-- `readParts`'s, which are the whole stream's.
 abbrev pub Delivers : Type 0
-Delivers = (signed : Bool) (ps : List (List ℕ)) (buffer b : List ℕ) (hs : List Shown) (t : PartReader) (out out′ : List ℤ) (r : PartStep) → AllBelow 256 (joinedParts ps)
+Delivers = (signed : Bool) (ps : List (List ℕ)) (buffer b : List ℕ) (hs : List Shown) (t : PartReader) (out out′ : List ℤ) (r : PartStep)
+    → AllBelow 256 (joinedParts ps)
     → Offered signed fresh buffer ps hs t b → Lent b out → Closes t b signed out out′ r
     → (hs ≡ map (shown signed) (readParts ps .runs)) × (r .answer ≡ answered (readParts ps .answer))
 
--- THE WHOLE, of promises alone: the calls of the reader in parts, and one call of the stream reader over the joined bytes with room enough for the rows. The
--- rows are the same, and the answer; and each run has the start that the runs before it give.
+-- THE WHOLE, of promises alone: the calls of the reader in parts, and one call of the stream reader over the joined bytes with room enough
+-- for the rows. The rows are the same, and the answer; and each run has the start that the runs before it give.
 abbrev pub rowsShown : List Shown → List ℤ
 rowsShown [] = []
 rowsShown (h ∷ hs) = h .rows ++ rowsShown hs
@@ -69,7 +73,8 @@ pub record AsStream (signed : Bool) (bytes : List ℕ) (hs : List Shown) (r : Pa
   pub answer : r .answer ≡ answered (lastAnswer w)
 
 abbrev pub AsStreamHolds : Type 0
-AsStreamHolds = (signed : Bool) (ps : List (List ℕ)) (buffer b : List ℕ) (hs : List Shown) (t : PartReader) (out out′ : List ℤ) (r : PartStep) → AllBelow 256 (joinedParts ps)
+AsStreamHolds = (signed : Bool) (ps : List (List ℕ)) (buffer b : List ℕ) (hs : List Shown) (t : PartReader) (out out′ : List ℤ)
+    (r : PartStep) → AllBelow 256 (joinedParts ps)
     → Offered signed fresh buffer ps hs t b → Lent b out → Closes t b signed out out′ r
     → (all all′ : List ℤ) (w : Stream) → StreamRead (joinedParts ps) 0 signed all all′ w → length (rowsShown hs) ≤ length all
     → AsStream signed (joinedParts ps) hs r all all′ w

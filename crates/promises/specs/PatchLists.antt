@@ -1,5 +1,5 @@
--- The user's second question: every damaged patch list. Whatever the bytes of the list are, the answer is refusal 3, or refusal 7 in one of its three
--- cases, or rows in which exactly the places that the list names are patched; and 8 in the place of the rows if they lack room.
+-- The user's second question: every damaged patch list. Whatever the bytes of the list are, the answer is refusal 3, or refusal 7 in one of
+-- its three cases, or rows in which exactly the places that the list names are patched; and 8 in the place of the rows if they lack room.
 -- Assumes nothing.
 use mathlib.Core.Path.{_≡_}
 use mathlib.Core.Logic.{_⊎_}
@@ -12,12 +12,11 @@ use lib.IntN.{ℤ, pos}
 use Rattle.format.specs.declared.Kind.the-variants.{PatchedBase}
 use Rattle.format.specs.declared.Answer.{Answer}
 use Rattle.format.specs.Answers.{ran, refusedAt}
-use Rattle.format.specs.Digits.{AllBelow}
+use Rattle.format.specs.Digits.{AllBelow, sum}
 use Rattle.format.specs.Fields.{two64, width, bytesFor, Block, IsBlock, blockBytes}
 use Rattle.format.specs.Runs.{patched, Valid, layout, patchOf, gapOf, isSkip, entryWidth}
 use Rattle.format.specs.Rows.{baseValue, asI64}
 use Rattle.format.specs.Promises.{RunRead}
-use Rattle.promises.specs.Sums.{sum}
 
 -- an entry's place is the whole-number sum of all gaps up to its own
 abbrev pub placeOf : ℕ → List ℕ → ℕ → ℕ
@@ -53,8 +52,10 @@ OutOfPlace pw rows es = LastIsSkip pw es ⊎ (TwoShare pw es ⊎ OneBeyond pw ro
 -- the row at place p is base + value, and base + value + patch·2^W if an entry names p
 pub record Patched (code : ℕ) (base : List ℕ) (pc : ℕ) (k l : Block) (out′ : List ℤ) (p : ℕ) : Type 0 where
   pub named : (j : ℕ) → Names (width pc) (l .values) j p
-      → getD out′ p (pos 0) ≡ asI64 ((baseValue base + (getD (k .values) p 0 + patchOf (width pc) (getD (l .values) j 0) * 2 ^ width code)) % two64)
-  pub other : ((j : ℕ) → Names (width pc) (l .values) j p → ⊥) → getD out′ p (pos 0) ≡ asI64 ((baseValue base + getD (k .values) p 0) % two64)
+      → getD out′ p (pos 0)
+      ≡ asI64 ((baseValue base + (getD (k .values) p 0 + patchOf (width pc) (getD (l .values) j 0) * 2 ^ width code)) % two64)
+  pub other : ((j : ℕ) → Names (width pc) (l .values) j p → ⊥)
+      → getD out′ p (pos 0) ≡ asI64 ((baseValue base + getD (k .values) p 0) % two64)
 
 pub record RowsPatched (code : ℕ) (base : List ℕ) (pc gw : ℕ) (k l : Block) (out out′ : List ℤ) (r : Answer) : Type 0 where
   pub fitting : TooLarge (width code) (width pc) (l .values) → ⊥
@@ -93,10 +94,12 @@ pub data EitherWay (code : ℕ) (base : List ℕ) (pc gw : ℕ) (k l : Block) (a
 
 pub record PatchLists : Type 0 where
   -- any bytes, as many as n entries take, are the block of some n entries
-  pub any-bytes : (w n : ℕ) (bs : List ℕ) → AllBelow 256 bs → length bs ≡ bytesFor (n * w) → (l : Block) × IsBlock w n l × (blockBytes w n l ≡ bs)
+  pub any-bytes : (w n : ℕ) (bs : List ℕ) → AllBelow 256 bs → length bs ≡ bytesFor (n * w)
+      → (l : Block) × IsBlock w n l × (blockBytes w n l ≡ bs)
   -- Of every patched run that is good without a list, with any list of up to 31 entries after it, wherever its bytes stand, whatever
   -- follows them and however many places are lent: refusal 3, refusal 7, or the run with these rows, or 8 in its place if it lacks room
-  pub either-way : (code : ℕ) (base : List ℕ) (pc gw : ℕ) (k l : Block) → Valid (patched code base pc gw k (record { values = []; pad = 0 }))
+  pub either-way : (code : ℕ) (base : List ℕ) (pc gw : ℕ) (k l : Block)
+      → Valid (patched code base pc gw k (record { values = []; pad = 0 }))
       → length (l .values) < 32 → IsBlock (entryWidth pc gw) (length (l .values)) l
       → (input : List ℕ) (at : ℕ) (signed : Bool) (out out′ : List ℤ) (r : Answer) → RunRead input at signed out out′ r
       → (rest : List ℕ) → drop at input ≡ layout (patched code base pc gw k l) ++ rest → EitherWay code base pc gw k l at out out′ r

@@ -40,10 +40,11 @@ pub record NoBetter (d e : Parts) : Type 0 where
   pub base-bytes : length (d .base) ≤ length (e .base)
   pub patch-width : length (e .base) ≡ length (d .base) → width (d .pc) ≤ width (e .pc)
   pub gap-width : length (e .base) ≡ length (d .base) → width (e .pc) ≡ width (d .pc) → d .gw ≤ e .gw
-  pub entries : length (e .base) ≡ length (d .base) → width (e .pc) ≡ width (d .pc) → e .gw ≡ d .gw → length (d .list .values) ≤ length (e .list .values)
+  pub entries : length (e .base) ≡ length (d .base) → width (e .pc) ≡ width (d .pc) → e .gw ≡ d .gw
+      → length (d .list .values) ≤ length (e .list .values)
 
--- THE RUN THAT THE RULES ASK FOR: it describes the rows, rows without a patch have no entry, a base of 0 has no sign bit, the padding is zero, and each
--- choice is the least that works
+-- THE RUN THAT THE RULES ASK FOR: it describes the rows, rows without a patch have no entry, a base of 0 has no sign bit, the padding is
+-- zero, and each choice is the least that works
 pub record Chosen (signed : Bool) (base w : ℕ) (rs : List ℕ) (d : Parts) : Type 0 where
   pub describes : Describes signed base w rs d
   pub only-skips : OnlySkips (width (d .pc)) (d .list .values)
@@ -62,8 +63,8 @@ pub record PatchedMeaning (signed : Bool) (base w : ℕ) (rs : List ℕ) : Type 
   pub only : (d : Parts) → Chosen signed base w rs d → d ≡ parts base w rs
   -- its entries that are no skips are the patches of the rows that have one
   pub its-patches : patches (width (parts base w rs .pc)) (parts base w rs .list .values) ≡ patchesIn base w rs
-  -- No description of the rows, with other entries or not, has fewer base bytes, a lesser patch width or fewer entries; and none without other
-  -- entries has a lesser gap width.
+  -- No description of the rows, with other entries or not, has fewer base bytes, a lesser patch width or fewer entries; and none without
+  -- other entries has a lesser gap width.
   pub least-base : (d : Parts) → Describes signed base w rs d → length (parts base w rs .base) ≤ length (d .base)
   pub least-patch : (d : Parts) → Describes signed base w rs d → width (parts base w rs .pc) ≤ width (d .pc)
   pub least-list : (d : Parts) → Describes signed base w rs d → length (parts base w rs .list .values) ≤ length (d .list .values)
@@ -71,7 +72,8 @@ pub record PatchedMeaning (signed : Bool) (base w : ℕ) (rs : List ℕ) : Type 
 
 abbrev pub PatchedMeaningHolds : Type 0
 PatchedMeaningHolds =
-    (signed : Bool) (base w : ℕ) (rs : List ℕ) → base < two64 → AllBelow two64 rs → 1 ≤ length rs → length rs ≤ 512 → PatchedMeaning signed base w rs
+    (signed : Bool) (base w : ℕ) (rs : List ℕ) → base < two64 → AllBelow two64 rs → 1 ≤ length rs → length rs ≤ 512
+    → PatchedMeaning signed base w rs
 
 -- ---- of the promise
 
@@ -84,7 +86,8 @@ pub record Some (signed : Bool) (base : ℤ) (w : ℕ) (rows : List ℤ) : Type 
 abbrev pub written : ℤ → ℕ → List ℤ → List ℕ
 written base w rows = layout (run (parts (asU64 base) w (map asU64 rows)))
 
--- Each refusal exactly when its line holds, in the order 9, 10, 8, with place 0 and nothing touched; and else the run's bytes in the first places.
+-- Each refusal exactly when its line holds, in the order 9, 10, 8, with place 0 and nothing touched;
+-- and else the run's bytes in the first places.
 pub record PatchedTable (signed : Bool) (rows : List ℤ) (base : ℤ) (w : ℕ) (out out′ : List ℕ) (r : Answer) : Type 0 where
   pub nine : (answerNumber r ≡ 9) ↔ ((length rows ≡ 0) ⊎ (512 < length rows))
   -- rows 1 to 512, and W is not kept, or no valid patched description with that base and W, each gap within its gap width, has those rows
@@ -104,6 +107,7 @@ PatchedTableHolds =
 -- what is written reads back as the rows, under both flags, and the reader's answer is the writer's
 abbrev pub PatchedReadsBack : Type 0
 PatchedReadsBack =
-    (rows : List ℤ) (base : ℤ) (w : ℕ) (out out′ : List ℕ) (r : Answer) → AllI64 rows → SFits w64 base → PatchedWritten rows base w out out′ r → answerNumber r ≡ 0
+    (rows : List ℤ) (base : ℤ) (w : ℕ) (out out′ : List ℕ) (r : Answer) → AllI64 rows → SFits w64 base
+    → PatchedWritten rows base w out out′ r → answerNumber r ≡ 0
     → (signed : Bool) (places places′ : List ℤ) (r′ : Answer) → length rows ≤ length places → RunRead out′ 0 signed places places′ r′
     → (r′ ≡ r) × (places′ ≡ rows ++ drop (length rows) places)

@@ -1,6 +1,6 @@
--- The table of numbers (FORMAT.md, "Refusals") that the run reader gives: "given exactly when". Each line is said of the bytes, in the table's words,
--- with what the reading order adds: 1, 2, 4; then 5 and the numbers of a cut field (6, 12, 13, 14) in byte order; then 3; then 7; then 8. No other
--- number is given, and a byte exactly with those of a cut field.
+-- The table of numbers (FORMAT.md, "Refusals") that the run reader gives: "given exactly when". Each line is said of the bytes, in the
+-- table's words, with what the reading order adds: 1, 2, 4; then 5 and the numbers of a cut field (6, 12, 13, 14) in byte order; then 3;
+-- then 7; then 8. No other number is given, and a byte exactly with those of a cut field.
 -- Assumes nothing.
 use mathlib.Core.Path.{_≡_}
 use mathlib.Core.Logic.{_↔_, _⊎_}
@@ -86,7 +86,8 @@ listTo bs = listFrom bs + listBytes bs
 
 -- its entries, out of its bytes
 abbrev pub entries : List ℕ → List ℕ
-entries bs = unpack (entryWidth (patchCode bs) (gapWidth bs)) (listLength bs) (number 256 (take (listBytes bs) (drop (listFrom bs) bs))) .values
+entries bs = unpack (entryWidth (patchCode bs) (gapWidth bs)) (listLength bs)
+    (number 256 (take (listBytes bs) (drop (listFrom bs) bs))) .values
 
 -- each byte has the top bit set
 abbrev pub AllTop : List ℕ → Type 0
@@ -136,7 +137,8 @@ pub data CutLine (bs : List ℕ) : ℕ → ℕ → Type 0 where
   in-base : PatchedRun bs → length bs < 4 + baseBytes bs → CutLine bs 6 4
   -- 12: in a varint
   in-first-row : DeltaRun bs → Unended 10 (drop 2 bs) → CutLine bs 12 2
-  in-base-delta : (first rest : List ℕ) → DeltaRun bs → drop 2 bs ≡ first ++ rest → Varint 10 first → Unended 10 rest → CutLine bs 12 (2 + length first)
+  in-base-delta : (first rest : List ℕ) → DeltaRun bs → drop 2 bs ≡ first ++ rest → Varint 10 first → Unended 10 rest
+      → CutLine bs 12 (2 + length first)
   -- 13: in packed rows
   in-rows : Headed 1 bs → length bs < 2 + valueBytes bs → CutLine bs 13 2
   in-magnitudes : (first base rest : List ℕ) → DeltaRun bs → drop 2 bs ≡ first ++ (base ++ rest) → Varint 10 first → Varint 10 base
@@ -184,8 +186,8 @@ pub data TableGives (places : ℕ) (bs : List ℕ) : Reason → Type 0 where
 abbrev pub RefusalsHold : Type 0
 RefusalsHold = (places : ℕ) (bs : List ℕ) → AllBelow 256 bs → (r : Reason) → (into places (parse bs) ≡ refused r) ↔ TableGives places bs r
 
--- .. and so says the run reader's promise, of every input, position, flag and lent places: a number with the byte where the refused run begins, and
--- for a cut field also the byte where the field begins
+-- .. and so says the run reader's promise, of every input, position, flag and lent places: a number with the byte where the refused run
+-- begins, and for a cut field also the byte where the field begins
 pub record Answers (bs : List ℕ) (at places : ℕ) (r : Answer) : Type 0 where
   pub numbers : (n : ℕ) → (r ≡ refusedAt n at) ↔ Table places bs n
   pub fields : (n byte : ℕ) → (r ≡ cutAt n at byte) ↔ ((field : ℕ) × CutLine bs n field × (byte ≡ at + field))

@@ -1,19 +1,15 @@
--- The user's third question: sums past 64 bits. Each row of a delta or patched run is the whole-number sum that FORMAT.md names, modulo 2^64. (Rows
--- here are numbers below 2^64; what comes out is the i64 with the same bits.)
+-- The user's third question: sums past 64 bits. Each row of a delta or patched run is the whole-number sum that FORMAT.md names, modulo
+-- 2^64. (Rows here are numbers below 2^64; what comes out is the i64 with the same bits.)
 -- Assumes nothing.
 use mathlib.Core.Path.{_≡_}
 use Prim.Native.Nat.{ℕ, suc, _+_, _-_, _*_, _%_, _^_, _<_, _≤_}
 use mathlib.Core.Bool.{Bool}
-use mathlib.Core.List.{List, [], _∷_}
+use mathlib.Core.List.{List}
 use lib.ListN.{length, getD, take}
-use Rattle.format.specs.Digits.{number}
+use Rattle.format.specs.Digits.{number, sum}
 use Rattle.format.specs.Fields.{two64, zigzag, row, width, Block, Varint, varintValue}
 use Rattle.format.specs.Runs.{fixed, delta, patched, Valid, patches}
 use Rattle.format.specs.Rows.{rowsOf, baseValue, patchAt}
-
-abbrev pub sum : List ℕ → ℕ
-sum [] = 0
-sum (m ∷ ms) = m + sum ms
 
 -- the first row (zigzag if signed) and the base delta (zigzag always)
 abbrev pub firstRow : Bool → List ℕ → ℕ
@@ -32,13 +28,17 @@ pub record Sums : Type 0 where
   pub first-row : (signed : Bool) (code : ℕ) (first base : List ℕ) (k : Block) → Valid (delta code first base k)
       → getD (rowsOf signed (delta code first base k)) 0 0 ≡ firstRow signed first
   -- .. and row i + 1 is first + base delta + the sum of the first i magnitudes, when the base delta is not below 0 ..
-  pub rising-row : (signed : Bool) (code : ℕ) (first base : List ℕ) (k : Block) (i : ℕ) → Valid (delta code first base k) → i ≤ length (k .values)
+  pub rising-row : (signed : Bool) (code : ℕ) (first base : List ℕ) (k : Block) (i : ℕ)
+      → Valid (delta code first base k) → i ≤ length (k .values)
       → firstStep base < 2 ^ 63
-      → getD (rowsOf signed (delta code first base k)) (suc i) 0 ≡ (firstRow signed first + firstStep base + sum (take i (k .values))) % two64
+      → getD (rowsOf signed (delta code first base k)) (suc i) 0
+      ≡ (firstRow signed first + firstStep base + sum (take i (k .values))) % two64
   -- .. and when it is below 0, first + base delta - that sum: the row with the sum added again is first + base delta
-  pub falling-row : (signed : Bool) (code : ℕ) (first base : List ℕ) (k : Block) (i : ℕ) → Valid (delta code first base k) → i ≤ length (k .values)
+  pub falling-row : (signed : Bool) (code : ℕ) (first base : List ℕ) (k : Block) (i : ℕ)
+      → Valid (delta code first base k) → i ≤ length (k .values)
       → 2 ^ 63 ≤ firstStep base
-      → (getD (rowsOf signed (delta code first base k)) (suc i) 0 + sum (take i (k .values))) % two64 ≡ (firstRow signed first + firstStep base) % two64
+      → (getD (rowsOf signed (delta code first base k)) (suc i) 0 + sum (take i (k .values))) % two64
+      ≡ (firstRow signed first + firstStep base) % two64
   -- patched: row p is base + value p + patch·2^W, the patch being 0 where no entry names p; under either flag
   pub patched-row : (signed : Bool) (code : ℕ) (base : List ℕ) (pc gw : ℕ) (k l : Block) (p : ℕ) → p < length (k .values)
       → getD (rowsOf signed (patched code base pc gw k l)) p 0

@@ -1,5 +1,5 @@
--- The starred runs (FORMAT.md, "Sample runs") as one table. Each line is stated by the reader's promise: this answer, and these places at exit, are
--- what it allows. The lines that they leave open, and the public specification's own examples, stand in `Samples`.
+-- The starred runs (FORMAT.md, "Sample runs") as one table. Each line is stated by the reader's promise: this answer, and these places at
+-- exit, are what it allows. The lines that they leave open, and the public specification's own examples, stand in `Samples`.
 -- Assumes nothing.
 use Prim.Native.Nat.{ℕ, _-_}
 use mathlib.Core.Bool.{Bool, true, false}
@@ -14,7 +14,8 @@ use Rattle.format.specs.Answers.{ran, refusedAt, cutAt}
 use Rattle.format.specs.Promises.{RunRead}
 use Rattle.format.specs.Booleans.{BooleansRead}
 
--- what a line says: the run's kind, its value width, its rows and the bytes consumed; or the number of a refusal; or with it the byte where the cut field begins; or "end"
+-- what a line says: the run's kind, its value width, its rows and the bytes consumed; or the number of a refusal;
+-- or with it the byte where the cut field begins; or "end"
 pub data Said (R : Type 0) : Type 0 where
   run : Kind → ℕ → List R → ℕ → Said R
   refusal : ℕ → Said R
@@ -68,8 +69,10 @@ abbrev pub bytePlaces : ℕ → List ℕ
 bytePlaces n = replicate n 77
 
 abbrev pub LineHolds : Line → Type 0
-LineHolds (integers room at flag input said) = RunRead input at flag (integerPlaces room) (placesSaid (integerPlaces room) said) (answerSaid at said)
-LineHolds (booleans room at n input said) = BooleansRead input at n (bytePlaces room) (placesSaid (bytePlaces room) said) (answerSaid at said)
+LineHolds (integers room at flag input said) =
+    RunRead input at flag (integerPlaces room) (placesSaid (integerPlaces room) said) (answerSaid at said)
+LineHolds (booleans room at n input said) =
+    BooleansRead input at n (bytePlaces room) (placesSaid (bytePlaces room) said) (answerSaid at said)
 
 abbrev pub Holds : List Line → Type 0
 Holds [] = Unit {0}
@@ -88,7 +91,8 @@ starred =
     ++ unsigned (0xC0 ∷ 0x04 ∷ 0x0A ∷ 0x04 ∷ []) (run Delta 0 (pos 10 ∷ pos 12 ∷ pos 14 ∷ pos 16 ∷ pos 18 ∷ []) 4)
     ++ unsigned (0xC6 ∷ 0x03 ∷ 0x64 ∷ 0x05 ∷ 0x14 ∷ []) (run Delta 4 (pos 100 ∷ pos 97 ∷ pos 96 ∷ pos 92 ∷ []) 5)
     ++ either (0xC2 ∷ 0x00 ∷ []) (refusal 4)
-    ++ either (0x86 ∷ 0x03 ∷ 0x03 ∷ 0x21 ∷ 0x64 ∷ 0x12 ∷ 0x34 ∷ 0x94 ∷ []) (run PatchedBase 4 (pos 101 ∷ pos 102 ∷ pos 183 ∷ pos 104 ∷ []) 8)
+    ++ either (0x86 ∷ 0x03 ∷ 0x03 ∷ 0x21 ∷ 0x64 ∷ 0x12 ∷ 0x34 ∷ 0x94 ∷ [])
+    (run PatchedBase 4 (pos 101 ∷ pos 102 ∷ pos 183 ∷ pos 104 ∷ []) 8)
     ++ either (0x86 ∷ 0x03 ∷ 0x03 ∷ 0x20 ∷ 0xE4 ∷ 0x12 ∷ 0x34 ∷ []) (run PatchedBase 4 (minus 99 ∷ minus 98 ∷ minus 97 ∷ minus 96 ∷ []) 7)
     ++ either (0x86 ∷ 0x03 ∷ 0x03 ∷ 0x41 ∷ 0x64 ∷ 0x12 ∷ 0x34 ∷ 0x8A ∷ []) (refusal 7)
     ++ bools 32 (0x00 ∷ 0xFF ∷ 0xFF ∷ 0x00 ∷ []) (run Booleans 1 (replicate 24 1 ++ replicate 8 0) 4)

@@ -1,5 +1,5 @@
--- Demand 3: the stream reader answers "whole stream read" exactly of joined layouts of valid run descriptions, with their joined rows, and the
--- descriptions are the only ones. Stated of the promise of the stream reader, for every input of bytes, position, flag and lent places.
+-- Demand 3: the stream reader answers "whole stream read" exactly of joined layouts of valid run descriptions, with their joined rows, and
+-- the descriptions are the only ones. Stated of the promise of the stream reader, for every input of bytes, position, flag and lent places.
 -- Assumes nothing.
 use mathlib.Core.Path.{_≡_}
 use mathlib.Core.Logic.{_↔_}
@@ -40,5 +40,6 @@ pub record WholeStreamExactly (bs : List ℕ) (signed : Bool) (out out′ : List
 
 abbrev pub WholeStreamExactlyHolds : Type 0
 WholeStreamExactlyHolds =
-    (input : List ℕ) → AllBelow 256 input → (at : ℕ) (signed : Bool) (out out′ : List ℤ) (r : Stream) → StreamRead input at signed out out′ r
+    (input : List ℕ) → AllBelow 256 input → (at : ℕ) (signed : Bool) (out out′ : List ℤ) (r : Stream)
+    → StreamRead input at signed out out′ r
     → WholeStreamExactly (drop at input) signed out out′ r

@@ -18,7 +18,7 @@ use Rattle.format.proofs.Below.{below-drop}
 use Rattle.format.proofs.Rows.{i64-count, row-bounds}
 use Rattle.format.proofs.Runs.{Outcome, nothing, run, refusal, outcome}
 use Rattle.index.proofs.Entries.{total-cons}
-use Rattle.index.proofs.Turns.{stream-none, stream-refused, stream-cons}
+use Rattle.format.proofs.StreamRoom.{stream-none, stream-refused, stream-cons}
 use Rattle.batches.specs.Batches.{Position, positionOf, readingAt}
 use Rattle.batches.proofs.RowPositions.{runs-after, in-first, past-first, no-run, rows-cons}
 use Rattle.batches.proofs.NextPosition.{no-total}

@@ -8,11 +8,11 @@ use mathlib.Core.Bool.{Bool, true, false}
 use mathlib.Core.List.{List, [], _∷_, _++_}
 use lib.ListN.{length, take, drop, getD, replicate, length-append, length-take, length-replicate}
 use lib.Seq.{take-at, drop-append-add}
-use lib.Dec.{T, eqb}
+use lib.Dec.{T, eqb, T-not}
 use lib.IntN.{ℤ}
 use borrow.Author.Tests.{eq-eqb, eqb-true}
 use Rattle.format.specs.Fields.{pick}
-use Rattle.format.proofs.Tests.{T-true, is-false, never-both}
+use Rattle.format.proofs.Tests.{T-true, is-false}
 use Rattle.batches.specs.Batches.{Position, RowBatch, BatchOutcome, gives, ended, refuses, rowsLeft, readingAt, batch}
 use Rattle.batches.proofs.BatchCalls.{from-long}
 use Rattle.rescue.specs.Rescue.{PlainPosition, at, nowhere, madePlain, meets, Group, group, beginning, afterRows, endOf, kept}
@@ -100,7 +100,7 @@ every-group signed fill bs g next = record {
   by-batch = λ h. (kept-gave bs g next signed h, gave-kept bs g next signed h);
   of-no-rows = kept-none bs g next;
   as-read = read-so bs g next signed fill;
-  as-fill = λ t. fill-so bs g next signed fill (is-false (kept bs g next) (λ k. never-both (kept bs g next) k t));
+  as-fill = λ t. fill-so bs g next signed fill (is-false (kept bs g next) (λ k. T-not (kept bs g next) t k));
   many = rows-many bs g next signed fill;
 }
 

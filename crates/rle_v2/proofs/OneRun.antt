@@ -1,60 +1,33 @@
--- What one run of a stream comes to in n places, case by case. Assumes nothing.
-use mathlib.Core.Path.{_≡_, refl, sym, ap, _∙_}
-use Prim.Native.Nat.{ℕ, _+_, _-_, _≤_}
-use native.Mathlib.Omega.{arith}
-use mathlib.Core.List.{List, []}
-use lib.ListN.{length, drop, length-append, length-drop}
-use lib.Seq.{drop-drop, drop-at}
+-- One run of a stream in n places: what stands at a byte (`RunAt` of format), and that the run's rows have room. Assumes nothing.
+use mathlib.Core.Path.{_≡_}
+use Prim.Native.Nat.{ℕ, _-_, _≤_}
+use mathlib.Core.List.{List}
+use lib.ListN.{length, drop}
 use Rattle.format.specs.Digits.{AllBelow}
-use Rattle.format.specs.Runs.{Description, rowCount, layout}
-use Rattle.format.specs.Parse.{Reason, Parsed, got, refused, parse, into}
-use Rattle.format.specs.Answers.{refusal}
-use Rattle.format.specs.Promises.{runOf, answerOf}
+use Rattle.format.specs.Runs.{Description}
+use Rattle.format.specs.Parse.{Parsed, parse, into}
+use Rattle.format.specs.Promises.{answerOf}
 use Rattle.format.specs.declared.Refusal.{Refusal}
 use Rattle.format.specs.declared.Answer.{Answer}
-use Rattle.format.specs.declared.Answer.the-variants as answer
 use Rattle.format.specs.declared.Run.{Run}
 use Rattle.format.proofs.Below.{below-drop}
-use Rattle.format.proofs.Runs.{layout-pos}
-use Rattle.format.proofs.Streams.{Into, into-nothing, into-run, into-refusal, into-outcome}
-
--- ---- what one run comes to in n places, case by case
+use Rattle.format.proofs.RunAt.{RunAt, NoRunAt, StandsAt, stands-at, in-places, into-fits}
 
 module _ (s : List ℕ) (p n : ℕ) where
-  pub record OneRun (r : Run) : Type 0 where
-    pub run : Description
-    pub run-is : r ≡ runOf run
-    pub rows-are : r .rows .rows ≡ rowCount run
-    pub bytes-are : r .consumed .bytes ≡ length (layout run)
-    pub read : into n (parse (drop p s)) ≡ got run (drop (p + r .consumed .bytes) s)
-    pub fits : r .rows .rows ≤ n
-    pub within : p + r .consumed .bytes ≤ length s
+  abbrev found : Parsed Description
+  found = into n (parse (drop p s))
 
-  pub record NoRun (f : Refusal) : Type 0 where
-    pub reason : Reason
-    pub read : into n (parse (drop p s)) ≡ refused reason
-    pub refusal-is : f ≡ refusal p (length s - p) reason
+  abbrev pub OneRun : Run → Type 0
+  OneRun r = RunAt s p found r
+
+  abbrev pub NoRun : Refusal → Type 0
+  NoRun f = NoRunAt s p found f
 
   abbrev pub Step : Answer → Type 0
-  Step answer.End = drop p s ≡ []
-  Step (answer.Run r) = OneRun r
-  Step (answer.Refused f) = NoRun f
+  Step a = StandsAt s p found a
 
-  pub step-is : (r : Answer) → AllBelow 256 s → r ≡ answerOf p (length s - p) (into n (parse (drop p s))) → Step r
-  step-is r h g = rw g (by (into n (parse (drop p s))) refl (into-outcome n (drop p s) (below-drop 256 p s h)))
-    where
-      by : (m : Parsed Description) → into n (parse (drop p s)) ≡ m → Into n (drop p s) m → Step (answerOf p (length s - p) m)
-      by m e (into-nothing z) = z
-      by m e (into-run {d} {rest} t f) =
-          let l : length s - p ≡ length (layout d) + length rest = rw (← (length-drop p s), t .split) (length-append (layout d) rest) in
-          let q : rest ≡ drop (p + length (layout d)) s = sym (sym (drop-drop (length (layout d)) p s) ∙ rw (t .split) (drop-at (layout d) rest (length (layout d)) refl)) in
-          record {
-            run = d;
-            run-is = refl;
-            rows-are = refl;
-            bytes-are = refl;
-            read = e ∙ ap (got d) q;
-            fits = f;
-            within = omega (arith, layout-pos d);
-          }
-      by m e (into-refusal {r} z) = record { reason = r; read = e; refusal-is = refl }
+  pub step-is : (a : Answer) → AllBelow 256 s → a ≡ answerOf p (length s - p) found → Step a
+  step-is a h g = stands-at s p found a (in-places n (drop p s) (below-drop 256 p s h)) g
+
+pub fits : {s : List ℕ} {p : ℕ} (n : ℕ) {r : Run} → OneRun s p n r → r .rows .rows ≤ n
+fits {s} {p} n o = rw (o .rows-are) (into-fits n (parse (drop p s)) (o .read))

@@ -1,9 +1,9 @@
 -- The walk over a patch list finds exactly refusals 3 and 7. Assumes nothing.
-use mathlib.Core.Path.{_≡_, refl, _∙_}
+use mathlib.Core.Path.{_≡_, refl, _∙_, sym, ap}
 use Prim.Native.Nat.{ℕ, _+_, _-_, _<_, _≤_}
 use native.Mathlib.Omega.{arith}
 use native.Mathlib.Decide.{ℕ-discrete}
-use mathlib.Core.Bool.{Bool, true, false, _&&_, _||_}
+use mathlib.Core.Bool.{Bool, true, false, _&&_, _||_, or-true, or-assoc}
 use mathlib.Core.List.{List, [], _∷_}
 use lib.Pow.{pow-pos}
 use lib.Dec.{leb, ltb, eqb}
@@ -11,6 +11,7 @@ use borrow.Author.Tests.{le-ltb, lt-ltb, lt-leb, eq-eqb, ne-eqb, eqb-true, ltb-f
 use Rattle.format.specs.Fields.{pick}
 use Rattle.format.proofs.RunComplete.{limit-is}
 use Rattle.format.specs.Runs.{Patch, isSkip, gapOf, patchOf, patchesFrom, patches, lastIsSkip, taken, shared, outside, patchLimit, tooLarge, outOfPlace}
+use Rattle.format.proofs.Tests.{never}
 use Rattle.rle_v2.specs.PatchList.{misplaced, large, listNumber}
 
 -- ---- refusal 7
@@ -43,9 +44,7 @@ taken-under b (q ∷ qs) h = go (ltb (q .place) b) refl h (taken-under b qs)
 
     go : (t : Bool) → ltb (q .place) b ≡ t → (t || under b qs) ≡ false → (under b qs ≡ false → taken b qs ≡ under (b + 1) qs)
         → (eqb b (q .place) || taken b qs) ≡ (ltb (q .place) (b + 1) || under (b + 1) qs)
-    go true e z ih =
-        let w : _≡_ {A = ℕ} 0 1 = cc in
-        absurd (omega arith)
+    go true e z ih = never (cc)
     go false e z ih = by (ℕ-discrete b (q .place)) (ltb-false (q .place) b e) (ih z)
 
 -- the last entry, or `skip` where there is none
@@ -57,23 +56,6 @@ last-is : (pw e : ℕ) (es : List ℕ) → lastIsSkip pw (e ∷ es) ≡ lastOr p
 unfolding lastIsSkip lastOr
 last-is pw e [] = refl
 last-is pw e (f ∷ es) = last-is pw f es
-
--- booleans: what is true makes the whole true
-or-true : (a b c : Bool) → true ≡ (a || ((true || b) || c))
-or-true true b c = refl
-or-true false b c = refl
-
-or-true₂ : (a u t s o : Bool) → true ≡ (a || (u || ((t || s) || (true || o))))
-or-true₂ true u t s o = refl
-or-true₂ false true t s o = refl
-or-true₂ false false true s o = refl
-or-true₂ false false false true o = refl
-or-true₂ false false false false o = refl
-
-or-turn : (a t s o : Bool) → (a || (t || (s || o))) ≡ (a || ((t || s) || o))
-or-turn true t s o = refl
-or-turn false true s o = refl
-or-turn false false s o = refl
 
 -- what the walk says, by what the definition says of the entries that are left
 walk-is : (pw rows before free : ℕ) (skip : Bool) (es : List ℕ) → free ≤ before + 1
@@ -97,12 +79,12 @@ walk-is pw rows before free skip (e ∷ es) h = go (isSkip pw e) (walk-is pw row
     in-place : (ltb b free ≡ false) → misplaced pw rows b (b + 1) false es ≡ (lastOr pw false es || (under (b + 1) qs || (shared qs || outside rows qs)))
         → misplaced pw rows b (b + 1) false es ≡ (lastOr pw false es || (under free qs || ((taken b qs || shared qs) || outside rows qs)))
     in-place l ih =
-        ih ∙ rw (places-from pw b free es (ltb-false b free l), taken-under b qs (places-from pw b b es (omega arith))) (or-turn (lastOr pw false es) (under (b + 1) qs) (shared qs) (outside rows qs))
+        ih ∙ rw (places-from pw b free es (ltb-false b free l), taken-under b qs (places-from pw b b es (omega arith))) (ap (λ (z : Bool). lastOr pw false es || z) (sym (or-assoc (under (b + 1) qs) (shared qs) (outside rows qs))))
 
     by : (l o : Bool) → ltb b free ≡ l → leb rows b ≡ o → misplaced pw rows b (b + 1) false es ≡ (lastOr pw false es || (under (b + 1) qs || (shared qs || outside rows qs)))
         → pick (l || o) true (misplaced pw rows b (b + 1) false es) ≡ (lastOr pw false es || ((l || under free qs) || ((taken b qs || shared qs) || (o || outside rows qs))))
-    by true o el eo ih = or-true (lastOr pw false es) (under free qs) ((taken b qs || shared qs) || (o || outside rows qs))
-    by false true el eo ih = or-true₂ (lastOr pw false es) (under free qs) (taken b qs) (shared qs) (outside rows qs)
+    by true o el eo ih = sym (or-true (lastOr pw false es))
+    by false true el eo ih = rw (or-true (taken b qs || shared qs), or-true (under free qs)) (sym (or-true (lastOr pw false es)))
     by false false el eo ih = in-place el ih
 
     go : (t : Bool) → misplaced pw rows b free true es ≡ (lastOr pw true es || (under free qs || (shared qs || outside rows qs)))
@@ -124,8 +106,8 @@ skip-parts pw e h = by (eqb (gapOf pw e) 255) (eqb (patchOf pw e) 0) refl refl h
   where
     by : (s t : Bool) → eqb (gapOf pw e) 255 ≡ s → eqb (patchOf pw e) 0 ≡ t → (s && t) ≡ true → (gapOf pw e ≡ 255) × (patchOf pw e ≡ 0)
     by true true i j h = (eqb-true (gapOf pw e) 255 i, eqb-true (patchOf pw e) 0 j)
-    by true false i j h = let z : _≡_ {A = ℕ} 0 1 = cc in absurd (omega arith)
-    by false t i j h = let z : _≡_ {A = ℕ} 0 1 = cc in absurd (omega arith)
+    by true false i j h = never (cc)
+    by false t i j h = never (cc)
 
 pub skip-gap : (pw e : ℕ) → isSkip pw e ≡ true → gapOf pw e ≡ 255
 skip-gap pw e h = skip-parts pw e h .0

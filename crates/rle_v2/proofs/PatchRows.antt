@@ -18,6 +18,7 @@ use Rattle.format.specs.Rows.{plus, asI64}
 use Rattle.format.proofs.Patterns.{as-back}
 use Rattle.format.proofs.Rows.{length-patchedRows}
 use Rattle.format.specs.Runs.{Patch, isSkip, gapOf, patchOf, patchesFrom, patches, lastIsSkip, taken, shared, outside, outOfPlace}
+use Rattle.format.proofs.Tests.{never, neither}
 use Rattle.rle_v2.specs.PatchList.{IsEntry, patchedRow, patchAll}
 
 -- ---- the rows
@@ -32,16 +33,8 @@ not-taken p [] h = refl
 not-taken p (q ∷ qs) h = go (eqb p (q .place)) h (not-taken p qs)
   where
     go : (t : Bool) → (t || taken p qs) ≡ false → (taken p qs ≡ false → Rows.patchAt p qs ≡ 0) → pick t (q .patch) (Rows.patchAt p qs) ≡ 0
-    go true z ih =
-        let w : _≡_ {A = ℕ} 0 1 = cc in
-        absurd (omega arith)
+    go true z ih = never (cc)
     go false z ih = ih z
-
-pub or-false : (a b : Bool) → (a || b) ≡ false → (a ≡ false) × (b ≡ false)
-or-false true b e =
-    let w : _≡_ {A = ℕ} 0 1 = cc in
-    absurd (omega arith)
-or-false false b e = (refl, e)
 
 -- a place inside: the patch that names it, once
 pub patch-at : (w pw before p r : ℕ) (es : List ℕ) (out : List ℤ) → r < two64 → p < length out → getD out p (pos 0) ≡ asI64 r
@@ -82,7 +75,7 @@ patch-at w pw before p r (x ∷ es) out hr hp e s = go (isSkip pw x) s (λ y o. 
         ≡ asI64 (plus r (Rows.patchAt p (pick t qs (record { place = b; patch = patchOf pw x } ∷ qs)) * 2 ^ w))
     go true s′ ih = ih r out hr hp e s′
     go false s′ ih =
-        let q = or-false (taken b qs) (shared qs) s′ in
+        let q = neither (taken b qs) (shared qs) s′ in
         by (ℕ-discrete p b) (q .0) (q .1) ih
 
 -- no place comes or goes, and those from `rows` on keep their content
@@ -115,7 +108,7 @@ patch-past w pw before rows p (x ∷ es) out h o = go (isSkip pw x) o (λ l. pat
         → getD (patchAll w pw b (pick t out (set out b named)) es) p (pos 0) ≡ getD out p (pos 0)
     go true o′ ih = ih out o′
     go false o′ ih =
-        let q = or-false (leb rows b) (outside rows qs) o′ in
+        let q = neither (leb rows b) (outside rows qs) o′ in
         ih (set out b named) (q .1) ∙ getD-set-other out b p named (pos 0) (λ e. omega (arith, leb-false rows b (q .0), h, e))
 
 getD-rows : (base w : ℕ) (ps : List Patch) (p i : ℕ) (vs : List ℕ) → i < length vs
@@ -138,7 +131,7 @@ module _ (w pw base : ℕ) (vs es : List ℕ) (t : List ℤ) (h : outOfPlace pw 
 
   parts : (shared (patches pw es) ≡ false) × (outside (length vs) (patches pw es) ≡ false)
   unfolding outOfPlace
-  parts = or-false (shared (patches pw es)) (outside (length vs) (patches pw es)) (or-false (lastIsSkip pw es) _ h .1)
+  parts = neither (shared (patches pw es)) (outside (length vs) (patches pw es)) (neither (lastIsSkip pw es) _ h .1)
 
   length-rows : (ps : List Patch) → length (map asI64 (Rows.patchedRows base w ps 0 vs)) ≡ length vs
   length-rows ps = length-map (Rows.patchedRows base w ps 0 vs) asI64 ∙ length-patchedRows base w ps 0 vs

@@ -13,11 +13,11 @@ use borrow.Author.Tests.{le-ltb, lt-leb, le-leb, leb-false}
 use Rattle.format.specs.Digits.{AllBelow}
 use Rattle.format.specs.Fields.{pick, bytesFor}
 use Rattle.format.specs.Runs.{isSkip, gapOf, patchOf, patches, patchLimit, tooLarge, outOfPlace}
+use Rattle.format.proofs.Tests.{never, neither}
 use Rattle.util.specs.Packed.{fields, fieldAt}
 use Rattle.util.proofs.Window.{field-at, length-fields}
 use Rattle.rle_v2.specs.PatchList.{IsEntry, misplaced, large, listNumber, patchedRow, patchAll}
 use Rattle.rle_v2.proofs.PatchRefusals.{misplaced-is, large-is, skip-gap}
-use Rattle.rle_v2.proofs.PatchRows.{or-false}
 
 -- entry k, and those after it
 pub entry-next : (w n k : ℕ) (s : List ℕ) → AllBelow 256 s → k < n → bytesFor (n * w) ≤ length s
@@ -141,12 +141,12 @@ module _ (w pw rows : ℕ) (es : List ℕ) (out₀ : List ℤ) where
     checked y = rw (i .gap-is) (rw (n, sym (i .skip-is) ∙ y) at (p .in-place))
 
     passed : {a : Bool} (b : Bool) → pick b true a ≡ false → (b ≡ false) × (a ≡ false)
-    passed true e = (e, let z : _≡_ {A = ℕ} 0 1 = cc in absurd (omega arith))
+    passed true e = (e, never (cc))
     passed false e = (refl, e)
 
     pub put-inside : t ≡ false → place + gap < rows
     put-inside y =
-        leb-false rows (place + gap) (or-false (ltb (place + gap) (p .free)) (leb rows (place + gap)) (passed (ltb (place + gap) (p .free) || leb rows (place + gap)) (checked y) .0) .1)
+        leb-false rows (place + gap) (neither (ltb (place + gap) (p .free)) (leb rows (place + gap)) (passed (ltb (place + gap) (p .free) || leb rows (place + gap)) (checked y) .0) .1)
 
     pub put-named : t ≡ false → rows ≤ 512 → (z : ℤ) → z ≡ patchedRow w patch (getD out (place + gap) (pos 0)) → Put (set out (place + gap) z) (k + 1) (place + gap)
     put-named y h z ez =

@@ -9,6 +9,7 @@ use lib.ListN.{length, take, drop}
 use lib.Seq.{length-take-le}
 use lib.IntN.{ℤ, pos, negsuc}
 use Rattle.format.specs.Fields.{pick}
+use Rattle.format.proofs.Tests.{never}
 use Rattle.blocks.specs.Blocks.{blockLines, begunFrom, NoNewline, kept, part, came, notReady, Carried, joinedBlocks}
 use Rattle.blocks.specs.Reading.{isBroken, ReadOnce}
 use Rattle.blocks.specs.declared.reading.Reads.{Reads}
@@ -81,7 +82,7 @@ turned-carried reads before line input from end reads′ said o u = by (u .read 
         let g : end ≡ u .read .held = cc in
         let n = only-held line input (u .read .held) (u .read .stop) (u .read .got) (u .once .came) z in
         rw (f, g) (record { ends = n .0; order = omega arith; whole = refl; begun = rw (n .1) at (no-take 8801 line o) })
-    held-left z false e = let n : _≡_ {A = ℕ} 0 1 = cc in absurd (omega arith)
+    held-left z false e = never (cc)
 
     by : (got : ℤ) → u .read .got ≡ got → After reads′ before (take (u .read .stop) input) (u .read .held) got (u .read .error) (Begun from end) said → Carried line input from end
     by (pos zero) e a = absurd a

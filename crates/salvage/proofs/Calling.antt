@@ -15,10 +15,11 @@ use Rattle.format.specs.Runs.{Description}
 use Rattle.format.specs.Streams.{totalRows}
 use Rattle.salvage.specs.Salvage
 use Rattle.salvage.specs.Salvage.{Group, groups, rising, startsRight, mended, salvaged, report, unless, salvaging}
-use Rattle.salvage.specs.Laws.{AllBytes, AllKept, counts, joinedGroups, startsFrom, RightStarts, Room, SomeRows, trueGroups, AllValidGroups, renewed, CallHolds}
+use Rattle.salvage.specs.Laws.{AllBytes, AllKept, counts, joinedGroups, startsFrom, RightStarts, Room, SomeRows, trueGroups, AllValidGroups, renewed}
+use Rattle.salvage.specs.Laws.{CallHolds}
 use Rattle.salvage.proofs.Grouping.{renew, some-rows, kept-joined, runs-kept, renewed-joined, salvaged-holds}
 use Rattle.salvage.proofs.Starting.{back}
-use Rattle.format.proofs.Tests.{T-true, and-e, and-i}
+use Rattle.format.proofs.Tests.{never, T-true, and-e, and-i}
 
 module _ (signed : Bool) (fill : ℤ) (fits : SFits w64 fill) where
   counts-renewed : (gs : List Group) → counts (renewed signed fill gs) ≡ counts gs
@@ -31,12 +32,14 @@ module _ (signed : Bool) (fill : ℤ) (fits : SFits w64 fill) where
   length-starts s [] = refl
   length-starts s (g ∷ gs) = ap suc (length-starts _ gs)
 
-  pub call-holds : (bs starts ns : List ℕ) (places lines : ℕ) → CallHolds signed fill bs starts ns places lines (salvaging signed fill bs starts ns places lines)
+  pub call-holds : (bs starts ns : List ℕ) (places lines : ℕ)
+      → CallHolds signed fill bs starts ns places lines (salvaging signed fill bs starts ns places lines)
   unfolding salvaging
   call-holds bs starts ns places lines = go
       (eqb (length starts) (length ns) && startsRight (length bs) starts)
       (ltb places (length new) || ltb lines (length text)) (
-        λ t. let p = and-e (eqb (length starts) (length ns)) (startsRight (length bs) starts) t in record { lengths = eqb→eq (length starts) (length ns) (p .0); right = p .1 },
+        λ t. let p = and-e (eqb (length starts) (length ns)) (startsRight (length bs) starts) t in
+            record { lengths = eqb→eq (length starts) (length ns) (p .0); right = p .1 },
         λ r. and-i (eqb (length starts) (length ns)) (startsRight (length bs) starts) (rw (eq-eqb (length starts) (length ns) (r .lengths)) tt) (r .right),
       )
       (fits-both (ltb places (length new)) (ltb lines (length text)) (ltb-true places _) (ltb-false places _) (ltb-true lines _) (ltb-false lines _))
@@ -47,7 +50,8 @@ module _ (signed : Bool) (fill : ℤ) (fits : SFits w64 fill) where
       text : List ℕ
       text = report 0 (groups bs starts ns)
 
-      fits-both : (a b : Bool) → (a ≡ true → places < length new) → (a ≡ false → length new ≤ places) → (b ≡ true → lines < length text) → (b ≡ false → length text ≤ lines)
+      fits-both : (a b : Bool) → (a ≡ true → places < length new) → (a ≡ false → length new ≤ places) → (b ≡ true → lines < length text)
+          → (b ≡ false → length text ≤ lines)
           → T (not (a || b)) ↔ Room places lines new text
       fits-both true b p p′ q q′ = (λ t. absurd t, λ r. absurd (omega (arith, p refl, r .stream)))
       fits-both false true p p′ q q′ = (λ t. absurd t, λ r. absurd (omega (arith, q refl, r .lines-fit)))
@@ -57,17 +61,17 @@ module _ (signed : Bool) (fill : ℤ) (fits : SFits w64 fill) where
           → CallHolds signed fill bs starts ns places lines (unless (not a) 17 (unless b 8 (Salvage.written new text)))
       go false b r s = record {
         is-17 = (λ e i. r .1 i, λ n. refl);
-        is-8 = (λ e. let z : _≡_ {A = ℕ} 0 1 = cc in absurd (omega arith), λ (i, n). absurd (r .1 i));
-        otherwise = λ x y. (λ e. let z : _≡_ {A = ℕ} 0 1 = cc in absurd (omega arith), λ (i, p, q, n). absurd (r .1 i));
+        is-8 = (λ e. never (cc), λ (i, n). absurd (r .1 i));
+        otherwise = λ x y. (λ e. never (cc), λ (i, p, q, n). absurd (r .1 i));
       }
       go true true r s = record {
-        is-17 = (λ e. let z : _≡_ {A = ℕ} 0 1 = cc in absurd (omega arith), λ n. absurd (n (r .0 tt)));
+        is-17 = (λ e. never (cc), λ n. absurd (n (r .0 tt)));
         is-8 = (λ e. (r .0 tt, s .1), λ n. refl);
-        otherwise = λ x y. (λ e. let z : _≡_ {A = ℕ} 0 1 = cc in absurd (omega arith), λ (i, p, q, n). absurd (s .1 (rw (p, q) at n)));
+        otherwise = λ x y. (λ e. never (cc), λ (i, p, q, n). absurd (s .1 (rw (p, q) at n)));
       }
       go true false r s = record {
-        is-17 = (λ e. let z : _≡_ {A = ℕ} 0 1 = cc in absurd (omega arith), λ n. absurd (n (r .0 tt)));
-        is-8 = (λ e. let z : _≡_ {A = ℕ} 0 1 = cc in absurd (omega arith), λ (i, n). absurd (n (s .0 tt)));
+        is-17 = (λ e. never (cc), λ n. absurd (n (r .0 tt)));
+        is-8 = (λ e. never (cc), λ (i, n). absurd (n (s .0 tt)));
         otherwise = λ x y. (
           λ e.
               let p : x ≡ new = cc in
@@ -77,11 +81,18 @@ module _ (signed : Bool) (fill : ℤ) (fits : SFits w64 fill) where
         );
       }
 
-  call : (gs : List Group) (places lines : ℕ) → T (startsRight (length (joinedGroups gs)) (startsFrom 0 gs)) → length (salvaged signed fill gs) ≤ places → length (report 0 gs) ≤ lines
+  call : (gs : List Group) (places lines : ℕ) → T (startsRight (length (joinedGroups gs)) (startsFrom 0 gs)) → length (salvaged signed fill gs) ≤ places
+      → length (report 0 gs) ≤ lines
       → salvaging signed fill (joinedGroups gs) (startsFrom 0 gs) (counts gs) places lines ≡ Salvage.written (salvaged signed fill gs) (report 0 gs)
   unfolding salvaging
   call gs places lines r p l =
-      rw (back gs, eq-eqb (length (startsFrom 0 gs)) (length (counts gs)) (length-starts 0 gs), T-true (startsRight (length (joinedGroups gs)) (startsFrom 0 gs)) r, le-ltb places (length (salvaged signed fill gs)) p, le-ltb lines (length (report 0 gs)) l)
+      rw (
+        back gs,
+        eq-eqb (length (startsFrom 0 gs)) (length (counts gs)) (length-starts 0 gs),
+        T-true (startsRight (length (joinedGroups gs)) (startsFrom 0 gs)) r,
+        le-ltb places (length (salvaged signed fill gs)) p,
+        le-ltb lines (length (report 0 gs)) l,
+      )
 
   pub true-kept : (dss : List (List Description)) → AllValidGroups dss → AllKept (trueGroups dss)
   true-kept [] v = tt
@@ -111,7 +122,8 @@ module _ (signed : Bool) (fill : ℤ) (fits : SFits w64 fill) where
   pub new-starts : (gs : List Group) → AllBytes gs → T (startsRight (length (salvaged signed fill gs)) (startsFrom 0 (renewed signed fill gs))) ↔ SomeRows gs
   unfolding startsRight startsFrom renewed salvaged
   new-starts [] h = (λ t. tt, λ t. tt)
-  new-starts (g ∷ gs) h = rises (length (mended signed fill g ++ salvaged signed fill gs)) 0 g gs h (omega (arith, length-append (mended signed fill g) (salvaged signed fill gs)))
+  new-starts (g ∷ gs) h = rises (length (mended signed fill g ++ salvaged signed fill gs)) 0 g gs h
+      (omega (arith, length-append (mended signed fill g) (salvaged signed fill gs)))
 
   pub twice : (gs : List Group) → AllBytes gs → SomeRows gs → (places lines : ℕ) → length (salvaged signed fill gs) ≤ places
       → length (report 0 (renewed signed fill gs)) ≤ lines

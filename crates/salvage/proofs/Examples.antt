@@ -24,11 +24,16 @@ damaged = 0x0A ∷ 0x01 ∷ 0x2C ∷ 0xFF ∷ []
 -- what a call comes to
 -- (the `unfolding` line opens all that computes: whoever says `unfolding calledIn` computes with it)
 unfoldable calledIn : ℕ → ℕ → Bool → ℤ → List ℕ → List ℕ → List ℕ → Call
-unfolding Digits.number Digits.digits Fields.widths Fields.width Fields.leastOf Fields.leastWidth Fields.negative Fields.zigzag Fields.zigzagged Fields.row Fields.blockBytes Fields.lastBelow
-    Fields.shortestIn Fields.shortest Runs.patchesFrom Runs.patches Runs.lastIsSkip Runs.taken Runs.shared Runs.outside Runs.outOfPlace Runs.tooLarge Runs.layout Runs.joined
-    Parse.bytes Parse.block Parse.varint Parse.shortRun Parse.directRun Parse.fixedBody Parse.deltaBody Parse.deltaRun Parse.patchedBody Parse.patchedRun Parse.byKind Parse.parse Parse.into
-    Streams.runsFrom Streams.readAll Streams.stream Streams.totalRows Writing.stored Writing.stepsOf Writing.baseDelta Writing.valuesOf Writing.described Decimal.decimalIn Decimal.decimal
-    Salvage.groups Salvage.rising Salvage.startsRight Salvage.kept Salvage.fillRuns Salvage.mended Salvage.salvaged Salvage.line Salvage.report Salvage.salvaging
+unfolding Digits.number Digits.digits Fields.widths Fields.width Fields.leastOf Fields.leastWidth Fields.negative Fields.zigzag Fields.zigzagged Fields.row
+    Fields.blockBytes Fields.lastBelow
+    Fields.shortestIn Fields.shortest Runs.patchesFrom Runs.patches Runs.lastIsSkip Runs.taken Runs.shared Runs.outside Runs.outOfPlace Runs.tooLarge
+    Runs.layout Runs.joined
+    Parse.bytes Parse.block Parse.varint Parse.shortRun Parse.directRun Parse.fixedBody Parse.deltaBody Parse.deltaRun Parse.patchedBody Parse.patchedRun
+    Parse.byKind Parse.parse Parse.into
+    Streams.runsFrom Streams.readAll Streams.stream Streams.totalRows Writing.stored Writing.stepsOf Writing.baseDelta Writing.valuesOf Writing.described
+    Decimal.decimalIn Decimal.decimal
+    Salvage.groups Salvage.rising Salvage.startsRight Salvage.kept Salvage.fillRuns Salvage.mended Salvage.salvaged Salvage.line Salvage.report
+    Salvage.salvaging
 calledIn places lines signed fill bs starts counts = Salvage.salvaging signed fill bs starts counts places lines
 
 -- .. with 20 bytes for the stream and 40 for the report
@@ -36,7 +41,8 @@ abbrev called : Bool → ℤ → List ℕ → List ℕ → List ℕ → Call
 called signed fill bs starts counts = calledIn 20 40 signed fill bs starts counts
 
 -- one kept and one replaced, with the fill row zigzagged if signed
-signed-fill : called true (negsuc 1) damaged (0 ∷ 3 ∷ []) (5 ∷ 7 ∷ []) ≡ written (0x0A ∷ 0x01 ∷ 0x2C ∷ 0xC0 ∷ 0x06 ∷ 0x03 ∷ 0x00 ∷ []) (ascii "kept 0 5\nreplaced 1 7\n")
+signed-fill : called true (negsuc 1) damaged (0 ∷ 3 ∷ []) (5 ∷ 7 ∷ [])
+    ≡ written (0x0A ∷ 0x01 ∷ 0x2C ∷ 0xC0 ∷ 0x06 ∷ 0x03 ∷ 0x00 ∷ []) (ascii "kept 0 5\nreplaced 1 7\n")
 unfolding calledIn
 signed-fill = refl
 
@@ -46,7 +52,8 @@ unfolding calledIn
 plain-fill = refl
 
 -- the remainder last
-remainder-last : called false (pos 1) (0xFF ∷ []) (0 ∷ []) (514 ∷ []) ≡ written (0xC1 ∷ 0xFF ∷ 0x01 ∷ 0x00 ∷ 0xC0 ∷ 0x01 ∷ 0x01 ∷ 0x00 ∷ []) (ascii "replaced 0 514\n")
+remainder-last : called false (pos 1) (0xFF ∷ []) (0 ∷ []) (514 ∷ [])
+    ≡ written (0xC1 ∷ 0xFF ∷ 0x01 ∷ 0x00 ∷ 0xC0 ∷ 0x01 ∷ 0x01 ∷ 0x00 ∷ []) (ascii "replaced 0 514\n")
 unfolding calledIn
 remainder-last = refl
 

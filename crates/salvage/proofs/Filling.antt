@@ -102,13 +102,15 @@ module _ (signed : Bool) (fill : ℤ) (fits : SFits w64 fill) where
   full-runs zero = record { valid = tt; rows = refl }
   full-runs (suc q) =
       let e : suc q * 512 ≡ 512 + q * 512 = omega arith in
-      rw e (runs-append 512 (q * 512) (fillRun signed fill 512 ∷ []) (replicate q (fillRun signed fill 512)) (one-run 512 (omega arith) (omega arith)) (full-runs q))
+      rw e (runs-append 512 (q * 512) (fillRun signed fill 512 ∷ []) (replicate q (fillRun signed fill 512)) (one-run 512 (omega arith) (omega arith))
+      (full-runs q))
 
   pub fill-runs : (n : ℕ) → Runs n (fillRuns signed fill n)
   unfolding fillRuns joinedRows
   fill-runs n =
       let e : n ≡ n / 512 * 512 + n % 512 = omega arith in
-      let r : Runs (n / 512 * 512 + n % 512) (fillRuns signed fill n) = runs-append (n / 512 * 512) (n % 512) _ _ (full-runs (n / 512)) (last (eqb (n % 512) 0) refl) in
+      let r : Runs (n / 512 * 512 + n % 512) (fillRuns signed fill n) =
+      runs-append (n / 512 * 512) (n % 512) _ _ (full-runs (n / 512)) (last (eqb (n % 512) 0) refl) in
       rw (← e) at r
     where
       last : (t : Bool) → eqb (n % 512) 0 ≡ t → Runs (n % 512) (pick t [] (fillRun signed fill (n % 512) ∷ []))
@@ -127,7 +129,12 @@ module _ (signed : Bool) (fill : ℤ) (fits : SFits w64 fill) where
   pub fill-size : (n : ℕ) → FillSize signed fill n
   unfolding fillRuns joined
   fill-size n =
-      rw (joined-append full (pick (eqb (n % 512) 0) [] (fillRun signed fill (n % 512) ∷ [])), length-append (joined full) (joined (pick (eqb (n % 512) 0) [] (fillRun signed fill (n % 512) ∷ []))), full-length (n / 512) (fillRun signed fill 512), fill-length 512 (omega arith) (omega arith))
+      rw (
+        joined-append full (pick (eqb (n % 512) 0) [] (fillRun signed fill (n % 512) ∷ [])),
+        length-append (joined full) (joined (pick (eqb (n % 512) 0) [] (fillRun signed fill (n % 512) ∷ []))),
+        full-length (n / 512) (fillRun signed fill 512),
+        fill-length 512 (omega arith) (omega arith),
+      )
       (last (eqb (n % 512) 0) refl)
     where
       full : List Description
@@ -142,4 +149,5 @@ module _ (signed : Bool) (fill : ℤ) (fits : SFits w64 fill) where
           rw q (omega arith)
       last false e =
           let q : (n + 511) / 512 ≡ suc (n / 512) = omega (arith, eqb-false (n % 512) 0 e) in
-          rw (q, append-nil (layout (fillRun signed fill (n % 512)))) (omega (arith, fill-length (n % 512) (omega (arith, eqb-false (n % 512) 0 e)) (omega arith)))
+          rw (q, append-nil (layout (fillRun signed fill (n % 512))))
+          (omega (arith, fill-length (n % 512) (omega (arith, eqb-false (n % 512) 0 e)) (omega arith)))

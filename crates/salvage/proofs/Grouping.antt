@@ -12,7 +12,7 @@ use lib.IntN.{ℤ}
 use borrow.Author.Tests.{eq-eqb}
 use mir.Syntax.{w64}
 use mir.Val.{SFits}
-use Rattle.format.specs.Digits.{AllBelow}
+use Rattle.format.specs.Digits.{AllBelow, sum}
 use Rattle.format.specs.Runs.{Description, AllValid, layout, joined}
 use Rattle.format.specs.Streams.{Reading, whole, readAll, stream, totalRows, joinedRows}
 use Rattle.format.proofs.Rows.{row-bounds, joined-count}
@@ -20,10 +20,9 @@ use Rattle.format.proofs.Runs.{layout-pos}
 use Rattle.format.proofs.Streams.{Reads, reads-whole, reads-broken, stream-post, stream-whole}
 use Rattle.format.proofs.StreamRoom.{stream-is}
 use Rattle.format.proofs.Joined.{rows-le, total-append, joined-append, rows-append}
-use Rattle.format.proofs.Tests.{T-true}
+use Rattle.format.proofs.Tests.{T-true, same-test}
 use Rattle.salvage.specs.Salvage.{Group, keptOf, kept, fillRuns, mended, salvaged}
-use Rattle.salvage.specs.Laws.{AllBytes, AllKept, counts, sum, joinedGroups, groupRows, renewed, SalvagedHolds}
-use Rattle.salvage.proofs.Tests.{same-test}
+use Rattle.salvage.specs.Laws.{AllBytes, AllKept, counts, joinedGroups, groupRows, renewed, SalvagedHolds}
 use Rattle.salvage.proofs.Filling.{valid-append, fill-runs}
 
 -- runs without rows are no runs, and have no bytes
@@ -101,7 +100,13 @@ module _ (signed : Bool) (fill : ℤ) (fits : SFits w64 fill) where
 
   renew-all : (gs : List Group) → AllBytes gs → AllRenewed gs
   unfolding salvaged joined totalRows
-  renew-all [] h = record { runs = []; valid = tt; bytes = refl; total = refl; rows = λ before behind g e. absurd (omega (arith, length-append before (g ∷ behind), ap (λ (l : List Group). length l) e)) }
+  renew-all [] h = record {
+    runs = [];
+    valid = tt;
+    bytes = refl;
+    total = refl;
+    rows = λ before behind g e. absurd (omega (arith, length-append before (g ∷ behind), ap (λ (l : List Group). length l) e));
+  }
   renew-all (g ∷ gs) h =
       let r = renew g (h .0) in
       let all = renew-all gs (h .1) in

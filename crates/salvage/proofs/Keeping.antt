@@ -15,6 +15,7 @@ use Rattle.format.specs.Fields.{two64}
 use Rattle.format.specs.Answers.{streamRows}
 use Rattle.format.specs.Promises.{streamAnswer}
 use Rattle.format.specs.Streams.{Reading, whole, broken, readAll, runsFrom, stream, totalRows}
+use Rattle.format.proofs.Tests.{never}
 use Rattle.salvage.specs.Salvage.{keptOf, kept}
 use Rattle.salvage.specs.Steps.{group}
 use Rattle.salvage.proofs.Grouping.{kept-by}
@@ -31,11 +32,11 @@ module _ (n : ℕ) (bs : List ℕ) (h : AllBelow 256 bs) (l : n < two64) where
     where
       go : (m : Reading) → streamAnswer 0 m ≡ Whole c → eqb (c .rows .rows) n ≡ keptOf n m
       go (whole ds) f = rw (← (ap streamRows f))
-      go (broken ds r rest) f = let z : _≡_ {A = ℕ} 0 1 = cc in absurd (omega arith)
+      go (broken ds r rest) f = never (cc)
 
   pub kept-refused : (f : Refusal) (c : Counts) → streamAnswer 0 (readAll (two64 - 1) bs) ≡ Refused f c → false ≡ kept (group bs n)
   kept-refused f c e = go (readAll (two64 - 1) bs) e ∙ kept-by n (two64 - 1) bs h (omega arith)
     where
       go : (m : Reading) → streamAnswer 0 m ≡ Refused f c → false ≡ keptOf n m
-      go (whole ds) g = let z : _≡_ {A = ℕ} 0 1 = cc in absurd (omega arith)
+      go (whole ds) g = never (cc)
       go (broken ds r rest) g = refl

@@ -56,7 +56,8 @@ module _ (first n : ℕ) where
 -- no count of rows has so many runs that their bytes pass 2^64
 pub runs-small : (q first : ℕ) → q ≤ 36028797018963968 → first < two64 → q * (3 + length (shortest first)) < two64
 runs-small q first l h =
-    let m : q * (3 + length (shortest first)) ≤ 36028797018963968 * 13 = mul-le-mul {n₂ = 36028797018963968} {m₂ = 13} l (omega (arith, shortest-length first h)) in
+    let m : q * (3 + length (shortest first)) ≤ 36028797018963968 * 13 =
+    mul-le-mul {n₂ = 36028797018963968} {m₂ = 13} l (omega (arith, shortest-length first h)) in
     omega (arith, m)
 
 -- ---- they are the definition's
@@ -103,7 +104,8 @@ module _ {first n at : ℕ} {out₀ : List ℕ} where
   runs-full {out} {place} {q = zero} r h = absurd (omega arith)
   runs-full {out} {place} {q = suc q} r h = omega (arith, runs-room r, length-append (runOf first 512) (runsFor first q (n % 512)))
 
-  pub runs-next : {out out′ : List ℕ} {place place′ q : ℕ} → Runs first n out₀ at out place q → 0 < q → TextWritten (runOf first 512) out place out′ place′ → length out′ ≡ length out
+  pub runs-next : {out out′ : List ℕ} {place place′ q : ℕ} → Runs first n out₀ at out place q → 0 < q → TextWritten (runOf first 512) out place out′ place′
+      → length out′ ≡ length out
       → Runs first n out₀ at out′ place′ (q - 1)
   unfolding runsFor
   runs-next {out} {out′} {place} {place′} {q = zero} r h w s = absurd (omega arith)
@@ -125,12 +127,14 @@ module _ {first n at : ℕ} {out₀ : List ℕ} where
       rw (← d) (r .written)
   runs-done {out} {place} {q = suc q} r z e = absurd (omega arith)
 
-  pub runs-rest-room : {out : List ℕ} {place q : ℕ} → Runs first n out₀ at out place q → q ≡ 0 → n % 512 ≢ 0 → place + length (runOf first (n % 512)) ≤ length out
+  pub runs-rest-room : {out : List ℕ} {place q : ℕ} → Runs first n out₀ at out place q → q ≡ 0 → n % 512 ≢ 0
+      → place + length (runOf first (n % 512)) ≤ length out
   unfolding runsFor
   runs-rest-room {out} {place} {q = zero} r z e = rw (ne-eqb (n % 512) 0 e) at (runs-room r)
   runs-rest-room {out} {place} {q = suc q} r z e = absurd (omega arith)
 
-  pub runs-rest : {out out′ : List ℕ} {place place′ q : ℕ} → Runs first n out₀ at out place q → q ≡ 0 → n % 512 ≢ 0 → TextWritten (runOf first (n % 512)) out place out′ place′
+  pub runs-rest : {out out′ : List ℕ} {place place′ q : ℕ} → Runs first n out₀ at out place q → q ≡ 0 → n % 512 ≢ 0
+      → TextWritten (runOf first (n % 512)) out place out′ place′
       → TextWritten (filled first n) out₀ at out′ place′
   unfolding runsFor
   runs-rest {out} {out′} {place} {place′} {q = zero} r z e w =

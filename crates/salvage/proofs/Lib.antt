@@ -1,5 +1,4 @@
 -- The theorems of specs/Laws.antt.
-pub mod Tests
 pub mod Filling
 pub mod Grouping
 pub mod Starting

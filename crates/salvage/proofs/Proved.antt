@@ -1,16 +1,17 @@
 -- All that specs/Laws.antt states. Assumes nothing.
 use mathlib.Core.Path.{_≡_, refl, sym, ap, _∙_}
 use Prim.Native.Nat.{ℕ}
-use native.Mathlib.Omega.{arith}
 use mathlib.Core.List.{List}
 use lib.ListN.{length, take, drop}
 use lib.Seq.{take-at}
 use Rattle.format.specs.Runs.{Description}
 use Rattle.format.specs.Streams.{stream, whole, totalRows}
+use Rattle.format.proofs.Tests.{never}
+use Rattle.format.specs.Digits.{sum}
 use Rattle.salvage.specs.declared.Outcome.{Outcome}
 use Rattle.salvage.specs.declared.Outcome.the-variants.{Written, Refused}
 use Rattle.salvage.specs.Salvage.{groups, Call, refused, written, salvaging, writtenOf, refusedWith, outcomeOf, streamIn, reportIn}
-use Rattle.salvage.specs.Laws.{sum, SalvageProved, SalvageGiven, SalvageDetermined}
+use Rattle.salvage.specs.Laws.{SalvageProved, SalvageGiven, SalvageDetermined}
 use Rattle.salvage.proofs.Filling.{fill-holds, fill-size}
 use Rattle.salvage.proofs.Grouping.{kept-exactly, kept-bytes, salvaged-holds}
 use Rattle.salvage.proofs.Starting.{make-up, of-bytes, back, damage}
@@ -46,9 +47,10 @@ salvage-given input starts ns fill signed out out′ lines lines′ r fits bytes
   untouched = λ n e. untouched (salvaging signed fill input starts ns (length out) (length lines)) (s .new-stream) (s .report-is) (sym (s .answer) ∙ e);
 }
   where
-    reads : (m : ℕ) {k : ℕ} (c : Call) → salvaging signed fill input starts ns (length out) (length lines) ≡ c → out′ ≡ streamIn out c → outcomeOf c ≡ writtenOf m k
+    reads : (m : ℕ) {k : ℕ} (c : Call) → salvaging signed fill input starts ns (length out) (length lines) ≡ c → out′ ≡ streamIn out c
+        → outcomeOf c ≡ writtenOf m k
         → (ds : List Description) × (stream (take m out′) ≡ whole ds) × (totalRows ds ≡ sum ns)
-    reads m (refused n) q o e = let z : _≡_ {A = ℕ} 0 1 = cc in absurd (omega arith)
+    reads m (refused n) q o e = never (cc)
     reads m (written new text) q o e =
         let (right, is, _, _) = call-holds signed fill fits input starts ns (length out) (length lines) .otherwise new text .0 q in
         let h = salvaged-holds signed fill fits (groups input starts ns) (of-bytes input starts ns bytes) in
@@ -58,7 +60,7 @@ salvage-given input starts ns fill signed out out′ lines lines′ r fits bytes
 
     untouched : {n : ℕ} (c : Call) → out′ ≡ streamIn out c → lines′ ≡ reportIn lines c → outcomeOf c ≡ refusedWith n → (out′ ≡ out) × (lines′ ≡ lines)
     untouched (refused n) o l e = (o, l)
-    untouched (written new text) o l e = let z : _≡_ {A = ℕ} 0 1 = cc in absurd (omega arith)
+    untouched (written new text) o l e = never (cc)
 
 pub salvage-determined : SalvageDetermined
 salvage-determined input starts ns fill signed out out′ out″ lines lines′ lines″ r r′ p q =

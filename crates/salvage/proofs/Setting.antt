@@ -3,12 +3,12 @@ use mathlib.Core.Path.{_≡_, refl, sym, ap, _∙_}
 use mathlib.Core.Logic.{_≢_}
 use Prim.Native.Nat.{ℕ, suc, _+_, _<_, _≤_}
 use native.Mathlib.Omega.{arith}
-use mathlib.Core.Bool.{Bool, true, false, not, _&&_, _||_}
+use mathlib.Core.Bool.{Bool, true, false, not, _||_, and-false}
 use mathlib.Core.List.{List, [], _++_, append-assoc, append-nil}
 use lib.ListN.{length, drop, length-append}
 use lib.Dec.{ltb, eqb}
 use lib.IntN.{ℤ}
-use borrow.Author.Tests.{ltb-false, eq-eqb, ne-eqb}
+use borrow.Author.Tests.{ltb-false, eq-eqb, ne-eqb, not-true}
 use Rattle.text.specs.Written.{TextWritten}
 use Rattle.text.proofs.Texts.{none-written, then-written, from-first}
 use Rattle.salvage.specs.declared.Outcome.{Outcome}
@@ -17,19 +17,14 @@ use Rattle.salvage.specs.Steps.{made, roomFor}
 use Rattle.salvage.specs.Laws.{RightStarts, Room}
 use Rattle.salvage.proofs.Walking.{groups-end}
 use Rattle.salvage.proofs.Turning.{gs, new, text, Turn, stream-next, lines-next}
-use Rattle.format.proofs.Tests.{T-true}
-
--- what is written from the first byte on
-either : (a b : Bool) → not (a || b) ≡ true → (a ≡ false) × (b ≡ false)
-either true b e = let z : _≡_ {A = ℕ} 0 1 = cc in absurd (omega arith)
-either false true e = let z : _≡_ {A = ℕ} 0 1 = cc in absurd (omega arith)
-either false false e = (refl, refl)
+use Rattle.format.proofs.Tests.{never, T-true, neither}
 
 module _ (signed : Bool) (fill : ℤ) (bs starts ns : List ℕ) where
-  pub has : {places lines : ℕ} → roomFor signed fill bs starts ns places lines ≡ true → Room places lines (new signed fill bs starts ns) (text signed fill bs starts ns)
+  pub has : {places lines : ℕ} → roomFor signed fill bs starts ns places lines ≡ true
+      → Room places lines (new signed fill bs starts ns) (text signed fill bs starts ns)
   unfolding roomFor
   has {places} {lines} e =
-      let b = either (ltb places (length (new signed fill bs starts ns))) (ltb lines (length (text signed fill bs starts ns))) e in
+      let b = neither (ltb places (length (new signed fill bs starts ns))) (ltb lines (length (text signed fill bs starts ns))) (not-true _ e) in
       record { stream = ltb-false places _ (b .0); lines-fit = ltb-false lines _ (b .1) }
 
   -- ---- the groups before i are written, and their lines
@@ -60,7 +55,8 @@ module _ (signed : Bool) (fill : ℤ) (bs starts ns : List ℕ) where
     room = has e;
   }
 
-  module _ {out₀ lines₀ out lines bytes : List ℕ} {stream told i rows first : ℕ} {keep : Bool} (l : GroupsLaid out₀ lines₀ out lines stream told i) (t : Turn signed fill bs starts ns i bytes rows keep first) where
+  module _ {out₀ lines₀ out lines bytes : List ℕ} {stream told i rows first : ℕ} {keep : Bool} (l : GroupsLaid out₀ lines₀ out lines stream told i)
+      (t : Turn signed fill bs starts ns i bytes rows keep first) where
     at-stream : (l .done ++ made keep bytes first rows) ++ salvaged signed fill (drop (suc i) (gs signed fill bs starts ns)) ≡ new signed fill bs starts ns
     at-stream =
         append-assoc (l .done) (made keep bytes first rows) (salvaged signed fill (drop (suc i) (gs signed fill bs starts ns)))
@@ -96,7 +92,8 @@ module _ (signed : Bool) (fill : ℤ) (bs starts ns : List ℕ) where
           length-append (l .said) (line keep i rows),
         )
 
-    pub laid-next : {out′ lines′ : List ℕ} {stream′ told′ : ℕ} → i < length starts → TextWritten (made keep bytes first rows) out stream out′ stream′ → length out′ ≡ length out
+    pub laid-next : {out′ lines′ : List ℕ} {stream′ told′ : ℕ} → i < length starts → TextWritten (made keep bytes first rows) out stream out′ stream′
+        → length out′ ≡ length out
         → TextWritten (line keep i rows) lines told lines′ told′ → length lines′ ≡ length lines → GroupsLaid out₀ lines₀ out′ lines′ stream′ told′ (i + 1)
     laid-next h w s v r =
         let e : i + 1 ≡ suc i = omega arith in
@@ -125,14 +122,11 @@ module _ (signed : Bool) (fill : ℤ) (bs starts ns : List ℕ) where
 
     pub wrong-starts : startsRight (length bs) starts ≡ false → call ≡ refused 17
     unfolding salvaging
-    wrong-starts h = rw (h, none (eqb (length starts) (length ns)))
-      where
-        none : (b : Bool) → (b && false) ≡ false
-        none true = refl
-        none false = refl
+    wrong-starts h = rw (h, and-false (eqb (length starts) (length ns)))
 
     module _ (r : RightStarts bs starts ns) where
-      right-call : call ≡ unless (ltb places (length (new signed fill bs starts ns)) || ltb lines (length (text signed fill bs starts ns))) 8 (written (new signed fill bs starts ns) (text signed fill bs starts ns))
+      right-call : call ≡ unless (ltb places (length (new signed fill bs starts ns)) || ltb lines (length (text signed fill bs starts ns))) 8
+          (written (new signed fill bs starts ns) (text signed fill bs starts ns))
       unfolding salvaging
       right-call = rw (eq-eqb (length starts) (length ns) (r .lengths), T-true (startsRight (length bs) starts) (r .right))
 
@@ -142,20 +136,22 @@ module _ (signed : Bool) (fill : ℤ) (bs starts ns : List ℕ) where
         where
           go : (b : Bool) → not b ≡ false → unless b 8 (written (new signed fill bs starts ns) (text signed fill bs starts ns)) ≡ refused 8
           go true e = refl
-          go false e = let z : _≡_ {A = ℕ} 0 1 = cc in absurd (omega arith)
+          go false e = never (cc)
 
       pub is-written : roomFor signed fill bs starts ns places lines ≡ true → call ≡ written (new signed fill bs starts ns) (text signed fill bs starts ns)
       unfolding roomFor
       is-written e =
-          let b = either (ltb places (length (new signed fill bs starts ns))) (ltb lines (length (text signed fill bs starts ns))) e in
+          let b = neither (ltb places (length (new signed fill bs starts ns))) (ltb lines (length (text signed fill bs starts ns))) (not-true _ e) in
           right-call ∙ rw (b .0, b .1)
 
   pub was-refused : (n : ℕ) {out lines : List ℕ} {r : Outcome} → salvaging signed fill bs starts ns (length out) (length lines) ≡ refused n → r ≡ refusedWith n
       → Salvaged bs starts ns fill signed out out lines lines r
   was-refused n {out} {lines} {r} e f = record { answer = rw e f; new-stream = rw e; report-is = rw e }
 
-  pub was-written : {out₀ lines₀ out lines : List ℕ} {stream told i : ℕ} {r : Outcome} → RightStarts bs starts ns → roomFor signed fill bs starts ns (length out₀) (length lines₀) ≡ true
-      → GroupsLaid out₀ lines₀ out lines stream told i → length starts ≤ i → r ≡ writtenOf stream told → Salvaged bs starts ns fill signed out₀ out lines₀ lines r
+  pub was-written : {out₀ lines₀ out lines : List ℕ} {stream told i : ℕ} {r : Outcome} → RightStarts bs starts ns
+      → roomFor signed fill bs starts ns (length out₀) (length lines₀) ≡ true
+      → GroupsLaid out₀ lines₀ out lines stream told i → length starts ≤ i → r ≡ writtenOf stream told
+      → Salvaged bs starts ns fill signed out₀ out lines₀ lines r
   unfolding salvaged report
   was-written {out₀} {lines₀} {out} {lines} {stream} {told} {i} {r} s e l h f =
       let g = groups-end bs starts ns i h in

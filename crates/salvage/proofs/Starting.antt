@@ -20,7 +20,8 @@ pub groups-last : (bs : List ℕ) (s n : ℕ) (ns : List ℕ) → groups bs (s �
 unfolding groups
 groups-last bs s n ns = refl
 
-pub groups-cons : (bs : List ℕ) (s t n : ℕ) (ss ns : List ℕ) → groups bs (s ∷ t ∷ ss) (n ∷ ns) ≡ record { bytes = take (t - s) (drop s bs); rows = n } ∷ groups bs (t ∷ ss) ns
+pub groups-cons : (bs : List ℕ) (s t n : ℕ) (ss ns : List ℕ)
+    → groups bs (s ∷ t ∷ ss) (n ∷ ns) ≡ record { bytes = take (t - s) (drop s bs); rows = n } ∷ groups bs (t ∷ ss) ns
 unfolding groups
 groups-cons bs s t n ss ns = refl
 
@@ -34,8 +35,10 @@ back-from p (g ∷ []) = groups-last _ _ _ _ ∙ same-group (g .rows) (drop-appe
 back-from p (g ∷ h ∷ gs) =
     let bs : List ℕ = p ++ (g .bytes ++ joinedGroups (h ∷ gs)) in
     let l : length p + length (g .bytes) - length p ≡ length (g .bytes) = omega arith in
-    let first : take (length p + length (g .bytes) - length p) (drop (length p) bs) ≡ g .bytes = rw (l, drop-append-seam p (g .bytes ++ joinedGroups (h ∷ gs))) (take-append-seam (g .bytes) (joinedGroups (h ∷ gs))) in
-    let rest : groups bs (startsFrom (length p + length (g .bytes)) (h ∷ gs)) (counts (h ∷ gs)) ≡ h ∷ gs = rw (append-assoc p (g .bytes) (joinedGroups (h ∷ gs)), length-append p (g .bytes)) at (back-from (p ++ g .bytes) (h ∷ gs)) in
+    let first : take (length p + length (g .bytes) - length p) (drop (length p) bs) ≡ g .bytes =
+    rw (l, drop-append-seam p (g .bytes ++ joinedGroups (h ∷ gs))) (take-append-seam (g .bytes) (joinedGroups (h ∷ gs))) in
+    let rest : groups bs (startsFrom (length p + length (g .bytes)) (h ∷ gs)) (counts (h ∷ gs)) ≡ h ∷ gs =
+    rw (append-assoc p (g .bytes) (joinedGroups (h ∷ gs)), length-append p (g .bytes)) at (back-from (p ++ g .bytes) (h ∷ gs)) in
     groups-cons _ _ _ _ _ _ ∙ same-group (g .rows) first rest
 
 pub back : (gs : List Group) → groups (joinedGroups gs) (startsFrom 0 gs) (counts gs) ≡ gs
@@ -52,7 +55,8 @@ counts-same [] behind g k e = ap (λ (n : ℕ). n ∷ counts behind) e
 counts-same (h ∷ before) behind g k e = ap (λ (l : List ℕ). h .rows ∷ l) (counts-same before behind g k e)
 
 pub damage : (before behind : List Group) (g : Group) (b : List ℕ) → length b ≡ length (g .bytes)
-    → groups (joinedGroups (before ++ (record { bytes = b; rows = g .rows } ∷ behind))) (startsFrom 0 (before ++ (g ∷ behind))) (counts (before ++ (g ∷ behind)))
+    → groups (joinedGroups (before ++ (record { bytes = b; rows = g .rows } ∷ behind))) (startsFrom 0 (before ++ (g ∷ behind)))
+    (counts (before ++ (g ∷ behind)))
     ≡ before ++ (record { bytes = b; rows = g .rows } ∷ behind)
 damage before behind g b e =
     let k : Group = record { bytes = b; rows = g .rows } in

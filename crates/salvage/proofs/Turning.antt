@@ -60,9 +60,16 @@ module _ (signed : Bool) (fill : ℤ) (bs starts ns : List ℕ) where
     pub lines-left : told + length (report i (drop i gs)) ≡ length text
 
   pub measured-none : (places lines : ℕ) → Measured places lines 0 0 0
-  measured-none places lines = record { bound = omega arith; stream-fits = omega arith; lines-fit = omega arith; stream-left = omega arith; lines-left = omega arith }
+  measured-none places lines = record {
+    bound = omega arith;
+    stream-fits = omega arith;
+    lines-fit = omega arith;
+    stream-left = omega arith;
+    lines-left = omega arith;
+  }
 
-  module _ {places lines stream told i rows first : ℕ} {bytes : List ℕ} {keep : Bool} (m : Measured places lines stream told i) (t : Turn i bytes rows keep first) where
+  module _ {places lines stream told i rows first : ℕ} {bytes : List ℕ} {keep : Bool} (m : Measured places lines stream told i)
+      (t : Turn i bytes rows keep first) where
     at-stream : stream + length (made keep bytes first rows) + length (salvaged signed fill (drop (suc i) gs)) ≡ length new
     at-stream = omega (arith, m .stream-left, ap length (stream-next t), length-append (made keep bytes first rows) (salvaged signed fill (drop (suc i) gs)))
 
@@ -82,7 +89,8 @@ module _ (signed : Bool) (fill : ℤ) (bs starts ns : List ℕ) where
         none true = refl
         none false = refl
 
-    pub measured-next : i < length starts → (more line-size : ℕ) → more ≡ length (made keep bytes first rows) → line-size ≡ length (line keep i rows) → more ≤ places - stream → line-size ≤ lines - told
+    pub measured-next : i < length starts → (more line-size : ℕ) → more ≡ length (made keep bytes first rows) → line-size ≡ length (line keep i rows)
+        → more ≤ places - stream → line-size ≤ lines - told
         → Measured places lines (stream + more) (told + line-size) (i + 1)
     measured-next h more line-size e f p q =
         let s : i + 1 ≡ suc i = omega arith in
@@ -94,7 +102,8 @@ module _ (signed : Bool) (fill : ℤ) (bs starts ns : List ℕ) where
           lines-left = at-lines;
         })
 
-  pub measured-all : {places lines stream told i : ℕ} → Measured places lines stream told i → length starts ≤ i → true ≡ roomFor signed fill bs starts ns places lines
+  pub measured-all : {places lines stream told i : ℕ} → Measured places lines stream told i → length starts ≤ i
+      → true ≡ roomFor signed fill bs starts ns places lines
   unfolding roomFor salvaged report
   measured-all {places} {lines} {stream} {told} {i} m h =
       let e = groups-end bs starts ns i h in

@@ -11,7 +11,7 @@ use lib.IntN.{ℤ}
 use mir.Syntax.{w64}
 use mir.Val.{SFits}
 use Rattle.format.specs.declared.Form.the-variants.{FixedDelta}
-use Rattle.format.specs.Digits.{AllBelow}
+use Rattle.format.specs.Digits.{AllBelow, sum}
 use Rattle.format.specs.Fields.{pick, shortest}
 use Rattle.format.specs.Runs.{Description, AllValid, head, layout, joined}
 use Rattle.format.specs.Rows.{asU64}
@@ -19,7 +19,8 @@ use Rattle.format.specs.Parse.{got}
 use Rattle.format.specs.Streams.{whole, readAll, stream, runsOf, totalRows, joinedRows}
 use Rattle.format.specs.Writing.{stored, writing}
 use Rattle.salvage.specs.declared.Outcome.{Outcome}
-use Rattle.salvage.specs.Salvage.{Group, groups, startsRight, kept, fillRun, fillRuns, mended, salvaged, report, Call, refused, written, salvaging, writtenOf, refusedWith, Salvaged}
+use Rattle.salvage.specs.Salvage.{Group, groups, startsRight, kept, fillRun, fillRuns, mended, salvaged, report, Call, refused}
+use Rattle.salvage.specs.Salvage.{written, salvaging, writtenOf, refusedWith, Salvaged}
 
 -- each group's bytes are bytes
 abbrev pub AllBytes : List Group → Type 0
@@ -32,11 +33,6 @@ AllKept (g ∷ gs) = T (kept g) × AllKept gs
 
 abbrev pub counts : List Group → List ℕ
 counts gs = map (λ g. g .rows) gs
-
--- the whole-number sum
-abbrev pub sum : List ℕ → ℕ
-sum [] = 0
-sum (n ∷ ns) = n + sum ns
 
 -- the groups' bytes, joined; and where each of them begins, the first at s
 unfoldable pub joinedGroups : List Group → List ℕ
@@ -95,7 +91,8 @@ module _ (signed : Bool) (fill : ℤ) where
     pub exactly : T (kept g) ↔ ((ds : List Description) × AllValid ds × (g .bytes ≡ joined ds) × (totalRows ds ≡ g .rows))
     pub same-bytes : T (kept g) → mended signed fill g ≡ g .bytes
 
-  -- ---- THE NEW STREAM reads whole, with no condition; its rows are the listed ones in all, those of each group standing at their listed place
+  -- ---- THE NEW STREAM reads whole, with no condition; its rows are the
+  -- listed ones in all, those of each group standing at their listed place
   pub record SalvagedHolds (gs : List Group) : Type 0 where
     pub runs : List Description
     pub reads-whole : stream (salvaged signed fill gs) ≡ whole runs
@@ -116,26 +113,32 @@ module _ (signed : Bool) (fill : ℤ) where
         ↔ (RightStarts bs starts ns × (Room places lines (salvaged signed fill (groups bs starts ns)) (report 0 (groups bs starts ns)) → ⊥))
     pub otherwise : (new text : List ℕ)
         → (m ≡ written new text)
-        ↔ (RightStarts bs starts ns × (new ≡ salvaged signed fill (groups bs starts ns)) × (text ≡ report 0 (groups bs starts ns)) × Room places lines new text)
+        ↔ (RightStarts bs starts ns × (new ≡ salvaged signed fill (groups bs starts ns)) × (text ≡ report 0 (groups bs starts ns))
+        × Room places lines new text)
 
   -- ---- BY STARTS AND COUNTS
   pub record StartsHold : Type 0 where
     -- right starts cut the stream into groups that make it up, of the counts listed
-    pub make-up : (bs starts ns : List ℕ) → RightStarts bs starts ns → (joinedGroups (groups bs starts ns) ≡ bs) × (counts (groups bs starts ns) ≡ ns)
+    pub make-up : (bs starts ns : List ℕ) → RightStarts bs starts ns
+        → (joinedGroups (groups bs starts ns) ≡ bs) × (counts (groups bs starts ns) ≡ ns)
     pub of-bytes : (bs starts ns : List ℕ) → AllBelow 256 bs → AllBytes (groups bs starts ns)
     -- and any groups are those of their joined bytes, with their own starts
     pub back : (gs : List Group) → groups (joinedGroups gs) (startsFrom 0 gs) (counts gs) ≡ gs
     -- bytes changed within one group leave every other group as it was
     pub damage : (before behind : List Group) (g : Group) (b : List ℕ) → length b ≡ length (g .bytes)
-        → groups (joinedGroups (before ++ (record { bytes = b; rows = g .rows } ∷ behind))) (startsFrom 0 (before ++ (g ∷ behind))) (counts (before ++ (g ∷ behind)))
+        → groups (joinedGroups (before ++ (record { bytes = b; rows = g .rows } ∷ behind))) (startsFrom 0 (before ++ (g ∷ behind)))
+        (counts (before ++ (g ∷ behind)))
         ≡ before ++ (record { bytes = b; rows = g .rows } ∷ behind)
     -- a whole stream with its true groups is all kept, and comes out byte for byte
     pub true-kept : (dss : List (List Description)) → AllValidGroups dss → AllKept (trueGroups dss)
     pub true-groups : (dss : List (List Description)) → AllValidGroups dss → (bs : List ℕ) → bs ≡ joinedGroups (trueGroups dss)
-        → T (startsRight (length bs) (startsFrom 0 (trueGroups dss))) → (places lines : ℕ) → length bs ≤ places → length (report 0 (trueGroups dss)) ≤ lines
-        → salvaging signed fill bs (startsFrom 0 (trueGroups dss)) (counts (trueGroups dss)) places lines ≡ written bs (report 0 (trueGroups dss))
+        → T (startsRight (length bs) (startsFrom 0 (trueGroups dss))) → (places lines : ℕ) → length bs ≤ places
+        → length (report 0 (trueGroups dss)) ≤ lines
+        → salvaging signed fill bs (startsFrom 0 (trueGroups dss)) (counts (trueGroups dss)) places lines
+        ≡ written bs (report 0 (trueGroups dss))
     -- the new starts are right exactly if no group but the last lists 0 rows (such a group becomes no bytes) ..
-    pub new-starts : (gs : List Group) → AllBytes gs → T (startsRight (length (salvaged signed fill gs)) (startsFrom 0 (renewed gs))) ↔ SomeRows gs
+    pub new-starts : (gs : List Group) → AllBytes gs
+        → T (startsRight (length (salvaged signed fill gs)) (startsFrom 0 (renewed gs))) ↔ SomeRows gs
     -- .. and salvaging the new stream with them gives the same stream
     pub twice : (gs : List Group) → AllBytes gs → SomeRows gs → (places lines : ℕ) → length (salvaged signed fill gs) ≤ places
         → length (report 0 (renewed gs)) ≤ lines
@@ -148,7 +151,8 @@ pub record SalvageHolds (signed : Bool) (fill : ℤ) : Type 0 where
   pub fill-size : (n : ℕ) → FillSize signed fill n
   pub keeps : (g : Group) → AllBelow 256 (g .bytes) → KeptHolds signed fill g
   pub salvages : (gs : List Group) → AllBytes gs → SalvagedHolds signed fill gs
-  pub calls : (bs starts ns : List ℕ) (places lines : ℕ) → CallHolds signed fill bs starts ns places lines (salvaging signed fill bs starts ns places lines)
+  pub calls : (bs starts ns : List ℕ) (places lines : ℕ)
+      → CallHolds signed fill bs starts ns places lines (salvaging signed fill bs starts ns places lines)
   pub starts : StartsHold signed fill
 
 abbrev pub SalvageProved : Type 0
@@ -165,7 +169,8 @@ module _ (input starts ns : List ℕ) (out out′ lines lines′ : List ℕ) (r 
 
 abbrev pub SalvageGiven : Type 0
 SalvageGiven =
-    (input starts ns : List ℕ) (fill : ℤ) (signed : Bool) (out out′ lines lines′ : List ℕ) (r : Outcome) → SFits w64 fill → AllBelow 256 input
+    (input starts ns : List ℕ) (fill : ℤ) (signed : Bool) (out out′ lines lines′ : List ℕ) (r : Outcome) → SFits w64 fill
+    → AllBelow 256 input
     → Salvaged input starts ns fill signed out out′ lines lines′ r → SalvageGives input starts ns out out′ lines lines′ r
 
 -- any two outcomes that the promise allows are equal

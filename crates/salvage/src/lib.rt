@@ -1,5 +1,5 @@
-// Salvage of a damaged stream: its row groups, each kept byte for byte if it reads whole with its rows, or replaced by runs of a fill row; and a
-// report with a line for each.
+// Salvage of a damaged stream: its row groups, each kept byte for byte if it reads whole with its rows, or replaced by runs of a fill row;
+// and a report with a line for each.
 ghost use mathlib.Core.Path.{_≡_};
 ghost use mathlib.Core.Bool.{Bool};
 ghost use lib.ListN.{length};
@@ -40,8 +40,8 @@ impl Outcome {
     }
 }
 
-// Both outputs have room for what is to be written. Only sizes are needed for that, and each is compared with the room that is left: no sum passes
-// 2^64, and a count of any size costs the same.
+// Both outputs have room for what is to be written. Only sizes are needed for that, and each is compared with the room that is left: no sum
+// passes 2^64, and a count of any size costs the same.
 fn has_room(
     input: &[u8],
     starts: &[u64],
@@ -52,7 +52,8 @@ fn has_room(
     report: &[u8],
 ) -> bool
     requires { ⌜ RightStarts (now input) (now starts) (now counts) ⌝ }
-    ensures { λ r. ⌜ r ≡ roomFor signed fill (now (input .entry)) (now (starts .entry)) (now (counts .entry)) (length (now (out .entry))) (length (now (report .entry))) ⌝ }
+    ensures { λ r. ⌜ r ≡ roomFor signed fill (now (input .entry)) (now (starts .entry)) (now (counts .entry)) (length (now (out .entry)))
+        (length (now (report .entry))) ⌝ }
 {
     let first = fill::stored(fill, signed);
     let mut stream: usize = 0;
@@ -92,8 +93,10 @@ fn write_all(
     out: &mut [u8],
     report: &mut [u8],
 ) -> Outcome
-    requires { ⌜ RightStarts (now input) (now starts) (now counts) × (roomFor signed fill (now input) (now starts) (now counts) (length (now out)) (length (now report)) ≡ Bool.true) ⌝ }
-    ensures { λ r. ⌜ Salvaged (now (input .entry)) (now (starts .entry)) (now (counts .entry)) fill signed (now (out .entry)) (now (out .exit)) (now (report .entry)) (now (report .exit)) r ⌝ }
+    requires { ⌜ RightStarts (now input) (now starts) (now counts)
+        × (roomFor signed fill (now input) (now starts) (now counts) (length (now out)) (length (now report)) ≡ Bool.true) ⌝ }
+    ensures { λ r. ⌜ Salvaged (now (input .entry)) (now (starts .entry)) (now (counts .entry)) fill signed (now (out .entry))
+        (now (out .exit)) (now (report .entry)) (now (report .exit)) r ⌝ }
 {
     let first = fill::stored(fill, signed);
     let mut stream = ByteOffset { bytes: 0 };
@@ -113,8 +116,8 @@ fn write_all(
     Outcome::written(stream, lines)
 }
 
-// Salvages a stream by its groups, each with a start byte and a row count. Refusals: 17 starts that do not begin at 0, do not rise strictly or
-// pass the end, or counts that are not as many; 8 either output lacks room. A refused call leaves both as they were.
+// Salvages a stream by its groups, each with a start byte and a row count. Refusals: 17 starts that do not begin at 0, do not rise strictly
+// or pass the end, or counts that are not as many; 8 either output lacks room. A refused call leaves both as they were.
 pub fn salvage(
     input: &[u8],
     starts: &[u64],
@@ -124,7 +127,8 @@ pub fn salvage(
     out: &mut [u8],
     report: &mut [u8],
 ) -> Outcome
-    ensures { λ r. ⌜ Salvaged (now (input .entry)) (now (starts .entry)) (now (counts .entry)) fill signed (now (out .entry)) (now (out .exit)) (now (report .entry)) (now (report .exit)) r ⌝ }
+    ensures { λ r. ⌜ Salvaged (now (input .entry)) (now (starts .entry)) (now (counts .entry)) fill signed (now (out .entry))
+        (now (out .exit)) (now (report .entry)) (now (report .exit)) r ⌝ }
 {
     if starts.len() != counts.len() {
         return Outcome::refused(17);

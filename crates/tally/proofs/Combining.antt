@@ -7,14 +7,16 @@ use mathlib.Core.List.{List, [], _∷_, _++_, append-assoc}
 use lib.ListN.{length, length-append}
 use lib.IntN.{ℤ, _+ℤ_, +ℤ-idl, +ℤ-idr, +ℤ-assoc}
 use Rattle.format.specs.declared.Kind.{Kind}
-use Rattle.tally.specs.Totals.{Line, isBad, isEnd, isRefusal, isRun, rowsIn, counted, rowsOver, lower, higher, ofTwo, ofAll, sumOf, Tally, totals, empty, combine}
+use Rattle.tally.specs.Totals.{Line, isBad, isEnd, isRefusal, isRun, rowsIn, counted, rowsOver, lower, higher, ofTwo, ofAll, sumOf, Tally, totals}
+use Rattle.tally.specs.Totals.{empty, combine}
 use Rattle.tally.specs.declared.totals.Extreme.{Extreme}
 use Rattle.tally.specs.declared.totals.Extreme.the-variants.{None, Row}
 use Rattle.tally.specs.Laws.{Combining}
 use Rattle.tally.proofs.Order.{lowers, highers, ofTwo-assoc, ofAll-append}
 
 -- two totals are the same where each part is
-same : {a b : Tally} → a .lines ≡ b .lines → a .bads ≡ b .bads → a .ends ≡ b .ends → ((k : ℕ) → a .refusals k ≡ b .refusals k) → ((k : Kind) → a .runs k ≡ b .runs k)
+same : {a b : Tally} → a .lines ≡ b .lines → a .bads ≡ b .bads → a .ends ≡ b .ends → ((k : ℕ) → a .refusals k ≡ b .refusals k)
+    → ((k : Kind) → a .runs k ≡ b .runs k)
     → a .rows ≡ b .rows → a .smallest ≡ b .smallest → a .largest ≡ b .largest → a .sum ≡ b .sum → a ≡ b
 same l b e f r n s g t = λ i. record {
   lines = l i;
@@ -46,7 +48,8 @@ sum-append (z ∷ zs) ys = rw (sum-append zs ys) (sym (+ℤ-assoc z (sumOf zs) (
 pub joined : (xs ys : List Line) → totals (xs ++ ys) ≡ combine (totals xs) (totals ys)
 unfolding totals
 joined xs ys =
-    same (length-append xs ys) (counted-append isBad xs ys) (counted-append isEnd xs ys) (λ k. counted-append (isRefusal k) xs ys) (λ k. counted-append (isRun k) xs ys)
+    same (length-append xs ys) (counted-append isBad xs ys) (counted-append isEnd xs ys) (λ k. counted-append (isRefusal k) xs ys)
+    (λ k. counted-append (isRun k) xs ys)
     (ap length (rows-over-append xs ys) ∙ length-append (rowsOver xs) (rowsOver ys))
     (ap (ofAll lower) (rows-over-append xs ys) ∙ ofAll-append _ lower lowers (rowsOver xs) (rowsOver ys))
     (ap (ofAll higher) (rows-over-append xs ys) ∙ ofAll-append _ higher highers (rowsOver xs) (rowsOver ys))
@@ -69,7 +72,8 @@ unit-left a = same (omega arith) (omega arith) (omega arith) (λ k. omega arith)
 unit-right : (a : Tally) → combine a empty ≡ a
 unfolding totals counted rowsOver ofAll sumOf
 unit-right a =
-    same (omega arith) (omega arith) (omega arith) (λ k. omega arith) (λ k. omega arith) (omega arith) (none-right lower (a .smallest)) (none-right higher (a .largest))
+    same (omega arith) (omega arith) (omega arith) (λ k. omega arith) (λ k. omega arith) (omega arith) (none-right lower (a .smallest))
+    (none-right higher (a .largest))
     (+ℤ-idr (a .sum))
 
 pub combining : Combining

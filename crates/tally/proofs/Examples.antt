@@ -27,7 +27,9 @@ seen t = record {
 }
 
 -- `000A012C`, `0046021230`, `0086031F21`, `01`, `zz`: a bad line is no refusal, and counts as a line; so does `end`
-five-lines : seen (totals (map answered ((0x00 ∷ 0x0A ∷ 0x01 ∷ 0x2C ∷ []) ∷ (0x00 ∷ 0x46 ∷ 0x02 ∷ 0x12 ∷ 0x30 ∷ []) ∷ (0x00 ∷ 0x86 ∷ 0x03 ∷ 0x1F ∷ 0x21 ∷ []) ∷ (0x01 ∷ []) ∷ [] ∷ [])))
+five-lines : seen (totals
+    (map answered ((0x00 ∷ 0x0A ∷ 0x01 ∷ 0x2C ∷ []) ∷ (0x00 ∷ 0x46 ∷ 0x02 ∷ 0x12 ∷ 0x30 ∷ []) ∷ (0x00 ∷ 0x86 ∷ 0x03 ∷ 0x1F ∷ 0x21 ∷ []) ∷
+    (0x01 ∷ []) ∷ [] ∷ [])))
     ≡ record { counts = 5 ∷ 1 ∷ 1 ∷ 0 ∷ 1 ∷ 1 ∷ 1 ∷ 8 ∷ []; smallest = Row (pos 1); largest = Row (pos 300); sum = pos 1506 }
 unfolding seen
 five-lines = refl

@@ -36,7 +36,14 @@ passing-is xs l = go (ltb limit (length xs + 1)) (ltb limit (length (rowsOver xs
     go : (a b : Bool) → ltb limit (length xs + 1) ≡ a → ltb limit (length (rowsOver xs) + length (rowsIn l)) ≡ b → Passing xs l (a || b)
     go true b p q = passing (λ w. omega (arith, w .few-lines, ltb-true limit (length xs + 1) p, length-append xs (l ∷ [])))
     go false true p q = passing (λ w. omega (arith, w .few-rows, ltb-true limit (length (rowsOver xs) + length (rowsIn l)) q, more-rows xs l))
-    go false false p q = staying (omega (arith, ltb-false limit (length xs + 1) p, ltb-false limit (length (rowsOver xs) + length (rowsIn l)) q, length-append xs (l ∷ []), more-rows xs l))
+    go false false p q = staying
+        (omega (
+          arith,
+          ltb-false limit (length xs + 1) p,
+          ltb-false limit (length (rowsOver xs) + length (rowsIn l)) q,
+          length-append xs (l ∷ []),
+          more-rows xs l,
+        ))
 
 -- lines that stay within the limits are all taken
 skip : (done xs rest : List Line) → Within (done ++ xs) → takeLines (totals done) (xs ++ rest) ≡ takeLines (totals (done ++ xs)) rest
@@ -46,7 +53,8 @@ skip done (l ∷ xs) rest w =
     go (passing-is done l) ∙ ap (λ t. takeLines t (xs ++ rest)) (sym (joined done (l ∷ [])))
     ∙ skip (done ++ (l ∷ [])) xs rest (rw (append-snoc done l xs) w) ∙ ap (λ ls. takeLines (totals ls) rest) (append-snoc done l xs)
   where
-    go : {t : Bool} → Passing done l t → pick t (twenty (totals done)) (takeLines (step (totals done) l) (xs ++ rest)) ≡ takeLines (step (totals done) l) (xs ++ rest)
+    go : {t : Bool} → Passing done l t
+        → pick t (twenty (totals done)) (takeLines (step (totals done) l) (xs ++ rest)) ≡ takeLines (step (totals done) l) (xs ++ rest)
     go (passing no-more) = absurd (no-more (within-before (done ++ (l ∷ [])) xs (rw (append-snoc done l xs) w)))
     go (staying s) = refl
 

@@ -16,7 +16,9 @@ use Rattle.format.specs.Answers.{answerRows}
 use Rattle.format.specs.Parse.{Reason, plain, cut, Parsed, end, got, refused, parse, into}
 use Rattle.format.specs.Promises.{answerOf, runPlaces}
 use Rattle.format.proofs.Rows.{i64-count, row-bounds}
-use Rattle.promises.specs.Refusals.{Table, refusal-1, refusal-2, refusal-3, refusal-4, refusal-5, refusal-7, refusal-8, CutLine, in-value, in-base, in-first-row, in-base-delta, in-rows, in-magnitudes, in-values, in-list, TableGives, by-number, by-field}
+use Rattle.format.proofs.Tests.{never}
+use Rattle.promises.specs.Refusals.{Table, refusal-1, refusal-2, refusal-3, refusal-4, refusal-5, refusal-7, refusal-8, CutLine, in-value, in-base}
+use Rattle.promises.specs.Refusals.{in-first-row, in-base-delta, in-rows, in-magnitudes, in-values, in-list, TableGives, by-number, by-field}
 use Rattle.promises.proofs.Refusals.{refusals}
 use Rattle.tally.specs.Totals.{numberOf, refusal, lineOf, answered}
 use Rattle.tally.specs.Held.{slot, lineWith, replyTo}
@@ -57,9 +59,10 @@ as-read signed at total out (got d rest) h = rw (take-at (i64Rows signed d) (dro
 as-read signed at total out (refused (plain n)) h = rw (lt-ltb n 15 (listed-below (h (plain n) refl)))
 as-read signed at total out (refused (cut n left)) h = rw (lt-ltb n 15 (listed-below (h (cut n left) refl)))
 
-refusal-listed : (signed : Bool) (m : Parsed Description) → ((r : Reason) → m ≡ refused r → Listed (numberOf r)) → (n : ℕ) → lineOf signed m ≡ refusal n → Listed n
-refusal-listed signed end h n e = let z : _≡_ {A = ℕ} 0 1 = cc in absurd (omega arith)
-refusal-listed signed (got d rest) h n e = let z : _≡_ {A = ℕ} 0 1 = cc in absurd (omega arith)
+refusal-listed : (signed : Bool) (m : Parsed Description) → ((r : Reason) → m ≡ refused r → Listed (numberOf r)) → (n : ℕ) → lineOf signed m ≡ refusal n
+    → Listed n
+refusal-listed signed end h n e = never (cc)
+refusal-listed signed (got d rest) h n e = never (cc)
 refusal-listed signed (refused r) h n e = let g : numberOf r ≡ n = cc in rw g at (h r refl)
 
 pub lines-read : LinesRead

@@ -16,6 +16,7 @@ use mir.Val.{SFits, toZ, ofZ}
 use mir.Facts.{toZ-ofZ}
 use borrow.Author.Tests.{leb-false}
 use Rattle.format.specs.Fields.{pick}
+use Rattle.format.proofs.Tests.{never}
 use Rattle.tally.specs.Totals.{lower, higher, ofTwo, ofAll}
 use Rattle.tally.specs.declared.totals.Extreme.{Extreme}
 use Rattle.tally.specs.declared.totals.Extreme.the-variants.{None, Row}
@@ -49,7 +50,7 @@ le-flip a b e = record { le = go a b e }
     go : (a b : ℤ) → leZ a b ≡ false → T (leZ b a)
     go (pos a) (pos b) e = le→leb b a (omega (arith, leb-false a b e))
     go (pos a) (negsuc b) e = tt
-    go (negsuc a) (pos b) e = let z : _≡_ {A = ℕ} 0 1 = cc in absurd (omega arith)
+    go (negsuc a) (pos b) e = never (cc)
     go (negsuc a) (negsuc b) e = le→leb a b (omega (arith, leb-false b a e))
 
 -- ---- a choice that takes one of the two, the one that R says
@@ -191,7 +192,8 @@ module _ (R : ℤ → ℤ → Type 0) (choice : ℤ → ℤ → ℤ) (o : Choice
   one-row [] h = absurd (omega arith)
   one-row (z ∷ zs) h = refl
 
-  pub more-row : (zs : List ℤ) (i : ℕ) (m : ℤ) → i < length zs → ofAll choice (take i zs) ≡ Row m → ofAll choice (take (i + 1) zs) ≡ Row (choice m (getD zs i (pos 0)))
+  pub more-row : (zs : List ℤ) (i : ℕ) (m : ℤ) → i < length zs → ofAll choice (take i zs) ≡ Row m
+      → ofAll choice (take (i + 1) zs) ≡ Row (choice m (getD zs i (pos 0)))
   unfolding ofAll
   more-row zs i m h e =
       rw (add-one, take-suc zs i (pos 0) h) (ofAll-append R choice o (take i zs) (getD zs i (pos 0) ∷ []) ∙ rw e)

@@ -18,7 +18,8 @@ use Rattle.format.specs.Rows.{plus}
 use Rattle.format.specs.Writing.{AllI64}
 use Rattle.tally.specs.declared.totals.Totals.{Totals}
 use Rattle.tally.specs.declared.totals.Taken.{Taken}
-use Rattle.tally.specs.Totals.{Line, isBad, isEnd, isRefusal, isRun, counted, rowsOver, sumOf, totals, empty, step, limit, tooMany, passes, twenty, takeLines}
+use Rattle.tally.specs.Totals.{Line, isBad, isEnd, isRefusal, isRun, counted, rowsOver, sumOf, totals, empty, step, limit, tooMany, passes, twenty}
+use Rattle.tally.specs.Totals.{takeLines}
 use Rattle.tally.specs.Held.{numbers, kinds, held, eachPlus, together, going, stopped, combined, takeLine, unlessStopped, takeAll, heldOutcome}
 use Rattle.tally.specs.Laws.{Within, I64, CodeHolds, CodeTells}
 use Rattle.tally.proofs.Combining.{rows-over-append, joined, counted-append}
@@ -83,8 +84,10 @@ together-held xs ys f w =
     let n = count-append xs ys in
     same (exact (length xs) (length ys) (length-append xs ys) (w .few-lines)) (counts xs ys w isBad) (counts xs ys w isEnd)
     (each-exact _ _ _ numbers (λ k. counts xs ys w (isRefusal k))) (each-exact _ _ _ kinds (λ k. counts xs ys w (isRun k)))
-    (exact (length (rowsOver xs)) (length (rowsOver ys)) n (w .few-rows)) (ap (λ t. t .smallest) (sym (joined xs ys))) (ap (λ t. t .largest) (sym (joined xs ys)))
-    (added (sumOf (rowsOver xs)) (sumOf (rowsOver ys)) (sum-small xs (fit-left (rowsOver xs) (rowsOver ys) g) (omega (arith, n, w .few-rows))) (sum-small ys (fit-right (rowsOver xs) (rowsOver ys) g) (omega (arith, n, w .few-rows)))
+    (exact (length (rowsOver xs)) (length (rowsOver ys)) n (w .few-rows)) (ap (λ t. t .smallest) (sym (joined xs ys)))
+    (ap (λ t. t .largest) (sym (joined xs ys)))
+    (added (sumOf (rowsOver xs)) (sumOf (rowsOver ys)) (sum-small xs (fit-left (rowsOver xs) (rowsOver ys) g) (omega (arith, n, w .few-rows)))
+    (sum-small ys (fit-right (rowsOver xs) (rowsOver ys) g) (omega (arith, n, w .few-rows)))
     ∙ ap (λ t. held t .sum) (sym (joined xs ys)))
 
 -- ---- one line more, and all lines
@@ -135,7 +138,10 @@ two xs ys f =
     go true b p q = refl
     go false true p q = refl
     go false false p q =
-        ap going (together-held xs ys f (record { few-lines = ltb-false limit (length (xs ++ ys)) p; few-rows = ltb-false limit (length (rowsOver (xs ++ ys))) q }))
+        ap going (together-held xs ys f (record {
+          few-lines = ltb-false limit (length (xs ++ ys)) p;
+          few-rows = ltb-false limit (length (rowsOver (xs ++ ys))) q;
+        }))
 
 pub code-holds : CodeHolds
 code-holds = record { line = line; lines = λ ls f. lines-from [] ls f; two = two }

@@ -14,6 +14,7 @@ use borrow.Author.Tests.{lt-ltb}
 use Rattle.format.specs.Fields.{pick, two64}
 use Rattle.format.specs.Digits.{number}
 use Rattle.format.proofs.Digits.{number-snoc}
+use Rattle.format.proofs.Tests.{never}
 use Rattle.tally.proofs.Taking.{code-tells}
 use Rattle.text.specs.Decimal.{decimalIn, decimal}
 use Rattle.tally.specs.declared.sums.Wide.{Wide}
@@ -34,7 +35,8 @@ enough (suc k) (suc j) x h l = by (decLt x 10) (λ m. enough k j (x / 10) (omega
   where
     by : Dec (x < 10) → (x / 10 < suc j → decimalIn (suc k) (x / 10) ≡ decimalIn (suc j) (x / 10)) → decimalIn (suc (suc k)) x ≡ decimalIn (suc (suc j)) x
     by (yes m) ih = low (suc k) x m ∙ sym (low (suc j) x m)
-    by (no m) ih = decimal-more (suc k) x (omega arith) ∙ ap (λ (ds : List ℕ). ds ++ ((48 + x % 10) ∷ [])) (ih (omega arith)) ∙ sym (decimal-more (suc j) x (omega arith))
+    by (no m) ih = decimal-more (suc k) x (omega arith) ∙ ap (λ (ds : List ℕ). ds ++ ((48 + x % 10) ∷ [])) (ih (omega arith))
+        ∙ sym (decimal-more (suc j) x (omega arith))
 
 -- a number has fewer digits than it counts
 below-power : (n : ℕ) → n < 10 ^ suc n
@@ -84,13 +86,13 @@ whole-length w h l = by (ltb (w .high) (2 ^ 63))
 
 minus-text : (z : ℤ) → isNegative z ≡ true → wholeText z ≡ (45 ∷ []) ++ numberText (natAbs z)
 unfolding wholeText
-minus-text (pos n) e = let z : _≡_ {A = ℕ} 0 1 = cc in absurd (omega arith)
+minus-text (pos n) e = never (cc)
 minus-text (negsuc n) e = refl
 
 plain-text : (z : ℤ) → isNegative z ≡ false → wholeText z ≡ numberText (natAbs z)
 unfolding wholeText
 plain-text (pos n) e = refl
-plain-text (negsuc n) e = let z : _≡_ {A = ℕ} 0 1 = cc in absurd (omega arith)
+plain-text (negsuc n) e = never (cc)
 
 module _ (z : ℤ) (n : ℕ) (size : n ≡ natAbs z) where
   pub with-minus : isNegative z ≡ true → wholeText z ≡ (45 ∷ []) ++ numberText n

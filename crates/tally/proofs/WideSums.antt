@@ -94,7 +94,8 @@ module _ {a X x b Y y : ℕ} (p : Split a X x) (q : Split b Y y) (hX : X ≤ 2 ^
   down : {c r : ℕ} → Split (x + y + 1) c r → addWide (words (turned X) (turned x)) (words (turned Y) (turned y)) ≡ wideOf (negsuc (suc (a + b)))
   down {c} {r} s =
       let h : c ≤ 1 = omega (arith, s, p .fits, q .fits) in
-      adds _ _ (1 - c) (turned r) 1 (turned (X + Y + c)) (record { number = omega (arith, s, p .fits, q .fits); fits = omega arith }) (record { number = omega arith; fits = omega arith })
+      adds _ _ (1 - c) (turned r) 1 (turned (X + Y + c)) (record { number = omega (arith, s, p .fits, q .fits); fits = omega arith })
+      (record { number = omega arith; fits = omega arith })
       ∙ sym (neg-words (record { number = omega (arith, s, p, q); fits = s .fits }))
 
   -- a - (b + 1), by whether it is below 0 and by the low words
@@ -103,17 +104,23 @@ module _ {a X x b Y y : ℕ} (p : Split a X x) (q : Split b Y y) (hX : X ≤ 2 ^
     where
       by : Dec (a < suc b) → Dec (y < x) → addWide (words X x) (words (turned Y) (turned y)) ≡ wideOf (subℕ a (suc b))
       by (yes l) (yes m) =
-          adds _ _ 1 (turned (two64 + y - x)) 0 (turned (Y - X - 1)) (record { number = omega (arith, p .fits, q .fits); fits = omega arith }) (high-below X Y 1 (Y - X - 1) hY (omega (arith, p, q)))
+          adds _ _ 1 (turned (two64 + y - x)) 0 (turned (Y - X - 1)) (record { number = omega (arith, p .fits, q .fits); fits = omega arith })
+          (high-below X Y 1 (Y - X - 1) hY (omega (arith, p, q)))
           ∙ sym (ap wideOf (sub-low a (suc b) l) ∙ neg-words {q = Y - X - 1} {r = two64 + y - x} (record { number = omega (arith, p, q); fits = omega arith }))
       by (yes l) (no m) =
-          adds _ _ 0 (turned (y - x)) 0 (turned (Y - X)) (record { number = omega (arith, p .fits, q .fits); fits = omega arith }) (high-below X Y 0 (Y - X) hY (omega (arith, p, q)))
+          adds _ _ 0 (turned (y - x)) 0 (turned (Y - X)) (record { number = omega (arith, p .fits, q .fits); fits = omega arith })
+          (high-below X Y 0 (Y - X) hY (omega (arith, p, q)))
           ∙ sym (ap wideOf (sub-low a (suc b) l) ∙ neg-words {q = Y - X} {r = y - x} (record { number = omega (arith, p, q); fits = omega (arith, q .fits) }))
       by (no l) (yes m) =
-          adds _ _ 1 (x - y - 1) 1 (X - Y) (record { number = omega (arith, p .fits, q .fits); fits = omega (arith, p .fits) }) (high-above X Y 1 (X - Y) hX hY (omega (arith, p, q)) (omega arith))
-          ∙ sym (ap wideOf (sub-high a (suc b) (omega arith)) ∙ pos-words {q = X - Y} {r = x - y - 1} (record { number = omega (arith, p, q); fits = omega (arith, p .fits) }))
+          adds _ _ 1 (x - y - 1) 1 (X - Y) (record { number = omega (arith, p .fits, q .fits); fits = omega (arith, p .fits) })
+          (high-above X Y 1 (X - Y) hX hY (omega (arith, p, q)) (omega arith))
+          ∙ sym (ap wideOf (sub-high a (suc b) (omega arith))
+          ∙ pos-words {q = X - Y} {r = x - y - 1} (record { number = omega (arith, p, q); fits = omega (arith, p .fits) }))
       by (no l) (no m) =
-          adds _ _ 0 (x + turned y) 1 (X - Y - 1) (record { number = omega (arith, p .fits, q .fits); fits = omega (arith, q .fits) }) (high-above X Y 0 (X - Y - 1) hX hY (omega (arith, p, q)) (omega arith))
-          ∙ sym (ap wideOf (sub-high a (suc b) (omega arith)) ∙ pos-words {q = X - Y - 1} {r = x + turned y} (record { number = omega (arith, p, q); fits = omega (arith, q .fits) }))
+          adds _ _ 0 (x + turned y) 1 (X - Y - 1) (record { number = omega (arith, p .fits, q .fits); fits = omega (arith, q .fits) })
+          (high-above X Y 0 (X - Y - 1) hX hY (omega (arith, p, q)) (omega arith))
+          ∙ sym (ap wideOf (sub-high a (suc b) (omega arith))
+          ∙ pos-words {q = X - Y - 1} {r = x + turned y} (record { number = omega (arith, p, q); fits = omega (arith, q .fits) }))
 
 comm : (v w : Wide) → addWide v w ≡ addWide w v
 comm v w =
@@ -171,7 +178,8 @@ summed-more rows i w h l f s =
     rw (add-one, take-suc rows i (pos 0) h) (sum-append (take i rows) (z ∷ []) ∙ rw +ℤ-idr) in
     record {
       size = rw e (omega (arith, sum-size (sumOf (take i rows)) z, row-size z f, s .size));
-      sum-is = rw e (ap (λ (x : Wide). addWide x (wideOf z)) (s .sum-is) ∙ added (sumOf (take i rows)) z (omega (arith, s .size)) (omega (arith, row-size z f)));
+      sum-is = rw e (ap (λ (x : Wide). addWide x (wideOf z)) (s .sum-is)
+          ∙ added (sumOf (take i rows)) z (omega (arith, s .size)) (omega (arith, row-size z f)));
     }
 
 pub sums : Sums

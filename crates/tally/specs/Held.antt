@@ -1,5 +1,5 @@
--- HOW THE CODE HOLDS TOTALS: a struct of counts below 2^64, refusals by number, runs by kind, and the sum in two words; and what each function answers,
--- for every struct that a caller makes.
+-- HOW THE CODE HOLDS TOTALS: a struct of counts below 2^64, refusals by number, runs by kind, and the sum in two words; and what each
+-- function answers, for every struct that a caller makes.
 -- Assumes nothing.
 use Prim.Native.Nat.{ℕ, _+_}
 use mathlib.Core.List.{List, [], _∷_, map}
@@ -20,7 +20,8 @@ use Rattle.tally.specs.declared.totals.Totals.{Totals}
 use Rattle.tally.specs.declared.totals.Taken.{Taken}
 use Rattle.tally.specs.declared.totals.Stop.{Stop}
 use Rattle.tally.specs.declared.totals.Stop.the-variants as stop
-use Rattle.tally.specs.Totals.{Line, bad, ended, refusal, run, rowsIn, lower, higher, ofTwo, Tally, totals, tooMany, Outcome, all, twenty}
+use Rattle.tally.specs.Totals.{Line, bad, ended, refusal, run, rowsIn, lower, higher, ofTwo, Tally, totals, tooMany, Outcome, all}
+use Rattle.tally.specs.Totals.{twenty}
 use Rattle.tally.specs.Wide.{wideOf, addWide}
 
 -- ---- A LINE: a reply, and rows, which only a run has

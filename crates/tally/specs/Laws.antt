@@ -14,12 +14,14 @@ use Rattle.format.specs.Answers.{kindNumber, answerRows}
 use Rattle.format.specs.Parse.{parse, into}
 use Rattle.format.specs.Promises.{answerOf, runPlaces}
 use Rattle.format.specs.Writing.{AllI64}
-use Rattle.tally.specs.Totals.{Line, refusal, answered, rowsOver, lower, higher, ofAll, Tally, totals, empty, combine, step, tooMany, passes, limit, Outcome, all, twenty, takeLines}
+use Rattle.tally.specs.Totals.{Line, refusal, answered, rowsOver, lower, higher, ofAll, Tally, totals, empty, combine, step, tooMany}
+use Rattle.tally.specs.Totals.{passes, limit, Outcome, all, twenty, takeLines}
 use Rattle.tally.specs.declared.totals.Extreme.the-variants.{None, Row}
 use Rattle.tally.specs.Wide.{wideOf, wideValue, addWide}
 use Rattle.tally.specs.Held.{lineWith, replyTo, held, going, stopped, combined, takeLine, takeAll, heldOutcome}
 
--- ---- COMBINING: totals over two inputs, the second's lines after the first's, are the totals of each combined; associative, with the empty totals as its unit
+-- ---- COMBINING: totals over two inputs, the second's lines after the first's,
+-- are the totals of each combined; associative, with the empty totals as its unit
 
 pub record Combining : Type 0 where
   pub joined : (first second : List Line) → totals (first ++ second) ≡ combine (totals first) (totals second)
@@ -36,7 +38,8 @@ pub record Within (ls : List Line) : Type 0 where
 
 pub data Reads (ls : List Line) : Outcome → Type 0 where
   reads-all : Within ls → Reads ls (all (totals ls))
-  stops : (before : List Line) (l : Line) (after : List Line) → ls ≡ before ++ (l ∷ after) → Within before → (Within (before ++ (l ∷ [])) → ⊥)
+  stops : (before : List Line) (l : Line) (after : List Line) → ls ≡ before ++ (l ∷ after) → Within before
+      → (Within (before ++ (l ∷ [])) → ⊥)
       → Reads ls (twenty (totals before))
 
 abbrev pub LimitsHold : Type 0
@@ -44,7 +47,8 @@ LimitsHold = (ls : List Line) (r : Outcome) → (takeLines empty ls ≡ r) ↔ R
 
 -- over two inputs, while both stay within the limits: the totals of each combined
 abbrev pub TwoInputs : Type 0
-TwoInputs = (first second : List Line) → Within (first ++ second) → takeLines empty (first ++ second) ≡ all (combine (totals first) (totals second))
+TwoInputs = (first second : List Line) → Within (first ++ second)
+    → takeLines empty (first ++ second) ≡ all (combine (totals first) (totals second))
 
 -- ---- EXTREMES: none where there are no rows, and else a row that no row is below, or above
 
@@ -70,11 +74,13 @@ AllBytes [] = Unit {0}
 AllBytes (f ∷ fs) = AllBelow 256 f × AllBytes fs
 
 pub record Sums : Type 0 where
-  pub bound : (frames : List (List ℕ)) → AllBytes frames → Within (map answered frames) → natAbs (totals (map answered frames) .sum) ≤ 2 ^ 95
+  pub bound : (frames : List (List ℕ)) → AllBytes frames → Within (map answered frames)
+      → natAbs (totals (map answered frames) .sum) ≤ 2 ^ 95
   pub value : (z : ℤ) → natAbs z ≤ 2 ^ 95 → wideValue (wideOf z) ≡ z
   pub added : (a b : ℤ) → natAbs a ≤ 2 ^ 95 → natAbs b ≤ 2 ^ 95 → addWide (wideOf a) (wideOf b) ≡ wideOf (a +ℤ b)
 
--- ---- WHAT THE CODE HOLDS: its struct is that of the lines that were taken, line by line and combined; and nothing of the totals is lost in it
+-- ---- WHAT THE CODE HOLDS: its struct is that of the lines that were
+-- taken, line by line and combined; and nothing of the totals is lost in it
 
 -- the rows of all lines are i64
 abbrev pub I64 : List Line → Type 0
@@ -86,7 +92,8 @@ pub record CodeHolds : Type 0 where
   pub lines : (ls : List Line) → I64 ls → takeAll (held empty) ls ≡ heldOutcome (takeLines empty ls)
   pub two : (first second : List Line) → I64 (first ++ second)
       → combined (held (totals first)) (held (totals second))
-      ≡ pick (tooMany (length (first ++ second)) (length (rowsOver (first ++ second)))) (stopped (held (totals first))) (going (held (totals (first ++ second))))
+      ≡ pick (tooMany (length (first ++ second)) (length (rowsOver (first ++ second)))) (stopped (held (totals first)))
+      (going (held (totals (first ++ second))))
 
 -- the counts stand as they are; by number, by kind, and the sum:
 pub record Told (ls : List Line) : Type 0 where
@@ -102,7 +109,8 @@ pub data Listed : ℕ → Type 0 where
   from-1 : (n : ℕ) → 1 ≤ n → n ≤ 7 → Listed n
   from-12 : (n : ℕ) → 12 ≤ n → n ≤ 14 → Listed n
 
--- a line's bytes are answered as the run reader answers them, which leaves the rows in the first places; and a line is refused with these numbers alone
+-- a line's bytes are answered as the run reader answers them, which leaves the
+-- rows in the first places; and a line is refused with these numbers alone
 pub record LineRead (flag : ℕ) (bytes : List ℕ) (at : ℕ) (out : List ℤ) : Type 0 where
   pub as-answered : let m = into 512 (parse bytes) in let r = answerOf at (length bytes) m in
       lineWith (replyTo r) (take (answerRows r) (runPlaces (eqb flag 1) out m)) ≡ answered (flag ∷ bytes)

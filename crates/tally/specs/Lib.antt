@@ -1,4 +1,5 @@
--- Totals (FORMAT.md, "Totals"): their meaning, the sum in two words, how the code holds them, their text, the laws, and that any two outcomes are equal.
+-- Totals (FORMAT.md, "Totals"): their meaning, the sum in two words, how the
+-- code holds them, their text, the laws, and that any two outcomes are equal.
 pub mod Totals
 pub mod Wide
 pub mod Held

@@ -1,4 +1,5 @@
--- Any two answers that a promise of `sums` or `totals` allows are equal: no function there lends a place. (Of `text`: `ShowDetermined` in specs/Text.antt.)
+-- Any two answers that a promise of `sums` or `totals` allows are equal: no
+-- function there lends a place. (Of `text`: `ShowDetermined` in specs/Text.antt.)
 -- Assumes nothing.
 use mathlib.Core.Path.{_≡_}
 use Prim.Native.Nat.{ℕ, _<_}

@@ -58,7 +58,8 @@ refusalsText counts =
 -- by kind, and the rows
 unfoldable pub runsText : List ℕ → ℕ → List ℕ
 runsText runs rows =
-    (((countLine (ascii "short ") (getD runs 0 0) ++ countLine (ascii "direct ") (getD runs 1 0)) ++ countLine (ascii "patched ") (getD runs 2 0))
+    (((countLine (ascii "short ") (getD runs 0 0) ++ countLine (ascii "direct ") (getD runs 1 0))
+    ++ countLine (ascii "patched ") (getD runs 2 0))
     ++ countLine (ascii "delta ") (getD runs 3 0)) ++ countLine (ascii "rows ") rows
 
 unfoldable pub sumLine : ℤ → List ℕ
@@ -67,8 +68,10 @@ sumLine z = (ascii "sum " ++ wholeText z) ++ ascii "\n"
 -- all lines
 unfoldable pub totalsText : Totals → List ℕ
 totalsText t =
-    ((((((countLine (ascii "lines ") (t .lines) ++ countLine (ascii "bad ") (t .bads)) ++ countLine (ascii "end ") (t .ends)) ++ refusalsText (t .refusals))
-    ++ runsText (t .runs) (t .rows)) ++ extremeLine (ascii "smallest") (t .smallest)) ++ extremeLine (ascii "largest") (t .largest)) ++ sumLine (wideValue (t .sum))
+    ((((((countLine (ascii "lines ") (t .lines) ++ countLine (ascii "bad ") (t .bads)) ++ countLine (ascii "end ") (t .ends))
+    ++ refusalsText (t .refusals))
+    ++ runsText (t .runs) (t .rows)) ++ extremeLine (ascii "smallest") (t .smallest)) ++ extremeLine (ascii "largest") (t .largest))
+    ++ sumLine (wideValue (t .sum))
 
 -- none where there is less room than any totals need
 unfoldable pub shownIn : ℕ → Totals → List ℕ

@@ -1,5 +1,5 @@
--- TOTALS (FORMAT.md, "Totals") over lines of the program's input: lines, bad lines, refusals by number, runs by kind, rows, smallest and largest row, and
--- the exact sum of all rows.
+-- TOTALS (FORMAT.md, "Totals") over lines of the program's input: lines, bad lines, refusals by number, runs by kind, rows, smallest and
+-- largest row, and the exact sum of all rows.
 -- Assumes nothing.
 use Prim.Native.Nat.{ℕ, _+_, _^_}
 use mathlib.Core.Bool.{Bool, true, false, _||_}
@@ -37,7 +37,8 @@ lineOf signed end = ended
 lineOf signed (got d rest) = run (kindOf d) (i64Rows signed d)
 lineOf signed (refused r) = refusal (numberOf r)
 
--- the answer to a line's bytes, which are none where the line is bad: the first is the flag, the rest one run, and 512 places are room for any
+-- the answer to a line's bytes, which are none where the line is bad: the
+-- first is the flag, the rest one run, and 512 places are room for any
 unfoldable pub answered : List ℕ → Line
 answered [] = bad
 answered (flag ∷ bytes) = lineOf (eqb flag 1) (into 512 (parse bytes))

@@ -4,7 +4,8 @@ ghost use Prim.Native.Nat.{_+_, _≤_};
 ghost use lib.ListN.{length};
 ghost use Rattle.text.specs.Written.{TextWritten};
 ghost use Rattle.tally.specs.Wide.{wideValue, sizeOf};
-ghost use Rattle.tally.specs.Text.{numberText, wholeText, countLine, extremeLine, refusalLine, refusalsText, runsText, sumLine, totalsText, Shown};
+ghost use Rattle.tally.specs.Text.{numberText, wholeText, countLine, extremeLine, refusalLine, refusalsText, runsText, sumLine};
+ghost use Rattle.tally.specs.Text.{totalsText, Shown};
 use crate::sums::Tenth;
 use crate::sums::Wide;
 use crate::totals::Extreme;
@@ -179,7 +180,8 @@ fn put_totals(totals: Totals, out: &mut [u8]) -> usize
     put_sum(sum, out, at)
 }
 
-// The lines of totals, in the first bytes of `out`: how many bytes they are. Nothing is written where `out` has less room than any totals need.
+// The lines of totals, in the first bytes of `out`: how many bytes they
+// are. Nothing is written where `out` has less room than any totals need.
 pub fn show(totals: Totals, out: &mut [u8]) -> usize
     ensures { λ r. ⌜ Shown totals (now (out .entry)) (now (out .exit)) r ⌝ }
 {

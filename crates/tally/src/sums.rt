@@ -75,7 +75,8 @@ impl Wide {
         turned.plus(Wide { high: 0, low: 1 })
     }
 
-    // The last decimal digit, and the number without it: a half word at a time, so that what is left of the one before stands above the next.
+    // The last decimal digit, and the number without it: a half word at a
+    // time, so that what is left of the one before stands above the next.
     pub fn tenth(self) -> Tenth
         ensures { λ r. ⌜ IsTenth (sizeOf self) (sizeOf (r .quotient)) (r .digit) ⌝ }
     {

@@ -1,9 +1,11 @@
-// Totals over lines of the program's input, taken line by line or combined: counts, the smallest and the largest row, and the exact sum of all rows.
+// Totals over lines of the program's input, taken line by line or combined:
+// counts, the smallest and the largest row, and the exact sum of all rows.
 ghost use mathlib.Core.Path.{_≡_};
 ghost use mathlib.Core.List.{_∷_, []};
-ghost use Prim.Native.Nat.{_+_, _≤_, min};
+ghost use Prim.Native.Nat.{_+_, _≤_};
 ghost use lib.ListN.{length};
 ghost use lib.Dec.{ltb};
+ghost use Rattle.format.specs.Fields.{pick};
 ghost use Rattle.tally.specs.Totals.{run, rowsIn, lower, higher, ofTwo, ofAll, totals, empty, limit};
 ghost use Rattle.tally.specs.Held.{slot, lineWith, replyTo, held, counting, eachPlus, together, going, stopped, combined, takeLine};
 use crate::sums::Wide;
@@ -12,6 +14,7 @@ use format::Answer;
 use format::ByteOffset;
 use format::Kind;
 use format::Refusal;
+use util::number;
 
 // At most 2^32 lines, and at most 2^32 rows.
 pub const LIMIT: u64 = 4294967296;
@@ -73,29 +76,40 @@ fn higher_row(a: i64, b: i64) -> i64
     if a <= b { b } else { a }
 }
 
+// Of two rows, the smaller or the larger.
+fn row_of_two(least: bool, a: i64, b: i64) -> i64
+    ensures { λ r. ⌜ r ≡ pick least lower higher a b ⌝ }
+{
+    if least {
+        lower_row(a, b)
+    } else {
+        higher_row(a, b)
+    }
+}
+
 impl Extreme {
     // The smaller of two, where there are two.
     pub fn lower(self, other: Extreme) -> Self
         ensures { λ r. ⌜ r ≡ ofTwo lower self other ⌝ }
     {
-        match self {
-            Extreme::None => other,
-            Extreme::Row(a) => match other {
-                Extreme::None => self,
-                Extreme::Row(b) => Extreme::Row(lower_row(a, b)),
-            },
-        }
+        self.of_two(true, other)
     }
 
     // The larger of two, where there are two.
     pub fn higher(self, other: Extreme) -> Self
         ensures { λ r. ⌜ r ≡ ofTwo higher self other ⌝ }
     {
+        self.of_two(false, other)
+    }
+
+    fn of_two(self, least: bool, other: Extreme) -> Self
+        ensures { λ r. ⌜ r ≡ ofTwo (pick least lower higher) self other ⌝ }
+    {
         match self {
             Extreme::None => other,
             Extreme::Row(a) => match other {
                 Extreme::None => self,
-                Extreme::Row(b) => Extreme::Row(higher_row(a, b)),
+                Extreme::Row(b) => Extreme::Row(row_of_two(least, a, b)),
             },
         }
     }
@@ -125,17 +139,11 @@ fn range_of(rows: &[i64]) -> Range
     }
 }
 
-fn shorter(a: usize, b: usize) -> usize
-    ensures { λ r. ⌜ r ≡ min a b ⌝ }
-{
-    if a <= b { a } else { b }
-}
-
 // Each count and the one at its place, where there is one, modulo 2^64: no lines lead to so many.
 fn add_each(counts: &mut [u64], more: &[u64])
     ensures { λ r. ⌜ now (counts .exit) ≡ eachPlus (now (counts .entry)) (now (more .entry)) ⌝ }
 {
-    let n = shorter(counts.len(), more.len());
+    let n = number::least(counts.len(), more.len());
     let mut i: usize = 0;
     while i < n {
         counts[i] = std::num::wrapping_add_u64(counts[i], more[i]);
@@ -303,7 +311,8 @@ impl Totals {
         }
     }
 
-    // Two inputs, the second's lines after the first's. Refusal 20, with the first's totals, where they are more lines or rows than the limit.
+    // Two inputs, the second's lines after the first's. Refusal 20, with
+    // the first's totals, where they are more lines or rows than the limit.
     pub fn combine(self, more: Totals) -> Taken
         ensures { λ r. ⌜ r ≡ combined self more ⌝ }
     {
@@ -316,7 +325,8 @@ impl Totals {
         Taken::going(self.together(more))
     }
 
-    // One line more: its reply, and its rows, which count for a run alone. Refusal 20, with the totals as before, where it would pass a limit.
+    // One line more: its reply, and its rows, which count for a run alone.
+    // Refusal 20, with the totals as before, where it would pass a limit.
     pub fn take(self, reply: Reply, rows: &[i64]) -> Taken
         ensures { λ r. ⌜ r ≡ takeLine self (lineWith reply (now (rows .entry))) ⌝ }
     {

@@ -9,6 +9,7 @@ use lib.Dec.{ltb}
 use lib.ListN.{length, take, drop, getD}
 use lib.Seq.{drop-cons, take-at, length-take-le}
 use Rattle.format.specs.Fields.{pick}
+use Rattle.format.proofs.Tests.{never}
 use Rattle.util.proofs.Grow.{filled}
 use borrow.Author.Tests.{lt-ltb, le-ltb}
 use Rattle.text.specs.Ascii.{ascii}
@@ -44,7 +45,8 @@ module _ (s : List ℕ) (p : ℕ) (h : p + 1 < length s) where
 -- ---- the promise
 
 -- where the loop ends, after i bytes, with no more to come
-pub ends : (line frame frame₀ : List ℕ) (i : ℕ) (r : Bool) → i ≤ length frame → r ≡ allHex line → take i frame ++ [] ≡ hexBegun line → drop i frame ≡ drop i frame₀ → HexRead line frame₀ frame r
+pub ends : (line frame frame₀ : List ℕ) (i : ℕ) (r : Bool) → i ≤ length frame → r ≡ allHex line → take i frame ++ [] ≡ hexBegun line
+    → drop i frame ≡ drop i frame₀ → HexRead line frame₀ frame r
 ends line frame frame₀ i r h a e d =
     let n : length (hexBegun line) ≡ i = ap length (sym e) ∙ ap length (append-nil (take i frame)) ∙ length-take-le i frame h in
     record { answer = a; places = rw n (filled frame frame₀ (hexBegun line) i e d) }
@@ -56,14 +58,11 @@ begun-all [] h = refl
 begun-all (c ∷ []) h = refl
 begun-all (c ∷ e ∷ cs) h = by (hexValue c * 16 + hexValue e) (ltb (hexValue c) 16) (ltb (hexValue e) 16) h (begun-all cs)
   where
-    by : (b : ℕ) (t u : Bool) → t && (u && allHex cs) ≡ true → (allHex cs ≡ true → hexBegun cs ≡ hexBytes cs) → pick (t && u) (b ∷ hexBegun cs) [] ≡ b ∷ hexBytes cs
+    by : (b : ℕ) (t u : Bool) → t && (u && allHex cs) ≡ true → (allHex cs ≡ true → hexBegun cs ≡ hexBytes cs)
+        → pick (t && u) (b ∷ hexBegun cs) [] ≡ b ∷ hexBytes cs
     by b true true h f = ap (λ (l : List ℕ). b ∷ l) (f h)
-    by b true false h f =
-        let z : _≡_ {A = ℕ} 0 1 = cc in
-        absurd (omega arith)
-    by b false u h f =
-        let z : _≡_ {A = ℕ} 0 1 = cc in
-        absurd (omega arith)
+    by b true false h f = never (cc)
+    by b false u h f = never (cc)
 
 -- half as many as the characters
 bytes-length : (line : List ℕ) → length (hexBytes line) ≡ length line / 2

@@ -29,7 +29,8 @@ none-written out at = record { next = omega arith; places = sym (same-is out at)
 pub one-written : (out : List ℕ) (at c : ℕ) → at < length out → TextWritten (c ∷ []) out at (set out at c) (at + 1)
 one-written out at c h = record { next = refl; places = rw (set-split out at c h, append-snoc, add-one) }
 
-pub then-written : {t u out out₁ out₂ : List ℕ} {at r s : ℕ} → at ≤ length out → TextWritten t out at out₁ r → TextWritten u out₁ r out₂ s → TextWritten (t ++ u) out at out₂ s
+pub then-written : {t u out out₁ out₂ : List ℕ} {at r s : ℕ} → at ≤ length out → TextWritten t out at out₁ r → TextWritten u out₁ r out₂ s
+    → TextWritten (t ++ u) out at out₂ s
 then-written {t} {u} {out} {out₁} {out₂} {at} {r} {s} h w v =
     let k = length t in
     let n : at + length (t ++ u) ≡ at + k + length u = omega (arith, length-append t u) in
@@ -131,7 +132,8 @@ row-length (pos n) = omega (arith, decimal-length n)
 row-length (negsuc n) = omega (arith, decimal-length (suc n))
 
 -- one row more
-pub rows-next : (rows : List ℤ) (i : ℕ) → i < length rows → rowsText (take (i + 1) rows) ≡ (rowsText (take i rows) ++ (32 ∷ [])) ++ rowText (getD rows i (pos 0))
+pub rows-next : (rows : List ℤ) (i : ℕ) → i < length rows
+    → rowsText (take (i + 1) rows) ≡ (rowsText (take i rows) ++ (32 ∷ [])) ++ rowText (getD rows i (pos 0))
 unfolding rowsText
 rows-next rows i h = rw (add-one, take-suc rows i (pos 0) h) (by (take i rows))
   where

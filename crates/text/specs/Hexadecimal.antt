@@ -36,8 +36,8 @@ hexBegun [] = []
 hexBegun (c ∷ []) = []
 hexBegun (c ∷ e ∷ cs) = pick (ltb (hexValue c) 16 && ltb (hexValue e) 16) ((hexValue c * 16 + hexValue e) ∷ hexBegun cs) []
 
--- WHAT `hexadecimal::bytes` PROMISES: the answer is whether each character is a digit; the bytes before the first pair that is not two digits
--- stand in the first places, and the other places keep their content
+-- WHAT `hexadecimal::bytes` PROMISES: the answer is whether each character is a digit; the bytes before the first pair that is not two
+-- digits stand in the first places, and the other places keep their content
 pub record HexRead (line frame frame′ : List ℕ) (r : Bool) : Type 0 where
   pub answer : r ≡ allHex line
   pub places : frame′ ≡ hexBegun line ++ drop (length (hexBegun line)) frame

@@ -25,8 +25,8 @@ fn digit(c: u8) -> u8
     }
 }
 
-// Whether every character of the line is a digit. The bytes that its pairs of digits write go into the first places of the frame, up to the first
-// pair that is none; the places after them are not touched.
+// Whether every character of the line is a digit. The bytes that its pairs of digits write go into the first places of the frame, up to the
+// first pair that is none; the places after them are not touched.
 pub fn bytes(line: &[u8], frame: &mut [u8]) -> bool
     requires { ⌜ (length (now line) % 2 ≡ 0) × (length (now line) ≤ 2 * length (now frame)) ⌝ }
     ensures { λ r. ⌜ HexRead (now (line .entry)) (now (frame .entry)) (now (frame .exit)) r ⌝ }

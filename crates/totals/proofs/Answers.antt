@@ -2,7 +2,7 @@
 use mathlib.Core.Path.{_≡_, refl, sym, ap, _∙_}
 use Prim.Native.Nat.{ℕ, _<_, _≤_, _%_}
 use native.Mathlib.Omega.{arith}
-use mathlib.Core.Bool.{Bool, true, false, _||_, _&&_, not}
+use mathlib.Core.Bool.{Bool, true, false, _||_, not}
 use mathlib.Core.List.{List, [], _∷_, map, map-map}
 use lib.ListN.{length, take, drop, getD, length-append}
 use lib.Dec.{eqb, ltb}
@@ -17,6 +17,7 @@ use Rattle.format.specs.Parse.{plain, cut, Parsed, end, got, refused, parse, in
 use Rattle.format.proofs.Rows.{i64-count}
 use Rattle.format.specs.Promises.{answerOf, runPlaces}
 use Rattle.format.specs.declared.Answer.{Answer}
+use Rattle.format.proofs.Tests.{both, never}
 use Rattle.text.specs.Hexadecimal.{hexValue, allHex, hexBytes}
 use Rattle.lines.specs.declared.Reading.the-variants.{Bad, Answered}
 use Rattle.lines.specs.Line.{badLine, frameOf, frameReading, framePlaces, LineRead}
@@ -30,10 +31,6 @@ use Rattle.tally.proofs.Sizes.{all-fit}
 use Rattle.totals.specs.Program.{answerTo, answersTo}
 
 -- ---- a line's bytes are bytes
-
-both : (t u : Bool) → t && u ≡ true → (t ≡ true) × (u ≡ true)
-both true u h = (refl, h)
-both false u h = let z : _≡_ {A = ℕ} 0 1 = cc in absurd (omega arith)
 
 hex-below : (l : List ℕ) → allHex l ≡ true → AllBelow 256 (hexBytes l)
 unfolding allHex hexBytes
@@ -79,7 +76,7 @@ all-i64 lines = rw (map-map answered frameOf lines) at (all-fit (map frameOf lin
 bad-is : (n : ℕ) (f : List ℕ) → Bad ≡ frameReading n f → answered f ≡ bad
 unfolding frameReading answered
 bad-is n [] e = refl
-bad-is n (flag ∷ run) e = let z : _≡_ {A = ℕ} 0 1 = cc in absurd (omega arith)
+bad-is n (flag ∷ run) e = never (cc)
 
 read-bad : (line : List ℕ) (out out′ : List ℤ) → LineRead line out out′ Bad → bad ≡ answerTo line
 read-bad line out out′ r = sym (bad-is (length out) (frameOf line) (r .answer))
@@ -87,7 +84,7 @@ read-bad line out out′ r = sym (bad-is (length out) (frameOf line) (r .answer)
 answer-is : (f : List ℕ) (out out′ : List ℤ) (a : Answer) → AllBelow 256 f → length out ≡ 512 → Answered a ≡ frameReading (length out) f → out′ ≡ framePlaces out f
     → lineWith (replyTo a) (take (answerRows a) out′) ≡ answered f
 unfolding frameReading framePlaces
-answer-is [] out out′ a b l e p = let z : _≡_ {A = ℕ} 0 1 = cc in absurd (omega arith)
+answer-is [] out out′ a b l e p = never (cc)
 answer-is (flag ∷ run) out out′ a b l e p =
     let g : a ≡ answerOf 1 (length run) (into (length out) (parse run)) = cc in
     let h : a ≡ answerOf 1 (length run) (into 512 (parse run)) = rw l at g in
@@ -107,7 +104,7 @@ answer-within signed at total out (refused (cut n left)) = omega arith
 
 rows-within : (f : List ℕ) (out out′ : List ℤ) (a : Answer) → Answered a ≡ frameReading (length out) f → out′ ≡ framePlaces out f → answerRows a ≤ length out′
 unfolding frameReading framePlaces
-rows-within [] out out′ a e p = let z : _≡_ {A = ℕ} 0 1 = cc in absurd (omega arith)
+rows-within [] out out′ a e p = never (cc)
 rows-within (flag ∷ run) out out′ a e p =
     let g : a ≡ answerOf 1 (length run) (into (length out) (parse run)) = cc in
     rw (g, p) (answer-within (eqb flag 1) 1 (length run) out (into (length out) (parse run)))

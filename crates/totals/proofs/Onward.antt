@@ -7,6 +7,7 @@ use mathlib.Core.List.{List, [], _∷_, _++_, map-append}
 use lib.ListN.{length, take, drop, take-append-drop, length-drop}
 use borrow.Author.Tests.{eq-eqb, ne-eqb}
 use Rattle.format.specs.Fields.{pick}
+use Rattle.format.proofs.Tests.{never}
 use Rattle.blocks.specs.Blocks.{linesFrom, begunFrom, lastLine, lineLength}
 use Rattle.blocks.proofs.Lines.{line-open, lines-append, end-le, next-lines, next-whole}
 use Rattle.tally.specs.declared.totals.Totals.{Totals}
@@ -55,9 +56,6 @@ module _ (t t′ : Totals) (xs : List Line) where
 
 -- ---- one line: stopped, or going
 
-pub clash : {X : Type 0} → true ≡ false → X
-clash h = let z : _≡_ {A = ℕ} 0 1 = cc in absurd (omega arith)
-
 pub line-stopped : (t : Totals) (l : Line) (r : Taken) → r ≡ takeLine t l → isStopped (r .stop) ≡ true → takeLine t l ≡ stopped (r .totals)
 unfolding takeLine
 line-stopped t l r e h = by (tooMany (t .lines + 1) (t .rows + length (rowsIn l))) e
@@ -65,7 +63,7 @@ line-stopped t l r e h = by (tooMany (t .lines + 1) (t .rows + length (rowsIn l)
     by : (b : Bool) → r ≡ pick b (stopped t) (going (together t (held (totals (l ∷ [])))))
         → pick b (stopped t) (going (together t (held (totals (l ∷ []))))) ≡ stopped (r .totals)
     by true e = ap (λ (x : Taken). stopped (x .totals)) (sym e)
-    by false e = clash (sym h ∙ ap (λ (x : Taken). isStopped (x .stop)) e)
+    by false e = never (cc)
 
 pub line-going : (t : Totals) (l : Line) (r : Taken) → r ≡ takeLine t l → isStopped (r .stop) ≡ false → takeLine t l ≡ going (r .totals)
 unfolding takeLine
@@ -73,7 +71,7 @@ line-going t l r e h = by (tooMany (t .lines + 1) (t .rows + length (rowsIn l)))
   where
     by : (b : Bool) → r ≡ pick b (stopped t) (going (together t (held (totals (l ∷ [])))))
         → pick b (stopped t) (going (together t (held (totals (l ∷ []))))) ≡ going (r .totals)
-    by true e = clash (sym (ap (λ (x : Taken). isStopped (x .stop)) e) ∙ h)
+    by true e = never (cc)
     by false e = ap (λ (x : Taken). going (x .totals)) (sym e)
 
 -- ---- the whole lines of a block

@@ -5,6 +5,7 @@ use native.Mathlib.Omega.{arith}
 use mathlib.Core.Bool.{Bool, true, false}
 use mathlib.Core.List.{List, [], _∷_, _++_, map-append, append-nil}
 use lib.ListN.{length, take, length-append}
+use Rattle.format.proofs.Tests.{never}
 use Rattle.blocks.specs.Blocks.{linesFrom, begunFrom, lastLine, linesIn, kept, part, Carried, blockLines, joinedBlocks}
 use Rattle.blocks.proofs.Lines.{lines-append, lines-open}
 use Rattle.blocks.proofs.Turns.{cut-is, left-is}
@@ -18,7 +19,7 @@ use Rattle.tally.proofs.Taking.{code-holds}
 use Rattle.totals.specs.Program.{answerTo, answersTo, isStopped, writtenFor, takenText, programText, Takes, over, at-end, in-block, of-input, whatever-comes, FinalSays, NoneUnread}
 use Rattle.totals.specs.Program.Takes.{ends, stops, turns}
 use Rattle.totals.proofs.Answers.{long-alike, all-i64}
-use Rattle.totals.proofs.Onward.{clash, all-going, all-stopped}
+use Rattle.totals.proofs.Onward.{all-going, all-stopped}
 
 -- a turn's whole lines are those of what was kept and of its block
 lines-are : (line input : List ℕ) (from end : ℕ) → Carried line input from end
@@ -70,7 +71,7 @@ final-says reads t halted (in-block blocks e b h) = whatever-comes blocks b (λ 
 -- no totals are stopped where there is no line
 none-stopped : (t : Totals) → Takes [] [] (held empty) (stopped t) → ⊥
 unfolding blockLines lastLine takeAll
-none-stopped t h = clash (ap (λ (r : Taken). isStopped (r .stop)) (takes-lines [] [] (held empty) (stopped t) h))
+none-stopped t h = never (cc (ap (λ (r : Taken). isStopped (r .stop)) (takes-lines [] [] (held empty) (stopped t) h)))
 
 pub none-unread : NoneUnread
 none-unread t halted (at-end blocks b h) = absurd (omega (arith, b .brought .each, length-append blocks ([] ∷ [])))

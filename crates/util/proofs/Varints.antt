@@ -19,6 +19,7 @@ use Rattle.format.proofs.Posts.{Post, at-got, at-refused, Took}
 use Rattle.format.proofs.Fields.{varint-sound}
 use Rattle.format.proofs.Below.{below-all, below-drop}
 use Rattle.format.proofs.Varints.{varint-length, varint-lt}
+use Rattle.format.proofs.Tests.{never}
 use Rattle.util.specs.declared.varint.Varint as Answer
 use Rattle.util.specs.declared.varint.Varint.the-variants.{Value, Cut, TooLong}
 use Rattle.util.specs.Varint.{told, varintAt}
@@ -140,8 +141,8 @@ module _ (s : List ℕ) (at : ℕ) (below : (i : ℕ) → getD s i 0 < 256) wher
             within = omega (arith, varint-length 10 v (t .ok));
             parsed = e ∙ ap (got v) d;
           }
-      by (at-refused {r = plain n}) e q = let z : _≡_ {A = ℕ} 0 1 = cc in absurd (omega arith)
-      by (at-refused {r = cut n left}) e q = let z : _≡_ {A = ℕ} 0 1 = cc in absurd (omega arith)
+      by (at-refused {r = plain n}) e q = never (cc)
+      by (at-refused {r = cut n left}) e q = never (cc)
 
   pub cut-is : varintAt s at ≡ Cut → varint (cutIn 12 (drop at s)) 10 (drop at s) ≡ refused (cutIn 12 (drop at s))
   unfolding varintAt
@@ -149,9 +150,9 @@ module _ (s : List ℕ) (at : ℕ) (below : (i : ℕ) → getD s i 0 < 256) wher
     where
       by : {m : Parsed (List ℕ)} → Refuses (cutIn 12 (drop at s)) m → varint (cutIn 12 (drop at s)) 10 (drop at s) ≡ m → told at m ≡ Cut
           → varint (cutIn 12 (drop at s)) 10 (drop at s) ≡ refused (cutIn 12 (drop at s))
-      by stands e q = let z : _≡_ {A = ℕ} 0 1 = cc in absurd (omega arith)
+      by stands e q = never (cc)
       by ends e q = e
-      by too-long e q = let z : _≡_ {A = ℕ} 0 1 = cc in absurd (omega arith)
+      by too-long e q = never (cc)
 
   pub long-is : varintAt s at ≡ TooLong → varint (cutIn 12 (drop at s)) 10 (drop at s) ≡ refused (plain 5)
   unfolding varintAt
@@ -159,6 +160,6 @@ module _ (s : List ℕ) (at : ℕ) (below : (i : ℕ) → getD s i 0 < 256) wher
     where
       by : {m : Parsed (List ℕ)} → Refuses (cutIn 12 (drop at s)) m → varint (cutIn 12 (drop at s)) 10 (drop at s) ≡ m → told at m ≡ TooLong
           → varint (cutIn 12 (drop at s)) 10 (drop at s) ≡ refused (plain 5)
-      by stands e q = let z : _≡_ {A = ℕ} 0 1 = cc in absurd (omega arith)
-      by ends e q = let z : _≡_ {A = ℕ} 0 1 = cc in absurd (omega arith)
+      by stands e q = never (cc)
+      by ends e q = never (cc)
       by too-long e q = e

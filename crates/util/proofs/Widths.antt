@@ -11,7 +11,8 @@ use lib.Pow.{pow-add, pow-mono}
 use borrow.Author.Tests.{le-leb}
 use Rattle.format.specs.Fields.{pick, widths, width, leastOf, leastWidth, Narrowest}
 use Rattle.format.specs.Kept.{keptCodes, nextKept}
-use Rattle.format.proofs.Widths.{and-left, and-right, allB, all-at, least-holds}
+use Rattle.format.proofs.Widths.{allB, all-at, least-holds}
+use Rattle.format.proofs.Tests.{and-left, and-right}
 use Rattle.util.specs.Width.{LeastCode}
 
 unfoldable pub codeOf : ℕ → ℕ

@@ -29,7 +29,8 @@ unfolding start
 start-length code n first base = omega (arith, length-append (shortest first) (shortest base))
 
 -- by the numbers that the code has at hand
-pub started : (code n : ℕ) {f b f′ b′ : ℕ} → f′ ≡ f → b′ ≡ b → {out out′ : List ℕ} {r : ℕ} → Started (start code n f′ b′) out out′ r → Started (start code n f b) out out′ r
+pub started : (code n : ℕ) {f b f′ b′ : ℕ} → f′ ≡ f → b′ ≡ b → {out out′ : List ℕ} {r : ℕ} → Started (start code n f′ b′) out out′ r
+    → Started (start code n f b) out out′ r
 started code n p q h = rw (p, q) at h
 
 -- ---- fixed delta
@@ -38,8 +39,11 @@ pub record Fixed (rows : List ℤ) (signed : Bool) (code : ℕ) : Type 0 where
   pub count : countAllowed FixedDelta (length (map asU64 rows)) ≡ true
   pub size : widthAllowed FixedDelta code ≡ true
   pub fits : fitWidth signed FixedDelta code (map asU64 rows) ≡ true
-  pub lay : layout (described signed FixedDelta code (map asU64 rows)) ≡ start 0 (length rows) (firstOf signed (map asU64 rows)) (zigzagged (baseDelta (map asU64 rows)))
-  pub shape : (kindOf (described signed FixedDelta code (map asU64 rows)) ≡ kind.Delta) × (widthOf (described signed FixedDelta code (map asU64 rows)) ≡ 0) × (rowCount (described signed FixedDelta code (map asU64 rows)) ≡ length rows)
+  pub lay : layout (described signed FixedDelta code (map asU64 rows))
+      ≡ start 0 (length rows) (firstOf signed (map asU64 rows)) (zigzagged (baseDelta (map asU64 rows)))
+  pub shape : (kindOf (described signed FixedDelta code (map asU64 rows)) ≡ kind.Delta)
+      × (widthOf (described signed FixedDelta code (map asU64 rows)) ≡ 0)
+      × (rowCount (described signed FixedDelta code (map asU64 rows)) ≡ length rows)
 
 pub fixed-known : (rows : List ℤ) (signed : Bool) (code : ℕ) → 1 ≤ length rows → length rows ≤ 512 → code ≡ 0 → Fixed rows signed code
 unfolding fitWidth valuesOf described layout start every
@@ -74,10 +78,12 @@ module _ {rows : List ℤ} {signed : Bool} {code : ℕ} (k : Fixed rows signed c
 
     pub even : not same ≡ false → {n : ℕ} → StartSize (firstOf signed rs) (zigzagged (baseDelta rs)) n → Sized signed FixedDelta code rs n
     even h {n} z =
-        let e : n ≡ length (layout (described signed FixedDelta code rs)) = z .bytes ∙ sym (start-length 0 (length rows) (firstOf signed rs) (zigzagged (baseDelta rs))) ∙ sym laid-size in
+        let e : n ≡ length (layout (described signed FixedDelta code rs)) =
+        z .bytes ∙ sym (start-length 0 (length rows) (firstOf signed rs) (zigzagged (baseDelta rs))) ∙ sym laid-size in
         fit (sym form-is ∙ not-false same h) (k .fits) e (omega (arith, z .bytes)) (omega (arith, z .few))
 
-  pub uneven-refused : {n : ℕ} → Sized signed FixedDelta code rs n → n ≡ 0 → (out : List ℕ) (r : Answer) → r ≡ refusedAt 10 0 → Written rows signed FixedDelta code out out r
+  pub uneven-refused : {n : ℕ} → Sized signed FixedDelta code rs n → n ≡ 0 → (out : List ℕ) (r : Answer) → r ≡ refusedAt 10 0
+      → Written rows signed FixedDelta code out out r
   uneven-refused z h out r e = bad-form rows signed FixedDelta code out r (k .count) (k .size) (has-form signed FixedDelta code rs z h (k .fits)) e
 
   module _ {n : ℕ} (z : Sized signed FixedDelta code rs n) (some : 1 ≤ n) where
@@ -87,6 +93,7 @@ module _ {rows : List ℤ} {signed : Bool} {code : ℕ} (k : Fixed rows signed c
     pub too-short : (out : List ℕ) (r : Answer) → length out < n → r ≡ refusedAt 8 0 → Written rows signed FixedDelta code out out r
     too-short out r h e = no-room rows signed FixedDelta code out r (k .count) (k .size) z some h e
 
-    pub opened : (out out′ : List ℕ) (r : Answer) → n ≤ length out → r ≡ ran kind.Delta 0 (length rows) n → out′ ≡ opening ++ drop (length opening) out → Written rows signed FixedDelta code out out′ r
+    pub opened : (out out′ : List ℕ) (r : Answer) → n ≤ length out → r ≡ ran kind.Delta 0 (length rows) n
+        → out′ ≡ opening ++ drop (length opening) out → Written rows signed FixedDelta code out out′ r
     opened out out′ r h e q =
         laid rows signed FixedDelta code out r (k .count) (k .size) z some h out′ (rw (k .shape .0, k .shape .1, k .shape .2) e) (rw (k .lay) q)

@@ -5,7 +5,7 @@ use native.Mathlib.Nat.{div-lt-iff-lt-mul}
 use native.Mathlib.Numerals.{add-one}
 use native.Mathlib.Decide.{decLt}
 use native.Mathlib.Omega.{arith}
-use mathlib.Core.Bool.{Bool, true, false, _&&_}
+use mathlib.Core.Bool.{Bool, true, false, _&&_, and-true, and-false}
 use mathlib.Core.List.{List, [], _∷_, map}
 use mathlib.Core.Logic.{_↔_}
 use lib.Dec.{ltb, eqb}
@@ -16,12 +16,7 @@ use lib.Pow.{pow-pos}
 use borrow.Author.Tests.{lt-ltb, le-ltb, eq-eqb, ne-eqb}
 use Rattle.format.specs.Rows.{asU64}
 use Rattle.format.specs.Writing.{minus, stepTo, stepsOf, baseDelta, every}
-use Rattle.format.proofs.Tests.{and-false}
 use Rattle.writer.specs.PatchedBase.{Largest}
-
-pub and-true : (b : Bool) → b && true ≡ b
-and-true true = refl
-and-true false = refl
 
 -- ---- a loop that tests all numbers of a list: the whole passes exactly if what is left of it passes
 
@@ -67,7 +62,8 @@ module _ (l : List ℕ) (n most i : ℕ) (m : Most l n most i) where
       by (yes k) = rw (lt-ltb x b (omega arith))
       by (no k) = rw (le-ltb most b (omega arith))
 
-  split : i < n → n ≤ length l → (b : ℕ) → 1 ≤ b → every (λ x. ltb x b) (take n l) ≡ ltb most b && (ltb (getD l i 0) b && every (λ x. ltb x b) (slice (i + 1) n l))
+  split : i < n → n ≤ length l → (b : ℕ) → 1 ≤ b
+      → every (λ x. ltb x b) (take n l) ≡ ltb most b && (ltb (getD l i 0) b && every (λ x. ltb x b) (slice (i + 1) n l))
   unfolding every
   split h k b p = m .bounds b p ∙ rw (add-one, slice-cons i n l 0 h k)
 

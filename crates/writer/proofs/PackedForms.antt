@@ -21,7 +21,8 @@ use Rattle.format.specs.Kept.{isKept}
 use Rattle.format.specs.Runs.{layout, rowCount, head}
 use Rattle.format.specs.Rows.{asU64}
 use Rattle.format.specs.Promises.{kindOf, widthOf}
-use Rattle.format.specs.Writing.{countAllowed, haveForm, widthAllowed, fitWidth, stored, firstOf, baseDelta, stepsOf, falls, valuesOf, padded, every, described, Written}
+use Rattle.format.specs.Writing.{countAllowed, haveForm, widthAllowed, fitWidth, stored, firstOf, baseDelta, stepsOf, falls, valuesOf}
+use Rattle.format.specs.Writing.{padded, every, described, Written}
 use Rattle.format.proofs.Fields.{length-block}
 use Rattle.format.proofs.Tests.{every-below}
 use Rattle.format.proofs.Steps.{later-steps}
@@ -51,20 +52,23 @@ module _ {rows : List ℤ} {signed : Bool} {f : Form} {kind : Kind} {code : ℕ}
   vs = valuesOf signed f rs
 
   laid-length : length (layout (described signed f code rs)) ≡ length p + bytesFor (m * bits)
-  laid-length = ap (λ (l : List ℕ). length l) (k .lay) ∙ length-append p (blockBytes bits m (padded vs)) ∙ ap (λ (n : ℕ). length p + n) (length-block bits m (padded vs))
+  laid-length = ap (λ (l : List ℕ). length l) (k .lay) ∙ length-append p (blockBytes bits m (padded vs))
+      ∙ ap (λ (n : ℕ). length p + n) (length-block bits m (padded vs))
 
   -- its size, by the test of the values
   pub too-wide : (t : Bool) → t ≡ every (λ x. ltb x (2 ^ bits)) vs → not t ≡ true → Sized signed f code rs 0
   too-wide t e h = unfit (rw (k .form, k .tests, ← e) (not-true t h))
 
-  pub measured : (t : Bool) → t ≡ every (λ x. ltb x (2 ^ bits)) vs → not t ≡ false → {n : ℕ} → n ≡ length p + bytesFor (m * bits) → 1 ≤ n → n ≤ 4356 → Sized signed f code rs n
+  pub measured : (t : Bool) → t ≡ every (λ x. ltb x (2 ^ bits)) vs → not t ≡ false → {n : ℕ} → n ≡ length p + bytesFor (m * bits) → 1 ≤ n
+      → n ≤ 4356 → Sized signed f code rs n
   measured t e h s a b = fit (k .form) (k .tests ∙ sym e ∙ not-false t h) (s ∙ sym laid-length) a b
 
   -- what is refused
   pub unfitting : {n : ℕ} → Sized signed f code rs n → n ≡ 0 → (out : List ℕ) (r : Answer) → r ≡ refusedAt 11 0 → Written rows signed f code out out r
   unfitting z h out r e = bad-fit rows signed f code out r (k .count) (k .size) z h (k .form) e
 
-  pub too-few : {n : ℕ} → Sized signed f code rs n → 1 ≤ n → (out : List ℕ) (r : Answer) → length out < n → r ≡ refusedAt 8 0 → Written rows signed f code out out r
+  pub too-few : {n : ℕ} → Sized signed f code rs n → 1 ≤ n → (out : List ℕ) (r : Answer) → length out < n → r ≡ refusedAt 8 0
+      → Written rows signed f code out out r
   too-few z some out r h e = no-room rows signed f code out r (k .count) (k .size) z some h e
 
   -- what is written
@@ -101,7 +105,8 @@ direct-packed rows signed code a b c w =
       counted = m;
     }
 
-pub direct-values : (rows : List ℤ) (signed : Bool) (vals rest : List ℕ) → vals ≡ map (stored signed) (map asU64 rows) ++ rest → take (length rows) vals ≡ valuesOf signed Direct (map asU64 rows)
+pub direct-values : (rows : List ℤ) (signed : Bool) (vals rest : List ℕ) → vals ≡ map (stored signed) (map asU64 rows) ++ rest
+    → take (length rows) vals ≡ valuesOf signed Direct (map asU64 rows)
 unfolding valuesOf
 direct-values rows signed vals rest e =
     rw e (take-at (map (stored signed) (map asU64 rows)) rest (length rows) (length-map (map asU64 rows) (stored signed) ∙ length-map rows asU64))
@@ -148,7 +153,9 @@ module _ (rows : List ℤ) (signed : Bool) (a : 2 ≤ length rows) where
         size = rw (le-leb 1 code c) c′;
         form = refl;
         tests = rw w;
-        lay = rw (m, later, w) (sym (regroup (head 3 code (length rows)) (shortest (firstOf signed drs)) (shortest (zigzagged (baseDelta drs))) (blockBytes (width code) (length rows - 2) (padded vs))));
+        lay = rw (m, later, w)
+            (sym (regroup (head 3 code (length rows)) (shortest (firstOf signed drs)) (shortest (zigzagged (baseDelta drs)))
+            (blockBytes (width code) (length rows - 2) (padded vs))));
         kinded = refl;
         wide = sym w;
         counted = m;

@@ -80,14 +80,16 @@ module _ {vals : List ℕ} {n w pw : ℕ} {list : List ℕ} {i from k : ℕ} (f 
             (grow list k (field pw skip) (map (field pw) (entriesFrom (from + 255) (this ∷ rest))) _ r (rw (come, skip-next from this rest g) at (f .whole)));
       }
 
-      pub put-entry : k < length list → i ≤ from + 255 → (e : ℕ) → e ≡ (i - from) * 2 ^ pw + value / 2 ^ w → Filling vals n w pw (set list k e) (i + 1) i (k + 1)
+      pub put-entry : k < length list → i ≤ from + 255 → (e : ℕ) → e ≡ (i - from) * 2 ^ pw + value / 2 ^ w
+          → Filling vals n w pw (set list k e) (i + 1) i (k + 1)
       put-entry r g e q = record {
         rows = omega arith;
         led = omega arith;
         room = simp length-set (omega arith);
         whole =
             rw (add-one i, q)
-            (grow list k (field pw (record { gap = i - from; patch = value / 2 ^ w })) (map (field pw) (entriesFrom i rest)) _ r (rw (come, entry-next from this rest g) at (f .whole)));
+            (grow list k (field pw (record { gap = i - from; patch = value / 2 ^ w })) (map (field pw) (entriesFrom i rest)) _ r
+            (rw (come, entry-next from this rest g) at (f .whole)));
       }
 
       pub too-long : k ≡ length list → Listed pw (entriesFrom 0 (patchesAbove w 0 (take n vals))) list (k + 1)

@@ -2,7 +2,7 @@
 use mathlib.Core.Path.{_≡_, ap}
 use Prim.Native.Nat.{ℕ, _+_, _-_, _*_, _^_, _<_, _≤_}
 use native.Mathlib.Omega.{arith}
-use mathlib.Core.Bool.{true, false}
+use mathlib.Core.Bool.{true, false, and-false}
 use mathlib.Core.List.{List, map}
 use lib.Dec.{leb, ltb, ltb→lt}
 use lib.IntN.{ℤ}
@@ -16,11 +16,11 @@ use Rattle.format.specs.Rows.{asU64}
 use Rattle.format.specs.Fields.{width}
 use Rattle.format.specs.Writing.{padded, between}
 use Rattle.format.specs.Kept.{isKeptWidth}
-use Rattle.format.specs.PatchedWriting.{differences, lows, field, codeFor, patchCode, gapWidth, magnitude, baseSize, baseBytes, Parts, patchesIn, entriesOf, parts, headerHolds, writingPatched, PatchedWritten}
+use Rattle.format.specs.PatchedWriting.{differences, lows, field, codeFor, patchCode, gapWidth, magnitude, baseSize, baseBytes, Parts}
+use Rattle.format.specs.PatchedWriting.{patchesIn, entriesOf, parts, headerHolds, writingPatched, PatchedWritten}
 use Rattle.format.proofs.Least.{least-passes}
 use Rattle.format.proofs.Widths.{least-holds}
 use Rattle.format.proofs.PatchedWriting.{below-mods, size-low, size-is, code-width, width-56, gap-1, gap-8, gap-holds, es-below, fields-below}
-use Rattle.format.proofs.Tests.{and-false}
 use Rattle.writer.specs.declared.patched_base.Header.{Header}
 use Rattle.writer.specs.PatchedBase.{signMagnitude, headed, Headed, PatchedLaid}
 
@@ -59,7 +59,8 @@ module _ (base w : ℕ) (rs : List ℕ) where
 
   module _ (h : Header) (vals list : List ℕ) (code : h .code ≡ codeFor w) (rows : h .rows .rows ≡ length rs) (size : h .base .bytes ≡ baseSize base)
       (patch : h .patch ≡ patchCode (patchesIn base w rs)) (gap : h .gap ≡ gapWidth (entriesOf base w rs)) (entries : h .entries ≡ length (entriesOf base w rs))
-      (values : take (h .rows .rows) vals ≡ lows w (differences base rs)) (fields : take (h .entries) list ≡ map (field (width (h .patch))) (entriesOf base w rs)) where
+      (values : take (h .rows .rows) vals ≡ lows w (differences base rs))
+      (fields : take (h .entries) list ≡ map (field (width (h .patch))) (entriesOf base w rs)) where
     same-parts : headed h base vals list ≡ d
     unfolding parts baseBytes
     same-parts =
@@ -97,7 +98,8 @@ module _ (base w : ℕ) (rs : List ℕ) where
             entries = few;
             entries-there = l;
             values-fit = rw (values, code, code-width w c) (below-mods (λ x. x) (2 ^ w) (pow-pos w) (differences base rs));
-            list-fits = rw (fields, patch, gap) (fields-below (width (patchCode (patchesIn base w rs))) (gapWidth (entriesOf base w rs)) _ (entriesOf base w rs) (least-holds _ (omega arith)) (gap-holds 0 (patchesIn base w rs)) (es-below base w rs));
+            list-fits = rw (fields, patch, gap) (fields-below (width (patchCode (patchesIn base w rs))) (gapWidth (entriesOf base w rs)) _
+                (entriesOf base w rs) (least-holds _ (omega arith)) (gap-holds 0 (patchesIn base w rs)) (es-below base w rs));
           };
           same = same-parts;
           holds =
@@ -126,11 +128,13 @@ module _ (rows : List ℤ) (base : ℤ) (w : ℕ) (out : List ℕ) (r : Answer) 
     unfolding writingPatched
     bad-width k e = record { answer = rw (counted, k) e; places = rw (counted, k) }
 
-    pub bad-form : isKeptWidth w ≡ true → headerHolds (parts (asU64 base) w (map asU64 rows)) ≡ false → r ≡ refusedAt 10 0 → PatchedWritten rows base w out out r
+    pub bad-form : isKeptWidth w ≡ true → headerHolds (parts (asU64 base) w (map asU64 rows)) ≡ false → r ≡ refusedAt 10 0
+        → PatchedWritten rows base w out out r
     unfolding writingPatched
     bad-form k h e = record { answer = rw (counted, k, h) e; places = rw (counted, k, h) }
 
-    pub formed : (out′ : List ℕ) → isKeptWidth w ≡ true → headerHolds (parts (asU64 base) w (map asU64 rows)) ≡ true → PatchedLaid (parts (asU64 base) w (map asU64 rows)) out out′ r
+    pub formed : (out′ : List ℕ) → isKeptWidth w ≡ true → headerHolds (parts (asU64 base) w (map asU64 rows)) ≡ true
+        → PatchedLaid (parts (asU64 base) w (map asU64 rows)) out out′ r
         → PatchedWritten rows base w out out′ r
     unfolding writingPatched
     formed out′ k h l = record { answer = rw (counted, k, h) (l .answer); places = rw (counted, k, h) (l .places) }

@@ -45,7 +45,8 @@ patches-test a w p (d ∷ ds) = rw (above-test d a w) (by (eqb (d / 2 ^ w) 0) re
   where
     by : (t : Bool) → eqb (d / 2 ^ w) 0 ≡ t
         → every (λ x. ltb x (2 ^ a)) (map (λ q. q .patch) (patchesAbove w (suc p) ds)) ≡ every (λ x. ltb x (2 ^ (a + w))) ds
-        → every (λ x. ltb x (2 ^ a)) (map (λ q. q .patch) (pick t (patchesAbove w (suc p) ds) (record { place = p; patch = d / 2 ^ w } ∷ patchesAbove w (suc p) ds)))
+        → every (λ x. ltb x (2 ^ a))
+        (map (λ q. q .patch) (pick t (patchesAbove w (suc p) ds) (record { place = p; patch = d / 2 ^ w } ∷ patchesAbove w (suc p) ds)))
         ≡ ltb (d / 2 ^ w) (2 ^ a) && every (λ x. ltb x (2 ^ (a + w))) ds
     by true e ih = rw (eqb-true (d / 2 ^ w) 0 e, lt-ltb 0 (2 ^ a) (pow-pos a)) ih
     by false e ih = rw ih

@@ -57,7 +57,12 @@ module _ {h : Header} {base : ℕ} {vals list : List ℕ} {bits entry v l : ℕ}
   lay-size : length (layout (run d)) ≡ 4 + h .base .bytes + v + l
   lay-size =
       ap (λ (t : List ℕ). length t) lay-is
-      ∙ simp (length-append, length-digits 256 (h .base .bytes) (signMagnitude base (h .base .bytes)), length-block bits (h .rows .rows) (padded (take (h .rows .rows) vals)), length-block entry (h .entries) (padded (take (h .entries) list)))
+      ∙ simp (
+        length-append,
+        length-digits 256 (h .base .bytes) (signMagnitude base (h .base .bytes)),
+        length-block bits (h .rows .rows) (padded (take (h .rows .rows) vals)),
+        length-block entry (h .entries) (padded (take (h .entries) list)),
+      )
       (omega (arith, s .values-are, s .list-is))
 
   pub no-room : (out : List ℕ) (r : Answer) → length out < 4 + h .base .bytes + v + l → r ≡ refusedAt 8 0 → PatchedLaid d out out r
@@ -65,18 +70,27 @@ module _ {h : Header} {base : ℕ} {vals list : List ℕ} {bits entry v l : ℕ}
       let t = lt-ltb (length out) (length (layout (run d))) (rw lay-size f) in
       record { answer = rw t e; places = rw t }
 
-  pub laid : (out o₁ o₂ o₃ o₄ : List ℕ) (r : Answer) → 4 + h .base .bytes + v + l ≤ length out → r ≡ ran kind.PatchedBase bits (h .rows .rows) (4 + h .base .bytes + v + l)
+  pub laid : (out o₁ o₂ o₃ o₄ : List ℕ) (r : Answer) → 4 + h .base .bytes + v + l ≤ length out
+      → r ≡ ran kind.PatchedBase bits (h .rows .rows) (4 + h .base .bytes + v + l)
       → o₁ ≡ headBytes h ++ drop 4 out → o₂ ≡ take 4 o₁ ++ base-is ++ drop (4 + h .base .bytes) o₁
       → o₃ ≡ take (4 + h .base .bytes) o₂ ++ values-block ++ drop (4 + h .base .bytes + bytesFor (h .rows .rows * bits)) o₂
       → o₄ ≡ take (4 + h .base .bytes + v) o₃ ++ list-block ++ drop (4 + h .base .bytes + v + bytesFor (h .entries * entry)) o₃ → PatchedLaid d out o₄ r
   laid out o₁ o₂ o₃ o₄ r f e e₁ e₂ e₃ e₄ =
       let t = le-ltb (length out) (length (layout (run d))) (rw lay-size f) in
-      let n₁ : 4 + h .base .bytes ≡ length (headBytes h ++ base-is) = simp (length-append, length-digits 256 (h .base .bytes) (signMagnitude base (h .base .bytes))) (omega arith) in
+      let n₁ : 4 + h .base .bytes ≡ length (headBytes h ++ base-is) =
+      simp (length-append, length-digits 256 (h .base .bytes) (signMagnitude base (h .base .bytes))) (omega arith) in
       let n₂ : 4 + h .base .bytes + v ≡ length ((headBytes h ++ base-is) ++ values-block) =
-      simp (length-append, length-digits 256 (h .base .bytes) (signMagnitude base (h .base .bytes)), length-block bits (h .rows .rows) (padded (take (h .rows .rows) vals))) (omega (arith, s .values-are)) in
-      let p₁ = behind (headBytes h) base-is out o₁ o₂ 4 (h .base .bytes) refl (length-digits 256 (h .base .bytes) (signMagnitude base (h .base .bytes))) e₁ e₂ in
-      let p₂ = behind (headBytes h ++ base-is) values-block out o₂ o₃ (4 + h .base .bytes) _ n₁ (length-block bits (h .rows .rows) (padded (take (h .rows .rows) vals))) p₁ e₃ in
-      let p₃ = behind ((headBytes h ++ base-is) ++ values-block) list-block out o₃ o₄ (4 + h .base .bytes + v) _ n₂ (length-block entry (h .entries) (padded (take (h .entries) list))) p₂ e₄ in
+      simp (
+        length-append,
+        length-digits 256 (h .base .bytes) (signMagnitude base (h .base .bytes)),
+        length-block bits (h .rows .rows) (padded (take (h .rows .rows) vals)),
+      ) (omega (arith, s .values-are)) in
+      let p₁ = behind (headBytes h) base-is out o₁ o₂ 4 (h .base .bytes) refl
+      (length-digits 256 (h .base .bytes) (signMagnitude base (h .base .bytes))) e₁ e₂ in
+      let p₂ = behind (headBytes h ++ base-is) values-block out o₂ o₃ (4 + h .base .bytes) _ n₁
+      (length-block bits (h .rows .rows) (padded (take (h .rows .rows) vals))) p₁ e₃ in
+      let p₃ = behind ((headBytes h ++ base-is) ++ values-block) list-block out o₃ o₄ (4 + h .base .bytes + v) _ n₂
+      (length-block entry (h .entries) (padded (take (h .entries) list))) p₂ e₄ in
       record {
         answer = rw t (rw (length-take-le (h .rows .rows) vals (k .rows-there), lay-size, ← (s .bits-is)) e);
         places = rw t (rw lay-is p₃);

@@ -14,8 +14,8 @@ use Rattle.format.specs.Fields.{width}
 use Rattle.format.specs.Kept.{isKept}
 use Rattle.format.specs.Writing.{between, countAllowed, widthAllowed}
 use Rattle.format.proofs.Kept.{kept-code}
-use Rattle.format.proofs.Tests.{between-le, T-true}
-use Rattle.format.proofs.Widths.{and-left, and-right, IsWidth, width-is}
+use Rattle.format.proofs.Tests.{between-le, T-true, and-left, and-right}
+use Rattle.format.proofs.Widths.{IsWidth, width-is}
 
 -- ---- bytes written one piece after another
 
@@ -29,7 +29,8 @@ two-set (x ∷ []) a b h = absurd (omega arith)
 two-set (x ∷ y ∷ l) a b h = refl
 
 -- two more bytes, behind two that stand in front
-pub four-set : (p before out : List ℕ) (c d : ℕ) → length p ≡ 2 → 4 ≤ length before → out ≡ p ++ drop 2 before → set (set out 2 c) 3 d ≡ p ++ (c ∷ d ∷ drop 4 before)
+pub four-set : (p before out : List ℕ) (c d : ℕ) → length p ≡ 2 → 4 ≤ length before → out ≡ p ++ drop 2 before
+    → set (set out 2 c) 3 d ≡ p ++ (c ∷ d ∷ drop 4 before)
 four-set (a ∷ b ∷ []) (x ∷ y ∷ z ∷ w ∷ l) out c d n h e = rw e
 four-set (a ∷ b ∷ []) [] out c d n h e = absurd (omega arith)
 four-set (a ∷ b ∷ []) (x ∷ []) out c d n h e = absurd (omega arith)

@@ -2,7 +2,7 @@
 use mathlib.Core.Path.{_≡_, refl}
 use native.Mathlib.Omega.{arith}
 use Prim.Native.Nat.{ℕ, _<_, _≤_}
-use mathlib.Core.Bool.{Bool, true, false, _&&_}
+use mathlib.Core.Bool.{Bool, true, false, and-false}
 use mathlib.Core.List.{List, [], _++_, map}
 use lib.IntN.{ℤ}
 use lib.ListN.{length, drop}
@@ -15,18 +15,14 @@ use Rattle.format.specs.Rows.{asU64}
 use Rattle.format.specs.Parse.{Parsed, got, refused, plain}
 use Rattle.format.specs.Promises.{answerOf, kindOf, widthOf}
 use Rattle.format.specs.Writing.{countAllowed, haveForm, widthAllowed, described, writing, bytesIn, Written}
-use Rattle.format.proofs.Tests.{and-false}
 use Rattle.writer.specs.Sizes.{Sized, unfit, fit}
-
-pub and-same : (b : Bool) → b && b ≡ b
-and-same true = refl
-and-same false = refl
 
 module _ (rows : List ℤ) (signed : Bool) (f : Form) (w : ℕ) (out : List ℕ) (r : Answer) where
   abbrev rs : List ℕ
   rs = map asU64 rows
 
-  told : (out′ : List ℕ) (m : Parsed Description) → writing signed f w rs (length out) ≡ m → r ≡ answerOf 0 0 m → out′ ≡ bytesIn out m → Written rows signed f w out out′ r
+  told : (out′ : List ℕ) (m : Parsed Description) → writing signed f w rs (length out) ≡ m → r ≡ answerOf 0 0 m → out′ ≡ bytesIn out m
+      → Written rows signed f w out out′ r
   told out′ m e p q = record { answer = rw e p; places = rw e q }
 
   pub bad-count : countAllowed f (length rs) ≡ false → r ≡ refusedAt 9 0 → Written rows signed f w out out r
@@ -52,7 +48,8 @@ module _ (rows : List ℤ) (signed : Bool) (f : Form) (w : ℕ) (out : List ℕ)
     pub no-room : {n : ℕ} → Sized signed f w rs n → 1 ≤ n → length out < n → r ≡ refusedAt 8 0 → Written rows signed f w out out r
     unfolding writing
     no-room (unfit e) y k p = absurd (omega arith)
-    no-room (fit h e l a b) y k p = told out (refused (plain 8)) (rw (c, s, h, e, lt-ltb (length out) (length (layout (described signed f w rs))) (rw l at k))) p refl
+    no-room (fit h e l a b) y k p =
+        told out (refused (plain 8)) (rw (c, s, h, e, lt-ltb (length out) (length (layout (described signed f w rs))) (rw l at k))) p refl
 
     pub laid : {n : ℕ} → Sized signed f w rs n → 1 ≤ n → n ≤ length out → (out′ : List ℕ)
         → r ≡ ran (kindOf (described signed f w rs)) (widthOf (described signed f w rs)) (rowCount (described signed f w rs)) n
@@ -60,4 +57,5 @@ module _ (rows : List ℤ) (signed : Bool) (f : Form) (w : ℕ) (out : List ℕ)
     unfolding writing
     laid (unfit e) y k out′ p q = absurd (omega arith)
     laid (fit h e l a b) y k out′ p q =
-        told out′ (got (described signed f w rs) []) (rw (c, s, h, e, le-ltb (length out) (length (layout (described signed f w rs))) (rw l at k))) (rw l at p) q
+        told out′ (got (described signed f w rs) [])
+        (rw (c, s, h, e, le-ltb (length out) (length (layout (described signed f w rs))) (rw l at k))) (rw l at p) q

@@ -2,7 +2,7 @@
 use mathlib.Core.Path.{_≡_, refl, sym, ap, _∙_}
 use Prim.Native.Nat.{ℕ, zero, suc, _+_, _-_, _*_, _^_, _<_, _≤_}
 use native.Mathlib.Omega.{arith}
-use mathlib.Core.Bool.{Bool, true, false, not}
+use mathlib.Core.Bool.{Bool, true, false, not, and-true, and-self}
 use mathlib.Core.List.{List, [], _∷_, _++_, map}
 use lib.Dec.{ltb}
 use lib.IntN.{ℤ}
@@ -20,11 +20,10 @@ use Rattle.format.specs.Writing.{countAllowed, haveForm, widthAllowed, fitWidth
 use Rattle.format.proofs.Digits.{length-digits}
 use Rattle.format.proofs.Tests.{every-same}
 use Rattle.format.proofs.Again.{map-replicate}
-use Rattle.writer.proofs.Laws.{and-true}
 use Rattle.writer.proofs.Pieces.{behind}
 use Rattle.writer.specs.Sizes.{Sized, unfit, fit}
 use Rattle.writer.proofs.Sizes.{sized-as}
-use Rattle.writer.proofs.Promised.{and-same, bad-form, bad-fit, no-room, laid}
+use Rattle.writer.proofs.Promised.{bad-form, bad-fit, no-room, laid}
 
 -- ---- short repeat
 
@@ -33,14 +32,16 @@ every-one : (test : ℕ → Bool) (n y : ℕ) → 1 ≤ n → every test (replic
 unfolding every
 every-one test zero y h = absurd (omega arith)
 every-one test (suc zero) y h = and-true (test y)
-every-one test (suc (suc n)) y h = rw (every-one test (suc n) y (omega arith)) (and-same (test y))
+every-one test (suc (suc n)) y h = rw (every-one test (suc n) y (omega arith)) (and-self (test y))
 
 pub record Short (rows : List ℤ) (signed : Bool) (w : ℕ) : Type 0 where
   pub count : countAllowed ShortRepeat (length (map asU64 rows)) ≡ true
   pub size : widthAllowed ShortRepeat w ≡ true
   pub fits : haveForm ShortRepeat (map asU64 rows) ≡ true → ltb (firstOf signed (map asU64 rows)) (2 ^ (8 * w)) ≡ fitWidth signed ShortRepeat w (map asU64 rows)
   pub lay : layout (described signed ShortRepeat w (map asU64 rows)) ≡ ((w - 1) * 8 + (length rows - 3)) ∷ digits 256 w (firstOf signed (map asU64 rows))
-  pub shape : (kindOf (described signed ShortRepeat w (map asU64 rows)) ≡ kind.ShortRepeat) × (widthOf (described signed ShortRepeat w (map asU64 rows)) ≡ 8 * w) × (rowCount (described signed ShortRepeat w (map asU64 rows)) ≡ length rows)
+  pub shape : (kindOf (described signed ShortRepeat w (map asU64 rows)) ≡ kind.ShortRepeat)
+      × (widthOf (described signed ShortRepeat w (map asU64 rows)) ≡ 8 * w)
+      × (rowCount (described signed ShortRepeat w (map asU64 rows)) ≡ length rows)
 
 pub short-known : (rows : List ℤ) (signed : Bool) (w : ℕ) → 3 ≤ length rows → length rows ≤ 10 → 1 ≤ w → w ≤ 8 → Short rows signed w
 unfolding haveForm fitWidth valuesOf described layout
@@ -84,10 +85,12 @@ module _ {rows : List ℤ} {signed : Bool} {w : ℕ} (k : Short rows signed w) w
       pub alike : not small ≡ false → w ≤ 8 → Sized signed ShortRepeat w rs (1 + w)
       alike y h = fit form-is (sym (k .fits form-is) ∙ sym g ∙ not-false small y) (sym short-size) (omega arith) (omega arith)
 
-  pub refused-form : (same : Bool) → same ≡ haveForm ShortRepeat rs → same ≡ false → (out : List ℕ) (r : Answer) → r ≡ refusedAt 10 0 → Written rows signed ShortRepeat w out out r
+  pub refused-form : (same : Bool) → same ≡ haveForm ShortRepeat rs → same ≡ false → (out : List ℕ) (r : Answer) → r ≡ refusedAt 10 0
+      → Written rows signed ShortRepeat w out out r
   refused-form same e h out r p = bad-form rows signed ShortRepeat w out r (k .count) (k .size) (sym e ∙ h) p
 
-  pub refused-fit : (same : Bool) → same ≡ haveForm ShortRepeat rs → same ≡ true → {n : ℕ} → Sized signed ShortRepeat w rs n → n ≡ 0 → (out : List ℕ) (r : Answer) → r ≡ refusedAt 11 0
+  pub refused-fit : (same : Bool) → same ≡ haveForm ShortRepeat rs → same ≡ true → {n : ℕ} → Sized signed ShortRepeat w rs n → n ≡ 0
+      → (out : List ℕ) (r : Answer) → r ≡ refusedAt 11 0
       → Written rows signed ShortRepeat w out out r
   refused-fit same e h z o out r p = bad-fit rows signed ShortRepeat w out r (k .count) (k .size) z o (sym e ∙ h) p
 
@@ -99,7 +102,8 @@ module _ {rows : List ℤ} {signed : Bool} {w : ℕ} (k : Short rows signed w) w
     too-little out r h e = no-room rows signed ShortRepeat w out r (k .count) (k .size) z some h e
 
     pub repeated : (out out₁ out₂ : List ℕ) (r : Answer) → n ≤ length out → r ≡ ran kind.ShortRepeat (8 * w) (length rows) n
-        → out₁ ≡ ((w - 1) * 8 + (length rows - 3)) ∷ drop 1 out → out₂ ≡ take 1 out₁ ++ digits 256 w value ++ drop (1 + w) out₁ → Written rows signed ShortRepeat w out out₂ r
+        → out₁ ≡ ((w - 1) * 8 + (length rows - 3)) ∷ drop 1 out → out₂ ≡ take 1 out₁ ++ digits 256 w value ++ drop (1 + w) out₁
+        → Written rows signed ShortRepeat w out out₂ r
     repeated out out₁ out₂ r h e e₁ e₂ =
         laid rows signed ShortRepeat w out r (k .count) (k .size) z some h out₂ (rw (k .shape .0, k .shape .1, k .shape .2) e)
         (rw (k .lay) (behind (((w - 1) * 8 + (length rows - 3)) ∷ []) (digits 256 w value) out out₁ out₂ 1 w refl (length-digits 256 w value) e₁ e₂))

@@ -2,7 +2,7 @@
 use mathlib.Core.Path.{_≡_, refl, sym, _∙_}
 use Prim.Native.Nat.{ℕ, _≤_}
 use native.Mathlib.Omega.{arith}
-use mathlib.Core.Bool.{Bool, true, false, not, _&&_}
+use mathlib.Core.Bool.{Bool, true, false, not, _&&_, and-true, and-false}
 use mathlib.Core.List.{List}
 use lib.ListN.{length}
 use borrow.Author.Tests.{le-ltb}
@@ -10,7 +10,7 @@ use Rattle.format.specs.declared.Form.{Form}
 use Rattle.format.specs.Runs.{Description, layout}
 use Rattle.format.specs.Parse.{Parsed, unless}
 use Rattle.format.specs.Writing.{countAllowed, haveForm, widthAllowed, fitWidth, described, writing}
-use Rattle.format.proofs.Tests.{and-false}
+use Rattle.format.proofs.Tests.{never}
 use Rattle.writer.specs.Sizes.{sizeIn, Sized, unfit, fit, SizeDetermined}
 
 pub for-form : {signed : Bool} {f g : Form} {w n : ℕ} {rs : List ℕ} → f ≡ g → Sized signed g w rs n → Sized signed f w rs n
@@ -30,11 +30,7 @@ module _ (signed : Bool) (f : Form) (w : ℕ) (rs : List ℕ) where
   -- ---- and of one that has none: where the width is no matter, the form is
 
   pub has-form : {n : ℕ} → Sized signed f w rs n → n ≡ 0 → fitWidth signed f w rs ≡ true → haveForm f rs ≡ false
-  has-form (unfit e) h k = and-left-false (haveForm f rs) (rw k at e)
-    where
-      and-left-false : (b : Bool) → b && true ≡ false → b ≡ false
-      and-left-false true e = e
-      and-left-false false e = refl
+  has-form (unfit e) h k = sym (and-true (haveForm f rs)) ∙ rw k at e
   has-form (fit a e l b c) h k = absurd (omega arith)
 
   -- ---- of any rows: no more is asked than the writer asks
@@ -42,7 +38,7 @@ module _ (signed : Bool) (f : Form) (w : ℕ) (rs : List ℕ) where
   refused-both : (h t : Bool) (m : Parsed Description) → h && t ≡ false → 0 ≡ sizeIn (unless (not (h && true)) 10 (unless (not t) 11 m))
   refused-both false t m e = refl
   refused-both true false m e = refl
-  refused-both true true m e = let z : _≡_ {A = ℕ} 0 1 = cc in absurd (omega arith)
+  refused-both true true m e = never (cc)
 
   pub no-count : countAllowed f (length rs) ≡ false → 0 ≡ sizeIn (writing signed f w rs 4356)
   unfolding writing

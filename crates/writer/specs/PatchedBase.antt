@@ -1,5 +1,5 @@
--- What the functions of the patched writer hand to each other: the largest of some numbers, the bits that a number has, the list of entries, and the
--- header with the values and the list that it describes.
+-- What the functions of the patched writer hand to each other: the largest of some numbers, the bits that a number has, the list of
+-- entries, and the header with the values and the list that it describes.
 -- Assumes nothing.
 use mathlib.Core.Path.{_≡_}
 use Prim.Native.Nat.{ℕ, _+_, _-_, _*_, _^_, _<_, _≤_}

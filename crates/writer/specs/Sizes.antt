@@ -24,7 +24,8 @@ sizeIn (refused r) = 0
 -- the same of rows whose count and width the form allows: 0 where they have not the form or don't fit the width
 pub data Sized (signed : Bool) (f : Form) (w : ℕ) (rs : List ℕ) : ℕ → Type 0 where
   unfit : haveForm f rs && fitWidth signed f w rs ≡ false → Sized signed f w rs 0
-  fit : {r : ℕ} → haveForm f rs ≡ true → fitWidth signed f w rs ≡ true → r ≡ length (layout (described signed f w rs)) → 1 ≤ r → r ≤ 4356 → Sized signed f w rs r
+  fit : {r : ℕ} → haveForm f rs ≡ true → fitWidth signed f w rs ≡ true → r ≡ length (layout (described signed f w rs)) → 1 ≤ r
+      → r ≤ 4356 → Sized signed f w rs r
 
 -- the run stands in its places: with an answer that tells it, it is written
 abbrev pub Lays : List ℤ → Bool → Form → ℕ → Kind → ℕ → List ℕ → List ℕ → Type 0

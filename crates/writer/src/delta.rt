@@ -50,14 +50,16 @@ fn base_of(rows: &[i64]) -> u64
 // The bytes of the header and of both varints.
 fn start_size(rows: &[i64], signed: bool) -> ByteOffset
     requires { ⌜ 1 ≤ length (now rows) ⌝ }
-    ensures { λ r. ⌜ StartSize (firstOf signed (map asU64 (now (rows .entry)))) (zigzagged (baseDelta (map asU64 (now (rows .entry))))) (r .bytes) ⌝ }
+    ensures { λ r. ⌜ StartSize (firstOf signed (map asU64 (now (rows .entry))))
+        (zigzagged (baseDelta (map asU64 (now (rows .entry))))) (r .bytes) ⌝ }
 {
     let bytes = 2 + varint::size(first_of(rows, signed)) + varint::size(base_of(rows));
     ByteOffset { bytes }
 }
 
 fn write_start(code: u8, rows: RowNumber, first: u64, base: u64, out: &mut [u8]) -> ByteOffset
-    requires { ⌜ (code < 32) × (1 ≤ rows .rows) × (rows .rows ≤ 512) × (2 + length (shortest first) + length (shortest base) ≤ length (now out)) ⌝ }
+    requires { ⌜ (code < 32) × (1 ≤ rows .rows) × (rows .rows ≤ 512)
+        × (2 + length (shortest first) + length (shortest base) ≤ length (now out)) ⌝ }
     ensures { λ r. ⌜ Started (start code (rows .rows) first base) (now (out .entry)) (now (out .exit)) (r .bytes) ⌝ }
 {
     head::write(3, code, rows, out);
@@ -121,10 +123,12 @@ fn write_packed_over(
     vals: &mut [u64],
     out: &mut [u8],
 )
-    requires { ⌜ (2 ≤ length (now rows)) × (length (now rows) ≤ 512) × (1 ≤ code) × (code ≤ 31) × (length (now rows) ≤ length (now vals)) × (1 ≤ bytes .bytes) × (bytes .bytes ≤ length (now out)) ⌝ }
+    requires { ⌜ (2 ≤ length (now rows)) × (length (now rows) ≤ 512) × (1 ≤ code) × (code ≤ 31) × (length (now rows) ≤ length (now vals))
+        × (1 ≤ bytes .bytes) × (bytes .bytes ≤ length (now out)) ⌝ }
     requires { ⌜ isKept code ≡ true ⌝ }
     requires { ⌜ Sized signed Form.PackedDelta code (map asU64 (now rows)) (bytes .bytes) ⌝ }
-    ensures { λ _. ⌜ Lays (now (rows .entry)) signed Form.PackedDelta code Kind.Delta (bytes .bytes) (now (out .entry)) (now (out .exit)) ⌝ }
+    ensures { λ _. ⌜ Lays (now (rows .entry)) signed Form.PackedDelta code Kind.Delta (bytes .bytes)
+        (now (out .entry)) (now (out .exit)) ⌝ }
 {
     let n = rows.len();
     let bits = width::bits_of(code);

@@ -32,8 +32,8 @@ pub(crate) fn size(rows: &[i64], signed: bool, code: u8) -> ByteOffset
     ByteOffset { bytes }
 }
 
-// Lays down the run, that has so many bytes; the places hold its values on the way. It makes no answer: one that comes back from a call goes
-// through memory.
+// Lays down the run, that has so many bytes; the places hold its values on the way. It makes no answer: one that comes back from a call
+// goes through memory.
 fn write_over(
     rows: &[i64],
     signed: bool,
@@ -42,7 +42,8 @@ fn write_over(
     vals: &mut [u64],
     out: &mut [u8],
 )
-    requires { ⌜ (1 ≤ length (now rows)) × (length (now rows) ≤ 512) × (code ≤ 31) × (length (now rows) ≤ length (now vals)) × (1 ≤ bytes .bytes) × (bytes .bytes ≤ length (now out)) ⌝ }
+    requires { ⌜ (1 ≤ length (now rows)) × (length (now rows) ≤ 512) × (code ≤ 31) × (length (now rows) ≤ length (now vals))
+        × (1 ≤ bytes .bytes) × (bytes .bytes ≤ length (now out)) ⌝ }
     requires { ⌜ isKept code ≡ true ⌝ }
     requires { ⌜ Sized signed Form.Direct code (map asU64 (now rows)) (bytes .bytes) ⌝ }
     ensures { λ _. ⌜ Lays (now (rows .entry)) signed Form.Direct code Kind.Direct (bytes .bytes) (now (out .entry)) (now (out .exit)) ⌝ }

@@ -1,4 +1,5 @@
-// What direct and delta runs have in common: the two bytes that open them, 2 bits kind, 5 bits width code, 9 bits rows less 1; and the answer.
+// What direct and delta runs have in common: the two bytes that open them, 2 bits kind, 5 bits width code, 9 bits rows less 1;
+// and the answer.
 ghost use mathlib.Core.Path.{_≡_};
 ghost use mathlib.Core.List.{_++_};
 ghost use Prim.Native.Nat.{_<_, _≤_};

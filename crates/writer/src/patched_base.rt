@@ -94,7 +94,8 @@ fn sign_magnitude(base: u64, size: ByteOffset) -> u64
 
 // The header for the rows, with the values and the list that it describes. A patch of 64 bits leaves no bit for a gap.
 fn header_of(rows: &[i64], base: u64, bits: usize, vals: &mut [u64], list: &mut [u64]) -> Found
-    requires { ⌜ (1 ≤ length (now rows)) × (length (now rows) ≤ 512) × (length (now rows) ≤ length (now vals)) × (length (now list) ≡ 31) ⌝ }
+    requires { ⌜ (1 ≤ length (now rows)) × (length (now rows) ≤ 512) × (length (now rows) ≤ length (now vals))
+        × (length (now list) ≡ 31) ⌝ }
     ensures { λ r. ⌜ HeaderOf base bits (map asU64 (now (rows .entry))) (now (vals .exit)) (now (list .exit)) r ⌝ }
 {
     let n = rows.len();
@@ -131,7 +132,8 @@ fn header_of(rows: &[i64], base: u64, bits: usize, vals: &mut [u64], list: &mut 
 
 // The four header bytes.
 fn write_head(h: Header, out: &mut [u8])
-    requires { ⌜ (h .code < 32) × (1 ≤ h .rows .rows) × (h .rows .rows ≤ 512) × (1 ≤ h .base .bytes) × (h .base .bytes ≤ 8) × (h .patch < 32) × (1 ≤ h .gap) × (h .gap ≤ 8) × (h .entries ≤ 31) × (4 ≤ length (now out)) ⌝ }
+    requires { ⌜ (h .code < 32) × (1 ≤ h .rows .rows) × (h .rows .rows ≤ 512) × (1 ≤ h .base .bytes) × (h .base .bytes ≤ 8)
+        × (h .patch < 32) × (1 ≤ h .gap) × (h .gap ≤ 8) × (h .entries ≤ 31) × (4 ≤ length (now out)) ⌝ }
     ensures { λ _. ⌜ now (out .exit) ≡ headBytes h ++ drop 4 (now (out .entry)) ⌝ }
 {
     head::write(2, h.code, h.rows, out);

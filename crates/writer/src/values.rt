@@ -80,7 +80,8 @@ pub(crate) fn fits(x: u64, bits: usize) -> bool
 // Every row, as it is stored.
 pub(crate) fn store(rows: &[i64], signed: bool, vals: &mut [u64])
     requires { ⌜ length (now rows) ≤ length (now vals) ⌝ }
-    ensures { λ _. ⌜ now (vals .exit) ≡ map (Writing.stored signed) (map asU64 (now (rows .entry))) ++ drop (length (now (rows .entry))) (now (vals .entry)) ⌝ }
+    ensures { λ _. ⌜ now (vals .exit) ≡ map (Writing.stored signed) (map asU64 (now (rows .entry)))
+        ++ drop (length (now (rows .entry))) (now (vals .entry)) ⌝ }
 {
     let mut i: usize = 0;
     while i < rows.len() {
@@ -92,7 +93,8 @@ pub(crate) fn store(rows: &[i64], signed: bool, vals: &mut [u64])
 // The difference row - base of every row.
 pub(crate) fn differences(rows: &[i64], base: u64, vals: &mut [u64])
     requires { ⌜ length (now rows) ≤ length (now vals) ⌝ }
-    ensures { λ _. ⌜ now (vals .exit) ≡ PatchedWriting.differences base (map asU64 (now (rows .entry))) ++ drop (length (now (rows .entry))) (now (vals .entry)) ⌝ }
+    ensures { λ _. ⌜ now (vals .exit) ≡ PatchedWriting.differences base (map asU64 (now (rows .entry)))
+        ++ drop (length (now (rows .entry))) (now (vals .entry)) ⌝ }
 {
     let mut i: usize = 0;
     while i < rows.len() {
@@ -104,7 +106,8 @@ pub(crate) fn differences(rows: &[i64], base: u64, vals: &mut [u64])
 // The low bits of the values of so many rows, in their places.
 pub(crate) fn keep_low(vals: &mut [u64], rows: RowNumber, bits: usize)
     requires { ⌜ (rows .rows ≤ length (now vals)) × (0 < bits) × (bits ≤ 64) ⌝ }
-    ensures { λ _. ⌜ now (vals .exit) ≡ PatchedWriting.lows bits (take (rows .rows) (now (vals .entry))) ++ drop (rows .rows) (now (vals .entry)) ⌝ }
+    ensures { λ _. ⌜ now (vals .exit) ≡ PatchedWriting.lows bits (take (rows .rows) (now (vals .entry)))
+        ++ drop (rows .rows) (now (vals .entry)) ⌝ }
 {
     let n = rows.rows;
     let mut i: usize = 0;
@@ -133,7 +136,8 @@ pub(crate) fn largest(vals: &[u64], n: usize) -> u64
 // The steps from each row to the next.
 pub(crate) fn steps(rows: &[i64], falling: bool, vals: &mut [u64])
     requires { ⌜ (1 ≤ length (now rows)) × (length (now rows) ≤ length (now vals)) ⌝ }
-    ensures { λ _. ⌜ now (vals .exit) ≡ stepsOf falling (map asU64 (now (rows .entry))) ++ drop (length (now (rows .entry)) - 1) (now (vals .entry)) ⌝ }
+    ensures { λ _. ⌜ now (vals .exit) ≡ stepsOf falling (map asU64 (now (rows .entry)))
+        ++ drop (length (now (rows .entry)) - 1) (now (vals .entry)) ⌝ }
 {
     let mut i: usize = 0;
     while i + 1 < rows.len() {

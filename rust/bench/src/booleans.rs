@@ -1,7 +1,7 @@
 //! Booleans: what is timed, and the times.
 use std::hint::black_box;
 
-use differential::random::Random;
+use model::random::Random;
 use model::Booleans;
 
 use crate::measure::take_turns;

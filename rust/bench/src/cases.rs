@@ -1,6 +1,6 @@
 //! What is timed: buffers of runs, all of one layout.
 use differential::frames::{self, Patched};
-use differential::random::Random;
+use model::random::Random;
 use model::{Answer, Form, Written, WIDTHS};
 
 /// The rows of a run in a long buffer.

@@ -4,8 +4,8 @@ use std::fmt::Write as _;
 use std::hint::black_box;
 
 use differential::frames;
-use differential::random::Random;
 use menakovitsy::{Column, Index, RowNumber, Sign};
+use model::random::Random;
 use model::WIDTHS;
 
 use crate::cases::{Case, Group};

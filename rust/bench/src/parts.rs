@@ -1,6 +1,6 @@
 //! Columns that arrive in parts: what is timed, and the times.
 use differential::frames;
-use differential::random::Random;
+use model::random::Random;
 
 use crate::cases::{self, Case};
 

@@ -2,10 +2,10 @@
 use std::fmt::Write as _;
 use std::hint::black_box;
 
-use differential::random::Random;
 use menakovitsy::{
     boolean_room, byte_room, size_of_booleans, write_booleans, write_bytes, ByteOffset, Bytes, Flags,
 };
+use model::random::Random;
 
 use crate::measure::take_turns;
 

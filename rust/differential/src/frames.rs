@@ -1,7 +1,7 @@
 //! Inputs: laid out field by field, random ones, and what is made of them by cutting and damaging.
 use model::{Answer, Form, KEPT, WIDTHS};
 
-use crate::random::Random;
+use model::random::Random;
 
 /// Bits packed from the highest of each byte on.
 #[derive(Default)]

@@ -12,7 +12,6 @@ pub mod listed;
 pub mod ours;
 pub mod probe;
 pub mod program;
-pub mod random;
 pub mod said;
 pub mod stages;
 pub mod tally;

@@ -3,9 +3,9 @@ use std::env;
 use std::process::ExitCode;
 
 use differential::probe::Probe;
-use differential::random::Random;
 use differential::stages::{Session, Size};
 use differential::tally::Tally;
+use model::random::Random;
 
 const USAGE: &str = "usage: differential [--quick | --full] [--model-only] [--seed N]
   --quick       bounded: under two minutes on one core (the default)

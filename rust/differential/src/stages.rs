@@ -30,8 +30,8 @@ use crate::listed::{self, Call, Sort, LIST};
 #[cfg(feature = "ours")]
 use crate::ours::Ours;
 use crate::probe::Probe;
-use crate::random::Random;
 use crate::tally::Tally;
+use model::random::Random;
 
 /// The longest byte value asked of the Rust, which reserves that many bytes.
 const LONGEST_VALUE: usize = 4096;

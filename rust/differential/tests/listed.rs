@@ -1,8 +1,8 @@
 //! The list itself: each smallest input shows its difference. And a small run of every stage.
 use differential::listed::{of_booleans, of_run, of_stream, of_value, Call, Entry, Sort, LIST};
-use differential::random::Random;
 use differential::stages::{Session, Size};
 use differential::tally::Tally;
+use model::random::Random;
 
 #[test]
 fn each_listed_input_shows_its_difference() {

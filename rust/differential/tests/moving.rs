@@ -8,8 +8,8 @@ use std::sync::atomic::{AtomicUsize, Ordering};
 
 use differential::frames;
 use differential::listed::{of_booleans, of_stream, of_value, Call, Difference, Sort, LIST};
-use differential::random::Random;
 use menakovitsy::Refused;
+use model::random::Random;
 use model::{Answer, Booleans, Refusal, Value};
 
 mod rust {

@@ -3,9 +3,9 @@
 use std::collections::BTreeMap;
 
 use differential::probe::Requests;
-use differential::random::Random;
 use differential::said::{said, Expected};
 use differential::stages::{batches, lined_up, rescue};
+use model::random::Random;
 use model::{read_stream, Stream};
 
 /// The lines with their answers. A field `#N` is a number of eight bytes.

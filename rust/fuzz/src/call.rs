@@ -3,6 +3,7 @@ pub mod batched;
 pub mod byte_runs;
 mod indexed;
 mod outcome;
+mod parts;
 mod planned;
 mod questions;
 mod reading;
@@ -11,7 +12,6 @@ mod whole;
 mod writing;
 
 use differential::frames;
-use differential::random::Random;
 use differential::stages::columns;
 use differential::stages::convert;
 use differential::stages::count;
@@ -23,8 +23,7 @@ use menakovitsy::exported::{
     CHECK_WORDS, COLUMN_WORDS, CONVERT_WORDS, COUNT_WORDS, LABEL_WORDS, PART_WORDS, RESCUE_WORDS, RUN_WORDS,
     SALVAGE_WORDS, STATE_WORDS, STREAM_WORDS, TOO_FEW_WORDS,
 };
-
-use crate::parts;
+use model::random::Random;
 
 pub(crate) use outcome::named;
 pub use outcome::{Lending, Outcome};

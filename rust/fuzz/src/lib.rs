@@ -6,7 +6,6 @@
 //! that reads or writes one element too far ends the process, which says which call it was.
 pub mod call;
 pub mod fence;
-pub mod parts;
 pub mod watch;
 
 use std::collections::BTreeMap;
@@ -15,10 +14,10 @@ use std::ptr;
 use call::batched::Asked;
 use call::byte_runs::What;
 use call::{Call, Lending, Outcome, MOST};
-use differential::random::Random;
 use differential::stages::index;
 use fence::{Fenced, Side};
 use menakovitsy::exported::{self, STATE_WORDS, STREAM_WORDS};
+use model::random::Random;
 
 /// The longest input that is made, and the most rows that are written.
 const LONGEST: usize = 1 << 16;

@@ -28,6 +28,7 @@ mod optimum;
 mod parts;
 mod patched_writer;
 mod planner;
+pub mod random;
 mod rescue;
 mod runs;
 mod salvage;

@@ -1,24 +1,17 @@
 //! The sizes of runs are those of the writers, and the least of all proposals is accepted as it says.
+use model::random::Random;
 use model::*;
 
-/// SplitMix64.
-fn next(state: &mut u64) -> u64 {
-    *state = state.wrapping_add(0x9E37_79B9_7F4A_7C15);
-    let mixed = (*state ^ *state >> 30).wrapping_mul(0xBF58_476D_1CE4_E5B9);
-    let mixed = (mixed ^ mixed >> 27).wrapping_mul(0x94D0_49BB_1331_11EB);
-    mixed ^ mixed >> 31
-}
-
 /// Rows of few bits, about a common row, some of them far off; sometimes all equal or in equal steps.
-fn rows(state: &mut u64, most: u64) -> Vec<i64> {
-    let count = 1 + next(state) % most;
-    let (bits, about, step) = (next(state) % 64, next(state) >> (next(state) % 64), next(state) % 9);
-    let kind = next(state) % 4;
+fn rows(random: &mut Random, most: u64) -> Vec<i64> {
+    let count = 1 + random.any() % most;
+    let (bits, about, step) = (random.any() % 64, random.any() >> (random.any() % 64), random.any() % 9);
+    let kind = random.any() % 4;
     let mut row = |at: u64| match kind {
         0 => about,
         1 => about.wrapping_add(at.wrapping_mul(step)),
-        _ if next(state).is_multiple_of(9) => next(state),
-        _ => about.wrapping_add(next(state) & ((1 << bits) - 1)),
+        _ if random.any().is_multiple_of(9) => random.any(),
+        _ => about.wrapping_add(random.any() & ((1 << bits) - 1)),
     };
     (0..count).map(|at| row(at) as i64).collect()
 }
@@ -29,9 +22,9 @@ fn written(answer: Written) -> Option<usize> {
 
 #[test]
 fn sizes_are_those_of_the_writers() {
-    let mut state = 10;
+    let mut random = Random::new(10);
     for _ in 0..3000 {
-        let rows = rows(&mut state, 40);
+        let rows = rows(&mut random, 40);
         for signed in [false, true] {
             let run = |form, code: usize| written(write_run(&rows, signed, form, code as u8, usize::MAX));
             let (code, bytes) = direct_size(&rows, signed);
@@ -51,12 +44,12 @@ fn sizes_are_those_of_the_writers() {
 
 #[test]
 fn patched_sizes_are_those_of_the_writer() {
-    let mut state = 11;
+    let mut random = Random::new(11);
     for turn in 0..2000 {
         // Long rows are few: the model's writer tries every header.
-        let rows = rows(&mut state, if turn % 50 == 0 { 512 } else { 30 });
-        let base = rows[0].wrapping_sub((next(&mut state) >> (next(&mut state) % 64)) as i64);
-        let width = KEPT[next(&mut state) as usize % 11];
+        let rows = rows(&mut random, if turn % 50 == 0 { 512 } else { 30 });
+        let base = rows[0].wrapping_sub((random.any() >> (random.any() % 64)) as i64);
+        let width = KEPT[random.any() as usize % 11];
         let size = patched_size(&rows, base, width).map(|(_, bytes)| bytes);
         assert_eq!(written(write_patched(&rows, base, width, usize::MAX)), size, "{rows:?} {base} {width}");
     }
@@ -64,9 +57,9 @@ fn patched_sizes_are_those_of_the_writer() {
 
 #[test]
 fn the_least_proposal_is_accepted() {
-    let mut state = 12;
+    let mut random = Random::new(12);
     for _ in 0..300 {
-        let rows = rows(&mut state, 20);
+        let rows = rows(&mut random, 20);
         for signed in [false, true] {
             let (bytes, proposal) = optimum(&rows, signed, Lists::Any);
             let accepted = check_proposal(&rows, signed, &proposal, bytes).expect("accepted");

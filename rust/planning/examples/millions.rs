@@ -1,6 +1,6 @@
 //! Millions of random columns: whatever the planner proposes is accepted, and never above the direct runs
 //! of 64 bits. By the model's sizes, which are those that its writers make; the planner is the linked one
-//! with the feature `ours`, and is then compared with the prototype, too.
+//! with the feature `ours`, and is then compared with the one in Rust, too.
 //!
 //! `cargo run --release --offline -p planning --features ours --example millions [COLUMNS [SEED]]`
 use planning::columns::{stretches, Dice};
@@ -10,7 +10,7 @@ use std::process::ExitCode;
 fn main() -> ExitCode {
     let mut numbers = std::env::args().skip(1).map(|word| word.parse::<u64>().expect("a number"));
     let (count, seed) = (numbers.next().unwrap_or(3_000_000), numbers.next().unwrap_or(1));
-    let mut dice = Dice(seed);
+    let mut dice = Dice::new(seed);
     let (mut rows, mut segments, mut wrong, mut others) = (0, 0, 0u64, 0u64);
     for turn in 0..count {
         let most = if turn % 50 == 0 { 1500 } else { [2, 12, 40, 120][dice.below(4) as usize] };
@@ -25,7 +25,7 @@ fn main() -> ExitCode {
         (rows, segments) = (rows + column.len(), segments + proposal.len());
     }
     println!("{count} columns, seed {seed}: {rows} rows, {segments} segments");
-    println!("{wrong} not accepted or above direct runs, {others} otherwise than the prototype");
+    println!("{wrong} not accepted or above direct runs, {others} otherwise than the one in Rust");
     if wrong == 0 {
         ExitCode::SUCCESS
     } else {

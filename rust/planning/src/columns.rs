@@ -1,5 +1,6 @@
 //! Named columns, as a sound archive has them: what the planner is measured on. The same on every
 //! machine: the random rows come from one small generator, begun anew for each column.
+use model::random::Random;
 
 /// A named column, and the flag that it is written with.
 pub struct Named {
@@ -8,15 +9,16 @@ pub struct Named {
     pub rows: Vec<i64>,
 }
 
-/// SplitMix64.
-pub struct Dice(pub u64);
+/// Random rows.
+pub struct Dice(Random);
 
 impl Dice {
+    pub fn new(seed: u64) -> Self {
+        Dice(Random::new(seed))
+    }
+
     pub fn roll(&mut self) -> u64 {
-        self.0 = self.0.wrapping_add(0x9E37_79B9_7F4A_7C15);
-        let mixed = (self.0 ^ self.0 >> 30).wrapping_mul(0xBF58_476D_1CE4_E5B9);
-        let mixed = (mixed ^ mixed >> 27).wrapping_mul(0x94D0_49BB_1331_11EB);
-        mixed ^ mixed >> 31
+        self.0.any()
     }
 
     /// Below a number.
@@ -56,7 +58,7 @@ struct Size {
 
 fn named(name: &'static str, signed: bool, size: Size, mut row: impl FnMut(i64, &mut Dice) -> i64) -> Named {
     let seed = name.bytes().fold(size.seed, |sum, byte| sum.wrapping_mul(31).wrapping_add(byte.into()));
-    let mut dice = Dice(seed);
+    let mut dice = Dice::new(seed);
     Named { name, signed, rows: (0..size.count).map(|at| row(at, &mut dice)).collect() }
 }
 

@@ -29,7 +29,7 @@ pub struct Figures {
 /// Random flags, the same on every machine.
 fn random(name: &'static str, mut flag: impl FnMut(usize, &mut Dice) -> bool) -> NamedFlags {
     let mut dice =
-        Dice(name.bytes().fold(1, |sum: u64, byte| sum.wrapping_mul(31).wrapping_add(byte.into())));
+        Dice::new(name.bytes().fold(1, |sum: u64, byte| sum.wrapping_mul(31).wrapping_add(byte.into())));
     NamedFlags { name, flags: (0..FLAGS).map(|at| u8::from(flag(at, &mut dice))).collect() }
 }
 

@@ -1,6 +1,6 @@
-//! The column planner (FORMAT.md, "Planner"): its algorithm as a prototype that allocates nothing, and
-//! the yardsticks that it is held to, docs/PLANNER.md among them. The proved planner is written from it.
-//! Beside it stand the yardsticks of the flag writer: named flag columns, and a model of the Apache writer.
+//! An oracle of the tests: the column planner (FORMAT.md, "Planner") once more, in Rust, which the proved one is
+//! held to segment by segment. Beside it stand the yardsticks that both are measured by, docs/PLANNER.md among
+//! them, and those of the flag writer: named flag columns, and a model of the Apache writer.
 #![forbid(unsafe_code)]
 // Loops by row number, as the proved planner has them.
 #![allow(clippy::needless_range_loop)]

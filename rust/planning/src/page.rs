@@ -23,9 +23,10 @@ pub fn planned(rows: &[i64], signed: bool) -> Vec<Segment> {
     model::proposal_of(menakovitsy::plan(rows, sign).columns()).expect("columns of one length")
 }
 
-/// They are the prototype's: the library is not linked.
+/// They are those of the planner in Rust: the library is not linked.
 #[cfg(not(feature = "ours"))]
-const PLANNER: &str = "The planner is the prototype in `rust/planning`: the library's is not linked.";
+const PLANNER: &str =
+    "The planner is the one in `rust/planning`, an oracle of the tests: the library's is not linked.";
 
 /// What the planner that the page shows proposes.
 #[cfg(not(feature = "ours"))]

@@ -11,7 +11,7 @@ use planning::{
 
 #[test]
 fn accepted_and_never_above() {
-    let mut dice = Dice(1);
+    let mut dice = Dice::new(1);
     for turn in 0..20_000 {
         let rows = stretches(&mut dice, if turn % 20 == 0 { 1500 } else { 40 });
         for signed in [false, true] {
@@ -23,7 +23,7 @@ fn accepted_and_never_above() {
 
 #[test]
 fn accepted_by_the_model_that_writes() {
-    let mut dice = Dice(2);
+    let mut dice = Dice::new(2);
     for _ in 0..150 {
         let rows = stretches(&mut dice, 90);
         for signed in [false, true] {
@@ -39,7 +39,7 @@ fn accepted_by_the_model_that_writes() {
 
 #[test]
 fn no_patched_run_that_other_readers_lack() {
-    let mut dice = Dice(3);
+    let mut dice = Dice::new(3);
     for _ in 0..3000 {
         let rows = stretches(&mut dice, 300);
         for segment in proposed(&rows, true).iter().filter(|segment| segment.form == 4) {

@@ -1,4 +1,4 @@
--- `blocks::is_not_ready` meets its contract: the numbers that it looks for are not those of a negative one's bits. Assumes nothing.
+-- Both numbers that are looked for are small, so the bits of a negative error are neither. Assumes nothing.
 use mathlib.Core.Path.{_≡_}
 use native.Mathlib.Omega.{arith}
 use mir.Syntax.{w32}

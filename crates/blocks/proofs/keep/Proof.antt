@@ -1,4 +1,4 @@
--- `blocks::keep` meets its contract. The loop's invariant: the first i bytes are moved, and the others are as they were. Assumes nothing.
+-- Each turn moves one byte to the front: the first i are moved, and the others are as they were. Assumes nothing.
 use mathlib.Core.Path.{_≡_, refl, _∙_}
 use Prim.Native.Nat.{_+_, _-_, _<_, _≤_}
 use native.Mathlib.Omega.{arith}

@@ -1,4 +1,4 @@
--- `blocks::line_end` meets its contract. The loop's invariant: the line ends where the one from i on does. Assumes nothing.
+-- Each turn passes one byte that is no newline: the line ends where the one from i on does. Assumes nothing.
 use mathlib.Core.Path.{_≡_, refl}
 use Prim.Native.Nat.{_+_, _-_}
 use native.Mathlib.Omega.{arith}

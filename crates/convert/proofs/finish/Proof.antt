@@ -1,4 +1,4 @@
--- `finish` meets its contract. Assumes nothing.
+-- A full output is refusal 8, and any other the count and the bytes, by the branch taken. Assumes nothing.
 use borrow.Author.Needs.{needs}
 use Rattle.convert.proofs.finish.Statement.{statement}
 use Rattle.convert.proofs.finish.Tie as tie

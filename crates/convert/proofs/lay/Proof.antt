@@ -1,4 +1,4 @@
--- `lay` meets its contract. Assumes nothing.
+-- A run that has no room fills the output for good; any other stands after those that are laid. Assumes nothing.
 use denote.Ref.{now}
 use borrow.Author.Needs.{needs}
 use Rattle.convert.proofs.Lays.{lays-full, lays-over, lays-more}
@@ -28,7 +28,8 @@ returns-3 c =
     let e = l .before in
     let s = e .before .before .before .before in
     let a = s .args in
-    lays-more (now (a .run)) (a .n .bytes) (a .at) (a .room .bytes) (now (a .out)) (s .pre .0) (e .if1 .left) (l .if2 .left) (s .pre .1) _ (p .put .ensures) (same-length c)
+    lays-more (now (a .run)) (a .n .bytes) (a .at) (a .room .bytes) (now (a .out)) (s .pre .0) (e .if1 .left) (l .if2 .left) (s .pre .1) _ (p .put .ensures)
+    (same-length c)
 
 pub lay-spec : {M : Type 1} → statement M
 lay-spec = tie.close (tie.spec returns (λ c. search needs) returns-2 (λ c κs. search needs) (λ c. search needs) same-length returns-3)

@@ -1,4 +1,4 @@
--- `walk` meets its contract: each turn converts one run more, or ends with what the definition says. Assumes nothing.
+-- Each turn converts one run more, or ends with what the definition says of the rest. Assumes nothing.
 use Prim.Native.Nat.{_-_}
 use native.Mathlib.Omega.{arith}
 use lib.ListN.{length, drop-of-length-le}
@@ -18,74 +18,94 @@ abbrev μ-loop : tie.MeasureT-loop
 μ-loop input signed room out₀ p₀ altered₀ at₀ out p altered at = length input - p
 
 -- the run of a turn
-turned : (m : tie.After-step Inv-loop μ-loop) → let back-6 = m .before .before .before .before .before .before in let x = m .before .before .before in let l = x .before .before .before .before .loop in let a = back-6 .before .before .before .before .args in
-    Turned (a .signed) (now (a .input)) (l .p) (x .convert-run .last .1 .1 .1 .0) (m .step .given .0 .0)
+turned : (m : tie.After-step Inv-loop μ-loop) →
+    let after-convert-run = m .before .before .before in
+    let at-loop = after-convert-run .before .before .before .before in
+    let entry = at-loop .before .before .before in
+    let l = at-loop .loop in let a = entry .args in
+    Turned (a .signed) (now (a .input)) (l .p) (after-convert-run .convert-run .last .1 .1 .1 .0) (m .step .given .0 .0)
 turned m = rw (m .step .given .1) at (m .before .before .before .convert-run .ensures)
 
 lay-requires : tie.Need-lay-requires Inv-loop μ-loop
 lay-requires c κs =
-    let m = c .before .before .before in
-    (omega (arith, turned m .small), (let back-6 = c .before .before .before .before .before .before in back-6 .before .before .before .before .loop .inv .fill .end-in))
+    let after-small = c .before .before .before in
+    let at-loop = after-small .before .before .before .before .before .before .before in (
+      omega (arith, turned after-small .small),
+      (at-loop .loop .inv .fill .end-in),
+    )
 
 add-altered : tie.Need-add-altered Inv-loop μ-loop
 add-altered c =
-    let m = (let back-6 = c .before .before .before .before .before .before in back-6 .before) in
-    omega (arith, c .count .ensures, counted-le (m .step .given .0 .0 .odd), (let back-6 = c .before .before .before .before .before .before in let back-12 = back-6 .before .before .before .before .before .before in back-12 .before .before .loop .inv .few), m .before .before .before .before .before .before .loop-test .taken)
+    let after-step = c .before .before .before .before .before .before .before in
+    let at-loop = after-step .before .before .before .before .before .before .before in
+    omega (
+      arith,
+      c .count .ensures,
+      counted-le (after-step .step .given .0 .0 .odd),
+      (at-loop .loop .inv .few),
+      after-step .before .before .before .before .before .before .loop-test .taken,
+    )
 
 add-p : tie.Need-add-p Inv-loop μ-loop
 add-p c =
-    omega (arith, turned (let back-6 = c .before .before .before .before .before .before in back-6 .before .before) .within)
+    omega (arith, turned (c .before .before .before .before .before .before .before .before) .within)
 
 loop-less : tie.Need-loop-less Inv-loop μ-loop
 loop-less c =
-    let m = (let back-6 = c .before .before .before .before .before .before in back-6 .before .before) in
+    let m = c .before .before .before .before .before .before .before .before in
     let u = turned m in
     omega (arith, u .within, u .taken-is, layout-pos (u .which), m .before .before .before .before .before .before .loop-test .taken)
 
 loop-again : tie.Need-loop-again Inv-loop μ-loop
 loop-again c =
-    let back-6 = c .before .before .before .before .before .before in
-    let back-12 = back-6 .before .before .before .before .before .before in
-    let m = back-6 .before .before in
-    let l = back-12 .before .before .before .loop in
-    let a = back-12 .before .before .before .before .before .before .args in
+    let m = c .before .before .before .before .before .before .before .before in
+    let at-loop = m .before .before .before .before .before .before .before in
+    let entry = at-loop .before .before .before in
+    let l = at-loop .loop in
+    let a = entry .args in
     rw (c .before .count .ensures)
-    (along-next (a .signed) (now (a .input)) (a .room .bytes) (now (a .out)) (l .out) (l .p) (l .altered) (l .at) (l .inv) _ _ _ _ (turned m) (c .before .before .before .before .lay .ensures))
+    (along-next (a .signed) (now (a .input)) (a .room .bytes) (now (a .out)) (l .out) (l .p) (l .altered) (l .at) (l .inv) _ _ _ _ (turned m)
+    (c .before .before .before .before .lay .ensures))
 
 same-length : tie.Need-same-length Inv-loop μ-loop
 same-length c =
-    let back-6 = c .before .before .before .before .before .before in
-    back-6 .before .before .loop .inv .long
+    let at-loop = c .before .before .before .before .before .before .before .before in
+    at-loop .loop .inv .long
 
 returns : tie.Need-returns Inv-loop μ-loop
 returns c =
-    let back-6 = c .before .before .before .before .before .before in
-    let x = c .before .before .before .before in
-    let l = x .before .before .before .before .loop in
-    let a = back-6 .before .before .before .before .before .args in
+    let after-convert-run = c .before .before .before .before in
+    let at-loop = after-convert-run .before .before .before .before in
+    let entry = at-loop .before .before .before in
+    let l = at-loop .loop in
+    let a = entry .args in
     along-refused (a .signed) (now (a .input)) (a .room .bytes) (now (a .out)) (l .out) (l .p) (l .altered) (l .at) (l .inv) _
-    (below-all 256 (now (a .input)) (λ i. x .before .before .before .before .before .before .shared-slice-known .given i .fits)) (rw (c .before .step2 .given .1) at (x .convert-run .ensures))
+    (below-all 256 (now (a .input)) (λ i. at-loop .before .before .shared-slice-known .given i .fits))
+    (rw (c .before .step2 .given .1) at (after-convert-run .convert-run .ensures))
 
 same-length-2 : tie.Need-same-length-2 Inv-loop μ-loop
 same-length-2 c =
-    let back-6 = c .before .before .before .before .before .before in
-    back-6 .before .before .loop .inv .long
+    let at-loop = c .before .before .before .before .before .before .before .before in
+    at-loop .loop .inv .long
 
 returns-2 : tie.Need-returns-2 Inv-loop μ-loop
 returns-2 c =
-    let back-6 = c .before .before .before .before .before .before in
-    let x = c .before .before .before .before in
-    let l = x .before .before .before .before .loop in
-    let a = back-6 .before .before .before .before .before .args in
+    let after-convert-run = c .before .before .before .before in
+    let at-loop = after-convert-run .before .before .before .before in
+    let entry = at-loop .before .before .before in
+    let l = at-loop .loop in
+    let a = entry .args in
     rw (c .finish .ensures)
-    (along-end (a .signed) (now (a .input)) (a .room .bytes) (now (a .out)) (l .out) (l .p) (l .altered) (l .at) (l .inv) (rw (c .before .enum-told .given .1) at (x .convert-run .ensures)))
+    (along-end (a .signed) (now (a .input)) (a .room .bytes) (now (a .out)) (l .out) (l .p) (l .altered) (l .at) (l .inv)
+    (rw (c .before .enum-told .given .1) at (after-convert-run .convert-run .ensures)))
 
 returns-3 : tie.Need-returns-3 Inv-loop μ-loop
 returns-3 c =
     let l = c .before .before .loop in
     let a = c .before .before .before .before .before .args in
     rw (c .finish2 .ensures)
-    (along-end (a .signed) (now (a .input)) (a .room .bytes) (now (a .out)) (l .out) (l .p) (l .altered) (l .at) (l .inv) (drop-of-length-le (now (a .input)) (c .before .loop-test .left)))
+    (along-end (a .signed) (now (a .input)) (a .room .bytes) (now (a .out)) (l .out) (l .p) (l .altered) (l .at) (l .inv)
+    (drop-of-length-le (now (a .input)) (c .before .loop-test .left)))
 
 pub walk-spec : {M : Type 1} → statement M
 walk-spec =

@@ -1,4 +1,4 @@
--- The run's rows are read aside, those from the row on are copied, and the runs behind it are read behind them. Assumes nothing.
+-- The run's rows are read aside, those from the row on are copied, and the runs after it are read after them. Assumes nothing.
 use mathlib.Core.Path.{_≡_, ap}
 use Prim.Native.Nat.{ℕ, _+_, _-_}
 use mathlib.Core.List.{_++_}
@@ -13,107 +13,133 @@ use Rattle.index.proofs.lay.Statement.{statement}
 use Rattle.index.proofs.lay.Tie as tie
 
 -- what the run reader gave
-rows : (m : tie.After-a) → let back-6 = m .before .before .before .before .before .before in let b = back-6 .before in m .a .given .0 .0 .rows .rows ≡ rowCount (b .pre .run)
+rows : (m : tie.After-a) →
+    let entry = m .before .before .before .before .before .before .before in
+    m .a .given .0 .0 .rows .rows ≡ rowCount (entry .pre .run)
 rows m =
-    let x = m .before .before .before in
-    let b = x .before .before .before .before in
-    let a = b .args in
-    rows-are (a .input .now) (a .at .bytes) (a .skip .rows) (a .signed) (a .out .now) (b .pre) _ _ _ (x .before .before .scratch .ensures) (x .read-run .ensures) _ (m .a .given .1)
+    let after-read-run = m .before .before .before in
+    let entry = after-read-run .before .before .before .before in
+    let a = entry .args in
+    rows-are (a .input .now) (a .at .bytes) (a .skip .rows) (a .signed) (a .out .now) (entry .pre) _ _ _ (after-read-run .before .before .scratch .ensures)
+    (after-read-run .read-run .ensures) _ (m .a .given .1)
 
-consumed : (m : tie.After-a) → let back-6 = m .before .before .before .before .before .before in let b = back-6 .before in m .a .given .0 .0 .consumed .bytes ≡ length (layout (b .pre .run))
+consumed : (m : tie.After-a) →
+    let entry = m .before .before .before .before .before .before .before in
+    m .a .given .0 .0 .consumed .bytes ≡ length (layout (entry .pre .run))
 consumed m =
-    let x = m .before .before .before in
-    let b = x .before .before .before .before in
-    let a = b .args in
-    bytes-are (a .input .now) (a .at .bytes) (a .skip .rows) (a .signed) (a .out .now) (b .pre) _ _ _ (x .before .before .scratch .ensures) (x .read-run .ensures) _ (m .a .given .1)
+    let after-read-run = m .before .before .before in
+    let entry = after-read-run .before .before .before .before in
+    let a = entry .args in
+    bytes-are (a .input .now) (a .at .bytes) (a .skip .rows) (a .signed) (a .out .now) (entry .pre) _ _ _ (after-read-run .before .before .scratch .ensures)
+    (after-read-run .read-run .ensures) _ (m .a .given .1)
 
-held : (x : tie.After-read-run) → let b = x .before .before .before .before in
-    x .read-run .last .1 .1 .1 .0 ≡ i64Rows (b .args .signed) (b .pre .run) ++ drop (rowCount (b .pre .run)) (x .before .before .scratch .result)
+held : (x : tie.After-read-run) → let entry = x .before .before .before .before in
+    x .read-run .last .1 .1 .1 .0 ≡ i64Rows (entry .args .signed) (entry .pre .run) ++ drop (rowCount (entry .pre .run)) (x .before .before .scratch .result)
 held x =
-    let b = x .before .before .before .before in
-    let a = b .args in
-    held-is (a .input .now) (a .at .bytes) (a .skip .rows) (a .signed) (a .out .now) (b .pre) _ _ _ (x .before .before .scratch .ensures) (x .read-run .ensures)
+    let entry = x .before .before .before .before in
+    let a = entry .args in
+    held-is (a .input .now) (a .at .bytes) (a .skip .rows) (a .signed) (a .out .now) (entry .pre) _ _ _ (x .before .before .scratch .ensures)
+    (x .read-run .ensures)
 
 sub-n : tie.Need-sub-n
 sub-n c =
-    let m = c .before .before .before .before .before in
-    let b = m .before .before .before .before .before .before .before in
-    omega (arith, rows m, b .pre .skips)
+    let ran = c .before .before .before .before .before in
+    let entry = ran .before .before .before .before .before .before .before in
+    omega (arith, rows ran, entry .pre .skips)
 
 copy-requires : tie.Need-copy-requires
 copy-requires c κs =
-    let m = c .before .before .before .before .before .before .before in
-    let x = m .before .before .before in
-    let b = x .before .before .before .before in
-    let a = b .args in (
-      held-long (a .input .now) (a .at .bytes) (a .skip .rows) (a .signed) (a .out .now) (b .pre) _ _ (held x) _ (ap (λ (k : ℕ). k - a .skip .rows) (rows m)),
-      omega (arith, rows m, rows-within (a .input .now) (a .at .bytes) (a .skip .rows) (a .signed) (a .out .now) (b .pre)),
+    let ran = c .before .before .before .before .before .before .before in
+    let after-read-run = ran .before .before .before in
+    let entry = after-read-run .before .before .before .before in
+    let a = entry .args in (
+      held-long (a .input .now) (a .at .bytes) (a .skip .rows) (a .signed) (a .out .now) (entry .pre) _ _ (held after-read-run) _
+          (ap (λ (k : ℕ). k - a .skip .rows) (rows ran)),
+      omega (arith, rows ran, rows-within (a .input .now) (a .at .bytes) (a .skip .rows) (a .signed) (a .out .now) (entry .pre)),
     )
 
 add-read-stream : tie.Need-add-read-stream
 add-read-stream c =
-    let back-6 = c .before .before .before .before .before .before in
-    let m = back-6 .before .before .before .before .before in
-    let x = m .before .before .before in
-    let b = x .before .before .before .before in
-    let a = b .args in
-    omega (arith, consumed m, bytes-within (a .input .now) (a .at .bytes) (a .skip .rows) (a .signed) (a .out .now) (b .pre))
+    let after-copy = c .before .before .before in
+    let ran = after-copy .before .before .before .before .before .before .before .before in
+    let after-read-run = ran .before .before .before in
+    let entry = after-read-run .before .before .before .before in
+    let a = entry .args in
+    omega (arith, consumed ran, bytes-within (a .input .now) (a .at .bytes) (a .skip .rows) (a .signed) (a .out .now) (entry .pre))
 
 mul-read-stream : tie.Need-mul-read-stream
 mul-read-stream c =
-    let back-6 = c .before .before .before .before .before .before in
-    let m = back-6 .before .before .before .before .before in
-    let x = m .before .before .before in
-    let b = x .before .before .before .before in
-    let a = b .args in
-    omega (arith, rows m, rows-within (a .input .now) (a .at .bytes) (a .skip .rows) (a .signed) (a .out .now) (b .pre))
+    let after-copy = c .before .before .before in
+    let ran = after-copy .before .before .before .before .before .before .before .before in
+    let after-read-run = ran .before .before .before in
+    let entry = after-read-run .before .before .before .before in
+    let a = entry .args in
+    omega (arith, rows ran, rows-within (a .input .now) (a .at .bytes) (a .skip .rows) (a .signed) (a .out .now) (entry .pre))
 
 sub-read-stream : tie.Need-sub-read-stream
 sub-read-stream c =
-    let back-6 = c .before .before .before .before .before .before in
-    let m = back-6 .before .before .before .before .before in
-    let x = m .before .before .before in
-    let b = x .before .before .before .before in
-    let a = b .args in
-    omega (arith, rows m, rows-within (a .input .now) (a .at .bytes) (a .skip .rows) (a .signed) (a .out .now) (b .pre), c .before .before .before .copy .kept .1 .1 .1 .0)
+    let after-copy = c .before .before .before in
+    let ran = after-copy .before .before .before .before .before .before .before .before in
+    let after-read-run = ran .before .before .before in
+    let entry = after-read-run .before .before .before .before in
+    let a = entry .args in
+    omega (
+      arith,
+      rows ran,
+      rows-within (a .input .now) (a .at .bytes) (a .skip .rows) (a .signed) (a .out .now) (entry .pre),
+      after-copy .copy .kept .1 .1 .1 .0,
+    )
 
 part-read-stream-start : tie.Need-part-read-stream-start
 part-read-stream-start c =
-    let back-6 = c .before .before .before .before .before .before in
-    let m = back-6 .before .before .before .before .before in
-    let x = m .before .before .before in
-    let b = x .before .before .before .before in
-    let a = b .args in
-    omega (arith, rows m, rows-within (a .input .now) (a .at .bytes) (a .skip .rows) (a .signed) (a .out .now) (b .pre), c .before .before .before .copy .kept .1 .1 .1 .0)
+    let after-copy = c .before .before .before in
+    let ran = after-copy .before .before .before .before .before .before .before .before in
+    let after-read-run = ran .before .before .before in
+    let entry = after-read-run .before .before .before .before in
+    let a = entry .args in
+    omega (
+      arith,
+      rows ran,
+      rows-within (a .input .now) (a .at .bytes) (a .skip .rows) (a .signed) (a .out .now) (entry .pre),
+      after-copy .copy .kept .1 .1 .1 .0,
+    )
 
 returns : tie.Need-returns
 returns c =
-    let p = c .before .before .before .before .before .before in
-    let m = p .before .before .before .before .before .before .before .before in
-    let x = m .before .before .before in
-    let b = x .before .before .before .before in
-    let a = b .args in
-    let n = m .a .given .0 .0 .rows .rows - a .skip .rows in
-    laid-is (a .input .now) (a .at .bytes) (a .skip .rows) (a .signed) (a .out .now) (b .pre) _ _ (held x) _ (ap (λ (k : ℕ). k - a .skip .rows) (rows m)) (p .copy .last .1 .1 .1 .0)
-    (c .before .read-stream .last .1 .1 .1 .0) (p .copy .ensures) _ (ap (λ (k : ℕ). a .at .bytes + k) (consumed m)) _
-    (rw (rest-is (p .copy .last .1 .1 .1 .0) n) at (c .before .read-stream .ensures))
+    let after-copy = c .before .before .before .before .before .before in
+    let ran = after-copy .before .before .before .before .before .before .before .before in
+    let after-read-run = ran .before .before .before in
+    let entry = after-read-run .before .before .before .before in
+    let a = entry .args in
+    let n = ran .a .given .0 .0 .rows .rows - a .skip .rows in
+    laid-is (a .input .now) (a .at .bytes) (a .skip .rows) (a .signed) (a .out .now) (entry .pre) _ _ (held after-read-run) _
+    (ap (λ (k : ℕ). k - a .skip .rows) (rows ran))
+    (after-copy .copy .last .1 .1 .1 .0)
+    (c .before .read-stream .last .1 .1 .1 .0) (after-copy .copy .ensures) _ (ap (λ (k : ℕ). a .at .bytes + k) (consumed ran)) _
+    (rw (rest-is (after-copy .copy .last .1 .1 .1 .0) n) at (c .before .read-stream .ensures))
 
 returns-2 : tie.Need-returns-2
 returns-2 c =
-    let x = c .before .before .before in
-    let b = x .before .before .before .before in
-    let a = b .args in
-    absurd (not-refused (a .input .now) (a .at .bytes) (a .skip .rows) (a .signed) (a .out .now) (b .pre) _ _ _ (x .before .before .scratch .ensures) (x .read-run .ensures) _ (c .enum-told .given .1))
+    let after-read-run = c .before .before .before in
+    let entry = after-read-run .before .before .before .before in
+    let a = entry .args in
+    absurd (not-refused (a .input .now) (a .at .bytes) (a .skip .rows) (a .signed) (a .out .now) (entry .pre) _ _ _
+    (after-read-run .before .before .scratch .ensures)
+    (after-read-run .read-run .ensures) _ (c .enum-told .given .1))
 
 returns-3 : tie.Need-returns-3
 returns-3 c =
-    let x = c .before .before .before in
-    let b = x .before .before .before .before in
-    let a = b .args in
-    absurd (not-ended (a .input .now) (a .at .bytes) (a .skip .rows) (a .signed) (a .out .now) (b .pre) _ _ _ (x .before .before .scratch .ensures) (x .read-run .ensures) (c .enum-told2 .given .1))
+    let after-read-run = c .before .before .before in
+    let entry = after-read-run .before .before .before .before in
+    let a = entry .args in
+    absurd (not-ended (a .input .now) (a .at .bytes) (a .skip .rows) (a .signed) (a .out .now) (entry .pre) _ _ _
+    (after-read-run .before .before .scratch .ensures)
+    (after-read-run .read-run .ensures) (c .enum-told2 .given .1))
 
 pub lay-spec : {M : Type 1} → statement M
 lay-spec =
-    tie.close (tie.spec (λ c κs. search needs) (λ c. search needs) (λ c κs. search needs) (λ c. search needs) sub-n (λ c. search needs) copy-requires add-read-stream
-    mul-read-stream sub-read-stream part-read-stream-start (λ c. search needs) (λ c κs. search needs) (λ c. search needs) (λ c. search needs) (λ c. search needs) returns
+    tie.close (tie.spec (λ c κs. search needs) (λ c. search needs) (λ c κs. search needs) (λ c. search needs) sub-n
+    (λ c. search needs) copy-requires add-read-stream
+    mul-read-stream sub-read-stream part-read-stream-start (λ c. search needs) (λ c κs. search needs) (λ c. search needs) (λ c. search needs)
+    (λ c. search needs) returns
     returns-2 returns-3)

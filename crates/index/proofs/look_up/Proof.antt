@@ -13,8 +13,8 @@ returns c =
 
 returns-2 : tie.Need-returns-2
 returns-2 c =
-    let back-6 = c .before .before .before .before .before .before in
-    let a = back-6 .before .args in
+    let entry = c .before .before .before .before .before .before .before in
+    let a = entry .args in
     c .refused2 .ensures ∙ unequal-counts (a .input .now) (a .first .now) (a .at .now) (a .counts .now) (a .row .rows) (c .before .if2 .taken)
 
 returns-3 : tie.Need-returns-3
@@ -22,7 +22,8 @@ returns-3 c =
     let x = c .before .before in
     let e = x .before in
     let a = e .before .before .before .before .before .before .args in
-    c .refused3 .ensures ∙ wrong-so (a .input .now) (a .first .now) (a .at .now) (a .counts .now) (a .row .rows) (e .before .if1 .left) (e .if2 .left) (sym (x .right .ensures) ∙ not-true (x .right .result) (c .before .if3 .taken))
+    c .refused3 .ensures ∙ wrong-so (a .input .now) (a .first .now) (a .at .now) (a .counts .now) (a .row .rows) (e .before .if1 .left) (e .if2 .left)
+    (sym (x .right .ensures) ∙ not-true (x .right .result) (c .before .if3 .taken))
 
 returns-4 : tie.Need-returns-4
 returns-4 c =
@@ -31,7 +32,8 @@ returns-4 c =
     let e = x .before in
     let a = e .before .before .before .before .before .before .args in
     c .refused4 .ensures
-    ∙ none-so (a .input .now) (a .first .now) (a .at .now) (a .counts .now) (a .row .rows) (e .before .if1 .left) (e .if2 .left) (sym (x .right .ensures) ∙ not-false (x .right .result) (p .before .if3 .left)) _ (p .place-of .ensures) (c .before .if4 .taken)
+    ∙ none-so (a .input .now) (a .first .now) (a .at .now) (a .counts .now) (a .row .rows) (e .before .if1 .left) (e .if2 .left)
+    (sym (x .right .ensures) ∙ not-false (x .right .result) (p .before .if3 .left)) _ (p .place-of .ensures) (c .before .if4 .taken)
 
 returns-5 : tie.Need-returns-5
 returns-5 c =
@@ -41,10 +43,12 @@ returns-5 c =
     let e = x .before in
     let a = e .before .before .before .before .before .before .args in
     c .entry .ensures
-    ∙ found-so (a .input .now) (a .first .now) (a .at .now) (a .counts .now) (a .row .rows) (e .before .if1 .left) (e .if2 .left) (sym (x .right .ensures) ∙ not-false (x .right .result) (p .before .if3 .left)) _ (p .place-of .ensures) (i .if4 .left)
+    ∙ found-so (a .input .now) (a .first .now) (a .at .now) (a .counts .now) (a .row .rows) (e .before .if1 .left) (e .if2 .left)
+    (sym (x .right .ensures) ∙ not-false (x .right .result) (p .before .if3 .left)) _ (p .place-of .ensures) (i .if4 .left)
 
 pub look-up-spec : {M : Type 1} → statement M
 look-up-spec =
-    tie.close (tie.spec (λ c κs. search needs) returns (λ c κs. search needs) returns-2 (λ c κs. search needs) (λ c κs. search needs) returns-3 (λ c κs. search needs)
+    tie.close (tie.spec (λ c κs. search needs) returns (λ c κs. search needs) returns-2 (λ c κs. search needs) (λ c κs. search needs) returns-3
+    (λ c κs. search needs)
     (λ c κs. search needs) returns-4 (λ c. search needs) (λ c. search needs) (λ c. search needs) (λ c. search needs) (λ c. search needs) (λ c. search needs)
     (λ c κs. search needs) returns-5)

@@ -17,20 +17,22 @@ abbrev μ-loop : tie.MeasureT-loop
 
 returns : tie.Need-returns Inv-loop μ-loop
 returns c =
-    let back-6 = c .before .before .before .before .before .before in
-    let l = c .before .before .before .before .before .loop in
-    let b = back-6 .before .before in
-    let a = b .args in
-    place-here (a .row .rows) (a .first .now) (a .counts .now) (l .i) (l .inv .1) (omega arith) (b .pre) (c .before .holds .result) (c .before .holds .ensures) (c .if1 .taken)
+    let at-loop = c .before .before .before .before .before in
+    let entry = at-loop .before .before .before in
+    let l = at-loop .loop in
+    let a = entry .args in
+    place-here (a .row .rows) (a .first .now) (a .counts .now) (l .i) (l .inv .1) (omega arith) (entry .pre) (c .before .holds .result)
+    (c .before .holds .ensures) (c .if1 .taken)
 
 loop-again : tie.Need-loop-again Inv-loop μ-loop
 loop-again c =
-    let back-6 = c .before .before .before .before .before .before in
-    let l = c .before .before .before .before .before .loop in
-    let b = back-6 .before .before in
-    let a = b .args in (
+    let at-loop = c .before .before .before .before .before in
+    let entry = at-loop .before .before .before in
+    let l = at-loop .loop in
+    let a = entry .args in (
       omega arith,
-      place-next (a .row .rows) (a .first .now) (a .counts .now) (l .i) (l .inv .1) (omega arith) (b .pre) (c .before .holds .result) (c .before .holds .ensures) (c .if1 .left),
+      place-next (a .row .rows) (a .first .now) (a .counts .now) (l .i) (l .inv .1) (omega arith) (entry .pre) (c .before .holds .result)
+          (c .before .holds .ensures) (c .if1 .left),
     )
 
 returns-2 : tie.Need-returns-2 Inv-loop μ-loop

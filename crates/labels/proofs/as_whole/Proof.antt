@@ -1,5 +1,4 @@
 -- An i64 is below 0, or the natural number that it is. Assumes nothing.
-use Prim.Native.Nat.{ℕ}
 use mathlib.Core.Path.{_≡_, refl}
 use mathlib.Core.Bool.{Bool, true, false}
 use native.Mathlib.Omega.{arith}
@@ -11,6 +10,7 @@ use mir.Facts.{toZ-ofZ}
 use borrow.Author.Tests.{ltb-true}
 use Rattle.format.specs.Rows.{asU64}
 use Rattle.format.proofs.Patterns.{as-lt}
+use Rattle.format.proofs.Tests.{never}
 use Rattle.labels.specs.declared.Whole.the-variants.{Number, Below}
 use Rattle.labels.specs.Whole.{wholeOf}
 use Rattle.labels.proofs.as_whole.Statement.{statement}
@@ -26,8 +26,7 @@ natural : (z : ℤ) → SFits w64 z → ltZ (toZ w64 (ofZ w64 z)) (pos 0) ≡ fa
 natural (pos n) f t = (toZ-ofZ f, refl)
 natural (negsuc k) f t =
     let h : _≡_ {A = Bool} true false = rw (toZ-ofZ f) at t in
-    let z : _≡_ {A = ℕ} 0 1 = cc in
-    absurd (omega arith)
+    never (cc)
 
 returns : tie.Need-returns
 returns c = rw (below _ (c .before .fits .x) (c .if1 .taken))

@@ -1,4 +1,4 @@
--- `lines::put_answer` meets its contract, answer by answer. Assumes nothing.
+-- Each answer has its words: the end and a refusal theirs, and a run its numbers and rows. Assumes nothing.
 use native.Mathlib.Omega.{arith}
 use Rattle.lines.specs.Line.{replyText}
 use Rattle.text.proofs.Texts.{decimal-length, then-written}
@@ -40,5 +40,6 @@ returns-3 c =
 
 pub put-answer-spec : {M : Type 1} → statement M
 put-answer-spec =
-    tie.close (tie.spec (λ c. search needs) (λ c. search needs) (λ c κs. search needs) (λ c. search needs) put-run-requires (λ c. search needs) (λ c. search needs)
+    tie.close (tie.spec (λ c. search needs) (λ c. search needs) (λ c κs. search needs) (λ c. search needs) put-run-requires (λ c. search needs)
+    (λ c. search needs)
     (λ c κs. search needs) (λ c. search needs) put-decimal-requires (λ c. search needs) returns (λ c. search needs) returns-2 (λ c. search needs) returns-3)

@@ -1,4 +1,4 @@
--- `lines::put_frame` meets its contract: what the run reader promises, in words. Assumes nothing.
+-- What the run reader promises of the rows bounds the answer's length, so that its words and the newline have room. Assumes nothing.
 use mathlib.Core.Path.{sym, _∙_}
 use native.Mathlib.Omega.{arith}
 use denote.Ref.{now}
@@ -23,7 +23,13 @@ put-requires c κs =
     let s = r .before .before .before .before .before in
     let h =
     reads (now (s .args .frame)) _ _ _ _ (r .before .before .row-places .ensures) (r .read-frame .ensures) in
-    omega (arith, s .pre, p .put-answer .ensures .next, p .put-answer .kept .1 .1 .0, reply-length (r .read-frame .result) _ (r .read-frame .last .1 .0) (h .few))
+    omega (
+      arith,
+      s .pre,
+      p .put-answer .ensures .next,
+      p .put-answer .kept .1 .1 .0,
+      reply-length (r .read-frame .result) _ (r .read-frame .last .1 .0) (h .few),
+    )
 
 returns : tie.Need-returns
 returns c =
@@ -37,4 +43,5 @@ returns c =
 
 pub put-frame-spec : {M : Type 1} → statement M
 put-frame-spec =
-    tie.close (tie.spec (λ c κs. search needs) (λ c. search needs) (λ c κs. search needs) (λ c. search needs) put-answer-requires put-requires (λ c. search needs) returns)
+    tie.close (tie.spec (λ c κs. search needs) (λ c. search needs) (λ c κs. search needs) (λ c. search needs) put-answer-requires put-requires
+    (λ c. search needs) returns)

@@ -1,4 +1,4 @@
--- `lines::put_run` meets its contract: five texts, one after the other. Assumes nothing.
+-- The line of a run is five texts, one after the other, and the room left after each is what the next one needs. Assumes nothing.
 use native.Mathlib.Omega.{arith}
 use Rattle.text.proofs.Texts.{decimal-length, then-written}
 use borrow.Author.Needs.{needs}
@@ -16,7 +16,15 @@ put-requires c κs =
     let d = c .before .before .before in
     let w = d .before .before .before .before in
     let s = w .before .before .before .before in
-    omega (arith, s .pre, w .put-word .ensures .next, w .put-word .kept .1 .0, decimal-length (s .args .rows .rows), d .put-decimal .ensures .next, d .put-decimal .kept .1 .0)
+    omega (
+      arith,
+      s .pre,
+      w .put-word .ensures .next,
+      w .put-word .kept .1 .0,
+      decimal-length (s .args .rows .rows),
+      d .put-decimal .ensures .next,
+      d .put-decimal .kept .1 .0,
+    )
 
 put-decimal-requires-2 : tie.Need-put-decimal-requires-2
 put-decimal-requires-2 c κs =
@@ -70,9 +78,19 @@ returns c =
     let w = d .before .before .before .before in
     let s = w .before .before .before .before in
     then-written (omega arith)
-    (then-written (omega arith) (then-written (omega arith) (w .put-word .ensures) (d .put-decimal .ensures)) (then-written (omega (arith, s .pre, w .put-word .ensures .next, w .put-word .kept .1 .0, decimal-length (s .args .rows .rows), d .put-decimal .ensures .next, d .put-decimal .kept .1 .0)) (p .put .ensures) (e .put-decimal2 .ensures)))
+    (then-written (omega arith) (then-written (omega arith) (w .put-word .ensures) (d .put-decimal .ensures))
+    (then-written (omega (
+      arith,
+      s .pre,
+      w .put-word .ensures .next,
+      w .put-word .kept .1 .0,
+      decimal-length (s .args .rows .rows),
+      d .put-decimal .ensures .next,
+      d .put-decimal .kept .1 .0,
+    )) (p .put .ensures) (e .put-decimal2 .ensures)))
     (r .put-rows .ensures)
 
 pub put-run-spec : {M : Type 1} → statement M
 put-run-spec =
-    tie.close (tie.spec (λ c. search needs) (λ c κs. search needs) put-decimal-requires put-requires put-decimal-requires-2 put-rows-requires (λ c. search needs) returns)
+    tie.close (tie.spec (λ c. search needs) (λ c κs. search needs) put-decimal-requires put-requires put-decimal-requires-2 put-rows-requires
+    (λ c. search needs) returns)

@@ -1,4 +1,4 @@
--- `lines::read_frame` meets its contract: the run reader's, from byte 1 on. Assumes nothing.
+-- The run stands after the flag, so the run reader's promise from byte 1 on is the frame's. Assumes nothing.
 use borrow.Author.Needs.{needs}
 use Rattle.lines.proofs.read_frame.Statement.{statement}
 use Rattle.lines.proofs.read_frame.Tie as tie

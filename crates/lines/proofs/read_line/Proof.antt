@@ -1,4 +1,4 @@
--- `lines::read_line` meets its contract: no bytes are a bad line, and others are read as the run reader does. Assumes nothing.
+-- No bytes are a bad line, and others are read as the run reader does. Assumes nothing.
 use native.Mathlib.Omega.{arith}
 use borrow.Author.Needs.{needs}
 use Rattle.lines.proofs.Frames.{frame-fits, frame-long}
@@ -27,5 +27,6 @@ returns-2 c =
 
 pub read-line-spec : {M : Type 1} → statement M
 read-line-spec =
-    tie.close (tie.spec (λ c κs. search needs) (λ c. search needs) (λ c κs. search needs) returns array-share-prefix-frame slice-aggregate-read-frame read-frame-requires
+    tie.close (tie.spec (λ c κs. search needs) (λ c. search needs)
+    (λ c κs. search needs) returns array-share-prefix-frame slice-aggregate-read-frame read-frame-requires
     (λ c. search needs) returns-2)

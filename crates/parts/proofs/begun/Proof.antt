@@ -30,7 +30,8 @@ returns c =
     let known = then .before in
     let a = known .before .before .args in
     rw (c .hold .ensures)
-    (waiting (a .reader) (now (a .part)) (now (a .buffer)) (a .held .bytes) (a .more .bytes) (it-began (known .before .before)) (buffer-bytes known) (part-bytes (known .before)) (a .signed)
+    (waiting (a .reader) (now (a .part)) (now (a .buffer)) (a .held .bytes) (a .more .bytes) (it-began (known .before .before)) (buffer-bytes known)
+    (part-bytes (known .before)) (a .signed)
     (now (a .out)) _ (omega arith) (measured .measure .ensures) (sym (told .before .is-cut .ensures) ∙ told .if2 .taken) _ (copied .copy .ensures))
 
 returns-2 : tie.Need-returns-2
@@ -43,10 +44,15 @@ returns-2 c =
     let known = then .before in
     let a = known .before .before .args in
     let began = it-began (known .before .before) in
-    stays (a .reader) (now (a .part)) (now (a .buffer)) _ (a .held .bytes) (a .more .bytes) began (buffer-bytes known) (part-bytes (known .before)) (a .signed) (now (a .out)) _ _
+    stays (a .reader) (now (a .part)) (now (a .buffer)) _ (a .held .bytes) (a .more .bytes) began (buffer-bytes known) (part-bytes (known .before))
+    (a .signed) (now (a .out)) _ _
     (joined .join .ensures)
-    (not-by-front (a .reader) (now (a .part)) (now (a .buffer)) (a .held .bytes) (a .more .bytes) began (buffer-bytes known) (part-bytes (known .before)) _ (omega arith) (delta .if4 .taken)
+    (not-by-front (a .reader) (now (a .part)) (now (a .buffer)) (a .held .bytes) (a .more .bytes) began (buffer-bytes known) (part-bytes (known .before)) _
+    (omega arith) (delta .if4 .taken)
     (measured .measure .ensures) (sym (read .before .is-whole .ensures) ∙ read .if3 .taken))
 
 pub begun-spec : {M : Type 1} → statement M
-begun-spec = tie.close (tie.spec (λ c. search needs) (λ c. search needs) (λ c. rw length-take (omega arith)) (λ c κs. search needs) (λ c κs. search needs) (λ c κs. search needs) (λ c. search needs) (λ c κs. search needs) (λ c. search needs) returns (λ c κs. search needs) (λ c. search needs) (λ c κs. search needs) (λ c. search needs) (λ c. search needs) returns-2 (λ c κs. search needs) (λ c. search needs) (λ c. search needs) (λ c. search needs) (λ c κs. search needs) (λ c. search needs) (λ c. search needs) (λ c. search needs))
+begun-spec = tie.close (tie.spec (λ c. search needs) (λ c. search needs) (λ c. rw length-take (omega arith)) (λ c κs. search needs) (λ c κs. search needs)
+    (λ c κs. search needs) (λ c. search needs) (λ c κs. search needs) (λ c. search needs) returns (λ c κs. search needs) (λ c. search needs)
+    (λ c κs. search needs) (λ c. search needs) (λ c. search needs) returns-2 (λ c κs. search needs) (λ c. search needs) (λ c. search needs)
+    (λ c. search needs) (λ c κs. search needs) (λ c. search needs) (λ c. search needs) (λ c. search needs))

@@ -27,10 +27,12 @@ returns c =
     let part-known = known .before in
     let a = part-known .before .args in
     rw (c .on-part .ensures)
-    (crossing (a .reader) (now (a .part)) (now (a .buffer)) (a .held .bytes) (a .more .bytes) (it-began (part-known .before)) (buffer-bytes known) (part-bytes part-known) (a .signed)
+    (crossing (a .reader) (now (a .part)) (now (a .buffer)) (a .held .bytes) (a .more .bytes) (it-began (part-known .before)) (buffer-bytes known)
+    (part-bytes part-known) (a .signed)
     (now (a .out)) _ _ (omega arith) _ (copied .copy .ensures) (read .read-run .ensures))
 
 pub join-spec : {M : Type 1} → statement M
 join-spec =
-    tie.close (tie.spec (λ c κs. search needs) (λ c. search needs) (λ c. search needs) (λ c. rw length-take (omega arith)) (λ c κs. search needs) (λ c. search needs)
+    tie.close (tie.spec (λ c κs. search needs) (λ c. search needs) (λ c. search needs) (λ c. rw length-take (omega arith)) (λ c κs. search needs)
+    (λ c. search needs)
     (λ c κs. search needs) (λ c. search needs) (λ c. search needs) returns)

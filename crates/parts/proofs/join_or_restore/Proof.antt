@@ -26,7 +26,8 @@ copy-requires-2 c κs =
     let known = saving .before .before .before .before .before in
     let a = known .before .before .args in (
       omega arith,
-      joined-long (a .reader) (now (a .part)) (now (a .buffer)) _ (a .held .bytes) (a .more .bytes) (it-began (known .before .before)) (buffer-bytes known) (part-bytes (known .before)) (a .signed)
+      joined-long (a .reader) (now (a .part)) (now (a .buffer)) _ (a .held .bytes) (a .more .bytes) (it-began (known .before .before)) (buffer-bytes known)
+          (part-bytes (known .before)) (a .signed)
           (now (a .out)) _ _ (joined .join .ensures),
     )
 
@@ -38,7 +39,8 @@ returns c =
     let saving = joined .before .before .before .before .before in
     let known = saving .before .before .before .before .before in
     let a = known .before .before .args in
-    put-back (a .reader) (now (a .part)) (now (a .buffer)) _ (a .held .bytes) (a .more .bytes) (it-began (known .before .before)) (buffer-bytes known) (part-bytes (known .before)) (a .signed)
+    put-back (a .reader) (now (a .part)) (now (a .buffer)) _ (a .held .bytes) (a .more .bytes) (it-began (known .before .before)) (buffer-bytes known)
+    (part-bytes (known .before)) (a .signed)
     (now (a .out)) _ _ (joined .join .ensures) (now (a .saved)) _ _ (omega arith) (saving .copy .ensures) (back .copy2 .ensures)
     (sym (refuses .before .is-refused .ensures) ∙ refuses .if1 .taken)
 
@@ -48,7 +50,8 @@ returns-2 c =
     let saving = joined .before .before .before .before .before in
     let known = saving .before .before .before .before .before in
     let a = known .before .before .args in
-    stays-unless (a .reader) (now (a .part)) (now (a .buffer)) _ (a .held .bytes) (a .more .bytes) (it-began (known .before .before)) (buffer-bytes known) (part-bytes (known .before)) (a .signed)
+    stays-unless (a .reader) (now (a .part)) (now (a .buffer)) _ (a .held .bytes) (a .more .bytes) (it-began (known .before .before)) (buffer-bytes known)
+    (part-bytes (known .before)) (a .signed)
     (now (a .out)) _ _ (joined .join .ensures) (sym (c .before .is-refused .ensures) ∙ c .if1 .left)
 
 pub join-or-restore-spec : {M : Type 1} → statement M

@@ -1,4 +1,4 @@
--- `check` meets its contract. Assumes nothing.
+-- Columns of different lengths are rejected; of equal lengths the walk answers. Assumes nothing.
 use mathlib.Core.Path.{sym, _∙_}
 use denote.Ref.{now}
 use borrow.Author.Needs.{needs}

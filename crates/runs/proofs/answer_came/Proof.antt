@@ -1,8 +1,9 @@
 -- `runs::answer_came` meets its contract: what it does is by what the system answered. Assumes nothing.
 use mathlib.Core.Path.{refl, sym, _∙_}
 use borrow.Author.Needs.{needs}
+use borrow.Author.Tests.{not-true, not-false}
 use mir.Facts.{toZ-ofZ}
-use Rattle.blocks.proofs.Turns.{some-came, at-end, read-failed, is-not, is-so}
+use Rattle.blocks.proofs.Turns.{some-came, at-end, read-failed}
 use Rattle.runs.proofs.answer_came.Statement.{statement}
 use Rattle.runs.proofs.answer_came.Tie as tie
 
@@ -43,7 +44,7 @@ returns-3 c =
     let e = z .before in
     let s = e .before .before .before in
     let (k, h) = read-failed (s .args .got) (rw (toZ-ofZ (s .fits .got)) at (e .if1 .left)) (z .if2 .left) in
-    let r = sym (rw (toZ-ofZ (s .fits .error)) at (n .is-not-ready .ensures)) ∙ is-not _ (t .if3 .taken) in
+    let r = sym (rw (toZ-ofZ (s .fits .error)) at (n .is-not-ready .ensures)) ∙ not-true _ (t .if3 .taken) in
     rw h (record { nothing = refl; goes-on = rw r })
 
 returns-4 : tie.Need-returns-4
@@ -54,7 +55,7 @@ returns-4 c =
     let e = z .before in
     let s = e .before .before .before in
     let (k, h) = read-failed (s .args .got) (rw (toZ-ofZ (s .fits .got)) at (e .if1 .left)) (z .if2 .left) in
-    let r = sym (rw (toZ-ofZ (s .fits .error)) at (n .is-not-ready .ensures)) ∙ is-so _ (t .if3 .left) in
+    let r = sym (rw (toZ-ofZ (s .fits .error)) at (n .is-not-ready .ensures)) ∙ not-false _ (t .if3 .left) in
     rw h (record { nothing = refl; goes-on = rw r })
 
 returns-5 : tie.Need-returns-5
@@ -65,7 +66,7 @@ returns-5 c =
     let e = z .before in
     let s = e .before .before .before in
     let (k, h) = read-failed (s .args .got) (rw (toZ-ofZ (s .fits .got)) at (e .if1 .left)) (z .if2 .left) in
-    let r = sym (rw (toZ-ofZ (s .fits .error)) at (n .is-not-ready .ensures)) ∙ is-so _ (t .if3 .left) in
+    let r = sym (rw (toZ-ofZ (s .fits .error)) at (n .is-not-ready .ensures)) ∙ not-false _ (t .if3 .left) in
     rw h (record { nothing = refl; goes-on = rw r })
 
 pub answer-came-spec : {M : Type 1} → statement M

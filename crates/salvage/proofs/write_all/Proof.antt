@@ -1,4 +1,4 @@
--- `write_all` meets its contract. The loop's invariant: what is written, and what stands for the groups that are left, is all. Assumes nothing.
+-- Each turn writes one group and its line: what is written, and what stands for the groups that are left, is all. Assumes nothing.
 use Prim.Native.Nat.{_-_}
 use native.Mathlib.Omega.{arith}
 use borrow.Author.Needs.{needs}
@@ -19,59 +19,78 @@ abbrev μ-loop : tie.MeasureT-loop
 μ-loop input starts counts fill signed out₀ report₀ first stream₀ lines₀ i₀ out report stream lines i = length starts - i
 
 -- what is known of the group of this turn
-turn-of : (k : tie.After-is-kept Inv-loop μ-loop) → let l = k .before .before .before .before .loop in let s = k .before .before .before .before .before in let a = s .before .before .before .before .before .before .args in Turn (a .signed) (toZ w64 (ofZ w64 (a .fill))) (a .input .now) (a .starts .now) (a .counts .now) (l .i) (k .before .bytes-of .result .now) (getD (a .counts .now) (l .i) 0) (k .is-kept .result) (s .stored .result)
+turn-of : (k : tie.After-is-kept Inv-loop μ-loop) → let l = k .before .before .before .before .loop in let s = k .before .before .before .before .before in
+    let a = s .before .before .before .before .before .before .args in
+    Turn (a .signed) (toZ w64 (ofZ w64 (a .fill))) (a .input .now) (a .starts .now) (a .counts .now) (l .i) (k .before .bytes-of .result .now)
+    (getD (a .counts .now) (l .i) 0) (k .is-kept .result) (s .stored .result)
 turn-of k =
     let l = k .before .before .before .before .loop in
     let s = k .before .before .before .before .before in
     let z = s .before .before .before .before .before .before in
     let a = z .args in
-    turn (a .signed) (toZ w64 (ofZ w64 (a .fill))) (a .input .now) (a .starts .now) (a .counts .now) (rw (toZ-ofZ (z .fits .fill)) (z .fits .fill)) (l .i) (k .before .before .before .loop-test .taken) (z .pre .0 .lengths) _ (k .before .bytes-of .ensures) _ (k .is-kept .ensures) _
+    turn (a .signed) (toZ w64 (ofZ w64 (a .fill))) (a .input .now) (a .starts .now) (a .counts .now) (rw (toZ-ofZ (z .fits .fill)) (z .fits .fill)) (l .i)
+    (k .before .before .before .loop-test .taken) (z .pre .0 .lengths) _ (k .before .bytes-of .ensures) _ (k .is-kept .ensures) _
     (s .stored .ensures)
 
 loop-holds : tie.Need-loop-holds Inv-loop μ-loop
-loop-holds c = let s = c .before .before .before .before .before .before in let a = s .args in laid-none (a .signed) (toZ w64 (ofZ w64 (a .fill))) (a .input .now) (a .starts .now) (a .counts .now) (a .out .now) (a .report .now) (rw (toZ-ofZ (s .fits .fill)) (s .pre .1))
+loop-holds c =
+    let s = c .before .before .before .before .before .before in
+    let a = s .args in
+    laid-none (a .signed) (toZ w64 (ofZ w64 (a .fill))) (a .input .now) (a .starts .now) (a .counts .now) (a .out .now) (a .report .now)
+    (rw (toZ-ofZ (s .fits .fill)) (s .pre .1))
 
 shared-slice-read-listed : tie.Need-shared-slice-read-listed Inv-loop μ-loop
 shared-slice-read-listed c =
-    let back-6 = c .before .before .before .before .before .before in
-    let s = back-6 .before .before .before in omega (arith, s .pre .0 .lengths)
+    let at-loop = c .before .before in
+    let entry = at-loop .before .before .before .before .before .before .before in
+    omega (arith, entry .pre .0 .lengths)
 
 bytes-of-requires : tie.Need-bytes-of-requires Inv-loop μ-loop
 bytes-of-requires c κs =
-    let back-6 = c .before .before .before .before .before .before in
-    let s = back-6 .before .before .before in (s .pre .0 .right, omega arith)
+    let at-loop = c .before .before in
+    let entry = at-loop .before .before .before .before .before .before .before in
+    (entry .pre .0 .right, omega arith)
 
 put-group-requires : tie.Need-put-group-requires Inv-loop μ-loop
 put-group-requires c κs =
-    let back-6 = c .before .before .before .before .before .before in
-    let k = c .before in let a = back-6 .before .before .before .before .before .before .args in stream-room (a .signed) (toZ w64 (ofZ w64 (a .fill))) (a .input .now) (a .starts .now) (a .counts .now) (k .before .before .before .before .loop .inv) (turn-of k)
+    let after-is-kept = c .before in
+    let at-loop = after-is-kept .before .before .before .before in
+    let entry = at-loop .before .before .before .before .before .before .before in
+    let a = entry .args in
+    stream-room (a .signed) (toZ w64 (ofZ w64 (a .fill))) (a .input .now) (a .starts .now) (a .counts .now) (at-loop .loop .inv)
+    (turn-of after-is-kept)
 
 put-line-requires : tie.Need-put-line-requires Inv-loop μ-loop
 put-line-requires c κs =
-    let back-6 = c .before .before .before .before .before .before in
-    let back-12 = back-6 .before .before .before .before .before .before in
-    let k = c .before .before .before .before .before in let a = back-12 .before .before .before .before .args in lines-room (a .signed) (toZ w64 (ofZ w64 (a .fill))) (a .input .now) (a .starts .now) (a .counts .now) (k .before .before .before .before .loop .inv) (turn-of k)
+    let after-is-kept = c .before .before .before .before .before in
+    let at-loop = after-is-kept .before .before .before .before in
+    let entry = at-loop .before .before .before .before .before .before .before in
+    let a = entry .args in
+    lines-room (a .signed) (toZ w64 (ofZ w64 (a .fill))) (a .input .now) (a .starts .now) (a .counts .now) (at-loop .loop .inv)
+    (turn-of after-is-kept)
 
 loop-again : tie.Need-loop-again Inv-loop μ-loop
 loop-again c =
-    let back-6 = c .before .before .before .before .before .before in
-    let back-12 = back-6 .before .before .before .before .before .before in
-    let back-18 = back-12 .before .before .before .before .before .before in
-    let y = c .before .before in
-    let z = y .before .before .before .before in
-    let k = z .before .before in
-    let a = back-18 .before .args in
-    laid-next (a .signed) (toZ w64 (ofZ w64 (a .fill))) (a .input .now) (a .starts .now) (a .counts .now) (k .before .before .before .before .loop .inv) (turn-of k) (omega arith)
-    (z .put-group .ensures) (z .put-group .kept .1 .1 .1 .1 .0) (y .put-line .ensures) (y .put-line .kept .1 .1 .1 .0)
+    let after-put-line = c .before .before in
+    let after-put-group = after-put-line .before .before .before .before in
+    let after-is-kept = after-put-group .before .before in
+    let at-loop = after-is-kept .before .before .before .before in
+    let entry = at-loop .before .before .before .before .before .before .before in
+    let a = entry .args in
+    laid-next (a .signed) (toZ w64 (ofZ w64 (a .fill))) (a .input .now) (a .starts .now) (a .counts .now) (at-loop .loop .inv)
+    (turn-of after-is-kept) (omega arith)
+    (after-put-group .put-group .ensures) (after-put-group .put-group .kept .1 .1 .1 .1 .0)
+    (after-put-line .put-line .ensures) (after-put-line .put-line .kept .1 .1 .1 .0)
 
 returns : tie.Need-returns Inv-loop μ-loop
 returns c =
-    let back-6 = c .before .before .before .before .before .before in
-    let l = c .before .before .loop in
-    let s = back-6 .before .before .before in
-    let a = s .args in
-    rw (toZ-ofZ (s .fits .fill)) at
-    (was-written (a .signed) (toZ w64 (ofZ w64 (a .fill))) (a .input .now) (a .starts .now) (a .counts .now) (s .pre .0) (rw (toZ-ofZ (s .fits .fill)) (s .pre .1)) (l .inv) (omega arith) (c .written .ensures))
+    let at-loop = c .before .before in
+    let entry = at-loop .before .before .before .before .before .before .before in
+    let l = at-loop .loop in
+    let a = entry .args in
+    rw (toZ-ofZ (entry .fits .fill)) at
+    (was-written (a .signed) (toZ w64 (ofZ w64 (a .fill))) (a .input .now) (a .starts .now) (a .counts .now) (entry .pre .0)
+    (rw (toZ-ofZ (entry .fits .fill)) (entry .pre .1)) (l .inv) (omega arith) (c .written .ensures))
 
 pub write-all-spec : {M : Type 1} → statement M
 write-all-spec =

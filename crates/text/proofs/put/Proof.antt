@@ -1,4 +1,4 @@
--- `text::put` meets its contract. Assumes nothing.
+-- One place is set: what was written before it stays, and the place after it is the next. Assumes nothing.
 use borrow.Author.Needs.{needs}
 use denote.Ref.{now}
 use native.Mathlib.Omega.{arith}

@@ -1,4 +1,4 @@
--- `text::put_row` meets its contract, by the row's 64 bits. Assumes nothing.
+-- The sign is the top bit of the row's 64, and the digits are those of its size, which these bits give. Assumes nothing.
 use mathlib.Core.Path.{ap}
 use native.Mathlib.Omega.{arith}
 use lib.ListN.{length}

@@ -1,4 +1,4 @@
--- `text::put_rows` meets its contract. The loop's invariant: the first i rows are written. Assumes nothing.
+-- Each turn writes a space and a row: the text of the first i rows is written, and the length stays. Assumes nothing.
 use mir.Val.{toZ, ofZ}
 use mir.Syntax.{w64}
 use mathlib.Core.Path.{_≡_, refl, _∙_}
@@ -27,7 +27,15 @@ unfolding rowsText
 loop-holds c = let a = c .before .args in (omega arith, omega arith, refl, none-written (now (a .out)) (a .at))
 
 put-row-requires : tie.Need-put-row-requires Inv-loop μ-loop
-put-row-requires c κs = let p = c .before .before .before .before in omega (arith, row-length (toZ w64 (ofZ w64 (getD (now (p .before .before .before .before .before .args .rows)) (p .before .before .before .loop .i) (pos 0)))), p .put .ensures .next, p .put .kept .1 .0)
+put-row-requires c κs =
+    let p = c .before .before .before .before in
+    omega (
+      arith,
+      row-length
+          (toZ w64 (ofZ w64 (getD (now (p .before .before .before .before .before .args .rows)) (p .before .before .before .loop .i) (pos 0)))),
+      p .put .ensures .next,
+      p .put .kept .1 .0,
+    )
 
 loop-again : tie.Need-loop-again Inv-loop μ-loop
 loop-again c =
@@ -52,5 +60,6 @@ returns c =
 
 pub put-rows-spec : {M : Type 1} → statement M
 put-rows-spec =
-    tie.close (tie.spec Inv-loop μ-loop loop-holds (λ c κs. omega arith) (λ c. omega arith) (λ c. omega arith) put-row-requires (λ c. omega arith) (λ c. omega arith)
+    tie.close (tie.spec Inv-loop μ-loop loop-holds (λ c κs. omega arith) (λ c. omega arith) (λ c. omega arith) put-row-requires (λ c. omega arith)
+    (λ c. omega arith)
     loop-again (λ c. c .before .loop .inv .2) returns)

@@ -1,4 +1,4 @@
--- `text::put_word` meets its contract. The loop's invariant: the first i characters are written. Assumes nothing.
+-- Each turn writes one character: the first i of the word are written, and the length stays. Assumes nothing.
 use mathlib.Core.Path.{_≡_, refl, _∙_}
 use Prim.Native.Nat.{_+_, _-_, _≤_}
 use native.Mathlib.Omega.{arith}
@@ -23,15 +23,15 @@ loop-holds c = let a = c .before .before .args in (omega arith, omega arith, ref
 
 loop-again : tie.Need-loop-again Inv-loop μ-loop
 loop-again c =
-    let back-6 = c .before .before .before .before .before .before in
-    let p = c .before .before in
-    let l = p .before .before .before .before .loop in
-    let s = back-6 .before .before .before in
-    let w = then-written (omega arith) (l .inv .3) (p .put .ensures) in (
+    let after-put = c .before .before in
+    let at-loop = after-put .before .before .before .before in
+    let entry = at-loop .before .before .before in
+    let l = at-loop .loop in
+    let w = then-written (omega arith) (l .inv .3) (after-put .put .ensures) in (
       omega arith,
-      omega (arith, p .put .ensures .next),
-      p .put .kept .1 .0 ∙ l .inv .2,
-      rw (add-one, take-suc (now (s .args .word)) (l .i) 0 (omega arith)) w,
+      omega (arith, after-put .put .ensures .next),
+      after-put .put .kept .1 .0 ∙ l .inv .2,
+      rw (add-one, take-suc (now (entry .args .word)) (l .i) 0 (omega arith)) w,
     )
 
 returns : tie.Need-returns Inv-loop μ-loop

@@ -1,4 +1,4 @@
--- `narrowest_code` meets its contract: the next kept code after the narrowest. Assumes nothing.
+-- The next kept code after the narrowest. Assumes nothing.
 use borrow.Author.Needs.{needs}
 use Rattle.format.proofs.Kept.{narrowest-next}
 use Rattle.writer.proofs.narrowest_code.Statement.{statement}

@@ -1,4 +1,4 @@
--- `write_run` meets its contract. Assumes nothing.
+-- A count or a width that the form does not allow is refused; the rest is what the form's own writer promises. Assumes nothing.
 use mathlib.Core.Path.{sym, _∙_}
 use lib.ListN.{length, length-map}
 use borrow.Author.Tests.{not-true, not-false}
@@ -29,25 +29,29 @@ write-requires : tie.Need-write-requires
 write-requires c κs =
     let w = c .before .before .before .before in
     let a = w .before .before .before .before .args in
-    short-allowed (a .form) (length (now (a .rows))) (a .width) (w .before .before .count .ensures) (w .before .if1 .left) (w .width .ensures) (c .before .before .before .if2 .left) (c .before .enum-told .given .1)
+    short-allowed (a .form) (length (now (a .rows))) (a .width) (w .before .before .count .ensures) (w .before .if1 .left)
+    (w .width .ensures) (c .before .before .before .if2 .left) (c .before .enum-told .given .1)
 
 write-requires-2 : tie.Need-write-requires-2
 write-requires-2 c κs =
     let w = c .before .before .before .before in
     let a = w .before .before .before .before .args in
-    direct-allowed (a .form) (length (now (a .rows))) (a .width) (w .before .before .count .ensures) (w .before .if1 .left) (w .width .ensures) (c .before .before .before .if2 .left) (c .before .enum-told2 .given .1)
+    direct-allowed (a .form) (length (now (a .rows))) (a .width) (w .before .before .count .ensures) (w .before .if1 .left)
+    (w .width .ensures) (c .before .before .before .if2 .left) (c .before .enum-told2 .given .1)
 
 write-fixed-requires : tie.Need-write-fixed-requires
 write-fixed-requires c κs =
     let w = c .before .before .before .before in
     let a = w .before .before .before .before .args in
-    fixed-allowed (a .form) (length (now (a .rows))) (a .width) (w .before .before .count .ensures) (w .before .if1 .left) (w .width .ensures) (c .before .before .before .if2 .left) (c .before .enum-told3 .given .1)
+    fixed-allowed (a .form) (length (now (a .rows))) (a .width) (w .before .before .count .ensures) (w .before .if1 .left)
+    (w .width .ensures) (c .before .before .before .if2 .left) (c .before .enum-told3 .given .1)
 
 write-packed-requires : tie.Need-write-packed-requires
 write-packed-requires c κs =
     let w = c .before .before .before .before in
     let a = w .before .before .before .before .args in
-    packed-allowed (a .form) (length (now (a .rows))) (a .width) (w .before .before .count .ensures) (w .before .if1 .left) (w .width .ensures) (c .before .before .before .if2 .left) (c .before .enum-told4 .given .1)
+    packed-allowed (a .form) (length (now (a .rows))) (a .width) (w .before .before .count .ensures) (w .before .if1 .left)
+    (w .width .ensures) (c .before .before .before .if2 .left) (c .before .enum-told4 .given .1)
 
 returns-3 : tie.Need-returns-3
 returns-3 c = rw (c .before .before .before .before .enum-told .given .1) (c .before .before .write .ensures)
@@ -63,6 +67,7 @@ returns-6 c = rw (c .before .before .before .before .enum-told4 .given .1) (c .b
 
 pub write-run-spec : {M : Type 1} → statement M
 write-run-spec =
-    tie.close (tie.spec (λ c κs. search needs) (λ c κs. search needs) returns (λ c κs. search needs) (λ c κs. search needs) returns-2 (λ c. search needs) write-requires
+    tie.close (tie.spec (λ c κs. search needs) (λ c κs. search needs) returns (λ c κs. search needs) (λ c κs. search needs) returns-2
+    (λ c. search needs) write-requires
     (λ c. search needs) write-requires-2 (λ c. search needs) write-fixed-requires (λ c. search needs) write-packed-requires (λ c. search needs) returns-3
     (λ c. search needs) returns-4 (λ c. search needs) returns-5 (λ c. search needs) returns-6)

@@ -10,9 +10,9 @@ use std::path::Path;
 use std::process::ExitCode;
 use std::{env, fs};
 
-use differential::random::Random;
 use differential::tally::Hex;
 use differential::{frames, program};
+use model::random::Random;
 
 /// The README's lines, each refusal, and lines that are bad.
 const SHORT: [&str; 54] = [

@@ -3,8 +3,8 @@ use model::{Answer, Stream};
 
 use crate::frames;
 use crate::probe::Requests;
-use crate::random::Random;
 use crate::tally::Hex;
+use model::random::Random;
 
 /// The most places that a line can lend.
 const MOST: usize = 8_192;

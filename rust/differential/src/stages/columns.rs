@@ -9,8 +9,8 @@ use planning::planner::proposed;
 use super::Session;
 use crate::frames;
 use crate::probe::{refused, with_numbers, Requests};
-use crate::random::Random;
 use crate::tally::Hex;
+use model::random::Random;
 
 /// A column, a proposal for it in five columns (first rows, rows, forms, widths, bases), and the bytes that
 /// are lent.
@@ -166,7 +166,7 @@ fn damage(asked: &mut Asked, random: &mut Random) {
     }
 }
 
-/// Any column: by cuts anywhere, by runs that the rows were made for, and by proposals of the prototype's.
+/// Any column: by cuts anywhere, by runs that the rows were made for, and by proposals of the oracle in `planning`.
 pub fn any(random: &mut Random) -> Asked {
     if !random.once_in(4) {
         return by_cuts(random);
@@ -191,7 +191,7 @@ pub fn by_cuts(random: &mut Random) -> Asked {
 
 fn any_rows(random: &mut Random) -> Vec<i64> {
     let most = if random.once_in(32) { 700 } else { 40 };
-    stretches(&mut Dice(random.any()), most)
+    stretches(&mut Dice::new(random.any()), most)
 }
 
 /// Half of them damaged, with room about what they need and about what direct runs need.

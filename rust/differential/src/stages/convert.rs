@@ -3,8 +3,8 @@ use model::{Converted, Stream, WIDTHS};
 
 use crate::frames;
 use crate::probe::{refused, Requests};
-use crate::random::Random;
 use crate::tally::Hex;
+use model::random::Random;
 
 /// What is converted, and the bytes that are lent for the new stream.
 #[derive(Debug, Clone, PartialEq, Eq)]

@@ -1,6 +1,6 @@
 //! FORMAT.md, "Totals": the count of ones, in lines for the probe.
 use crate::probe::Requests;
-use crate::random::Random;
+use model::random::Random;
 
 /// Any bytes, and how many of their booleans are asked for: about as many as there are, mostly.
 pub fn any(random: &mut Random) -> (Vec<u8>, u64) {

@@ -2,7 +2,7 @@
 use super::Session;
 use crate::frames;
 use crate::probe::Requests;
-use crate::random::Random;
+use model::random::Random;
 
 /// Boolean runs, and how many booleans need them all.
 fn boolean_runs(random: &mut Random) -> Vec<(Vec<u8>, usize)> {

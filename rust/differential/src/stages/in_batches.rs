@@ -8,7 +8,7 @@ use oracle::Outcome;
 use super::Session;
 use crate::frames;
 use crate::listed::{self, Call, Sort};
-use crate::random::Random;
+use model::random::Random;
 
 /// How many calls of the Rust's iterator are made.
 const CALLS: usize = 100_000;

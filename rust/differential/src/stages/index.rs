@@ -5,8 +5,8 @@ use model::{Answer, Entry, Index, Lookup, Rows};
 
 use crate::frames;
 use crate::probe::{refused, with_rows, Requests};
-use crate::random::Random;
 use crate::tally::Hex;
+use model::random::Random;
 
 /// What is asked of an index.
 #[derive(Debug, Clone, Copy, PartialEq, Eq)]

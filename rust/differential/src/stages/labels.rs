@@ -2,7 +2,7 @@
 use model::Dictionary;
 
 use crate::probe::Requests;
-use crate::random::Random;
+use model::random::Random;
 
 /// What a label is asked of, with columns of its own.
 #[derive(Debug, Clone, PartialEq, Eq)]

@@ -1,8 +1,8 @@
 //! Rows spread over flags, all labels in one pass, flags and bytes written, in lines for the probe: 15 to 18.
 use super::labels;
 use crate::probe::{with_numbers, Requests};
-use crate::random::Random;
 use crate::tally::Hex;
+use model::random::Random;
 
 /// 15: rows spread over flags.
 pub fn spread_line(flags: &[u8], rows: &[i64], fill: i64, places: usize) -> String {

@@ -6,7 +6,7 @@ use super::{
 use crate::frames;
 use crate::listed::{Call, LIST};
 use crate::probe::Requests;
-use crate::random::Random;
+use model::random::Random;
 
 impl Session {
     pub(super) fn probe_lines(&mut self) {

@@ -1,7 +1,7 @@
 //! FORMAT.md, "Reader in parts": streams that arrive in parts, in lines for the probe.
 use crate::frames;
 use crate::probe::Requests;
-use crate::random::Random;
+use model::random::Random;
 
 /// A stream in parts.
 #[derive(Debug, Clone, PartialEq, Eq)]

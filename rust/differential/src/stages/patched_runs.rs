@@ -6,7 +6,7 @@ use super::Session;
 use crate::frames::largest_patch;
 use crate::listed::{self, Call, Sort};
 use crate::probe::Requests;
-use crate::random::Random;
+use model::random::Random;
 
 /// Rows, a base and a value width: mostly ones that the writer takes, a few rows with a patch.
 pub fn any_patched_rows(random: &mut Random) -> (Vec<i64>, i64, usize) {

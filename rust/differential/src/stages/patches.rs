@@ -4,7 +4,7 @@ use model::WIDTHS;
 use super::Session;
 use crate::frames::{self, largest_patch, Patched};
 use crate::probe::Requests;
-use crate::random::Random;
+use model::random::Random;
 
 /// Every such pair of widths that refusal 2 leaves, at the narrowest and the widest gap.
 fn wide() -> impl Iterator<Item = Patched> {

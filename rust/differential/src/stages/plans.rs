@@ -1,5 +1,5 @@
 //! FORMAT.md, "Planner": what the planner proposes. It has no one right value: it is held to what every
-//! proposal of the planner's must be, and, while both are one algorithm, to the prototype's.
+//! proposal of the planner's must be, and, while both are one algorithm, to that of the oracle in `planning`.
 use model::Segment;
 use planning::columns::{other_columns, stretches, Dice, Named};
 use planning::planner::proposed;
@@ -7,11 +7,11 @@ use planning::planner::proposed;
 use super::columns::{direct_bytes, planned_in};
 use super::Session;
 use crate::probe::{with_numbers, Requests};
-use crate::random::Random;
+use model::random::Random;
 
-/// Whether the proved planner is the prototype's algorithm, so that they propose the same segments. Where
+/// Whether the proved planner is the oracle's algorithm, so that they propose the same segments. Where
 /// it goes its own way, this is no, and all else that is compared stays.
-pub const AS_THE_PROTOTYPE: bool = true;
+pub const AS_THE_ORACLE: bool = true;
 
 /// The most segments that a line of the probe can lend.
 const LENT: usize = 8_192;
@@ -24,7 +24,7 @@ fn any(longest: i64, random: &mut Random) -> (Vec<i64>, bool) {
         5..=16 => 40,
         _ => random.pick(&[2, 12, 12]),
     };
-    (stretches(&mut Dice(random.any()), most), random.once_in(2))
+    (stretches(&mut Dice::new(random.any()), most), random.once_in(2))
 }
 
 /// A proposal is accepted where there is room for direct runs of 64 bits: its bytes.
@@ -60,9 +60,9 @@ impl Session {
             Ok(proposal) => proposal,
             Err(wrong) => return self.tally.unlisted(&format!("planner: {wrong}\n  {rows:?}, {signed}")),
         };
-        let prototype = proposed(rows, signed);
-        if AS_THE_PROTOTYPE && proposal != prototype {
-            let both = format!("{proposal:?}\n  the prototype: {prototype:?}");
+        let oracle = proposed(rows, signed);
+        if AS_THE_ORACLE && proposal != oracle {
+            let both = format!("{proposal:?}\n  the oracle: {oracle:?}");
             self.tally.unlisted(&format!("planner: {both}\n  {rows:?}, {signed}"));
         }
         match accepted(rows, signed, &proposal) {
@@ -73,7 +73,7 @@ impl Session {
         }
     }
 
-    /// The library's proposal, or, where none is linked, the prototype's.
+    /// The library's proposal, or, where none is linked, the oracle's.
     fn proposal(&mut self, rows: &[i64], signed: bool) -> Result<Vec<Segment>, String> {
         #[cfg(feature = "ours")]
         if self.ours.is_some() {
@@ -107,7 +107,7 @@ pub fn probe_line(requests: &mut Requests, random: &mut Random) {
     let most = segments.len();
     let few = rows.len().div_ceil(512);
     let lent = random.pick(&[most, most, most + 1, rows.len(), most.saturating_sub(1), few, 0]).min(LENT);
-    if !AS_THE_PROTOTYPE || lent == 0 {
+    if !AS_THE_ORACLE || lent == 0 {
         return requests.plan_none(&rows, signed.into(), 0);
     }
     let segments = planned_in(lent, rows.len(), &segments);

@@ -7,8 +7,8 @@ use crate::frames;
 #[cfg(feature = "ours")]
 use crate::listed::Call;
 use crate::probe::Requests;
-use crate::random::Random;
 use crate::tally::Hex;
+use model::random::Random;
 
 /// What is rescued: the columns of runs, skips and counts, and the places lent for rows and verdicts.
 #[derive(Debug, Clone, PartialEq, Eq)]

@@ -5,8 +5,8 @@ use model::{Groups, Salvaged, Stream};
 
 use crate::frames;
 use crate::probe::{refused, Requests};
-use crate::random::Random;
 use crate::tally::Hex;
+use model::random::Random;
 
 /// How many bytes the probe lends for the report.
 pub const REPORT: usize = 65_536;

@@ -1,7 +1,7 @@
 //! FORMAT.md, "Varints": varints of ten bytes and more, as the first row and as the base delta.
 use super::Session;
 use crate::probe::Requests;
-use crate::random::Random;
+use model::random::Random;
 
 const TENTH: [u8; 9] = [0x00, 0x01, 0x02, 0x03, 0x40, 0x7F, 0x80, 0x81, 0xFF];
 

@@ -5,7 +5,7 @@ use oracle::Stopped;
 use super::Session;
 use crate::frames;
 use crate::listed::{self, Call, Sort};
-use crate::random::Random;
+use model::random::Random;
 
 const ROOM: usize = 1 << 20;
 

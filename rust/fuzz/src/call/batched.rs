@@ -1,8 +1,8 @@
 //! Calls that read batches, spread rows or look up all labels, and what the model answers them.
-use differential::random::Random;
 use differential::stages::batches::{self, At};
 use differential::stages::lined_up::{self, Labels, Spread};
 use menakovitsy::exported::{case, BATCH_WORDS, BYTES_WORDS, FLAGS_WORDS, LABELS_WORDS, SPREAD_WORDS};
+use model::random::Random;
 use model::{Batch, BytePosition, Bytes, FlagPosition, Flags, LabelPlaces, Names, Refusal, RowPosition};
 
 use super::{Lending, Outcome, MOST};

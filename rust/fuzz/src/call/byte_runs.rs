@@ -1,7 +1,7 @@
 //! Calls that write flags or bytes as byte runs, or ask for their size, and what the model answers them.
-use differential::random::Random;
 use differential::stages::lined_up::{self, ToWrite};
 use menakovitsy::exported::{case, kind, BYTES_WRITTEN_WORDS, RUN_WORDS};
+use model::random::Random;
 use model::Refusal;
 
 use super::{Lending, Outcome, MOST};

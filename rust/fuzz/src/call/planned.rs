@@ -1,7 +1,7 @@
 //! Calls of the planner, the check and the column writer.
-use differential::random::Random;
 use differential::stages::columns::{self, Asked};
 use menakovitsy::exported::case;
+use model::random::Random;
 use model::Column;
 
 use super::{Call, Outcome, MOST};

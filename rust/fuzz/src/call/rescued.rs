@@ -1,7 +1,7 @@
 //! Calls that rescue rows by positions, and what the model answers them.
-use differential::random::Random;
 use differential::stages::rescue::{self, Asked};
 use menakovitsy::exported::case;
+use model::random::Random;
 use model::Rescued;
 
 use super::{Call, Lending, Outcome};

@@ -1,7 +1,7 @@
 //! Calls that make a new stream of a whole one, salvaged or converted, and what the model answers them.
-use differential::random::Random;
 use differential::stages::{convert, salvage};
 use menakovitsy::exported::case;
+use model::random::Random;
 use model::{Converted, Refusal, Salvaged};
 
 use super::{Call, Outcome, MOST};

@@ -1,7 +1,7 @@
 //! Calls of the two run writers, and what the model answers them.
 use differential::frames;
-use differential::random::Random;
 use differential::stages::patched_runs::any_patched_rows;
+use model::random::Random;
 use model::{Form, Refusal, Written};
 
 use super::{Call, Outcome, MOST};

@@ -1,20 +1,17 @@
 //! Numbers that look like any others, the same at every call.
 use crate::bits::Put;
+use crate::random::Random;
 
-/// A sequence of numbers (SplitMix64). Each line has one of its own, so that no line depends on another.
-pub struct Numbers(u64);
+/// A sequence of numbers. Each line has one of its own, so that no line depends on another.
+pub struct Numbers(Random);
 
 impl Numbers {
     pub fn new(seed: usize) -> Self {
-        Numbers(seed as u64)
+        Numbers(Random::new(seed as u64))
     }
 
     pub fn any(&mut self) -> u64 {
-        self.0 = self.0.wrapping_add(0x9E37_79B9_7F4A_7C15);
-        let mut mixed = self.0;
-        mixed = (mixed ^ mixed >> 30).wrapping_mul(0xBF58_476D_1CE4_E5B9);
-        mixed = (mixed ^ mixed >> 27).wrapping_mul(0x94D0_49BB_1331_11EB);
-        mixed ^ mixed >> 31
+        self.0.any()
     }
 
     /// A field of so many bits: any number, the largest, a single bit, or zero. Neighbours that differ in

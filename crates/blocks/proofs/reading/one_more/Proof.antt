@@ -1,4 +1,4 @@
--- `reading::one_more` meets its contract: what came are the bytes between what was held and where it stops. Assumes nothing.
+-- One read more is counted, and what came are the bytes between what was held and where it stops. Assumes nothing.
 use mathlib.Core.Path.{_≡_}
 use Prim.Native.Nat.{_-_}
 use native.Mathlib.Omega.{arith}
@@ -21,4 +21,5 @@ returns c =
 
 pub one-more-spec : {M : Type 1} → statement M
 one-more-spec =
-    tie.close (tie.spec (λ c κs. search needs) (λ c κs. search needs) (λ c. omega (arith, c .before .before .before .before .read-on .ensures .stop-is)) (λ c κs. search needs) (λ c κs. search needs) (λ c. search needs) returns)
+    tie.close (tie.spec (λ c κs. search needs) (λ c κs. search needs) (λ c. omega (arith, c .before .before .before .before .read-on .ensures .stop-is))
+    (λ c κs. search needs) (λ c κs. search needs) (λ c. search needs) returns)

@@ -1,4 +1,4 @@
--- `turn::form_of` meets its contract. Assumes nothing.
+-- A first byte below 128 is a direct run's, and any other that asks is a delta's, by the branch taken. Assumes nothing.
 use borrow.Author.Tests.{lt-ltb, le-ltb}
 use Rattle.convert.specs.Turn.{formFirst}
 use Rattle.convert.proofs.turn.form_of.Statement.{statement}

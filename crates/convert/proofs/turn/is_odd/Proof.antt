@@ -1,4 +1,4 @@
--- `turn::is_odd` meets its contract. Assumes nothing.
+-- Kinds 0 and 2 have no width that can be odd; the width of the others is odd if it is not kept. Assumes nothing.
 use borrow.Author.Tests.{ne-eqb}
 use borrow.Author.Needs.{needs}
 use Rattle.convert.specs.Turn.{oddFirst}

@@ -1,4 +1,4 @@
--- Each turn fills one place of each column. Assumes nothing.
+-- Each turn fills one place of each column: what stands there so far, then what is still to come, are the stream's columns. Assumes nothing.
 use mathlib.Core.Path.{_≡_}
 use Prim.Native.Nat.{_-_}
 use native.Mathlib.Omega.{arith}
@@ -6,7 +6,7 @@ use mathlib.Core.List.{[]}
 use lib.ListN.{length, drop, drop-of-length-le}
 use borrow.Author.Needs.{needs}
 use Rattle.format.proofs.Below.{below-all}
-use Rattle.index.proofs.Turns.{Step, step-is, OneRun, NoRun}
+use Rattle.index.proofs.MeasuredRun.{Step, step-is, OneRun, NoRun}
 use Rattle.index.proofs.Fills.{Filling, filling-first, Room, has-room, filling-run, filling-refused, filling-end}
 use Rattle.index.proofs.walk.fill.Statement.{statement}
 use Rattle.index.proofs.walk.fill.Tie as tie
@@ -17,22 +17,24 @@ Inv-loop input first₀ at₀ counts₀ place₀ row₀ i₀ first at counts pla
 abbrev μ-loop : tie.MeasureT-loop
 μ-loop input first₀ at₀ counts₀ place₀ row₀ i₀ first at counts place row i = length input - place
 
--- what a turn's run comes to, and its three cases
-step : (x : tie.After-measure Inv-loop μ-loop) → let back-6 = x .before .before .before .before .before .before in let l = x .before .before .loop in let a = back-6 .before .args in Step (a .input .now) (l .place) (x .measure .result)
+-- what a turn's run comes to, and the room that there is for it
+step : (x : tie.After-measure Inv-loop μ-loop) → let at-loop = x .before .before in let entry = at-loop .before .before .before .before .before in
+    Step (entry .args .input .now) (at-loop .loop .place) (x .measure .result)
 step x =
-    let k = x .before .before .before .before .before .before in
-    let a = k .before .args in
-    step-is (a .input .now) (x .before .before .loop .place) _ (below-all 256 (a .input .now) (λ i. k .shared-slice-known .given i .fits)) (x .measure .ensures)
+    let at-loop = x .before .before in
+    let begun = at-loop .before .before .before .before in
+    let input = begun .before .args .input .now in
+    step-is input (at-loop .loop .place) _ (below-all 256 input (λ i. begun .shared-slice-known .given i .fits)) (x .measure .ensures)
 
-ran-is : (m : tie.After-a Inv-loop μ-loop) → let back-6 = m .before .before .before .before .before .before in let l = m .before .before .before .before .loop in let a = back-6 .before .before .before .args in OneRun (a .input .now) (l .place) (m .a .given .0 .0)
+ran-is : (m : tie.After-a Inv-loop μ-loop) → let at-loop = m .before .before .before .before in let entry = at-loop .before .before .before .before .before in
+    OneRun (entry .args .input .now) (at-loop .loop .place) (m .a .given .0 .0)
 ran-is m = rw (m .a .given .1) at (step (m .before .before))
 
-roomy : (m : tie.After-a Inv-loop μ-loop) → let back-6 = m .before .before .before .before .before .before in let l = m .before .before .before .before .loop in let a = back-6 .before .before .before .args in
-    Room (a .input .now) (a .first .now) (a .at .now) (a .counts .now) (l .first) (l .at) (l .counts) (l .place) (l .row) (l .i) (l .inv) (m .a .given .0 .0) (ran-is m)
-roomy m = has-room _ _ _ _ _ _ _ _ _ _ _ _ _
+roomy : (m : tie.After-a Inv-loop μ-loop) → let at-loop = m .before .before .before .before in Room (at-loop .loop .inv) (ran-is m)
+roomy m = let at-loop = m .before .before .before .before in has-room (at-loop .loop .inv) (ran-is m)
 
 loop-holds : tie.Need-loop-holds Inv-loop μ-loop
-loop-holds c = filling-first _ _ _ _ (c .before .before .before .before .pre)
+loop-holds c = filling-first (c .before .before .before .before .pre)
 
 mul-first : tie.Need-mul-first Inv-loop μ-loop
 mul-first c = let y = roomy (c .before .before .before) in omega (arith, y .in-first₀)
@@ -59,18 +61,13 @@ add-i : tie.Need-add-i Inv-loop μ-loop
 add-i c = let y = roomy (c .before .before .before .before .before) in omega (arith, y .in-first₀)
 
 loop-less : tie.Need-loop-less Inv-loop μ-loop
-loop-less c =
-    let m = c .before .before .before .before .before in
-    omega (arith, ran-is m .within, ran-is m .some-bytes)
+loop-less c = let o = ran-is (c .before .before .before .before .before) in omega (arith, o .within, o .some-bytes)
 
 loop-again : tie.Need-loop-again Inv-loop μ-loop
 loop-again c =
-    let back-6 = c .before .before .before .before .before .before in
-    let back-12 = back-6 .before .before .before .before .before .before in
-    let m = c .before .before .before .before .before in
-    let l = m .before .before .before .before .loop in
-    let a = back-12 .before .before .args in
-    filling-run (a .input .now) (a .first .now) (a .at .now) (a .counts .now) (l .first) (l .at) (l .counts) (l .place) (l .row) (l .i) (l .inv) (m .a .given .0 .0) (ran-is m)
+    let ran = c .before .before .before .before .before in
+    let at-loop = ran .before .before .before .before in
+    filling-run (at-loop .loop .inv) (ran-is ran)
 
 same-length : tie.Need-same-length Inv-loop μ-loop
 same-length c = c .before .before .before .before .loop .inv .long-first
@@ -83,12 +80,11 @@ same-length-3 c = c .before .before .before .before .loop .inv .long-counts
 
 returns : tie.Need-returns Inv-loop μ-loop
 returns c =
-    let back-6 = c .before .before .before .before .before .before in
-    let x = c .before .before in
-    let l = x .before .before .loop in
-    let a = back-6 .before .before .before .args in
-    let q : NoRun (a .input .now) (l .place) (c .enum-told .given .0 .0) = rw (c .enum-told .given .1) at (step x) in
-    absurd (filling-refused (a .input .now) (a .first .now) (a .at .now) (a .counts .now) (l .first) (l .at) (l .counts) (l .place) (l .row) (l .i) (l .inv) _ q)
+    let measured = c .before .before in
+    let at-loop = measured .before .before in
+    let entry = at-loop .before .before .before .before .before in
+    let q : NoRun (entry .args .input .now) (at-loop .loop .place) (c .enum-told .given .0 .0) = rw (c .enum-told .given .1) at (step measured) in
+    absurd (filling-refused (at-loop .loop .inv) q)
 
 same-length-4 : tie.Need-same-length-4 Inv-loop μ-loop
 same-length-4 c = c .before .before .before .before .loop .inv .long-first
@@ -101,19 +97,14 @@ same-length-6 c = c .before .before .before .before .loop .inv .long-counts
 
 returns-2 : tie.Need-returns-2 Inv-loop μ-loop
 returns-2 c =
-    let back-6 = c .before .before .before .before .before .before in
-    let x = c .before .before in
-    let l = x .before .before .loop in
-    let a = back-6 .before .before .before .args in
-    let z : drop (l .place) (a .input .now) ≡ [] = rw (c .enum-told2 .given .1) at (step x) in
-    filling-end (a .input .now) (a .first .now) (a .at .now) (a .counts .now) (l .first) (l .at) (l .counts) (l .place) (l .row) (l .i) (l .inv) z
+    let measured = c .before .before in
+    let at-loop = measured .before .before in
+    let entry = at-loop .before .before .before .before .before in
+    let z : drop (at-loop .loop .place) (entry .args .input .now) ≡ [] = rw (c .enum-told2 .given .1) at (step measured) in
+    filling-end (at-loop .loop .inv) z
 
 returns-3 : tie.Need-returns-3 Inv-loop μ-loop
-returns-3 c =
-    let l = c .before .loop in
-    let a = c .before .before .before .before .before .before .args in
-    filling-end (a .input .now) (a .first .now) (a .at .now) (a .counts .now) (l .first) (l .at) (l .counts) (l .place) (l .row) (l .i) (l .inv)
-    (drop-of-length-le (a .input .now) (c .loop-test .left))
+returns-3 c = filling-end (c .before .loop .inv) (drop-of-length-le _ (c .loop-test .left))
 
 pub fill-spec : {M : Type 1} → statement M
 fill-spec =

@@ -1,4 +1,4 @@
--- Each turn counts one run more, or ends with what the stream is. Assumes nothing.
+-- Each turn counts one run more, or ends with what the stream is: the count so far, and what is still to come, are the whole's. Assumes nothing.
 use mathlib.Core.Path.{_≡_}
 use Prim.Native.Nat.{_-_}
 use native.Mathlib.Omega.{arith}
@@ -6,7 +6,7 @@ use mathlib.Core.List.{[]}
 use lib.ListN.{length, drop, drop-of-length-le}
 use borrow.Author.Needs.{needs}
 use Rattle.format.proofs.Below.{below-all}
-use Rattle.index.proofs.Turns.{Step, step-is, OneRun, NoRun}
+use Rattle.index.proofs.MeasuredRun.{Step, step-is, OneRun, NoRun}
 use Rattle.index.proofs.Walks.{Surveyed, surveyed-first, surveyed-run, surveyed-whole, surveyed-refused}
 use Rattle.index.proofs.walk.whole_of.Statement.{statement}
 use Rattle.index.proofs.walk.whole_of.Tie as tie
@@ -18,17 +18,23 @@ abbrev μ-loop : tie.MeasureT-loop
 μ-loop input place₀ runs₀ total₀ place runs total = length input - place
 
 -- what a turn's run comes to, and its three cases
-step : (x : tie.After-measure Inv-loop μ-loop) → let l = x .before .before .loop in let a = x .before .before .before .before .args in Step (a .input .now) (l .place) (x .measure .result)
-step x = let a = x .before .before .before .before .args in
-    step-is (a .input .now) (x .before .before .loop .place) _ (below-all 256 (a .input .now) (λ i. x .before .before .before .shared-slice-known .given i .fits)) (x .measure .ensures)
+step : (x : tie.After-measure Inv-loop μ-loop) → let at-loop = x .before .before in let entry = at-loop .before .before in
+    Step (entry .args .input .now) (at-loop .loop .place) (x .measure .result)
+step x =
+    let at-loop = x .before .before in
+    let input = at-loop .before .before .args .input .now in
+    step-is input (at-loop .loop .place) _ (below-all 256 input (λ i. at-loop .before .shared-slice-known .given i .fits)) (x .measure .ensures)
 
-ran-is : (m : tie.After-a Inv-loop μ-loop) → let l = m .before .before .before .before .loop in let a = m .before .before .before .before .before .before .args in OneRun (a .input .now) (l .place) (m .a .given .0 .0)
+ran-is : (m : tie.After-a Inv-loop μ-loop) → let at-loop = m .before .before .before .before in let entry = at-loop .before .before in
+    OneRun (entry .args .input .now) (at-loop .loop .place) (m .a .given .0 .0)
 ran-is m = rw (m .a .given .1) at (step (m .before .before))
 
-refused-is : (m : tie.After-a2 Inv-loop μ-loop) → let l = m .before .before .before .before .loop in let a = m .before .before .before .before .before .before .args in NoRun (a .input .now) (l .place) (m .a2 .given .0 .0)
+refused-is : (m : tie.After-a2 Inv-loop μ-loop) → let at-loop = m .before .before .before .before in let entry = at-loop .before .before in
+    NoRun (entry .args .input .now) (at-loop .loop .place) (m .a2 .given .0 .0)
 refused-is m = rw (m .a2 .given .1) at (step (m .before .before))
 
-ended-is : (m : tie.After-enum-told Inv-loop μ-loop) → let l = m .before .before .before .before .loop in let a = m .before .before .before .before .before .before .args in drop (l .place) (a .input .now) ≡ []
+ended-is : (m : tie.After-enum-told Inv-loop μ-loop) → let at-loop = m .before .before .before .before in let entry = at-loop .before .before in
+    drop (at-loop .loop .place) (entry .args .input .now) ≡ []
 ended-is m = rw (m .enum-told .given .1) at (step (m .before .before))
 
 add-place : tie.Need-add-place Inv-loop μ-loop
@@ -36,35 +42,30 @@ add-place c = omega (arith, ran-is (c .before .before .before .before .before) .
 
 add-runs : tie.Need-add-runs Inv-loop μ-loop
 add-runs c =
-    let m = c .before .before .before .before .before in
-    let l = m .before .before .before .before .loop in
-    omega (arith, l .inv .few, l .inv .within, ran-is m .within, ran-is m .some-bytes)
+    let ran = c .before .before .before .before .before in
+    let at-loop = ran .before .before .before .before in
+    omega (arith, at-loop .loop .inv .few, at-loop .loop .inv .within, ran-is ran .within, ran-is ran .some-bytes)
 
 loop-less : tie.Need-loop-less Inv-loop μ-loop
-loop-less c =
-    let m = c .before .before .before .before .before in
-    omega (arith, ran-is m .within, ran-is m .some-bytes)
+loop-less c = let o = ran-is (c .before .before .before .before .before) in omega (arith, o .within, o .some-bytes)
 
 loop-again : tie.Need-loop-again Inv-loop μ-loop
 loop-again c =
-    let m = c .before .before .before .before .before in
-    let l = m .before .before .before .before .loop in
-    surveyed-run _ (l .place) (l .runs) (l .total) (l .inv) (m .a .given .0 .0) (c .before .more .result) (ran-is m) (c .before .more .ensures)
+    let ran = c .before .before .before .before .before in
+    let at-loop = ran .before .before .before .before in
+    surveyed-run (at-loop .loop .inv) (ran-is ran) (c .before .more .ensures)
 
 returns : tie.Need-returns Inv-loop μ-loop
-returns c =
-    let l = c .before .before .before .before .before .loop in
-    surveyed-refused _ (l .place) (l .runs) (l .total) (l .inv) _ (refused-is (c .before))
+returns c = let at-loop = c .before .before .before .before .before in surveyed-refused (at-loop .loop .inv) (refused-is (c .before))
 
 returns-2 : tie.Need-returns-2 Inv-loop μ-loop
-returns-2 c =
-    let l = c .before .before .before .before .loop in
-    surveyed-whole _ (l .place) (l .runs) (l .total) (l .inv) (ended-is c)
+returns-2 c = let at-loop = c .before .before .before .before in surveyed-whole (at-loop .loop .inv) (ended-is c)
 
 returns-3 : tie.Need-returns-3 Inv-loop μ-loop
-returns-3 c = let l = c .before .loop in surveyed-whole _ (l .place) (l .runs) (l .total) (l .inv) (drop-of-length-le _ (c .loop-test .left))
+returns-3 c = surveyed-whole (c .before .loop .inv) (drop-of-length-le _ (c .loop-test .left))
 
 pub whole-of-spec : {M : Type 1} → statement M
 whole-of-spec =
-    tie.close (tie.spec Inv-loop μ-loop (λ c. surveyed-first _) (λ c κs. search needs) (λ c. search needs) (λ c κs. search needs) add-place add-runs loop-less loop-again
+    tie.close (tie.spec Inv-loop μ-loop (λ c. surveyed-first _) (λ c κs. search needs) (λ c. search needs)
+    (λ c κs. search needs) add-place add-runs loop-less loop-again
     (λ c. search needs) returns (λ c. search needs) returns-2 returns-3)

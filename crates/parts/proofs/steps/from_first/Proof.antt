@@ -13,4 +13,5 @@ unfolding fieldFrom
 returns-2 c = rw (c .cut2 .ensures, c .before .wrapping-add-usize .ensures, c .before .before .before .cut .given .1)
 
 pub from-first-spec : {M : Type 1} → statement M
-from-first-spec = tie.close (tie.spec (λ c. search needs) (λ c κs. search needs) (λ c. search needs) (λ c κs. search needs) (λ c κs. search needs) returns returns-2)
+from-first-spec = tie.close (tie.spec (λ c. search needs) (λ c κs. search needs) (λ c. search needs) (λ c κs. search needs)
+    (λ c κs. search needs) returns returns-2)

@@ -14,7 +14,13 @@ returns-2 c = rw (c .before .before .before .before .a2 .given .1, c .hold .ensu
 
 returns-3 : tie.Need-returns-3
 unfolding byAnswer
-returns-3 c = rw (c .before .before .before .before .before .a2 .given .1, c .refuse .ensures, c .before .from-first .ensures, ← (c .before .before .before .cut-short .ensures), c .before .before .if1 .left)
+returns-3 c = rw (
+  c .before .before .before .before .before .a2 .given .1,
+  c .refuse .ensures,
+  c .before .from-first .ensures,
+  ← (c .before .before .before .cut-short .ensures),
+  c .before .before .if1 .left,
+)
 
 returns-4 : tie.Need-returns-4
 unfolding byAnswer

@@ -1,4 +1,4 @@
--- `accept::are_equal` meets its contract. Assumes nothing.
+-- The first length that differs answers no, so the last answer is the last comparison. Assumes nothing.
 use borrow.Author.Tests.{ne-eqb, eq-eqb}
 use Rattle.planner.proofs.accept.are_equal.Statement.{statement}
 use Rattle.planner.proofs.accept.are_equal.Tie as tie

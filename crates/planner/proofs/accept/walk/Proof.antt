@@ -1,4 +1,4 @@
--- `accept::walk` meets its contract: each turn takes one segment more, or ends with what the check says. Assumes nothing.
+-- Each turn takes one segment more, or ends with what the check says of the segment reached. Assumes nothing.
 use mathlib.Core.Path.{_≡_, sym}
 use Prim.Native.Nat.{_-_}
 use native.Mathlib.Omega.{arith}
@@ -40,7 +40,8 @@ returns c =
     let x = c .before .before in
     let i = x .before .before .before in
     let l = i .before .loop in
-    along-out _ _ _ _ (l .k) (l .row) (l .bytes) (l .inv .1) (i .loop-test .taken) (x .before .before .at .result) (x .before .before .at .ensures) _ (x .step-size .ensures) (c .if1 .taken)
+    along-out _ _ _ _ (l .k) (l .row) (l .bytes) (l .inv .1) (i .loop-test .taken) (x .before .before .at .result)
+    (x .before .before .at .ensures) _ (x .step-size .ensures) (c .if1 .taken)
 
 sub-if2 : tie.Need-sub-if2 Inv-loop μ-loop
 sub-if2 c = c .before .before .before .before .before .before .loop .inv .1 .bytes-in
@@ -50,14 +51,16 @@ returns-2 c =
     let x = c .before .before .before in
     let i = x .before .before .before in
     let l = i .before .loop in
-    along-full _ _ _ _ (l .k) (l .row) (l .bytes) (l .inv .1) (i .loop-test .taken) (x .before .before .at .result) (x .before .before .at .ensures) _ (x .step-size .ensures) (c .before .if1 .left) (c .if2 .taken)
+    along-full _ _ _ _ (l .k) (l .row) (l .bytes) (l .inv .1) (i .loop-test .taken) (x .before .before .at .result)
+    (x .before .before .at .ensures) _ (x .step-size .ensures) (c .before .if1 .left) (c .if2 .taken)
 
 add-row : tie.Need-add-row Inv-loop μ-loop
 add-row c =
     let x = c .before .before .before in
     let i = x .before .before .before in
     let l = i .before .loop in
-    let t = along-taken _ _ _ _ (l .k) (l .row) (l .bytes) (l .inv .1) (i .loop-test .taken) (x .before .before .at .result) (x .before .before .at .ensures) _ (x .step-size .ensures) (c .before .if1 .left) in
+    let t = along-taken _ _ _ _ (l .k) (l .row) (l .bytes) (l .inv .1) (i .loop-test .taken) (x .before .before .at .result)
+    (x .before .before .at .ensures) _ (x .step-size .ensures) (c .before .if1 .left) in
     let r = i .before .before in
     omega (arith, t .within, l .inv .1 .row-in, r .before .before .before .before .before .before .good .0 .0)
 
@@ -73,8 +76,11 @@ loop-again : tie.Need-loop-again Inv-loop μ-loop
 loop-again c =
     let x = c .before .before .before in
     let i = x .before .before .before in
-    let l = i .before .loop in
-    (search needs, along-next _ _ _ _ (l .k) (l .row) (l .bytes) (l .inv .1) (i .loop-test .taken) (x .before .before .at .result) (x .before .before .at .ensures) _ (x .step-size .ensures) (c .before .if1 .left) (c .if2 .left))
+    let l = i .before .loop in (
+      search needs,
+      along-next _ _ _ _ (l .k) (l .row) (l .bytes) (l .inv .1) (i .loop-test .taken) (x .before .before .at .result)
+          (x .before .before .at .ensures) _ (x .step-size .ensures) (c .before .if1 .left) (c .if2 .left),
+    )
 
 returns-3 : tie.Need-returns-3 Inv-loop μ-loop
 returns-3 c =
@@ -88,5 +94,7 @@ returns-4 c =
 
 pub walk-spec : {M : Type 1} → statement M
 walk-spec =
-    tie.close (tie.spec Inv-loop μ-loop (λ c κs. search needs) loop-holds at-requires slice-aggregate-step-size step-size-requires returns sub-if2 returns-2 (λ c. search needs)
+    tie.close (tie.spec Inv-loop μ-loop
+    (λ c κs. search needs) loop-holds at-requires slice-aggregate-step-size step-size-requires returns sub-if2 returns-2
+    (λ c. search needs)
     add-row add-bytes (λ c. omega arith) loop-again returns-3 returns-4)

@@ -1,4 +1,4 @@
--- `fallback::have_places` meets its contract. Assumes nothing.
+-- The first column that is too short answers no, so the last answer is reached exactly if each column has the places. Assumes nothing.
 use borrow.Author.Tests.{le-leb, lt-leb}
 use Rattle.planner.proofs.fallback.have_places.Statement.{statement}
 use Rattle.planner.proofs.fallback.have_places.Tie as tie

@@ -1,4 +1,4 @@
--- `fallback::lay` meets its contract: each turn lays one segment more. Assumes nothing.
+-- Each turn lays one segment more, so at the end all direct runs are laid. Assumes nothing.
 use mathlib.Core.Path.{refl}
 use Prim.Native.Nat.{_-_, _*_}
 use mir.Syntax.{w64}
@@ -36,7 +36,8 @@ offset c =
     omega (arith, c .before .loop-test .taken, s .pre .0, s .good)
 
 -- where the next segment goes, at the turn's places
-places : (c : tie.After-part-rows Inv-loop μ-loop) → let l = c .before .before .loop in let s = c .before .before .before .before .before .before .before .before in
+places : (c : tie.After-part-rows Inv-loop μ-loop) → let l = c .before .before .loop in
+    let s = c .before .before .before .before .before .before .before .before in
     Proposed (l .first) (l .counts) (l .forms) (l .widths) (l .bases) (s .args .runs)
 places c =
     let l = c .before .before .loop in
@@ -73,5 +74,7 @@ returns c = let l = c .before .loop in λ j h. l .inv .laid j (omega (arith, h, 
 pub lay-spec : {M : Type 1} → statement M
 lay-spec =
     tie.close (tie.spec Inv-loop μ-loop (λ c. laying-first _ _ _) mul-row sub-left (λ c κs. search needs) offset slice-write-first offset
-    slice-write-counts offset slice-write-forms (λ c. search needs) offset slice-write-widths offset slice-write-bases (λ c. omega arith) (λ c. omega arith) loop-again
-    same-length (λ c. c .before .loop .inv .counts) (λ c. c .before .loop .inv .forms) (λ c. c .before .loop .inv .widths) (λ c. c .before .loop .inv .bases) returns)
+    slice-write-counts offset slice-write-forms (λ c. search needs) offset slice-write-widths offset slice-write-bases (λ c. omega arith)
+    (λ c. omega arith) loop-again
+    same-length (λ c. c .before .loop .inv .counts) (λ c. c .before .loop .inv .forms) (λ c. c .before .loop .inv .widths)
+    (λ c. c .before .loop .inv .bases) returns)

@@ -1,4 +1,4 @@
--- `segment::form_of` meets its contract. Assumes nothing.
+-- Three numbers are tested, and what is left is a packed delta. Assumes nothing.
 use Rattle.planner.specs.Walk.{formOf}
 use Rattle.planner.proofs.Steps.{form-packed}
 use Rattle.planner.proofs.segment.form_of.Statement.{statement}

@@ -1,4 +1,4 @@
--- `segment::is_in_place` meets its contract. Assumes nothing.
+-- A segment that begins at another row is refused; otherwise its rows are held to those that are left. Assumes nothing.
 use borrow.Author.Tests.{ne-eqb, eq-eqb}
 use borrow.Author.Needs.{needs}
 use Rattle.planner.proofs.segment.is_in_place.Statement.{statement}

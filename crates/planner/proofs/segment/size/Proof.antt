@@ -1,4 +1,4 @@
--- `segment::size` meets its contract. Assumes nothing.
+-- A form above 3 is measured by writing it in room for any run, another by `size_of_run`; a width above 255 has no size. Assumes nothing.
 use native.Mathlib.Omega.{arith}
 use denote.Ref.{now}
 use borrow.Author.Needs.{needs}
@@ -18,7 +18,8 @@ returns-2 c =
     let f = c .before .before in
     let e = f .before .before .before in
     let a = e .before .before .before .args in
-    rw (by-form (a .signed) (a .s .form) (a .s .width) (a .s .base) (now (a .part)) anyRun (omega (arith, e .if1 .left))) (rw (f .form-of .ensures) at (c .size-of-run .ensures))
+    rw (by-form (a .signed) (a .s .form) (a .s .width) (a .s .base) (now (a .part)) anyRun (omega (arith, e .if1 .left)))
+    (rw (f .form-of .ensures) at (c .size-of-run .ensures))
 
 returns-3 : tie.Need-returns-3
 returns-3 c =
@@ -29,4 +30,5 @@ returns-3 c =
 
 pub size-spec : {M : Type 1} → statement M
 size-spec =
-    tie.close (tie.spec (λ c κs. search needs) (λ c. search needs) returns (λ c κs. search needs) (λ c. search needs) (λ c κs. search needs) returns-2 returns-3)
+    tie.close (tie.spec (λ c κs. search needs) (λ c. search needs) returns (λ c κs. search needs) (λ c. search needs)
+    (λ c κs. search needs) returns-2 returns-3)

@@ -1,4 +1,4 @@
--- `segment::step` meets its contract. Assumes nothing.
+-- A segment that is not in place writes nothing; one in place writes its rows, which the slice holds. Assumes nothing.
 use mathlib.Core.Path.{_≡_}
 use Prim.Native.Nat.{_+_, _-_, _≤_}
 use native.Mathlib.Omega.{arith}
@@ -13,7 +13,8 @@ returns : tie.Need-returns
 returns c =
     let t = c .before in
     let a = t .before .before .args in
-    ran-none _ (now (a .out)) (step-elsewhere (a .signed) (now (a .rows)) (a .at .rows) (a .s) (length (now (a .out))) _ (t .is-in-place .ensures) (c .if1 .taken))
+    ran-none _ (now (a .out))
+    (step-elsewhere (a .signed) (now (a .rows)) (a .at .rows) (a .s) (length (now (a .out))) _ (t .is-in-place .ensures) (c .if1 .taken))
 
 within : (c : tie.Else1) → let a = c .before .before .before .args in a .s .count ≤ length (now (a .rows)) - a .at .rows
 within c =
@@ -28,9 +29,11 @@ returns-2 c =
     let t = e .before in
     let a = t .before .before .args in
     let k : a .at .rows + a .s .count - a .at .rows ≡ a .s .count = omega arith in
-    rw (step-here (a .signed) (now (a .rows)) (a .at .rows) (a .s) (length (now (a .out))) _ (t .is-in-place .ensures) (e .if1 .left)) (rw k at (w .write .ensures))
+    rw (step-here (a .signed) (now (a .rows)) (a .at .rows) (a .s) (length (now (a .out))) _ (t .is-in-place .ensures) (e .if1 .left))
+    (rw k at (w .write .ensures))
 
 pub step-spec : {M : Type 1} → statement M
 step-spec =
-    tie.close (tie.spec (λ c κs. search needs) returns (λ c. omega (arith, within c)) (λ c. omega (arith, within c)) (λ c. omega (arith, within c)) (λ c. omega (arith, within c)) (λ c. omega (arith, within c))
+    tie.close (tie.spec (λ c κs. search needs) returns (λ c. omega (arith, within c)) (λ c. omega (arith, within c))
+    (λ c. omega (arith, within c)) (λ c. omega (arith, within c)) (λ c. omega (arith, within c))
     (λ c κs. search needs) (λ c. search needs) returns-2)

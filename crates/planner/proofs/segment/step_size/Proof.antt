@@ -1,4 +1,4 @@
--- `segment::step_size` meets its contract. Assumes nothing.
+-- A segment that is not in place has no size; one in place has that of its rows, which the slice holds. Assumes nothing.
 use mathlib.Core.Path.{_≡_}
 use Prim.Native.Nat.{_+_, _-_, _≤_}
 use native.Mathlib.Omega.{arith}
@@ -15,7 +15,8 @@ returns : tie.Need-returns
 returns c =
     let t = c .before in
     let a = t .before .before .args in
-    size-none (stepIn (a .signed) (now (a .rows)) (a .at .rows) (a .s) anyRun) (step-elsewhere (a .signed) (now (a .rows)) (a .at .rows) (a .s) anyRun _ (t .is-in-place .ensures) (c .if1 .taken))
+    size-none (stepIn (a .signed) (now (a .rows)) (a .at .rows) (a .s) anyRun)
+    (step-elsewhere (a .signed) (now (a .rows)) (a .at .rows) (a .s) anyRun _ (t .is-in-place .ensures) (c .if1 .taken))
 
 within : (c : tie.Else1) → let a = c .before .before .before .args in a .s .count ≤ length (now (a .rows)) - a .at .rows
 within c =
@@ -34,5 +35,6 @@ returns-2 c =
 
 pub step-size-spec : {M : Type 1} → statement M
 step-size-spec =
-    tie.close (tie.spec (λ c κs. search needs) returns (λ c. omega (arith, within c)) (λ c. omega (arith, within c)) (λ c. omega (arith, within c)) (λ c. omega (arith, within c)) (λ c. omega (arith, within c))
+    tie.close (tie.spec (λ c κs. search needs) returns (λ c. omega (arith, within c)) (λ c. omega (arith, within c))
+    (λ c. omega (arith, within c)) (λ c. omega (arith, within c)) (λ c. omega (arith, within c))
     (λ c κs. search needs) (λ c. search needs) returns-2)

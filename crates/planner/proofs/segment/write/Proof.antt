@@ -1,4 +1,4 @@
--- `segment::write` meets its contract. Assumes nothing.
+-- A width or a form that no run has is refused; the rest is what the form's own writer promises. Assumes nothing.
 use native.Mathlib.Omega.{arith}
 use lib.ListN.{length}
 use denote.Ref.{now}
@@ -27,7 +27,8 @@ returns-3 c =
     let x = w .before .before in
     let v = rw (toZ-ofZ (sfits-of (x .to-i64 .ok)), x .to-i64 .ensures) at (w .write-patched .ensures) in
     rw (c .consumed .ensures)
-    (ran-patched (a .signed) (a .s .form) (a .s .width) (a .s .base) (now (a .part)) (now (a .out)) _ _ (t .if3 .taken) (omega (arith, t .before .struct-known4 .given .1 .1 .1 .1 .0)) v)
+    (ran-patched (a .signed) (a .s .form) (a .s .width) (a .s .base) (now (a .part)) (now (a .out)) _ _ (t .if3 .taken)
+    (omega (arith, t .before .struct-known4 .given .1 .1 .1 .1 .0)) v)
 
 returns-4 : tie.Need-returns-4
 returns-4 c =
@@ -36,7 +37,8 @@ returns-4 c =
     let e = t .before .before .before .before .before in
     let a = e .before .before .before .args in
     let v = rw (w .before .before .form-of .ensures) at (w .write-run .ensures) in
-    rw (c .consumed2 .ensures) (ran-form (a .signed) (a .s .form) (a .s .width) (a .s .base) (now (a .part)) (now (a .out)) _ _ (omega (arith, t .if3 .left, t .before .before .before .if2 .left)) v)
+    rw (c .consumed2 .ensures) (ran-form (a .signed) (a .s .form) (a .s .width) (a .s .base) (now (a .part)) (now (a .out)) _ _
+    (omega (arith, t .if3 .left, t .before .before .before .if2 .left)) v)
 
 pub write-spec : {M : Type 1} → statement M
 write-spec =

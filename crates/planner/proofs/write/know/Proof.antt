@@ -1,4 +1,4 @@
--- `write::know` meets its contract: each turn reads one row more. Assumes nothing.
+-- Each turn reads one row, and a row that was read is an i64. Assumes nothing.
 use Prim.Native.Nat.{_-_, _≤_}
 use native.Mathlib.Omega.{arith}
 use native.Mathlib.Numerals.{add-one}
@@ -26,4 +26,6 @@ returns : tie.Need-returns Inv-loop μ-loop
 returns c = let l = c .before .loop in rw (take-all (l .i) (now (c .before .before .args .rows)) (c .loop-test .left)) at (l .inv .1)
 
 pub know-spec : {M : Type 1} → statement M
-know-spec = tie.close (tie.spec Inv-loop μ-loop (λ c. (omega arith, tt)) (λ c. omega arith) (λ c. omega arith) (λ c. omega arith) (λ c. omega arith) loop-again returns)
+know-spec = tie.close
+    (tie.spec Inv-loop μ-loop (λ c. (omega arith, tt)) (λ c. omega arith) (λ c. omega arith) (λ c. omega arith)
+    (λ c. omega arith) loop-again returns)

@@ -1,4 +1,4 @@
--- `write::wide_fits` meets its contract. Assumes nothing.
+-- If the rows alone have no room the answer is no; otherwise no size overflows, and the runs are held to what is left. Assumes nothing.
 use mathlib.Core.Path.{sym}
 use Prim.Native.Nat.{_+_, _*_, _/_}
 use native.Mathlib.Omega.{arith}

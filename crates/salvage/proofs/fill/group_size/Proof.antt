@@ -1,4 +1,4 @@
--- `fill::group_size` meets its contract. Assumes nothing.
+-- A kept group has its own length, and any other that of its fill runs, by the branch taken. Assumes nothing.
 use borrow.Author.Needs.{needs}
 use Rattle.salvage.proofs.fill.group_size.Statement.{statement}
 use Rattle.salvage.proofs.fill.group_size.Tie as tie

@@ -1,4 +1,4 @@
--- `fill::put_group` meets its contract. Assumes nothing.
+-- A kept group is its bytes, and any other is its fill runs: the room asked for, and what is written, are those of the branch taken. Assumes nothing.
 use borrow.Author.Needs.{needs}
 use Rattle.salvage.proofs.fill.put_group.Statement.{statement}
 use Rattle.salvage.proofs.fill.put_group.Tie as tie

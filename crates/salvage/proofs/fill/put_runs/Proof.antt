@@ -1,4 +1,4 @@
--- `fill::put_runs` meets its contract. The loop's invariant: what is written, and the runs that are left, are all. Assumes nothing.
+-- Each turn writes one full run: what is written, and the runs that are left, are all; the rows that fill no run come last. Assumes nothing.
 use native.Mathlib.Omega.{arith}
 use mathlib.Core.Path.{_∙_}
 use Rattle.salvage.proofs.Laying.{Runs, runs-begin, runs-full, runs-next, runs-done, runs-rest-room, runs-rest}
@@ -27,7 +27,9 @@ same-length-2 : tie.Need-same-length-2 Inv-loop μ-loop
 same-length-2 c = let p = c .before .before in p .put-run2 .kept .1 .1 .0 ∙ p .before .before .before .before .before .loop .inv .same
 
 returns-2 : tie.Need-returns-2 Inv-loop μ-loop
-returns-2 c = let p = c .before .before in runs-rest (p .before .before .before .before .before .loop .inv) (omega arith) (λ e. omega arith) (p .put-run2 .ensures)
+returns-2 c =
+    let p = c .before .before in
+    runs-rest (p .before .before .before .before .before .loop .inv) (omega arith) (λ e. omega arith) (p .put-run2 .ensures)
 
 pub put-runs-spec : {M : Type 1} → statement M
 put-runs-spec =

@@ -1,4 +1,4 @@
--- `fill::stored` meets its contract. Assumes nothing.
+-- The row's 64 bits, which a signed stream stores by zigzag and another as they are. Assumes nothing.
 use mathlib.Core.Path.{_≡_, ap, _∙_}
 use mir.Facts.{toZ-ofZ}
 use borrow.Author.Needs.{needs}

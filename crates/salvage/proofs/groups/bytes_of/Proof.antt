@@ -1,4 +1,4 @@
--- `groups::bytes_of` meets its contract: the group lies in the stream. Assumes nothing.
+-- The starts rise and none passes the end, so the group lies in the stream. Assumes nothing.
 use Prim.Native.Nat.{_≤_}
 use lib.ListN.{length, getD}
 use borrow.Author.Needs.{needs}
@@ -6,7 +6,8 @@ use Rattle.salvage.proofs.Walking.{inside}
 use Rattle.salvage.proofs.groups.bytes_of.Statement.{statement}
 use Rattle.salvage.proofs.groups.bytes_of.Tie as tie
 
-lies : (c : tie.After-stop-of) → let a = c .before .before .before .before .args in (getD (a .starts .now) (a .i) 0 ≤ c .stop-of .result .bytes) × (c .stop-of .result .bytes ≤ length (a .input .now))
+lies : (c : tie.After-stop-of) → let a = c .before .before .before .before .args in
+    (getD (a .starts .now) (a .i) 0 ≤ c .stop-of .result .bytes) × (c .stop-of .result .bytes ≤ length (a .input .now))
 lies c =
     let s = c .before .before .before .before in
     rw (c .stop-of .ensures) (inside (length (s .args .input .now)) (s .args .starts .now) (s .args .i) (s .pre .0) (s .pre .1))

@@ -1,4 +1,4 @@
--- `groups::is_kept` meets its contract. Assumes nothing.
+-- A group without bytes is kept if no rows are listed; any other if its measure answers with as many rows as are listed. Assumes nothing.
 use mathlib.Core.Path.{sym, _∙_}
 use native.Mathlib.Omega.{arith}
 use borrow.Author.Needs.{needs}
@@ -24,4 +24,5 @@ returns-3 c =
     (sym (m .measure-stream .ensures) ∙ c .enum-told .given .1)
 
 pub is-kept-spec : {M : Type 1} → statement M
-is-kept-spec = tie.close (tie.spec (λ c. kept-empty _ _ (c .before .if1 .taken)) (λ c κs. search needs) (λ c. search needs) (λ c. search needs) returns-2 returns-3)
+is-kept-spec = tie.close (tie.spec (λ c. kept-empty _ _ (c .before .if1 .taken)) (λ c κs. search needs) (λ c. search needs)
+    (λ c. search needs) returns-2 returns-3)

@@ -1,4 +1,4 @@
--- `groups::starts_right` meets its contract. The loop's invariant: the starts are right exactly if those that are left rise from the last. Assumes nothing.
+-- Each turn compares one start with the last: the starts are right exactly if those that are left rise from it. Assumes nothing.
 use mathlib.Core.Path.{_≡_, sym, _∙_}
 use Prim.Native.Nat.{suc, _+_, _-_, _≤_}
 use native.Mathlib.Omega.{arith}
@@ -34,5 +34,6 @@ returns-4 c = let l = c .before .loop in sym (l .inv .1 ∙ rising-end _ _ (l .l
 
 pub starts-right-spec : {M : Type 1} → statement M
 starts-right-spec =
-    tie.close (tie.spec Inv-loop μ-loop (λ c. right-none _ _ (omega arith)) (λ c. omega arith) returns-2 loop-holds (λ c. omega arith) (λ c. omega arith) returns-3
+    tie.close (tie.spec Inv-loop μ-loop (λ c. right-none _ _ (omega arith)) (λ c. omega arith) returns-2 loop-holds (λ c. omega arith)
+    (λ c. omega arith) returns-3
     (λ c. omega arith) (λ c. omega arith) loop-again returns-4)

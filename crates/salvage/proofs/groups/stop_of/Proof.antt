@@ -1,4 +1,4 @@
--- `groups::stop_of` meets its contract. Assumes nothing.
+-- A group ends where the next one starts, and the last one with the stream. Assumes nothing.
 use native.Mathlib.Omega.{arith}
 use borrow.Author.Needs.{needs}
 use Rattle.salvage.proofs.Walking.{stop-next, stop-end}

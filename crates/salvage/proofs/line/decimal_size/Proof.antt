@@ -1,4 +1,4 @@
--- `line::decimal_size` meets its contract. The loop's invariant: the digits counted, and those of the rest, are all. Assumes nothing.
+-- Each turn drops one digit: the digits counted, and those of the rest, are all. Assumes nothing.
 use mathlib.Core.Path.{_≡_, ap}
 use Prim.Native.Nat.{_+_, _<_, _^_}
 use native.Mathlib.Omega.{arith}

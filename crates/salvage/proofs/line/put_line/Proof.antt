@@ -1,4 +1,4 @@
--- `line::put_line` meets its contract: five texts, one after the other. Assumes nothing.
+-- A line is five texts, one after the other, and the room left after each is what the next one needs. Assumes nothing.
 use native.Mathlib.Omega.{arith}
 use borrow.Author.Needs.{needs}
 use Rattle.text.proofs.Texts.{then-written}
@@ -21,7 +21,15 @@ put-requires c κs =
     let d = c .before .before .before in
     let v = d .before .before .before .before in
     let s = v .before .before .before in
-    omega (arith, s .pre, line-long (s .args .keep) (s .args .number) (s .args .rows .rows), v .put-verdict .ensures .next, v .put-verdict .kept .1 .0, d .put-decimal .ensures .next, d .put-decimal .kept .1 .0)
+    omega (
+      arith,
+      s .pre,
+      line-long (s .args .keep) (s .args .number) (s .args .rows .rows),
+      v .put-verdict .ensures .next,
+      v .put-verdict .kept .1 .0,
+      d .put-decimal .ensures .next,
+      d .put-decimal .kept .1 .0,
+    )
 
 put-decimal-requires-2 : tie.Need-put-decimal-requires-2
 put-decimal-requires-2 c κs =
@@ -29,7 +37,17 @@ put-decimal-requires-2 c κs =
     let d = p .before .before .before .before in
     let v = d .before .before .before .before in
     let s = v .before .before .before in
-    omega (arith, s .pre, line-long (s .args .keep) (s .args .number) (s .args .rows .rows), v .put-verdict .ensures .next, v .put-verdict .kept .1 .0, d .put-decimal .ensures .next, d .put-decimal .kept .1 .0, p .put .ensures .next, p .put .kept .1 .0)
+    omega (
+      arith,
+      s .pre,
+      line-long (s .args .keep) (s .args .number) (s .args .rows .rows),
+      v .put-verdict .ensures .next,
+      v .put-verdict .kept .1 .0,
+      d .put-decimal .ensures .next,
+      d .put-decimal .kept .1 .0,
+      p .put .ensures .next,
+      p .put .kept .1 .0,
+    )
 
 put-requires-2 : tie.Need-put-requires-2
 put-requires-2 c κs =
@@ -38,7 +56,19 @@ put-requires-2 c κs =
     let d = p .before .before .before .before in
     let v = d .before .before .before .before in
     let s = v .before .before .before in
-    omega (arith, s .pre, line-long (s .args .keep) (s .args .number) (s .args .rows .rows), v .put-verdict .ensures .next, v .put-verdict .kept .1 .0, d .put-decimal .ensures .next, d .put-decimal .kept .1 .0, p .put .ensures .next, p .put .kept .1 .0, e .put-decimal2 .ensures .next, e .put-decimal2 .kept .1 .0)
+    omega (
+      arith,
+      s .pre,
+      line-long (s .args .keep) (s .args .number) (s .args .rows .rows),
+      v .put-verdict .ensures .next,
+      v .put-verdict .kept .1 .0,
+      d .put-decimal .ensures .next,
+      d .put-decimal .kept .1 .0,
+      p .put .ensures .next,
+      p .put .kept .1 .0,
+      e .put-decimal2 .ensures .next,
+      e .put-decimal2 .kept .1 .0,
+    )
 
 returns : tie.Need-returns
 unfolding line
@@ -50,9 +80,34 @@ returns c =
     let v = d .before .before .before .before in
     let s = v .before .before .before in
     then-written (omega (arith, s .pre, line-long (s .args .keep) (s .args .number) (s .args .rows .rows))) (v .put-verdict .ensures)
-    (then-written (omega (arith, s .pre, line-long (s .args .keep) (s .args .number) (s .args .rows .rows), v .put-verdict .ensures .next, v .put-verdict .kept .1 .0)) (d .put-decimal .ensures)
-    (then-written (omega (arith, s .pre, line-long (s .args .keep) (s .args .number) (s .args .rows .rows), v .put-verdict .ensures .next, v .put-verdict .kept .1 .0, d .put-decimal .ensures .next, d .put-decimal .kept .1 .0)) (p .put .ensures)
-    (then-written (omega (arith, s .pre, line-long (s .args .keep) (s .args .number) (s .args .rows .rows), v .put-verdict .ensures .next, v .put-verdict .kept .1 .0, d .put-decimal .ensures .next, d .put-decimal .kept .1 .0, p .put .ensures .next, p .put .kept .1 .0)) (e .put-decimal2 .ensures) (q .put2 .ensures))))
+    (then-written (omega (
+      arith,
+      s .pre,
+      line-long (s .args .keep) (s .args .number) (s .args .rows .rows),
+      v .put-verdict .ensures .next,
+      v .put-verdict .kept .1 .0,
+    )) (d .put-decimal .ensures)
+    (then-written (omega (
+      arith,
+      s .pre,
+      line-long (s .args .keep) (s .args .number) (s .args .rows .rows),
+      v .put-verdict .ensures .next,
+      v .put-verdict .kept .1 .0,
+      d .put-decimal .ensures .next,
+      d .put-decimal .kept .1 .0,
+    )) (p .put .ensures)
+    (then-written (omega (
+      arith,
+      s .pre,
+      line-long (s .args .keep) (s .args .number) (s .args .rows .rows),
+      v .put-verdict .ensures .next,
+      v .put-verdict .kept .1 .0,
+      d .put-decimal .ensures .next,
+      d .put-decimal .kept .1 .0,
+      p .put .ensures .next,
+      p .put .kept .1 .0,
+    ))
+    (e .put-decimal2 .ensures) (q .put2 .ensures))))
 
 pub put-line-spec : {M : Type 1} → statement M
 put-line-spec = tie.close (tie.spec put-verdict-requires put-decimal-requires put-requires put-decimal-requires-2 put-requires-2 (λ c. search needs) returns)

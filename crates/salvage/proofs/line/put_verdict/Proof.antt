@@ -1,4 +1,4 @@
--- `line::put_verdict` meets its contract. Assumes nothing.
+-- The branch taken decides the verdict, and so the word that is written and its length. Assumes nothing.
 use native.Mathlib.Omega.{arith}
 use borrow.Author.Needs.{needs}
 use mathlib.Core.Path.{ap}

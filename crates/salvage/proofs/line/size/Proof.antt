@@ -1,4 +1,4 @@
--- `line::size` meets its contract. Assumes nothing.
+-- A line's length is that of its two numbers and of the words of its verdict, which the branch decides. Assumes nothing.
 use native.Mathlib.Omega.{arith}
 use borrow.Author.Needs.{needs}
 use Rattle.text.proofs.Texts.{decimal-length}

@@ -1,4 +1,5 @@
--- `put_size` meets its contract. It calls itself, on one digit fewer: the measure is the number. Assumes nothing.
+-- One word is written as a decimal; any other number is its tenth, then its last digit. The call to itself has one digit fewer: the measure is the
+-- number. Assumes nothing.
 use Prim.Native.Nat.{ℕ, _<_}
 use mathlib.Core.Path.{ap}
 use lib.ListN.{length}

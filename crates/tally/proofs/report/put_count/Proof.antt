@@ -1,4 +1,4 @@
--- `put_count` meets its contract. Assumes nothing.
+-- A word, a decimal of at most twenty digits and a newline, one after the other. Assumes nothing.
 use Rattle.text.proofs.Texts.{then-written, decimal-length}
 use denote.Ref.{now}
 use Rattle.tally.specs.Text.{countLine}
@@ -19,7 +19,15 @@ put-requires c κs =
     let x2 = c .before .before .before in
     let x1 = x2 .before .before .before .before in
     let s = x1 .before .before .before .before in
-    omega (arith, s .pre, x1 .put-word .ensures .next, x1 .put-word .kept .1 .0, x2 .put-decimal .ensures .next, x2 .put-decimal .kept .1 .0, decimal-length (s .args .count))
+    omega (
+      arith,
+      s .pre,
+      x1 .put-word .ensures .next,
+      x1 .put-word .kept .1 .0,
+      x2 .put-decimal .ensures .next,
+      x2 .put-decimal .kept .1 .0,
+      decimal-length (s .args .count),
+    )
 
 returns : tie.Need-returns
 unfolding countLine

@@ -1,4 +1,4 @@
--- `put_extreme` meets its contract. Assumes nothing.
+-- A word, then a row or none, then a newline: three texts whose lengths have a bound each. Assumes nothing.
 use denote.Ref.{now}
 use lib.IntN.{ℤ}
 use mir.Syntax.{w64}
@@ -19,7 +19,15 @@ put-requires-2 c κs =
     let x = r .before .before .before .before in
     let w = x .before .before .before .before in
     let s = w .before .before .before .before in
-    omega (arith, s .pre, w .put-word .ensures .next, w .put-word .kept .1 .0, r .put-rows .ensures .next, r .put-rows .kept .1 .1 .0, row-line (toZ w64 (ofZ w64 (x .extreme .given .0 .0))))
+    omega (
+      arith,
+      s .pre,
+      w .put-word .ensures .next,
+      w .put-word .kept .1 .0,
+      r .put-rows .ensures .next,
+      r .put-rows .kept .1 .1 .0,
+      row-line (toZ w64 (ofZ w64 (x .extreme .given .0 .0))),
+    )
 
 returns : tie.Need-returns
 unfolding extremeLine extremeText

@@ -1,4 +1,4 @@
--- `put_refusal` meets its contract. Assumes nothing.
+-- Five texts, one after the other; each number has at most twenty digits, so there is room for the next. Assumes nothing.
 use Rattle.text.proofs.Texts.{then-written, decimal-length}
 use Rattle.tally.specs.Text.{refusalLine}
 use Rattle.tally.proofs.TextLengths.{refusal-length}
@@ -18,7 +18,15 @@ put-requires c κs =
     let x2 = c .before .before .before in
     let x1 = x2 .before .before .before .before in
     let s = x1 .before .before .before .before in
-    omega (arith, s .pre, x1 .put-word .ensures .next, x1 .put-word .kept .1 .0, x2 .put-decimal .ensures .next, x2 .put-decimal .kept .1 .0, decimal-length (s .args .number))
+    omega (
+      arith,
+      s .pre,
+      x1 .put-word .ensures .next,
+      x1 .put-word .kept .1 .0,
+      x2 .put-decimal .ensures .next,
+      x2 .put-decimal .kept .1 .0,
+      decimal-length (s .args .number),
+    )
 
 put-decimal-requires-2 : tie.Need-put-decimal-requires-2
 put-decimal-requires-2 c κs =
@@ -26,7 +34,18 @@ put-decimal-requires-2 c κs =
     let x2 = x3 .before .before .before .before in
     let x1 = x2 .before .before .before .before in
     let s = x1 .before .before .before .before in
-    omega (arith, s .pre, x1 .put-word .ensures .next, x1 .put-word .kept .1 .0, x2 .put-decimal .ensures .next, x2 .put-decimal .kept .1 .0, x3 .put .ensures .next, x3 .put .kept .1 .0, decimal-length (s .args .number), decimal-length (s .args .count))
+    omega (
+      arith,
+      s .pre,
+      x1 .put-word .ensures .next,
+      x1 .put-word .kept .1 .0,
+      x2 .put-decimal .ensures .next,
+      x2 .put-decimal .kept .1 .0,
+      x3 .put .ensures .next,
+      x3 .put .kept .1 .0,
+      decimal-length (s .args .number),
+      decimal-length (s .args .count),
+    )
 
 put-requires-2 : tie.Need-put-requires-2
 put-requires-2 c κs =
@@ -35,7 +54,20 @@ put-requires-2 c κs =
     let x2 = x3 .before .before .before .before in
     let x1 = x2 .before .before .before .before in
     let s = x1 .before .before .before .before in
-    omega (arith, s .pre, x1 .put-word .ensures .next, x1 .put-word .kept .1 .0, x2 .put-decimal .ensures .next, x2 .put-decimal .kept .1 .0, x3 .put .ensures .next, x3 .put .kept .1 .0, x4 .put-decimal2 .ensures .next, x4 .put-decimal2 .kept .1 .0, decimal-length (s .args .number), decimal-length (s .args .count))
+    omega (
+      arith,
+      s .pre,
+      x1 .put-word .ensures .next,
+      x1 .put-word .kept .1 .0,
+      x2 .put-decimal .ensures .next,
+      x2 .put-decimal .kept .1 .0,
+      x3 .put .ensures .next,
+      x3 .put .kept .1 .0,
+      x4 .put-decimal2 .ensures .next,
+      x4 .put-decimal2 .kept .1 .0,
+      decimal-length (s .args .number),
+      decimal-length (s .args .count),
+    )
 
 returns : tie.Need-returns
 unfolding refusalLine
@@ -46,9 +78,12 @@ returns c =
     let x2 = x3 .before .before .before .before in
     let x1 = x2 .before .before .before .before in
     let s = x1 .before .before .before .before in
-    let w = then-written (omega arith) (then-written (omega arith) (then-written (omega arith) (then-written (omega arith) (x1 .put-word .ensures) (x2 .put-decimal .ensures)) (x3 .put .ensures)) (x4 .put-decimal2 .ensures)) (x5 .put2 .ensures) in
+    let w = then-written (omega arith) (then-written (omega arith)
+    (then-written (omega arith) (then-written (omega arith) (x1 .put-word .ensures) (x2 .put-decimal .ensures)) (x3 .put .ensures))
+    (x4 .put-decimal2 .ensures)) (x5 .put2 .ensures) in
     (w, omega (arith, w .next, refusal-length (s .args .number) (s .args .count)))
 
 pub put-refusal-spec : {M : Type 1} → statement M
 put-refusal-spec =
-    tie.close (tie.spec (λ c. search needs) (λ c κs. search needs) put-decimal-requires put-requires put-decimal-requires-2 put-requires-2 (λ c. search needs) returns)
+    tie.close (tie.spec (λ c. search needs) (λ c κs. search needs) put-decimal-requires put-requires put-decimal-requires-2 put-requires-2
+    (λ c. search needs) returns)

@@ -1,4 +1,4 @@
--- `put_sum` meets its contract. Assumes nothing.
+-- A word, a whole number and a newline, one after the other; no whole number in two words is longer than 40 characters. Assumes nothing.
 use mathlib.Core.Path.{_∙_}
 use Rattle.text.proofs.Texts.{then-written}
 use Rattle.tally.specs.Text.{sumLine}
@@ -19,7 +19,15 @@ put-requires c κs =
     let x2 = c .before .before .before in
     let x1 = x2 .before .before .before .before in
     let s = x1 .before .before .before .before in
-    omega (arith, s .pre, x1 .put-word .ensures .next, x1 .put-word .kept .1 .0, x2 .put-whole .ensures .next, x2 .put-whole .kept .1 .0, whole-length (s .args .sum) (omega arith) (omega arith))
+    omega (
+      arith,
+      s .pre,
+      x1 .put-word .ensures .next,
+      x1 .put-word .kept .1 .0,
+      x2 .put-whole .ensures .next,
+      x2 .put-whole .kept .1 .0,
+      whole-length (s .args .sum) (omega arith) (omega arith),
+    )
 
 same-length : tie.Need-same-length
 same-length c =

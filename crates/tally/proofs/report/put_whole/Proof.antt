@@ -1,4 +1,4 @@
--- `put_whole` meets its contract. Assumes nothing.
+-- Below 0 the text is a minus sign and the size, and otherwise the size alone. Assumes nothing.
 use mathlib.Core.Path.{_≡_, sym, ap, _∙_}
 use mathlib.Core.List.{[], _∷_, _++_}
 use lib.ListN.{length}
@@ -11,7 +11,8 @@ use native.Mathlib.Omega.{arith}
 use Rattle.tally.proofs.report.put_whole.Statement.{statement}
 use Rattle.tally.proofs.report.put_whole.Tie as tie
 
-minus : (c : tie.Then1) → wholeText (wideValue (c .before .before .before .before .args .wide)) ≡ (45 ∷ []) ++ numberText (sizeOf (c .before .before .size .result))
+minus : (c : tie.Then1)
+    → wholeText (wideValue (c .before .before .before .before .args .wide)) ≡ (45 ∷ []) ++ numberText (sizeOf (c .before .before .size .result))
 minus c = with-minus _ _ (c .before .before .size .ensures) (sym (c .before .is-negative .ensures) ∙ c .if1 .taken)
 
 no-minus : (c : tie.Else1) → wholeText (wideValue (c .before .before .before .before .args .wide)) ≡ numberText (sizeOf (c .before .before .size .result))
@@ -42,5 +43,6 @@ returns-2 c =
 
 pub put-whole-spec : {M : Type 1} → statement M
 put-whole-spec =
-    tie.close (tie.spec (λ c κs. search needs) (λ c κs. search needs) put-requires put-size-requires (λ c. search needs) returns put-size-requires-2 (λ c. search needs)
+    tie.close (tie.spec (λ c κs. search needs) (λ c κs. search needs) put-requires put-size-requires (λ c. search needs) returns put-size-requires-2
+    (λ c. search needs)
     returns-2)

@@ -1,4 +1,4 @@
--- `show` meets its contract. Assumes nothing.
+-- Too little room is the answer 0 with nothing written, and otherwise the lines are those of `put_totals`. Assumes nothing.
 use lib.ListN.{length}
 use denote.Ref.{now}
 use borrow.Author.Tests.{lt-ltb, le-ltb}

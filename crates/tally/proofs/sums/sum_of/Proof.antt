@@ -1,4 +1,4 @@
--- `sum_of` meets its contract. Assumes nothing.
+-- Each turn adds one row: the words hold the sum of the first i rows, which at most 2^32 rows keep in range. Assumes nothing.
 use Prim.Native.Nat.{_-_, _≤_}
 use lib.ListN.{length, getD}
 use lib.IntN.{ℤ, pos}

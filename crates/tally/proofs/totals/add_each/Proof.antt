@@ -1,4 +1,4 @@
--- `add_each` meets its contract. Assumes nothing.
+-- Each turn adds one count: the first i are sums, and those after them are as they were. Assumes nothing.
 use Prim.Native.Nat.{ℕ, _-_, _≤_, min}
 use native.Mathlib.Decide.{decLe}
 use mathlib.Core.List.{List, _++_}
@@ -20,7 +20,8 @@ by xs ys i h = go (decLe (length xs) i)
     go (no l) = each-left xs ys i (omega arith)
 
 abbrev Inv-loop : tie.InvT-loop
-Inv-loop counts₀ more n i₀ counts i = (i ≤ n) × (length counts ≡ length counts₀) × (take i counts ++ eachPlus (drop i counts) (drop i more) ≡ eachPlus counts₀ more)
+Inv-loop counts₀ more n i₀ counts i = (i ≤ n) × (length counts ≡ length counts₀)
+    × (take i counts ++ eachPlus (drop i counts) (drop i more) ≡ eachPlus counts₀ more)
 
 abbrev μ-loop : tie.MeasureT-loop
 μ-loop counts₀ more n i₀ counts i = n - i
@@ -39,5 +40,6 @@ returns c =
 pub add-each-spec : {M : Type 1} → statement M
 add-each-spec =
     tie.close (tie.spec Inv-loop μ-loop (λ c κs. search needs) (λ c. (omega arith, refl, refl)) (λ c. search needs) (λ c. omega arith) (λ c. search needs)
-    (λ c. omega arith) (λ c κs. search needs) (λ c. search needs) (λ c. omega arith) (λ c. omega arith) (λ c. omega arith) loop-again (λ c. c .before .loop .inv .1)
+    (λ c. omega arith) (λ c κs. search needs) (λ c. search needs) (λ c. omega arith) (λ c. omega arith)
+    (λ c. omega arith) loop-again (λ c. c .before .loop .inv .1)
     returns)

@@ -1,4 +1,4 @@
--- `higher_row` meets its contract. Assumes nothing.
+-- The test is the definition's own, and each branch its answer. Assumes nothing.
 use Rattle.tally.proofs.Order.{at-most, above, taken-row}
 use Rattle.tally.proofs.totals.higher_row.Statement.{statement}
 use Rattle.tally.proofs.totals.higher_row.Tie as tie

@@ -1,4 +1,4 @@
--- `range_of` meets its contract. Assumes nothing.
+-- Each turn takes one row more: the two extremes are those of the first i rows. Assumes nothing.
 use Prim.Native.Nat.{_-_, _<_, _≤_}
 use lib.ListN.{length, take, getD}
 use lib.IntN.{ℤ, pos}
@@ -22,7 +22,8 @@ empty-list [] e = refl
 empty-list (z ∷ rows) e = absurd (omega arith)
 
 abbrev Inv-loop : tie.InvT-loop
-Inv-loop rows smallest₀ largest₀ i₀ smallest largest i = (i ≤ length rows) × (ofAll lower (take i rows) ≡ Row (toZ w64 smallest)) × (ofAll higher (take i rows) ≡ Row (toZ w64 largest))
+Inv-loop rows smallest₀ largest₀ i₀ smallest largest i =
+    (i ≤ length rows) × (ofAll lower (take i rows) ≡ Row (toZ w64 smallest)) × (ofAll higher (take i rows) ≡ Row (toZ w64 largest))
 
 abbrev μ-loop : tie.MeasureT-loop
 μ-loop rows smallest₀ largest₀ i₀ smallest largest i = length rows - i
@@ -44,12 +45,14 @@ loop-holds c =
 
 loop-again : tie.Need-loop-again Inv-loop μ-loop
 loop-again c =
-    let back-6 = c .before .before .before .before .before .before in
-    let l = c .before .before .before .before .before .loop in
-    let rows = now (back-6 .before .before .before .args .rows) in
+    let at-loop = c .before .before .before .before .before in
+    let entry = at-loop .before .before .before .before in
+    let l = at-loop .loop in
+    let rows = now (entry .args .rows) in
     let z : ℤ = getD rows (l .i) (pos 0) in
     let f : SFits w64 z = sfits-of (c .before .before .before .lower-row-arg .given) in
-    let low : c .before .before .lower-row .result ≡ lower (toZ w64 (l .smallest)) z = c .before .before .lower-row .ensures ∙ ap (lower (toZ w64 (l .smallest))) (taken-row z f) in
+    let low : c .before .before .lower-row .result ≡ lower (toZ w64 (l .smallest)) z =
+    c .before .before .lower-row .ensures ∙ ap (lower (toZ w64 (l .smallest))) (taken-row z f) in
     let high : c .higher-row .result ≡ higher (toZ w64 (l .largest)) z = c .higher-row .ensures ∙ ap (higher (toZ w64 (l .largest))) (taken-row z f) in
     let h : l .i < length rows = omega arith in (
       omega arith,

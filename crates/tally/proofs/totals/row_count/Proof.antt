@@ -1,4 +1,4 @@
--- `row_count` meets its contract. Assumes nothing.
+-- Only a run has rows, reply by reply. Assumes nothing.
 use borrow.Author.Needs.{needs}
 use Rattle.tally.proofs.totals.row_count.Statement.{statement}
 use Rattle.tally.proofs.totals.row_count.Tie as tie

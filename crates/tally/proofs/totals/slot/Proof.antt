@@ -1,4 +1,4 @@
--- `slot` meets its contract. Assumes nothing.
+-- A number below 15 is its own place, and any other has place 0, by the branch taken. Assumes nothing.
 use borrow.Author.Tests.{lt-ltb, le-ltb}
 use Rattle.tally.proofs.totals.slot.Statement.{statement}
 use Rattle.tally.proofs.totals.slot.Tie as tie

@@ -1,4 +1,4 @@
--- `too_many` meets its contract. Assumes nothing.
+-- The sum passes the limit exactly if the first does, or the second passes what the first leaves. Assumes nothing.
 use Prim.Native.Nat.{ℕ, _+_, _-_, _<_, _≤_}
 use mathlib.Core.Path.{_≡_, sym}
 use lib.Dec.{ltb}

@@ -1,5 +1,5 @@
--- `hexadecimal::bytes` meets its contract. The loop's invariant: what stands so far, then the bytes that the rest of the line begins with, are the
--- bytes that the line begins with; the places after them are as they were; and the line is hexadecimal if its rest is. Assumes nothing.
+-- Each turn writes the byte of one pair: what stands so far, then the bytes that the rest of the line begins with, are the bytes that the line
+-- begins with; the places after them are as they were; and the line is hexadecimal if its rest is. Assumes nothing.
 use mathlib.Core.Path.{_≡_, refl, sym, _∙_}
 use Prim.Native.Nat.{_+_, _-_, _*_, _≤_}
 use mathlib.Core.List.{[], _++_}
@@ -75,11 +75,12 @@ same-length c = c .before .before .before .before .before .before .loop .inv .1
 
 same-length-2 : tie.Need-same-length-2 Inv-loop μ-loop
 same-length-2 c =
-    let back-6 = c .before .before .before .before .before .before in
-    back-6 .before .loop .inv .1
+    let at-loop = c .before .before .before .before .before .before .before in
+    at-loop .loop .inv .1
 
 pub bytes-spec : {M : Type 1} → statement M
 bytes-spec =
-    tie.close (tie.spec Inv-loop μ-loop (λ c. (omega arith, refl, refl, refl, refl)) (λ c. omega arith) (λ c. omega arith) (λ c κs. tt) (λ c. omega arith) (λ c. omega arith)
+    tie.close (tie.spec Inv-loop μ-loop (λ c. (omega arith, refl, refl, refl, refl)) (λ c. omega arith) (λ c. omega arith) (λ c κs. tt) (λ c. omega arith)
+    (λ c. omega arith)
     (λ c. omega arith) (λ c κs. tt) same-length returns same-length-2 returns-2 (λ c. omega arith) (λ c. omega arith) (λ c. omega arith) (λ c. omega arith)
     (λ c. omega arith) loop-again (λ c. c .before .loop .inv .1) returns-3)

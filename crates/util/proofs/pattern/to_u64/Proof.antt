@@ -1,6 +1,6 @@
 -- `pattern::to_u64` meets its contract: below 0, the bits turned over are those of a natural number, and turned over again they are the i64's.
 -- Assumes nothing.
-use Prim.Native.Nat.{ℕ, suc, _-_, _^_, _<_}
+use Prim.Native.Nat.{suc, _-_, _^_, _<_}
 use mathlib.Core.Path.{_≡_}
 use mathlib.Core.Bool.{Bool, true, false}
 use native.Mathlib.Omega.{arith}
@@ -12,6 +12,7 @@ use mir.Facts.{toZ-ofZ, toZ-pos}
 use borrow.Author.Tests.{ltb-true}
 use Rattle.format.specs.Rows.{asU64}
 use Rattle.format.proofs.Patterns.{as-lt}
+use Rattle.format.proofs.Tests.{never}
 use Rattle.util.proofs.pattern.to_u64.Statement.{statement}
 use Rattle.util.proofs.pattern.to_u64.Tie as tie
 
@@ -29,8 +30,7 @@ natural : (z : ℤ) → SFits w64 z → ltZ (toZ w64 (ofZ w64 z)) (pos 0) ≡ fa
 natural (pos n) f t = toZ-ofZ f
 natural (negsuc k) f t =
     let h : _≡_ {A = Bool} true false = rw (toZ-ofZ f) at t in
-    let z : _≡_ {A = ℕ} 0 1 = cc in
-    absurd (omega arith)
+    never (cc)
 
 cast-result : tie.Need-cast-result
 cast-result c = rw (turned _ (c .before .fits .x) (c .if1 .taken)) (tt, omega arith)

@@ -1,4 +1,4 @@
--- `allowed::between` meets its contract. Assumes nothing.
+-- A number below the lower limit is refused, another is held to the upper one. Assumes nothing.
 use borrow.Author.Tests.{lt-leb, le-leb}
 use Rattle.writer.proofs.allowed.between.Statement.{statement}
 use Rattle.writer.proofs.allowed.between.Tie as tie

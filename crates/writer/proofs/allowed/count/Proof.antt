@@ -1,4 +1,4 @@
--- `allowed::count` meets its contract. Assumes nothing.
+-- Each form has its own limits. Assumes nothing.
 use borrow.Author.Needs.{needs}
 use Rattle.writer.proofs.allowed.count.Statement.{statement}
 use Rattle.writer.proofs.allowed.count.Tie as tie

@@ -1,4 +1,4 @@
--- `allowed::packed_width` meets its contract. Assumes nothing.
+-- Code 0 is a fixed delta's, and any other is held to the kept codes. Assumes nothing.
 use native.Mathlib.Omega.{arith}
 use borrow.Author.Tests.{le-leb, lt-leb}
 use borrow.Author.Needs.{needs}

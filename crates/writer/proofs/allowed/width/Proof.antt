@@ -1,4 +1,4 @@
--- `allowed::width` meets its contract. Assumes nothing.
+-- Each form has its own widths. Assumes nothing.
 use borrow.Author.Needs.{needs}
 use Rattle.writer.proofs.allowed.width.Statement.{statement}
 use Rattle.writer.proofs.allowed.width.Tie as tie

@@ -1,4 +1,4 @@
--- `delta::base_delta` meets its contract. Assumes nothing.
+-- One row has no step, so its base delta is 0; of more rows it is the first step. Assumes nothing.
 use mathlib.Core.Path.{ap₂, _∙_}
 use mathlib.Core.List.{map}
 use lib.ListN.{length-map}

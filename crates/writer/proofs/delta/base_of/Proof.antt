@@ -1,4 +1,4 @@
--- `delta::base_of` meets its contract. Assumes nothing.
+-- The base delta as a zigzag. Assumes nothing.
 use mathlib.Core.Path.{ap, _∙_}
 use Rattle.format.specs.Fields.{zigzagged}
 use borrow.Author.Needs.{needs}

@@ -1,4 +1,4 @@
--- `delta::first_of` meets its contract. Assumes nothing.
+-- The pattern of row 0, as the flag has it stored. Assumes nothing.
 use mathlib.Core.Path.{ap, _∙_}
 use Prim.Native.Nat.{ℕ}
 use Rattle.format.specs.Writing

@@ -40,13 +40,16 @@ module _ (t : tie.After-all-steps-fit) where
   abbrev n : ℕ
   n = length (now (entry .args .rows))
 
-  known : Packed (now (entry .args .rows)) (entry .args .signed) PackedDelta kind.Delta (entry .args .code) (start (entry .args .code) n (firstOf (entry .args .signed) rs) (zigzagged (baseDelta rs))) (n - 2) (sized .bits-of .result)
-  known = delta-packed (now (entry .args .rows)) (entry .args .signed) (omega arith) (entry .args .code) (omega arith) (omega arith) (entry .pre .1) (sized .bits-of .ensures)
+  known : Packed (now (entry .args .rows)) (entry .args .signed) PackedDelta kind.Delta (entry .args .code)
+      (start (entry .args .code) n (firstOf (entry .args .signed) rs) (zigzagged (baseDelta rs))) (n - 2) (sized .bits-of .result)
+  known = delta-packed (now (entry .args .rows)) (entry .args .signed) (omega arith) (entry .args .code) (omega arith) (omega arith)
+      (entry .pre .1) (sized .bits-of .ensures)
 
   tested : t .all-steps-fit .result ≡ every (λ x. ltb x (2 ^ sized .bits-of .result)) (valuesOf (entry .args .signed) PackedDelta rs)
   tested =
       (rw (rest-is (now (entry .args .rows)) 1) at (t .all-steps-fit .ensures))
-      ∙ ap (λ (l : List ℕ). every (λ x. ltb x (2 ^ sized .bits-of .result)) l) (delta-steps (now (entry .args .rows)) (entry .args .signed) (omega arith) _ (stepped .base-delta .ensures))
+      ∙ ap (λ (l : List ℕ). every (λ x. ltb x (2 ^ sized .bits-of .result)) l)
+      (delta-steps (now (entry .args .rows)) (entry .args .signed) (omega arith) _ (stepped .base-delta .ensures))
 
   wide : IsWidth (sized .bits-of .result)
   wide = width-known (entry .args .code) (sized .bits-of .ensures)
@@ -74,7 +77,8 @@ returns-2 c =
     let a = entry t .args in
     let z = s .start-size .ensures in
     measured (known t) _ (tested t) (s .before .if1 .left)
-    (ap₂ (λ (x y : ℕ). x + y) (z .bytes ∙ sym (start-length (a .code) (n t) (firstOf (a .signed) (rs t)) (zigzagged (baseDelta (rs t))))) (c .block-size .ensures)) (omega (arith, z .bytes)) (few c)
+    (ap₂ (λ (x y : ℕ). x + y) (z .bytes ∙ sym (start-length (a .code) (n t) (firstOf (a .signed) (rs t)) (zigzagged (baseDelta (rs t)))))
+    (c .block-size .ensures)) (omega (arith, z .bytes)) (few c)
 
 pub size-packed-spec : {M : Type 1} → statement M
 size-packed-spec =

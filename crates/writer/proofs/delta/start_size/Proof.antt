@@ -1,4 +1,4 @@
--- `delta::start_size` meets its contract: a varint has ten bytes at most. Assumes nothing.
+-- A varint has ten bytes at most. Assumes nothing.
 use native.Mathlib.Omega.{arith}
 use Rattle.format.proofs.Varints.{shortest-length}
 use borrow.Author.Needs.{needs}

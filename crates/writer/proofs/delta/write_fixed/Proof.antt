@@ -1,4 +1,4 @@
--- `delta::write_fixed` meets its contract. Assumes nothing.
+-- The size says if there is a run and if it has room; the header and two varints are then all of it. Assumes nothing.
 use mathlib.Core.Path.{_≡_, ap, _∙_}
 use mathlib.Core.List.{List, map}
 use Prim.Native.Nat.{ℕ, _+_, _≤_}
@@ -23,11 +23,16 @@ module _ (m : tie.After-size-fixed) where
   known : Fixed (now (entry .args .rows)) (entry .args .signed) (entry .args .code)
   known = fixed-known (now (entry .args .rows)) (entry .args .signed) (entry .args .code) (omega arith) (omega arith) (omega arith)
 
-  size-is : 1 ≤ m .size-fixed .result .bytes → m .size-fixed .result .bytes ≡ 2 + length (shortest (firstOf (entry .args .signed) rs)) + length (shortest (zigzagged (baseDelta rs)))
-  size-is h = opening-size known (m .size-fixed .ensures) h ∙ start-length 0 (length (now (entry .args .rows))) (firstOf (entry .args .signed) rs) (zigzagged (baseDelta rs))
+  size-is : 1 ≤ m .size-fixed .result .bytes
+      → m .size-fixed .result .bytes ≡ 2 + length (shortest (firstOf (entry .args .signed) rs)) + length
+      (shortest (zigzagged (baseDelta rs)))
+  size-is h = opening-size known (m .size-fixed .ensures) h
+      ∙ start-length 0 (length (now (entry .args .rows))) (firstOf (entry .args .signed) rs) (zigzagged (baseDelta rs))
 
 returns : tie.Need-returns
-returns c = let m = c .before .before in uneven-refused (known m) (m .size-fixed .ensures) (c .before .if1 .taken) (now (entry m .args .out)) (c .refused .result) (c .refused .ensures)
+returns c = let m = c .before .before in
+    uneven-refused (known m) (m .size-fixed .ensures) (c .before .if1 .taken) (now (entry m .args .out))
+    (c .refused .result) (c .refused .ensures)
 
 returns-2 : tie.Need-returns-2
 returns-2 c =
@@ -39,7 +44,12 @@ write-start-requires c κs =
     let b = c .before in
     let e = b .before .before in
     let m = e .before .before in
-    omega (arith, size-is m (omega arith), ap (λ (x : ℕ). length (shortest x)) (b .before .first-of .ensures), ap (λ (x : ℕ). length (shortest x)) (b .base-of .ensures))
+    omega (
+      arith,
+      size-is m (omega arith),
+      ap (λ (x : ℕ). length (shortest x)) (b .before .first-of .ensures),
+      ap (λ (x : ℕ). length (shortest x)) (b .base-of .ensures),
+    )
 
 returns-3 : tie.Need-returns-3
 returns-3 c =
@@ -48,7 +58,8 @@ returns-3 c =
     let e = b .before .before in
     let m = e .before .before in
     let a = entry m .args in
-    opened (known m) (m .size-fixed .ensures) (omega arith) (now (a .out)) (s .write-start .last .1 .1 .1 .1 .0) (c .run .result) (e .if2 .left) (c .run .ensures)
+    opened (known m) (m .size-fixed .ensures) (omega arith) (now (a .out)) (s .write-start .last .1 .1 .1 .1 .0) (c .run .result)
+    (e .if2 .left) (c .run .ensures)
     (started 0 (length (now (a .rows))) (b .before .first-of .ensures) (b .base-of .ensures) (s .write-start .ensures) .places)
 
 pub write-fixed-spec : {M : Type 1} → statement M

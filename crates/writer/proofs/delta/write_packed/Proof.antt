@@ -1,4 +1,4 @@
--- `delta::write_packed` meets its contract: there are places enough, a few for a short run and 512 for any. Assumes nothing.
+-- There are places enough, a few for a short run and 512 for any. Assumes nothing.
 use mathlib.Core.Path.{refl}
 use mathlib.Core.List.{List, map}
 use Prim.Native.Nat.{ℕ, _-_}
@@ -23,11 +23,15 @@ module _ (m : tie.After-size-packed) where
   abbrev rs : List ℕ
   rs = map asU64 (now (entry .args .rows))
 
-  known : Packed (now (entry .args .rows)) (entry .args .signed) PackedDelta kind.Delta (entry .args .code) (start (entry .args .code) (length (now (entry .args .rows))) (firstOf (entry .args .signed) rs) (zigzagged (baseDelta rs))) (length (now (entry .args .rows)) - 2) (width (entry .args .code))
+  known : Packed (now (entry .args .rows)) (entry .args .signed) PackedDelta kind.Delta (entry .args .code)
+      (start (entry .args .code) (length (now (entry .args .rows))) (firstOf (entry .args .signed) rs) (zigzagged (baseDelta rs)))
+      (length (now (entry .args .rows)) - 2) (width (entry .args .code))
   known = delta-packed (now (entry .args .rows)) (entry .args .signed) (omega arith) (entry .args .code) (omega arith) (omega arith) (entry .pre .1) refl
 
 returns : tie.Need-returns
-returns c = let m = c .before .before in unfitting (known m) (m .size-packed .ensures) (c .before .if1 .taken) (now (entry m .args .out)) (c .refused .result) (c .refused .ensures)
+returns c = let m = c .before .before in
+    unfitting (known m) (m .size-packed .ensures) (c .before .if1 .taken) (now (entry m .args .out))
+    (c .refused .result) (c .refused .ensures)
 
 returns-2 : tie.Need-returns-2
 returns-2 c =
@@ -53,4 +57,5 @@ returns-4 c = c .before .before .before .before .write-packed-over2 .ensures (c 
 pub write-packed-spec : {M : Type 1} → statement M
 write-packed-spec =
     tie.close (tie.spec (λ c κs. search needs) (λ c κs. search needs) returns (λ c κs. search needs) returns-2 (λ c κs. search needs) (λ c. search needs)
-    write-packed-over-requires (λ c κs. search needs) (λ c. search needs) returns-3 (λ c κs. search needs) (λ c. search needs) write-packed-over-requires-2 (λ c κs. search needs) (λ c. search needs) returns-4)
+    write-packed-over-requires (λ c κs. search needs) (λ c. search needs) returns-3 (λ c κs. search needs)
+    (λ c. search needs) write-packed-over-requires-2 (λ c κs. search needs) (λ c. search needs) returns-4)

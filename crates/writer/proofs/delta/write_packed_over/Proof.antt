@@ -42,7 +42,8 @@ module _ (kept : tie.After-steps) where
   opening = start (entry .args .code) n (firstOf (entry .args .signed) rs) (zigzagged (baseDelta rs))
 
   known : Packed (now (entry .args .rows)) (entry .args .signed) PackedDelta kind.Delta (entry .args .code) opening (n - 2) (sized .bits-of .result)
-  known = delta-packed (now (entry .args .rows)) (entry .args .signed) (omega arith) (entry .args .code) (omega arith) (omega arith) (entry .pre .1 .0) (sized .bits-of .ensures)
+  known = delta-packed (now (entry .args .rows)) (entry .args .signed) (omega arith) (entry .args .code) (omega arith) (omega arith)
+      (entry .pre .1 .0) (sized .bits-of .ensures)
 
   size-is : entry .args .bytes .bytes ≡ length opening + bytesFor ((n - 2) * sized .bits-of .result)
   size-is = all-of-it known (entry .pre .1 .1) (omega arith)
@@ -101,8 +102,10 @@ returns c r e =
     let p = c .before .before in
     let w = p .before .before .before .before .before in
     let k = values w in
-    packed (known k) (first w .pre .1 .1) (first w .pre .0 .5) _ (now (first w .args .out)) (w .write-start .last .1 .1 .1 .1 .0) (p .pack .last .1 .1 .1 .0) (w .write-start .result .bytes) r (stand k) (first w .pre .0 .6)
-    (e ∙ ap (λ (b : ℕ). ran kind.Delta b (n k) (first w .args .bytes .bytes)) (sym (sized k .bits-of .ensures))) (begun w .next) (begun w .places) (p .pack .ensures)
+    packed (known k) (first w .pre .1 .1) (first w .pre .0 .5) _ (now (first w .args .out)) (w .write-start .last .1 .1 .1 .1 .0)
+    (p .pack .last .1 .1 .1 .0) (w .write-start .result .bytes) r (stand k) (first w .pre .0 .6)
+    (e ∙ ap (λ (b : ℕ). ran kind.Delta b (n k) (first w .args .bytes .bytes)) (sym (sized k .bits-of .ensures))) (begun w .next)
+    (begun w .places) (p .pack .ensures)
 
 pub write-packed-over-spec : {M : Type 1} → statement M
 write-packed-over-spec =

@@ -1,4 +1,4 @@
--- `direct::write` meets its contract: there are places enough, a few for a short run and 512 for any. Assumes nothing.
+-- There are places enough, a few for a short run and 512 for any. Assumes nothing.
 use mathlib.Core.Path.{refl}
 use native.Mathlib.Omega.{arith}
 use lib.ListN.{length}
@@ -16,11 +16,13 @@ module _ (m : tie.After-size) where
   abbrev entry : tie.Start
   entry = m .before .before
 
-  known : Packed (now (entry .args .rows)) (entry .args .signed) Direct kind.Direct (entry .args .code) (head 1 (entry .args .code) (length (now (entry .args .rows)))) (length (now (entry .args .rows))) (width (entry .args .code))
+  known : Packed (now (entry .args .rows)) (entry .args .signed) Direct kind.Direct (entry .args .code)
+      (head 1 (entry .args .code) (length (now (entry .args .rows)))) (length (now (entry .args .rows))) (width (entry .args .code))
   known = direct-packed (now (entry .args .rows)) (entry .args .signed) (entry .args .code) (omega arith) (omega arith) (entry .pre .1) refl
 
 returns : tie.Need-returns
-returns c = let m = c .before .before in unfitting (known m) (m .size .ensures) (c .before .if1 .taken) (now (entry m .args .out)) (c .refused .result) (c .refused .ensures)
+returns c = let m = c .before .before in
+    unfitting (known m) (m .size .ensures) (c .before .if1 .taken) (now (entry m .args .out)) (c .refused .result) (c .refused .ensures)
 
 returns-2 : tie.Need-returns-2
 returns-2 c =
@@ -46,4 +48,5 @@ returns-4 c = c .before .before .before .before .write-over2 .ensures (c .answer
 pub write-spec : {M : Type 1} → statement M
 write-spec =
     tie.close (tie.spec (λ c κs. search needs) (λ c κs. search needs) returns (λ c κs. search needs) returns-2 (λ c κs. search needs) (λ c. search needs)
-    write-over-requires (λ c κs. search needs) (λ c. search needs) returns-3 (λ c κs. search needs) (λ c. search needs) write-over-requires-2 (λ c κs. search needs) (λ c. search needs) returns-4)
+    write-over-requires (λ c κs. search needs) (λ c. search needs) returns-3 (λ c κs. search needs)
+    (λ c. search needs) write-over-requires-2 (λ c κs. search needs) (λ c. search needs) returns-4)

@@ -27,8 +27,10 @@ module _ (kept : tie.After-store) where
   abbrev entry : tie.Start
   entry = sized .before .before .before
 
-  known : Packed (now (entry .args .rows)) (entry .args .signed) Direct kind.Direct (entry .args .code) (head 1 (entry .args .code) (length (now (entry .args .rows)))) (length (now (entry .args .rows))) (sized .bits-of .result)
-  known = direct-packed (now (entry .args .rows)) (entry .args .signed) (entry .args .code) (omega arith) (omega arith) (entry .pre .1 .0) (sized .bits-of .ensures)
+  known : Packed (now (entry .args .rows)) (entry .args .signed) Direct kind.Direct (entry .args .code)
+      (head 1 (entry .args .code) (length (now (entry .args .rows)))) (length (now (entry .args .rows))) (sized .bits-of .result)
+  known = direct-packed (now (entry .args .rows)) (entry .args .signed) (entry .args .code) (omega arith) (omega arith) (entry .pre .1 .0)
+      (sized .bits-of .ensures)
 
   size-is : entry .args .bytes .bytes ≡ 2 + bytesFor (length (now (entry .args .rows)) * sized .bits-of .result)
   size-is = all-of-it known (entry .pre .1 .1) (omega arith)
@@ -53,8 +55,11 @@ returns c r e =
     let p = c .before .before in
     let w = p .before .before .before .before .before in
     let k = w .before .before .before .before in
-    packed (known k) (entry k .pre .1 .1) (omega arith) _ (now (entry k .args .out)) (w .write .last .1 .1 .1 .0) (p .pack .last .1 .1 .1 .0) 2 r (stand k) (omega arith)
-    (e ∙ ap (λ (b : ℕ). ran kind.Direct b (length (now (entry k .args .rows))) (entry k .args .bytes .bytes)) (sym (sized k .bits-of .ensures))) refl (w .write .ensures) (p .pack .ensures)
+    packed (known k) (entry k .pre .1 .1) (omega arith) _ (now (entry k .args .out)) (w .write .last .1 .1 .1 .0)
+    (p .pack .last .1 .1 .1 .0) 2 r (stand k) (omega arith)
+    (e ∙ ap (λ (b : ℕ). ran kind.Direct b (length (now (entry k .args .rows))) (entry k .args .bytes .bytes))
+    (sym (sized k .bits-of .ensures))) refl (w .write .ensures) (p .pack .ensures)
 
 pub write-over-spec : {M : Type 1} → statement M
-write-over-spec = tie.close (tie.spec (λ c κs. search needs) (λ c κs. search needs) write-requires pack-requires (λ c. search needs) (λ c. search needs) returns)
+write-over-spec = tie.close
+    (tie.spec (λ c κs. search needs) (λ c κs. search needs) write-requires pack-requires (λ c. search needs) (λ c. search needs) returns)

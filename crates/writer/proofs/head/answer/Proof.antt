@@ -1,4 +1,4 @@
--- `head::answer` meets its contract. Assumes nothing.
+-- The answer has the width of the code. Assumes nothing.
 use borrow.Author.Needs.{needs}
 use Rattle.writer.proofs.head.answer.Statement.{statement}
 use Rattle.writer.proofs.head.answer.Tie as tie

@@ -1,4 +1,4 @@
--- `patch_list::entry` meets its contract. Assumes nothing.
+-- A gap of 8 bits above a patch of at most 56 stays below 2^64, so the sum is the entry. Assumes nothing.
 use Prim.Native.Nat.{ℕ, _*_, _^_, _≤_}
 use native.Mathlib.Nat.{mul-le-mul}
 use native.Mathlib.Omega.{arith}

@@ -1,4 +1,4 @@
--- `patch_list::fill` meets its contract. The loop's invariant: the entries so far, then those still to come, are the whole. Assumes nothing.
+-- At each turn the entries so far, then those still to come, are the whole. Assumes nothing.
 use mathlib.Core.Path.{_≡_, refl, sym, _∙_}
 use Prim.Native.Nat.{_+_, _-_, _^_, _<_}
 use native.Mathlib.Omega.{arith}
@@ -24,7 +24,8 @@ patch-small c =
     let s = c .before .before .before .before .before .before in
     let a = s .args in
     let h : getD (now (a .vals)) (l .i) 0 < 2 ^ (a .pw + a .bits) =
-    rw (getD-take (a .rows .rows) (now (a .vals)) (l .i) 0 (omega arith)) at (below-getD (2 ^ (a .pw + a .bits)) (take (a .rows .rows) (now (a .vals))) (l .i) 0 (s .pre .1) (pow-pos _)) in
+    rw (getD-take (a .rows .rows) (now (a .vals)) (l .i) 0 (omega arith)) at
+    (below-getD (2 ^ (a .pw + a .bits)) (take (a .rows .rows) (now (a .vals))) (l .i) 0 (s .pre .1) (pow-pos _)) in
     rw (c .above .ensures) (shr-lt (a .pw) (a .bits) h)
 
 loop-again : tie.Need-loop-again Inv-loop μ-loop
@@ -42,15 +43,17 @@ returns c =
 
 slice-write-list : tie.Need-slice-write-list Inv-loop μ-loop
 slice-write-list c =
-    let back-6 = c .before .before .before .before .before .before in
-    omega (arith, back-6 .before .loop .inv .1 .room)
+    let found = c .before .before .before .before in
+    omega (arith, found .before .before .before .loop .inv .1 .room)
 
 loop-again-2 : tie.Need-loop-again-2 Inv-loop μ-loop
 loop-again-2 c =
-    let back-6 = c .before .before .before .before .before .before in
-    let l = back-6 .before .loop in (
+    let found = c .before .before .before .before in
+    let l = found .before .before .before .loop in (
       simp length-set (l .inv .0),
-      put-skip (l .inv .1) (omega arith) (omega arith) (λ z. c .before .before .before .if1 .left (c .before .before .before .before .above .ensures ∙ z)) (omega (arith, l .inv .1 .room)) (omega arith) _ (c .entry .ensures),
+      put-skip (l .inv .1) (omega arith) (omega arith)
+          (λ z. c .before .before .before .if1 .left (found .above .ensures ∙ z)) (omega (arith, l .inv .1 .room))
+          (omega arith) _ (c .entry .ensures),
     )
 
 entry-requires-2 : tie.Need-entry-requires-2 Inv-loop μ-loop
@@ -58,15 +61,17 @@ entry-requires-2 c κs = (omega arith, omega arith, patch-small (c .before .befo
 
 slice-write-list-2 : tie.Need-slice-write-list-2 Inv-loop μ-loop
 slice-write-list-2 c =
-    let back-6 = c .before .before .before .before .before .before in
-    omega (arith, back-6 .before .loop .inv .1 .room)
+    let found = c .before .before .before .before in
+    omega (arith, found .before .before .before .loop .inv .1 .room)
 
 loop-again-3 : tie.Need-loop-again-3 Inv-loop μ-loop
 loop-again-3 c =
-    let back-6 = c .before .before .before .before .before .before in
-    let l = back-6 .before .loop in (
+    let found = c .before .before .before .before in
+    let l = found .before .before .before .loop in (
       simp length-set (l .inv .0),
-      put-entry (l .inv .1) (omega arith) (omega arith) (λ z. c .before .before .before .if1 .left (c .before .before .before .before .above .ensures ∙ z)) (omega (arith, l .inv .1 .room)) (omega arith) _ (rw (c .before .before .before .before .above .ensures) at (c .entry2 .ensures)),
+      put-entry (l .inv .1) (omega arith) (omega arith)
+          (λ z. c .before .before .before .if1 .left (found .above .ensures ∙ z)) (omega (arith, l .inv .1 .room))
+          (omega arith) _ (rw (found .above .ensures) at (c .entry2 .ensures)),
     )
 
 returns-2 : tie.Need-returns-2 Inv-loop μ-loop
@@ -74,7 +79,9 @@ returns-2 c = filled-up (c .before .loop .inv .1) (omega arith)
 
 pub fill-spec : {M : Type 1} → statement M
 fill-spec =
-    tie.close (tie.spec Inv-loop μ-loop (λ c. (refl, filling _ _ _ _ _)) (λ c. omega arith) (λ c. omega arith) (λ c κs. omega arith) (λ c. omega arith) (λ c. omega arith)
+    tie.close (tie.spec Inv-loop μ-loop (λ c. (refl, filling _ _ _ _ _)) (λ c. omega arith) (λ c. omega arith) (λ c κs. omega arith)
+    (λ c. omega arith) (λ c. omega arith)
     loop-again (λ c. omega arith) same-length returns (λ c. omega arith) (λ c κs. (omega arith, omega arith, pow-pos _)) (λ c. omega arith) slice-write-list
-    (λ c. omega arith) (λ c. omega arith) (λ c. omega arith) loop-again-2 (λ c. omega arith) entry-requires-2 (λ c. omega arith) slice-write-list-2 (λ c. omega arith)
+    (λ c. omega arith) (λ c. omega arith) (λ c. omega arith) loop-again-2 (λ c. omega arith) entry-requires-2
+    (λ c. omega arith) slice-write-list-2 (λ c. omega arith)
     (λ c. omega arith) (λ c. omega arith) loop-again-3 (λ c. c .before .loop .inv .0) returns-2)

@@ -1,4 +1,4 @@
--- `patch_list::gap_width` meets its contract. Assumes nothing.
+-- A gap of 0 takes one bit all the same, and any other its bit length. Assumes nothing.
 use native.Mathlib.Omega.{arith}
 use borrow.Author.Needs.{needs}
 use Rattle.writer.proofs.PatchedLaws.{gap-bits, gap-none}

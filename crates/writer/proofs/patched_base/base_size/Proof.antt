@@ -1,4 +1,4 @@
--- `patched_base::base_size` meets its contract. Assumes nothing.
+-- The bytes hold the bits of the magnitude and one more for the sign. Assumes nothing.
 use borrow.Author.Needs.{needs}
 use Rattle.writer.proofs.PatchedLaws.{base-bytes}
 use Rattle.writer.proofs.patched_base.base_size.Statement.{statement}

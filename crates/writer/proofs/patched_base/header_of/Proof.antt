@@ -120,7 +120,8 @@ module _ (c : tie.After-largest2) where
 
   patches-fit : AllBelow (2 ^ pw₂) (map (λ e. e .patch) (entriesFrom 0 (qs f)))
   patches-fit =
-      subst (λ (x : ℕ). AllBelow (2 ^ x) (map (λ e. e .patch) (entriesFrom 0 (qs f)))) (sym (pw-is (f .before .before .before))) (es-below (start (parted f) .args .base) (start (parted f) .args .bits) (map asU64 (start (parted f) .args .rows .now)))
+      subst (λ (x : ℕ). AllBelow (2 ^ x) (map (λ e. e .patch) (entriesFrom 0 (qs f)))) (sym (pw-is (f .before .before .before)))
+      (es-below (start (parted f) .args .base) (start (parted f) .args .bits) (map asU64 (start (parted f) .args .rows .now)))
 
 returns : tie.Need-returns
 returns c = no-code _ _ _ (omega (arith, c .before .before .table-code .ensures))
@@ -142,9 +143,11 @@ fill-requires c κs =
     let n = c .before .before .before .before in
     let d = back-6 .before .before .before .before in
     let a = back-12 .before .before .before .before .before .before .args in
-    let h : c .before .before .before .before .before .before .largest .result / 2 ^ a .bits < 2 ^ pw e = rw (e .before .bits-of .ensures) (rw (n .before .above .ensures) at (held n)) in
+    let h : c .before .before .before .before .before .before .largest .result / 2 ^ a .bits < 2 ^ pw e =
+    rw (e .before .bits-of .ensures) (rw (n .before .above .ensures) at (held n)) in
     let v : AllBelow (2 ^ (pw e + a .bits)) (take (length (now (a .rows))) (d .differences .last .1 .1 .0)) =
-    rw (stand d) (values-held (a .bits) (c .before .before .before .before .before .before .largest .result) (n .narrowest-code .result) (ds d) (most n) (pw e) h) in
+    rw (stand d) (values-held (a .bits) (c .before .before .before .before .before .before .largest .result) (n .narrowest-code .result)
+    (ds d) (most n) (pw e) h) in
     let t : length (now (a .rows)) ≤ 512 = back-12 .before .before .before .before .before .before .pre .1 in
     let l : length (now (a .list)) ≤ 31 = omega (arith, back-12 .before .before .before .before .before .before .pre .3) in
     ((long-vals d, t, bits-le (back-12 .before), pw-le e, l), v)
@@ -162,8 +165,11 @@ keep-low-requires : tie.Need-keep-low-requires
 keep-low-requires c κs =
     let back-6 = c .before .before .before .before .before .before in
     let back-12 = back-6 .before .before .before .before .before .before in
-    let back-18 = back-12 .before .before .before .before .before .before in
-    (omega (arith, long-vals (back-12 .before .before .before .before .before .before)), bits-pos (back-18 .before .before .before), bits-le (back-18 .before .before .before))
+    let back-18 = back-12 .before .before .before .before .before .before in (
+      omega (arith, long-vals (back-12 .before .before .before .before .before .before)),
+      bits-pos (back-18 .before .before .before),
+      bits-le (back-18 .before .before .before),
+    )
 
 returns-5 : tie.Need-returns-5
 returns-5 c =
@@ -178,22 +184,27 @@ returns-5 c =
     let ls : List ℕ = f m .fill .last .1 .1 .1 .1 .0 in
     let k : ℕ = f m .fill .result in
     let es : List Entry = entriesFrom 0 (qs (f m)) in
-    let vs : c .before .before .keep-low .last .0 ≡ lows (a .bits) (ds d) ++ drop (length (now (a .rows))) (d .differences .last .1 .1 .0) = rw (stand d) at (c .before .before .keep-low .ensures) in
+    let vs : c .before .before .keep-low .last .0 ≡ lows (a .bits) (ds d) ++ drop (length (now (a .rows))) (d .differences .last .1 .1 .0) =
+    rw (stand d) at (c .before .before .keep-low .ensures) in
     let few-entries : k ≤ 31 = omega (arith, few m, long-list (f m)) in
     let code : ℕ = n .narrowest-code .result in
     let pw-code : pw₂ m ≡ width code = back-12 .before .before .bits-of .ensures in
     all-held (a .base) (a .bits) (map asU64 (now (a .rows))) _ (c .before .before .keep-low .last .0) ls
-    (d .before .before .before .before .before .table-code .ensures) (sym (length-map (now (a .rows)) asU64)) (d .before .before .before .before .base-size .ensures) (patch-is n)
+    (d .before .before .before .before .before .table-code .ensures) (sym (length-map (now (a .rows)) asU64))
+    (d .before .before .before .before .base-size .ensures) (patch-is n)
     (c .before .before .before .before .gap-width .ensures ∙ gap-width-is (pw₂ m) (m .largest2 .result) es (patches-fit m) (most-entry m))
     (sym (length-take-le k ls (few m)) ∙ ap (λ (l : List ℕ). length l) (fields-are m) ∙ length-map es (field (pw₂ m)))
-    (ap (λ (l : List ℕ). take (length (now (a .rows))) l) vs ∙ take-at (lows (a .bits) (ds d)) _ (length (now (a .rows))) (length-map (ds d) (λ x. x % 2 ^ a .bits) ∙ length-ds d))
+    (ap (λ (l : List ℕ). take (length (now (a .rows))) l) vs
+    ∙ take-at (lows (a .bits) (ds d)) _ (length (now (a .rows))) (length-map (ds d) (λ x. x % 2 ^ a .bits) ∙ length-ds d))
     (subst (λ (x : ℕ). take k ls ≡ map (field x) es) pw-code (fields-are m))
     (is-code (d .before .before .before)) (rw (length-map (now (a .rows)) asU64) (s₀ .pre .0)) (rw (length-map (now (a .rows)) asU64) (s₀ .pre .1))
     (rw (length-map (now (a .rows)) asU64) (omega (arith, c .before .before .keep-low .kept .0, long-vals d)))
-    (omega (arith, d .before .before .before .before .base-size .ensures, d .before .before .if2 .left)) (n .narrowest-code .ensures .isCode) (λ z. back-12 .before .if3 .left (pw-code ∙ z)) (width-le code) few-entries (few m)
+    (omega (arith, d .before .before .before .before .base-size .ensures, d .before .before .if2 .left))
+    (n .narrowest-code .ensures .isCode) (λ z. back-12 .before .if3 .left (pw-code ∙ z)) (width-le code) few-entries (few m)
 
 pub header-of-spec : {M : Type 1} → statement M
 header-of-spec =
     tie.close (tie.spec (λ c κs. search needs) (λ c κs. search needs) returns returns-2 (λ c κs. search needs) (λ c κs. search needs) above-requires
-    (λ c κs. search needs) (λ c κs. search needs) (λ c. search needs) returns-3 fill-requires (λ c. search needs) (λ c. search needs) returns-4 (λ c κs. search needs)
+    (λ c κs. search needs) (λ c κs. search needs) (λ c. search needs) returns-3 fill-requires (λ c. search needs)
+    (λ c. search needs) returns-4 (λ c κs. search needs)
     shr-gap-width gap-width-requires keep-low-requires (λ c. search needs) (λ c. search needs) returns-5)

@@ -1,4 +1,4 @@
--- `patched_base::is_kept` meets its contract: by the code that stands for the width. Assumes nothing.
+-- By the code that stands for the width. Assumes nothing.
 use mathlib.Core.Path.{_∙_}
 use borrow.Author.Needs.{needs}
 use Rattle.format.proofs.Kept.{kept-by-code}

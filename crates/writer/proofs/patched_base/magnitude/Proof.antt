@@ -1,4 +1,4 @@
--- `patched_base::magnitude` meets its contract. Assumes nothing.
+-- Below 2^63 the base is its own magnitude; above, it is what is missing to 2^64. Assumes nothing.
 use native.Mathlib.Omega.{arith}
 use borrow.Author.Needs.{needs}
 use borrow.Author.Tests.{lt-leb, le-leb}

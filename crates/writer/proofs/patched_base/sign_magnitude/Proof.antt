@@ -1,4 +1,4 @@
--- `patched_base::sign_magnitude` meets its contract. Assumes nothing.
+-- Below 2^63 the base is its own magnitude; above, the sign bit is added to it, and they do not overlap. Assumes nothing.
 use mathlib.Core.Path.{_≡_, _∙_}
 use Prim.Native.Nat.{_-_, _*_, _^_}
 use native.Mathlib.Omega.{arith}

@@ -1,4 +1,4 @@
--- `patched_base::table_code` meets its contract: of the codes, the least that holds the bits is the only one to look at. Assumes nothing.
+-- Of the codes, the least that holds the bits is the only one to look at. Assumes nothing.
 use mathlib.Core.Path.{sym, _∙_}
 use native.Mathlib.Omega.{arith}
 use borrow.Author.Needs.{needs}

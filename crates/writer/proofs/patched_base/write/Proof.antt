@@ -15,7 +15,8 @@ returns c =
     let k = c .before .before in
     let s = k .before .before in
     let a = s .args in
-    bad-width (now (a .rows)) (a .base) (a .width) (now (a .out)) (c .refused .result) (s .pre .0) (s .pre .1) (sym (k .is-kept .ensures) ∙ not-true _ (c .before .if1 .taken)) (c .refused .ensures)
+    bad-width (now (a .rows)) (a .base) (a .width) (now (a .out)) (c .refused .result) (s .pre .0) (s .pre .1)
+    (sym (k .is-kept .ensures) ∙ not-true _ (c .before .if1 .taken)) (c .refused .ensures)
 
 -- ---- a kept width: there are places enough, a few for a short run and 512 for any
 
@@ -42,5 +43,6 @@ returns-3 c =
 
 pub write-spec : {M : Type 1} → statement M
 write-spec =
-    tie.close (tie.spec (λ c κs. search needs) (λ c κs. search needs) returns (λ c κs. search needs) (λ c. search needs) write-over-requires (λ c. search needs) returns-2
+    tie.close (tie.spec (λ c κs. search needs) (λ c κs. search needs) returns (λ c κs. search needs) (λ c. search needs) write-over-requires
+    (λ c. search needs) returns-2
     (λ c κs. search needs) (λ c. search needs) write-over-requires-2 (λ c. search needs) returns-3)

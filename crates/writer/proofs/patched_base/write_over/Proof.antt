@@ -1,4 +1,4 @@
--- `patched_base::write_over` meets its contract. Assumes nothing.
+-- Without a header the rows are refused; with one, the run that it describes is laid. Assumes nothing.
 use mathlib.Core.Path.{_≡_}
 use mathlib.Core.Bool.{true, false}
 use mathlib.Core.List.{map}
@@ -16,7 +16,8 @@ low-is : (c : tie.After-to-u64) → c .to-u64 .result ≡ asU64 (c .before .befo
 low-is c = rw (toZ-ofZ (c .before .before .before .fits .base)) at (c .to-u64 .ensures)
 
 -- the header that was found
-header : (c : tie.After-h) → let t = c .before .before .before .before .before in let s = t .before .before .before .before in let a = s .before .before .before .args in
+header : (c : tie.After-h) → let t = c .before .before .before .before .before in let s = t .before .before .before .before in
+    let a = s .before .before .before .args in
     Headed (s .to-u64 .result) (a .width) (map asU64 (now (a .rows))) (t .header-of .last .1 .1 .1 .0) (t .header-of .last .1 .1 .1 .1 .0) (c .h .given .0 .0)
 header c = rw (c .h .given .1) at (c .before .before .before .before .before .header-of .ensures)
 
@@ -29,7 +30,8 @@ returns c =
     let s = t .before .before .before .before in
     let g = s .before .before .before .pre in
     let a = s .before .before .before .args in
-    let e : headerHolds (parts (asU64 (a .base)) (a .width) (map asU64 (now (a .rows)))) ≡ false = rw (c .before .enum-told .given .1, low-is s) at (t .header-of .ensures) in
+    let e : headerHolds (parts (asU64 (a .base)) (a .width) (map asU64 (now (a .rows)))) ≡ false =
+    rw (c .before .enum-told .given .1, low-is s) at (t .header-of .ensures) in
     bad-form (now (a .rows)) (a .base) (a .width) (now (a .out)) (c .refused .result) (g .0 .0) (g .0 .1) (g .1) e (c .refused .ensures)
 
 returns-2 : tie.Need-returns-2

@@ -1,4 +1,4 @@
--- `short_repeat::are_same` meets its contract. Assumes nothing.
+-- All rows are the first one's pattern. Assumes nothing.
 use mathlib.Core.Path.{_∙_}
 use Rattle.format.specs.Writing.{haveForm}
 use borrow.Author.Needs.{needs}

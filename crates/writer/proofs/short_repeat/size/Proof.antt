@@ -26,13 +26,16 @@ module _ (m : tie.After-fits2) where
 
   small-is : m .fits2 .result ≡ ltb (firstOf (entry tested .args .signed) (map asU64 (now (entry tested .args .rows)))) (2 ^ (8 * entry tested .args .width))
   small-is = m .fits2 .ensures
-      ∙ ap (λ (x : ℕ). ltb x (2 ^ (8 * entry tested .args .width))) (m .before .stored .ensures ∙ ap (λ (x : ℕ). Writing.stored (entry tested .args .signed) x) (m .before .before .pattern-of .ensures))
+      ∙ ap (λ (x : ℕ). ltb x (2 ^ (8 * entry tested .args .width)))
+      (m .before .stored .ensures ∙ ap (λ (x : ℕ). Writing.stored (entry tested .args .signed) x)
+      (m .before .before .pattern-of .ensures))
 
 returns : tie.Need-returns
 returns c = let t = c .before in unlike (known t) _ (t .are-same .ensures) (c .if1 .taken)
 
 returns-2 : tie.Need-returns-2
-returns-2 c = let m = c .before in let t = tested m in too-large (known t) _ (t .are-same .ensures) (m .before .before .before .if1 .left) _ (small-is m) (c .if2 .taken)
+returns-2 c = let m = c .before in let t = tested m in
+    too-large (known t) _ (t .are-same .ensures) (m .before .before .before .if1 .left) _ (small-is m) (c .if2 .taken)
 
 returns-3 : tie.Need-returns-3
 returns-3 c =

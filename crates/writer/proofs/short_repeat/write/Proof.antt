@@ -26,7 +26,8 @@ returns : tie.Need-returns
 returns c =
     let s = c .before .before in
     let m = s .before .before in
-    refused-fit (known m) _ (s .are-same .ensures) (c .before .if2 .taken) (m .size .ensures) (s .before .if1 .taken) (now (entry m .args .out)) (c .refused .result) (c .refused .ensures)
+    refused-fit (known m) _ (s .are-same .ensures) (c .before .if2 .taken) (m .size .ensures) (s .before .if1 .taken)
+    (now (entry m .args .out)) (c .refused .result) (c .refused .ensures)
 
 returns-2 : tie.Need-returns-2
 returns-2 c =
@@ -63,5 +64,6 @@ returns-4 c =
 
 pub write-spec : {M : Type 1} → statement M
 write-spec =
-    tie.close (tie.spec (λ c κs. search needs) (λ c κs. search needs) (λ c κs. search needs) returns (λ c κs. search needs) returns-2 (λ c κs. search needs) returns-3
+    tie.close (tie.spec (λ c κs. search needs) (λ c κs. search needs) (λ c κs. search needs) returns (λ c κs. search needs) returns-2
+    (λ c κs. search needs) returns-3
     (λ c κs. search needs) (λ c κs. search needs) write-head-requires write-requires (λ c. search needs) (λ c κs. search needs) (λ c. search needs) returns-4)

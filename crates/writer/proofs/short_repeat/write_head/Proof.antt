@@ -1,4 +1,4 @@
--- `short_repeat::write_head` meets its contract. Assumes nothing.
+-- One place is set, and its number, below 64, is not cut to a byte. Assumes nothing.
 use native.Mathlib.Omega.{arith}
 use denote.Ref.{now}
 use Rattle.writer.proofs.Pieces.{one-set}
@@ -11,5 +11,6 @@ returns c = one-set (now (c .args .out)) _ (omega arith)
 
 pub write-head-spec : {M : Type 1} → statement M
 write-head-spec =
-    tie.close (tie.spec (λ c. search needs) (λ c. search needs) (λ c. search needs) (λ c. search needs) (λ c. search needs) (λ c. search needs) (λ c. search needs)
+    tie.close (tie.spec (λ c. search needs) (λ c. search needs) (λ c. search needs) (λ c. search needs) (λ c. search needs)
+    (λ c. search needs) (λ c. search needs)
     returns)

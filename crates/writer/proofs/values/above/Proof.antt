@@ -1,4 +1,4 @@
--- `values::above` meets its contract: no number of 64 bits has anything above them. Assumes nothing.
+-- No number of 64 bits has anything above them. Assumes nothing.
 use mathlib.Core.Path.{sym}
 use Prim.Native.Nat.{_<_, _^_}
 use native.Mathlib.Nat.{lt-of-lt-of-le, div-eq-of-lt}

@@ -1,4 +1,4 @@
--- `values::all_are` meets its contract. The loop's invariant: all rows pass exactly if those from the row reached on do. Assumes nothing.
+-- At each turn all rows pass exactly if those from the row reached on do. Assumes nothing.
 use mathlib.Core.Path.{refl}
 use mathlib.Core.List.{List, map}
 use Prim.Native.Nat.{ℕ, _-_, _≤_, _<_}
@@ -49,7 +49,8 @@ returns-2 : tie.Need-returns-2 Inv-loop μ-loop
 returns-2 c =
     let l = c .before .loop in
     let a = c .before .before .args in
-    done (λ x. eqb x (a .value)) (map asU64 (now (a .rows))) (l .inv .1) (drop-of-length-le (map asU64 (now (a .rows))) {i = l .i} (rw (length-map (now (a .rows)) asU64) (omega arith)))
+    done (λ x. eqb x (a .value)) (map asU64 (now (a .rows))) (l .inv .1)
+    (drop-of-length-le (map asU64 (now (a .rows))) {i = l .i} (rw (length-map (now (a .rows)) asU64) (omega arith)))
 
 pub all-are-spec : {M : Type 1} → statement M
 all-are-spec =

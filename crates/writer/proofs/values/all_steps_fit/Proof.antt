@@ -1,4 +1,4 @@
--- `values::all_steps_fit` meets its contract. The loop's invariant: all steps pass exactly if those from the row reached on do. Assumes nothing.
+-- At each turn all steps pass exactly if those from the row reached on do. Assumes nothing.
 use mathlib.Core.Path.{_≡_, refl, sym, ap, ap₂, _∙_}
 use mathlib.Core.List.{List, map}
 use Prim.Native.Nat.{ℕ, _+_, _-_, _^_, _≤_, _<_}
@@ -35,7 +35,8 @@ module _ (c : tie.After-fits2 Inv-loop μ-loop) where
   test-is : c .fits2 .result ≡ ltb (stepTo (entry .args .falling) (getD rs (at-loop .loop .i) 0) (getD rs (at-loop .loop .i + 1) 0)) (2 ^ entry .args .bits)
   test-is = c .fits2 .ensures
       ∙ ap (λ (x : ℕ). ltb x (2 ^ entry .args .bits))
-      (c .before .step .ensures ∙ ap₂ (λ (x y : ℕ). stepTo (entry .args .falling) x y) (c .before .before .before .pattern-of .ensures) (c .before .before .pattern-of2 .ensures))
+      (c .before .step .ensures ∙ ap₂ (λ (x y : ℕ). stepTo (entry .args .falling) x y) (c .before .before .before .pattern-of .ensures)
+      (c .before .before .pattern-of2 .ensures))
 
   more : at-loop .loop .i + 1 < length rs
   more = rw (length-map (now (entry .args .rows)) asU64) (omega arith)
@@ -45,21 +46,26 @@ returns c =
     let s = c .before in
     let a = entry s .args in
     let l = at-loop s .loop in
-    stops (λ x. ltb x (2 ^ a .bits)) (stepsOf (a .falling) (rs s)) (l .inv .1) (steps-next (a .falling) (rs s) (l .i) (more s)) (sym (test-is s) ∙ not-true _ (c .if1 .taken))
+    stops (λ x. ltb x (2 ^ a .bits)) (stepsOf (a .falling) (rs s)) (l .inv .1) (steps-next (a .falling) (rs s) (l .i) (more s))
+    (sym (test-is s) ∙ not-true _ (c .if1 .taken))
 
 loop-again : tie.Need-loop-again Inv-loop μ-loop
 loop-again c =
     let s = c .before in
     let a = entry s .args in
-    let l = at-loop s .loop in
-    (omega arith, goes (λ x. ltb x (2 ^ a .bits)) (stepsOf (a .falling) (rs s)) (l .inv .1) (steps-next (a .falling) (rs s) (l .i) (more s)) (sym (test-is s) ∙ not-false _ (c .if1 .left)))
+    let l = at-loop s .loop in (
+      omega arith,
+      goes (λ x. ltb x (2 ^ a .bits)) (stepsOf (a .falling) (rs s)) (l .inv .1) (steps-next (a .falling) (rs s) (l .i) (more s))
+          (sym (test-is s) ∙ not-false _ (c .if1 .left)),
+    )
 
 returns-2 : tie.Need-returns-2 Inv-loop μ-loop
 returns-2 c =
     let l = c .before .loop in
     let a = c .before .before .args in
     let rows = map asU64 (now (a .rows)) in
-    done (λ x. ltb x (2 ^ a .bits)) (stepsOf (a .falling) rows) (l .inv .1) (steps-end (a .falling) rows (l .i) (rw (length-map (now (a .rows)) asU64) (omega arith)))
+    done (λ x. ltb x (2 ^ a .bits)) (stepsOf (a .falling) rows) (l .inv .1)
+    (steps-end (a .falling) rows (l .i) (rw (length-map (now (a .rows)) asU64) (omega arith)))
 
 pub all-steps-fit-spec : {M : Type 1} → statement M
 all-steps-fit-spec =

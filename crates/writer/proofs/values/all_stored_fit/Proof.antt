@@ -1,4 +1,4 @@
--- `values::all_stored_fit` meets its contract. The loop's invariant: all rows pass exactly if those from the row reached on do. Assumes nothing.
+-- At each turn all rows pass exactly if those from the row reached on do. Assumes nothing.
 use mathlib.Core.Path.{_≡_, refl, sym, ap, _∙_}
 use mathlib.Core.List.{List, map}
 use Prim.Native.Nat.{ℕ, _-_, _^_, _≤_, _<_}
@@ -34,7 +34,8 @@ module _ (c : tie.After-fits2 Inv-loop μ-loop) where
 
   test-is : c .fits2 .result ≡ ltb (Writing.stored (entry .args .signed) (getD rs (at-loop .loop .i) 0)) (2 ^ entry .args .bits)
   test-is = c .fits2 .ensures
-      ∙ ap (λ (x : ℕ). ltb x (2 ^ entry .args .bits)) (c .before .stored .ensures ∙ ap (λ (x : ℕ). Writing.stored (entry .args .signed) x) (c .before .before .pattern-of .ensures))
+      ∙ ap (λ (x : ℕ). ltb x (2 ^ entry .args .bits))
+      (c .before .stored .ensures ∙ ap (λ (x : ℕ). Writing.stored (entry .args .signed) x) (c .before .before .pattern-of .ensures))
 
   more : at-loop .loop .i < length rs
   more = rw (length-map (now (entry .args .rows)) asU64) (omega arith)
@@ -44,14 +45,18 @@ returns c =
     let s = c .before in
     let a = entry s .args in
     let l = at-loop s .loop in
-    stops (λ x. ltb x (2 ^ a .bits)) (map (Writing.stored (a .signed)) (rs s)) (l .inv .1) (map-next (Writing.stored (a .signed)) (rs s) (l .i) (more s)) (sym (test-is s) ∙ not-true _ (c .if1 .taken))
+    stops (λ x. ltb x (2 ^ a .bits)) (map (Writing.stored (a .signed)) (rs s)) (l .inv .1)
+    (map-next (Writing.stored (a .signed)) (rs s) (l .i) (more s)) (sym (test-is s) ∙ not-true _ (c .if1 .taken))
 
 loop-again : tie.Need-loop-again Inv-loop μ-loop
 loop-again c =
     let s = c .before in
     let a = entry s .args in
-    let l = at-loop s .loop in
-    (omega arith, goes (λ x. ltb x (2 ^ a .bits)) (map (Writing.stored (a .signed)) (rs s)) (l .inv .1) (map-next (Writing.stored (a .signed)) (rs s) (l .i) (more s)) (sym (test-is s) ∙ not-false _ (c .if1 .left)))
+    let l = at-loop s .loop in (
+      omega arith,
+      goes (λ x. ltb x (2 ^ a .bits)) (map (Writing.stored (a .signed)) (rs s)) (l .inv .1)
+          (map-next (Writing.stored (a .signed)) (rs s) (l .i) (more s)) (sym (test-is s) ∙ not-false _ (c .if1 .left)),
+    )
 
 returns-2 : tie.Need-returns-2 Inv-loop μ-loop
 returns-2 c =

@@ -1,4 +1,4 @@
--- `values::are_steps` meets its contract. The loop's invariant: all steps pass exactly if those from the row reached on do. Assumes nothing.
+-- At each turn all steps pass exactly if those from the row reached on do. Assumes nothing.
 use mathlib.Core.Path.{_≡_, refl, ap₂, _∙_}
 use mathlib.Core.Bool.{false}
 use mathlib.Core.List.{List, map}
@@ -49,14 +49,18 @@ loop-again : tie.Need-loop-again Inv-loop μ-loop
 loop-again c =
     let s = c .before in
     let l = at-loop s .loop in
-    let v = entry s .args .value in
-    (omega arith, goes (λ x. eqb x v) (stepsOf false (rs s)) (l .inv .1) (steps-next false (rs s) (l .i) (more s)) (rw (← (step-is s)) (eq-eqb _ _ (c .if1 .left))))
+    let v = entry s .args .value in (
+      omega arith,
+      goes (λ x. eqb x v) (stepsOf false (rs s)) (l .inv .1) (steps-next false (rs s) (l .i) (more s))
+          (rw (← (step-is s)) (eq-eqb _ _ (c .if1 .left))),
+    )
 
 returns-2 : tie.Need-returns-2 Inv-loop μ-loop
 returns-2 c =
     let l = c .before .loop in
     let a = c .before .before .args in
-    done (λ x. eqb x (a .value)) (stepsOf false (map asU64 (now (a .rows)))) (l .inv .1) (steps-end false (map asU64 (now (a .rows))) (l .i) (rw (length-map (now (a .rows)) asU64) (omega arith)))
+    done (λ x. eqb x (a .value)) (stepsOf false (map asU64 (now (a .rows)))) (l .inv .1)
+    (steps-end false (map asU64 (now (a .rows))) (l .i) (rw (length-map (now (a .rows)) asU64) (omega arith)))
 
 pub are-steps-spec : {M : Type 1} → statement M
 are-steps-spec =

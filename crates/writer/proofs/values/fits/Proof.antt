@@ -1,4 +1,4 @@
--- `values::fits` meets its contract. Assumes nothing.
+-- A number fits exactly if nothing is left above its bits. Assumes nothing.
 use mathlib.Core.Path.{ap, _∙_}
 use Prim.Native.Nat.{ℕ}
 use lib.Dec.{eqb}

@@ -1,4 +1,4 @@
--- `values::keep_low` meets its contract. The loop's invariant: the low bits so far, then those still to come, are the whole. Assumes nothing.
+-- At each turn the low bits so far, then those still to come, are the whole. Assumes nothing.
 use mathlib.Core.Path.{_≡_, refl, sym, _∙_}
 use mathlib.Core.List.{List, [], _++_}
 use Prim.Native.Nat.{ℕ, _-_, _%_, _^_, _≤_, _<_}
@@ -26,7 +26,8 @@ loop-again c =
     let a = c .before .before .before .before .before .args in
     let vs : List ℕ = take (a .rows .rows) (now (a .vals)) in
     let h : l .i < length vs = rw (length-take-le (a .rows .rows) (now (a .vals)) (omega arith)) (omega arith) in
-    let g : getD vs (l .i) 0 ≡ getD (l .vals) (l .i) 0 = getD-take (a .rows .rows) (now (a .vals)) (l .i) 0 (omega arith) ∙ sym (same-at (l .vals) (now (a .vals)) (l .i) (l .inv .3)) in
+    let g : getD vs (l .i) 0 ≡ getD (l .vals) (l .i) 0 = getD-take (a .rows .rows) (now (a .vals)) (l .i) 0 (omega arith)
+    ∙ sym (same-at (l .vals) (now (a .vals)) (l .i) (l .inv .3)) in
     let e : c .cut .result ≡ getD vs (l .i) 0 % 2 ^ a .bits = c .cut .ensures ∙ rw (div-one, g) in (
       omega arith,
       simp length-set (l .inv .1),
@@ -40,7 +41,8 @@ returns c =
     let a = c .before .before .before .args in
     let vs : List ℕ = take (a .rows .rows) (now (a .vals)) in
     let n : l .i ≡ a .rows .rows = omega arith in
-    let z : lows (a .bits) (drop (l .i) vs) ≡ [] = map-end (λ d. d % 2 ^ a .bits) vs (l .i) (rw (length-take-le (a .rows .rows) (now (a .vals)) (omega arith)) (omega arith)) in
+    let z : lows (a .bits) (drop (l .i) vs) ≡ [] =
+    map-end (λ d. d % 2 ^ a .bits) vs (l .i) (rw (length-take-le (a .rows .rows) (now (a .vals)) (omega arith)) (omega arith)) in
     filled (l .vals) (now (a .vals)) _ (a .rows .rows) (rw (z, n) at (l .inv .2)) (rw n at (l .inv .3))
 
 pub keep-low-spec : {M : Type 1} → statement M

@@ -1,4 +1,4 @@
--- `values::largest` meets its contract. The loop's invariant: a bound holds for the whole exactly if it holds for the largest so far and for what is
+-- At each turn a bound holds for the whole exactly if it holds for the largest so far and for what is
 -- left. Assumes nothing.
 use mathlib.Core.Logic.{⊎-elim}
 use Prim.Native.Nat.{_-_, _≤_}
@@ -37,5 +37,6 @@ returns c =
 
 pub largest-spec : {M : Type 1} → statement M
 largest-spec =
-    tie.close (tie.spec Inv-loop μ-loop loop-holds (λ c. omega arith) (λ c. omega arith) (λ c. omega arith) (λ c. omega arith) (λ c. omega arith) (λ c. omega arith)
+    tie.close (tie.spec Inv-loop μ-loop loop-holds (λ c. omega arith) (λ c. omega arith) (λ c. omega arith) (λ c. omega arith)
+    (λ c. omega arith) (λ c. omega arith)
     loop-again returns)

@@ -1,4 +1,4 @@
--- `values::pattern_of` meets its contract. Assumes nothing.
+-- The row at a place is an i64, and its pattern has the same bits. Assumes nothing.
 use mathlib.Core.Path.{sym, ap, _∙_}
 use lib.IntN.{ℤ, pos}
 use lib.ListN.{getD}

@@ -1,4 +1,4 @@
--- `values::step` meets its contract. Assumes nothing.
+-- Falling or rising, the step is one difference, with its sides exchanged. Assumes nothing.
 use borrow.Author.Needs.{needs}
 use Rattle.writer.proofs.values.step.Statement.{statement}
 use Rattle.writer.proofs.values.step.Tie as tie

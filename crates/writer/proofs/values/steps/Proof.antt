@@ -1,4 +1,4 @@
--- `values::steps` meets its contract. The loop's invariant: what stands so far, then what is still to come, is the whole. Assumes nothing.
+-- At each turn what stands so far, then what is still to come, is the whole. Assumes nothing.
 use mathlib.Core.Path.{_≡_, refl, ap₂, _∙_}
 use mathlib.Core.List.{List, [], _++_, map}
 use Prim.Native.Nat.{ℕ, _+_, _-_, _≤_, _<_}

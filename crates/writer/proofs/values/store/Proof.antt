@@ -1,4 +1,4 @@
--- `values::store` meets its contract. The loop's invariant: what stands so far, then what is still to come, is the whole. Assumes nothing.
+-- At each turn what stands so far, then what is still to come, is the whole. Assumes nothing.
 use mathlib.Core.Path.{_≡_, refl, ap, _∙_}
 use mathlib.Core.List.{List, [], _++_, map}
 use Prim.Native.Nat.{ℕ, _-_, _≤_, _<_}
@@ -40,7 +40,8 @@ returns c =
     let a = c .before .before .before .args in
     let rs : List ℕ = map asU64 (now (a .rows)) in
     let n : l .i ≡ length (now (a .rows)) = omega arith in
-    let z : map (Writing.stored (a .signed)) (drop (l .i) rs) ≡ [] = map-end (Writing.stored (a .signed)) rs (l .i) (rw (length-map (now (a .rows)) asU64) (omega arith)) in
+    let z : map (Writing.stored (a .signed)) (drop (l .i) rs) ≡ [] =
+    map-end (Writing.stored (a .signed)) rs (l .i) (rw (length-map (now (a .rows)) asU64) (omega arith)) in
     filled (l .vals) (now (a .vals)) _ (length (now (a .rows))) (rw (z, n) at (l .inv .2)) (rw n at (l .inv .3))
 
 pub store-spec : {M : Type 1} → statement M

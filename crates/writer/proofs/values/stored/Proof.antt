@@ -1,4 +1,4 @@
--- `values::stored` meets its contract. Assumes nothing.
+-- A signed row is stored as its zigzag, another as it is. Assumes nothing.
 use borrow.Author.Needs.{needs}
 use Rattle.format.specs.Writing
 use Rattle.writer.proofs.values.stored.Statement.{statement}

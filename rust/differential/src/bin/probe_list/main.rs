@@ -16,11 +16,11 @@ use std::{env, fs};
 use differential::frames;
 use differential::listed::{self, Call, LIST};
 use differential::probe::Requests;
-use differential::random::Random;
 use differential::stages::{
     batches, column_lines, columns, convert, count, index, labels, lined_up, parts, patched_runs, probe_line,
     rescue, salvage,
 };
+use model::random::Random;
 use model::Form;
 
 use by_hand::{DOCUMENT, FRAMES, SPECIFICATION};

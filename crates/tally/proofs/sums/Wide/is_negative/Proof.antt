@@ -1,4 +1,4 @@
--- `Wide::is_negative` meets its contract. Assumes nothing.
+-- The value is below 0 exactly if the high word has its top bit. Assumes nothing.
 use Rattle.tally.proofs.Decimal.{sign-is}
 use Rattle.tally.proofs.sums.Wide.is_negative.Statement.{statement}
 use Rattle.tally.proofs.sums.Wide.is_negative.Tie as tie

@@ -1,5 +1,5 @@
--- `Wide::of_row` meets its contract: below 0, the bits turned over are those of a natural number. Assumes nothing.
-use Prim.Native.Nat.{ℕ, suc, _-_, _%_, _^_, _<_}
+-- Below 0 the bits turned over are those of a natural number, and otherwise the row is its low word. Assumes nothing.
+use Prim.Native.Nat.{suc, _-_, _%_, _^_, _<_}
 use mathlib.Core.Path.{_≡_}
 use mathlib.Core.Bool.{Bool, true, false}
 use native.Mathlib.Nat.{mod-eq-of-lt}
@@ -11,6 +11,7 @@ use mir.Facts.{toZ-ofZ, toZ-pos}
 use borrow.Author.Tests.{ltb-true}
 use Rattle.format.specs.Rows.{asU64}
 use Rattle.format.proofs.Patterns.{as-lt}
+use Rattle.format.proofs.Tests.{never}
 use Rattle.tally.specs.Wide.{wideOf}
 use Rattle.tally.proofs.WideSums.{row-low, row-high}
 use native.Mathlib.Omega.{arith}
@@ -34,8 +35,7 @@ natural : (z : ℤ) → SFits w64 z → ltZ (toZ w64 (ofZ w64 z)) (pos 0) ≡ fa
 natural (pos n) f t = (toZ-ofZ f, row-low n (f .sfits))
 natural (negsuc k) f t =
     let h : _≡_ {A = Bool} true false = rw (toZ-ofZ f) at t in
-    let z : _≡_ {A = ℕ} 0 1 = cc in
-    absurd (omega arith)
+    never (cc)
 
 cast-t5 : tie.Need-cast-t5
 cast-t5 c = rw (turned _ (c .before .fits .row) (c .if1 .taken) .0) (tt, omega arith)

@@ -1,4 +1,4 @@
--- `Wide::plus` meets its contract. Assumes nothing.
+-- The low words wrapped exactly if their sum is below the first of them, and then one is carried. Assumes nothing.
 use Prim.Native.Nat.{_+_, _%_, _^_, _<_, _≤_}
 use native.Mathlib.Omega.{arith}
 use Rattle.tally.proofs.WideSums.{carries, no-carry}

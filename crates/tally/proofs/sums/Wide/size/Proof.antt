@@ -1,4 +1,4 @@
--- `Wide::size` meets its contract. Assumes nothing.
+-- Without the top bit the words are the size; with it, all bits turned over and one more. Assumes nothing.
 use mathlib.Core.Path.{ap, _∙_}
 use Rattle.tally.specs.Wide.{sizeOf}
 use Rattle.tally.proofs.Decimal.{size-above, size-below}

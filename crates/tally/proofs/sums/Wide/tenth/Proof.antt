@@ -1,4 +1,4 @@
--- `Wide::tenth` meets its contract. Assumes nothing.
+-- Long division by ten in half words: each remainder is below ten, so that no word overflows. Assumes nothing.
 use Rattle.tally.proofs.Decimal.{upper-fits, tenth-is}
 use borrow.Author.Needs.{needs}
 use native.Mathlib.Omega.{arith}
@@ -17,4 +17,5 @@ returns c =
 
 pub tenth-spec : {M : Type 1} → statement M
 tenth-spec =
-    tie.close (tie.spec (λ c. search needs) add-upper (λ c. search needs) (λ c. search needs) (λ c. search needs) (λ c. search needs) (λ c. search needs) returns)
+    tie.close (tie.spec (λ c. search needs) add-upper (λ c. search needs) (λ c. search needs) (λ c. search needs) (λ c. search needs)
+    (λ c. search needs) returns)

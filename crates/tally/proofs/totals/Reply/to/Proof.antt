@@ -1,4 +1,4 @@
--- `Reply::to` meets its contract. Assumes nothing.
+-- Each answer of the run reader is one reply, case by case. Assumes nothing.
 use borrow.Author.Needs.{needs}
 use Rattle.tally.proofs.totals.Reply.to.Statement.{statement}
 use Rattle.tally.proofs.totals.Reply.to.Tie as tie

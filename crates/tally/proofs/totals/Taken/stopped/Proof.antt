@@ -1,4 +1,4 @@
--- `Taken::stopped` meets its contract. Assumes nothing.
+-- The refusal's number and place are those of the definition. Assumes nothing.
 use borrow.Author.Needs.{needs}
 use Rattle.tally.proofs.totals.Taken.stopped.Statement.{statement}
 use Rattle.tally.proofs.totals.Taken.stopped.Tie as tie

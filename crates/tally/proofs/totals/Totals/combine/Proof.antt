@@ -1,4 +1,4 @@
--- `Totals::combine` meets its contract. Assumes nothing.
+-- Each test that passes a limit stops with the first totals; otherwise both are put together. Assumes nothing.
 use mathlib.Core.Path.{sym, _∙_}
 use Rattle.tally.specs.Held.{combined}
 use borrow.Author.Needs.{needs}
@@ -21,7 +21,13 @@ returns-3 : tie.Need-returns-3
 unfolding combined
 returns-3 c =
     let t = c .before .before .before in
-    rw (c .going .ensures, c .before .together .ensures, sym (t .before .before .too-many .ensures) ∙ t .before .if1 .left, sym (t .too-many2 .ensures) ∙ c .before .before .if2 .left)
+    rw (
+      c .going .ensures,
+      c .before .together .ensures,
+      sym (t .before .before .too-many .ensures) ∙ t .before .if1 .left,
+      sym (t .too-many2 .ensures)
+          ∙ c .before .before .if2 .left,
+    )
 
 pub combine-spec : {M : Type 1} → statement M
 combine-spec =

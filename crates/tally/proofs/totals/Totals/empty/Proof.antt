@@ -1,4 +1,4 @@
--- `Totals::empty` meets its contract. Assumes nothing.
+-- Counting nothing is the definition's empty totals, field by field. Assumes nothing.
 use mathlib.Core.Path.{sym, _∙_}
 use borrow.Author.Needs.{needs}
 use Rattle.tally.proofs.Held.{no-line}

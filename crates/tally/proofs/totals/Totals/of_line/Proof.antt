@@ -1,4 +1,4 @@
--- `Totals::of_line` meets its contract. Assumes nothing.
+-- Each reply has its own totals: one count set, or those of a run. Assumes nothing.
 use mathlib.Core.Path.{sym, _∙_}
 use lib.ListN.{length}
 use Prim.Native.Nat.{_≤_}

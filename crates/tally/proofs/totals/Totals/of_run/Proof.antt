@@ -1,4 +1,4 @@
--- `Totals::of_run` meets its contract. Assumes nothing.
+-- One run: its kind is counted once, and its extremes and its sum are those of its rows. Assumes nothing.
 use denote.Ref.{now}
 use Rattle.tally.proofs.Held.{kind-below, one-run}
 use borrow.Author.Needs.{needs}
@@ -15,4 +15,5 @@ returns c =
     rw (one-run (a .kind) (now (a .rows)), c .sum-of .ensures, c .before .number .ensures, r .range-of .ensures .0, r .range-of .ensures .1)
 
 pub of-run-spec : {M : Type 1} → statement M
-of-run-spec = tie.close (tie.spec (λ c κs. search needs) (λ c κs. search needs) (λ c. search needs) (λ c. search needs) array-write-runs (λ c κs. search needs) returns)
+of-run-spec = tie.close (tie.spec (λ c κs. search needs) (λ c κs. search needs) (λ c. search needs) (λ c. search needs) array-write-runs
+    (λ c κs. search needs) returns)

@@ -1,4 +1,4 @@
--- `Totals::take` meets its contract. Assumes nothing.
+-- Each test that passes a limit stops with the totals as before; otherwise the line's totals are put together with them. Assumes nothing.
 use Prim.Native.Nat.{ℕ, _+_, _≤_}
 use mathlib.Core.Path.{_≡_, sym, _∙_}
 use mathlib.Core.Bool.{true, false}
@@ -25,7 +25,8 @@ returns-2 c =
     let t = c .before .before in
     let r = t .before .before .before in
     let a = r .before .args in
-    let many : ltb limit (a .self .rows + length (rowsIn (lineWith (a .reply) (now (a .rows))))) ≡ true = rw (r .row-count .ensures) at (sym (t .too-many2 .ensures) ∙ c .before .if2 .taken) in
+    let many : ltb limit (a .self .rows + length (rowsIn (lineWith (a .reply) (now (a .rows))))) ≡ true =
+    rw (r .row-count .ensures) at (sym (t .too-many2 .ensures) ∙ c .before .if2 .taken) in
     rw (c .stopped2 .ensures, sym (t .before .before .too-many .ensures) ∙ t .before .if1 .left, many)
 
 of-line-requires : tie.Need-of-line-requires
@@ -45,8 +46,16 @@ returns-3 c =
     let t = c .before .before .before .before in
     let r = t .before .before .before in
     let a = r .before .args in
-    let few : ltb limit (a .self .rows + length (rowsIn (lineWith (a .reply) (now (a .rows))))) ≡ false = rw (r .row-count .ensures) at (sym (t .too-many2 .ensures) ∙ c .before .before .before .if2 .left) in
-    rw (c .going .ensures, c .before .together .ensures, c .before .before .of-line .ensures, sym (t .before .before .too-many .ensures) ∙ t .before .if1 .left, few)
+    let few : ltb limit (a .self .rows + length (rowsIn (lineWith (a .reply) (now (a .rows))))) ≡ false =
+    rw (r .row-count .ensures) at (sym (t .too-many2 .ensures) ∙ c .before .before .before .if2 .left) in
+    rw (
+      c .going .ensures,
+      c .before .together .ensures,
+      c .before .before .of-line .ensures,
+      sym (t .before .before .too-many .ensures)
+          ∙ t .before .if1 .left,
+      few,
+    )
 
 pub take-spec : {M : Type 1} → statement M
 take-spec =

@@ -1,11 +1,11 @@
 //! Calls of the reader in parts: one call from any state, also from one that no start leads to, and what
 //! FORMAT.md, "Reader in parts", says that it comes to.
 use differential::frames;
-use differential::random::Random;
 use menakovitsy::exported::{case, MAX_ROWS, MAX_RUN_BYTES, PART_WORDS, STATE_WORDS, TOO_FEW_WORDS};
+use model::random::Random;
 use model::{Answer, Refusal};
 
-use crate::call::{named, Outcome, MOST};
+use super::{named, Outcome, MOST};
 
 /// One call: with a part, or, without one, the closing call.
 #[derive(Debug, Clone, PartialEq, Eq)]

@@ -1,6 +1,6 @@
 //! Random numbers from a seed, the same on every machine.
 
-/// A splitmix generator.
+/// A sequence of numbers by SplitMix64.
 pub struct Random(u64);
 
 impl Random {
