@@ -18,7 +18,7 @@ use Rattle.format.proofs.Digits.{spread-number, digits-add, length-digits, numb
 use Rattle.format.proofs.Below.{below-all, below-take, below-drop}
 use Rattle.format.proofs.Widths.{IsWidth}
 use Rattle.util.proofs.BigEndian.{number-bits}
-use Rattle.util.specs.Packed.{fields, bits, fieldAt, Width, FieldsLaid, lowFour, lowFirst, swap}
+use Rattle.util.specs.Packed.{fields, bits, fieldAt, Width, FieldsLaid, lowTwo, lowFour, lowFirst, swap}
 
 -- ---- bits
 
@@ -143,6 +143,21 @@ turned a b c d ha hb hc hd =
 pub half-is : (s : List ℕ) (i : ℕ) → i + 4 ≤ length s → ((k : ℕ) → getD s k 0 < 256) → swap (lowFour s i) / 4294967296 ≡ number 256 (take 4 (drop i s))
 unfolding number
 half-is s i h f = turned (getD s i 0) (getD s (i + 1) 0) (getD s (i + 2) 0) (getD s (i + 3) 0) (f i) (f (i + 1)) (f (i + 2)) (f (i + 3)) ∙ rw (four-bytes s i h) (omega arith)
+
+-- if the lower quarter of a word's high half is empty, the upper one is all of it
+high-quarter : (x m : ℕ) → x / 4294967296 ≡ (m * 256 + 0) * 256 + 0 → x / 281474976710656 ≡ m
+high-quarter x m e = omega arith
+
+-- two bytes alike, in the high quarter
+pub quarter-is : (s : List ℕ) (i : ℕ) → i + 2 ≤ length s → ((k : ℕ) → getD s k 0 < 256) → swap (lowTwo s i) / 281474976710656 ≡ number 256 (take 2 (drop i s))
+unfolding number
+quarter-is s i h f =
+    let a = getD s i 0 in
+    let b = getD s (i + 1) 0 in
+    let z : a + b * 256 ≡ a + b * 256 + 0 * 65536 + 0 * 16777216 = omega arith in
+    let t = ap (λ (x : ℕ). swap x / 4294967296) z ∙ turned a b 0 0 (f i) (f (i + 1)) (omega arith) (omega arith) in
+    let two : take 2 (drop i s) ≡ a ∷ b ∷ [] = simp towards-suc (rw (drop-cons s i 0 (omega arith), drop-cons s (suc i) 0 (omega arith))) in
+    high-quarter (swap (a + b * 256)) (a * 256 + b) t ∙ rw two (omega arith)
 
 eight-bytes : (s : List ℕ) (i : ℕ) → i + 8 ≤ length s
     → take 8 (drop i s) ≡ getD s i 0 ∷ getD s (i + 1) 0 ∷ getD s (i + 2) 0 ∷ getD s (i + 3) 0 ∷ getD s (i + 4) 0 ∷ getD s (i + 5) 0 ∷ getD s (i + 6) 0 ∷ getD s (i + 7) 0 ∷ []

@@ -41,11 +41,15 @@ Lays w s k m out out' = (n : ℕ) (o : List ℤ) → m ≤ n → bytesFor (n * w
 
 -- ---- eight bytes, as a machine's word has them
 
--- the four bytes at i as a number, the lowest first
-abbrev pub lowFour : List ℕ → ℕ → ℕ
-lowFour s i = getD s i 0 + getD s (i + 1) 0 * 256 + getD s (i + 2) 0 * 65536 + getD s (i + 3) 0 * 16777216
+-- the two bytes at i as a number, the lowest first
+abbrev pub lowTwo : List ℕ → ℕ → ℕ
+lowTwo s i = getD s i 0 + getD s (i + 1) 0 * 256
 
--- and the eight bytes
+-- the four bytes
+abbrev pub lowFour : List ℕ → ℕ → ℕ
+lowFour s i = lowTwo s i + getD s (i + 2) 0 * 65536 + getD s (i + 3) 0 * 16777216
+
+-- the eight bytes
 abbrev pub lowFirst : List ℕ → ℕ → ℕ
 lowFirst s i =
     lowFour s i + getD s (i + 4) 0 * 4294967296

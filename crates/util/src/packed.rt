@@ -6,7 +6,7 @@ ghost use lib.ListN.{length, take, drop};
 ghost use Rattle.format.specs.Digits.{AllBelow, number};
 ghost use Rattle.format.specs.Fields.{bytesFor, blockBytes};
 ghost use Rattle.format.specs.Rows.{asI64};
-ghost use Rattle.util.specs.Packed.{fields, bits, fieldAt, Width, Room, FieldsLaid, Lays, lowFour, lowFirst, swap};
+ghost use Rattle.util.specs.Packed.{fields, bits, fieldAt, Width, Room, FieldsLaid, Lays, lowTwo, lowFour, lowFirst, swap};
 use crate::big_endian;
 use crate::number;
 use crate::pattern;
@@ -67,6 +67,22 @@ fn half(s: &[u8], i: usize) -> u64
     swapped(low_four(s, i)) / 4294967296
 }
 
+// Two bytes, the lowest first: one load as well.
+fn low_two(s: &[u8], i: usize) -> u64
+    requires { ⌜ i + 2 ≤ length (now s) ⌝ }
+    ensures { λ r. ⌜ r ≡ lowTwo (now (s .entry)) i ⌝ }
+{
+    number::wide(s[i]) + number::wide(s[i + 1]) * 256
+}
+
+// The two bytes at i as a number.
+fn quarter(s: &[u8], i: usize) -> u64
+    requires { ⌜ i + 2 ≤ length (now s) ⌝ }
+    ensures { λ r. ⌜ r ≡ number 256 (take 2 (drop i (now (s .entry)))) ⌝ }
+{
+    swapped(low_two(s, i)) / 281474976710656
+}
+
 // The w bits of x above its lowest `low`.
 pub fn cut(x: u64, low: usize, w: usize) -> u64
     requires { ⌜ (0 < w) × (w + low ≤ 64) ⌝ }
@@ -113,8 +129,8 @@ pub fn block_size(w: usize, n: usize) -> usize
     (n * w + 7) / 8
 }
 
-// Of the eight fields that start with byte b, the one numbered j: four bytes, or bits out of x, the word at b, or else out of a word of its
-// own.
+// Of the eight fields that start with byte b, the one numbered j: two or four bytes, or bits out of x, the word at b, or else out of a word of
+// its own.
 fn one_of_eight(s: &[u8], b: usize, x: u64, j: usize, w: usize) -> u64
     requires { ⌜ Width w ⌝ }
     requires { ⌜ (j < 8) × (b + w ≤ length (now s)) × (b + 8 ≤ length (now s)) ⌝ }
@@ -123,6 +139,9 @@ fn one_of_eight(s: &[u8], b: usize, x: u64, j: usize, w: usize) -> u64
 {
     if w == 32 {
         return half(s, b + 4 * j);
+    }
+    if w == 16 {
+        return quarter(s, b + 2 * j);
     }
     let p = j * w;
     if p + w <= 64 {

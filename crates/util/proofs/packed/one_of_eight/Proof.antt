@@ -1,5 +1,5 @@
--- `util::packed::one_of_eight` meets its contract: the field is half a word, or the first word of the eight holds it, or its own window does.
--- Assumes nothing.
+-- `util::packed::one_of_eight` meets its contract: the field is half a word or a quarter, or the first word of the eight holds it, or its own window
+-- does. Assumes nothing.
 use mathlib.Core.Path.{_≡_, sym, ap, _∙_}
 use Prim.Native.Nat.{ℕ, _+_, _-_, _*_, _≤_, _<_}
 use native.Mathlib.Nat.{mul-le-mul, mul-le-mul-right}
@@ -26,15 +26,24 @@ returns c =
     let q : bits (8 * (a .b + 4 * a .j)) 32 s ≡ bits (8 * a .b + a .j * a .w) (a .w) s = rw e (ap (λ (y : ℕ). bits y 32 s) (omega arith)) in
     c .half .ensures ∙ sym (whole s (a .b + 4 * a .j) 4 (λ k. at-known .shared-slice-known .given k .fits) (omega arith)) ∙ q
 
-mul-p : tie.Need-mul-p
-mul-p c = let p = c .before .before .pre in omega (arith, ends _ _ (p .0) (p .1 .0 .0) .1)
-
-add-if2 : tie.Need-add-if2
-add-if2 c = let p = c .before .before .pre in omega (arith, ends _ _ (p .0) (p .1 .0 .0) .1)
-
 returns-2 : tie.Need-returns-2
 returns-2 c =
     let at-known = c .before .before .before in
+    let a = at-known .before .args in
+    let s = a .s .now in
+    let e : a .w ≡ 16 = c .before .if2 .taken in
+    let q : bits (8 * (a .b + 2 * a .j)) 16 s ≡ bits (8 * a .b + a .j * a .w) (a .w) s = rw e (ap (λ (y : ℕ). bits y 16 s) (omega arith)) in
+    c .quarter .ensures ∙ sym (whole s (a .b + 2 * a .j) 2 (λ k. at-known .shared-slice-known .given k .fits) (omega arith)) ∙ q
+
+mul-p : tie.Need-mul-p
+mul-p c = let p = c .before .before .before .pre in omega (arith, ends _ _ (p .0) (p .1 .0 .0) .1)
+
+add-if3 : tie.Need-add-if3
+add-if3 c = let p = c .before .before .before .pre in omega (arith, ends _ _ (p .0) (p .1 .0 .0) .1)
+
+returns-3 : tie.Need-returns-3
+returns-3 c =
+    let at-known = c .before .before .before .before in
     let a = at-known .before .args in
     let s = a .s .now in
     let p = a .j * a .w in
@@ -44,15 +53,15 @@ returns-2 c =
 
 window-requires : tie.Need-window-requires
 window-requires c κs =
-    let at-start = c .before .before .before in
+    let at-start = c .before .before .before .before in
     let a = at-start .args in
     let p = at-start .pre in
     let h = ends (a .j) (a .w) (p .0) (p .1 .0 .0) .0 in
     (omega arith, aligned (a .w) (a .j) (p .0), h)
 
-returns-3 : tie.Need-returns-3
-returns-3 c =
-    let at-known = c .before .before .before .before .before in
+returns-4 : tie.Need-returns-4
+returns-4 c =
+    let at-known = c .before .before .before .before .before .before in
     let a = at-known .before .args in
     let s = a .s .now in
     let p = a .j * a .w in
@@ -64,6 +73,7 @@ returns-3 c =
 pub one-of-eight-spec : {M : Type 1} → statement M
 one-of-eight-spec =
     tie.close
-    (tie.spec (λ c. search needs) (λ c. search needs) (λ c κs. search needs) returns mul-p add-if2 (λ c. search needs) (λ c. search needs)
-    (λ c κs. search needs) returns-2 window-requires (λ c. search needs) (λ c κs. search needs) (λ c. search needs) (λ c. search needs)
-    (λ c. search needs) (λ c. search needs) (λ c κs. search needs) returns-3)
+    (tie.spec (λ c. search needs) (λ c. search needs) (λ c κs. search needs) returns (λ c. search needs) (λ c. search needs)
+    (λ c κs. search needs) returns-2 mul-p add-if3 (λ c. search needs) (λ c. search needs)
+    (λ c κs. search needs) returns-3 window-requires (λ c. search needs) (λ c κs. search needs) (λ c. search needs) (λ c. search needs)
+    (λ c. search needs) (λ c. search needs) (λ c κs. search needs) returns-4)
