@@ -100,7 +100,7 @@ fn defined(archive: &[u8]) -> BTreeSet<String> {
 }
 
 #[test]
-fn holds_what_a_user_needs_and_no_other_name() {
+fn holds_what_a_user_needs() {
     let release = Release::new("held");
     let files = release.files();
     for file in [
@@ -131,12 +131,20 @@ fn holds_what_a_user_needs_and_no_other_name() {
         assert!(text.contains(has) && !text.contains(has_not), "{file}:\n{text}");
     }
 
-    // every file is summed, and a flipped byte is told
+    // every file is summed
     let sums = fs::read_to_string(release.path("SHA256SUMS")).unwrap();
     let mut summed: BTreeSet<String> = sums.lines().map(|line| line[66..].into()).collect();
     summed.insert("SHA256SUMS".into());
     assert_eq!(summed, files);
     assert!(release.sums_hold());
+}
+
+/// Each is what was given, has its sum on the README too, and a flipped byte in it is told.
+#[test]
+fn holds_a_library_for_each_processor() {
+    let release = Release::new("each");
+    let [sums, readme] =
+        ["SHA256SUMS", "README.md"].map(|file| fs::read_to_string(release.path(file)).unwrap());
     let declared = HEADER.lines().filter_map(|line| line.strip_prefix("uint64_t orc_")?.split_once('('));
     let declared: BTreeSet<String> = declared.map(|(name, _)| format!("orc_{name}")).collect();
     for processor in PROCESSORS {
