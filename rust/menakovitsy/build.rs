@@ -1,13 +1,16 @@
 //! Finds the static library of the proved crate `exports`, or builds it, and says where it is. The first of:
 //!
-//! 1. what the folder holds that `MENAKOVITSY_LIB_DIR` names: `libmenakovitsy.a` of a release, or the
-//!    `libexports.a` that `rt staticlib exports` leaves in `target/staticlib`;
-//! 2. `libmenakovitsy.a` two folders above this crate, which then stands in a release's folder;
+//! 1. what the folder holds that `MENAKOVITSY_LIB_DIR` names: a release's libraries, one of which is for this build's
+//!    processor (see [`processors`]); one library, `libmenakovitsy.a`; or the `libexports.a` that
+//!    `rt staticlib exports` leaves in `target/staticlib`;
+//! 2. the same two folders above this crate, which then stands in a release's folder;
 //! 3. of the checkout that this crate stands in, what `rt staticlib exports` left in its `target/staticlib`, if
 //!    nothing that it is made of has changed since: see [`built_before`];
 //! 4. what `rt staticlib exports` makes of that checkout. The repository's crates are copied into this script's own
 //!    output folder for it, with what the checkout's `target` has proved of them, and it runs there. `rt` compares
 //!    every proof with the sources by their contents, and proves what has changed.
+//!
+//! 3 and 4 are for x86-64, whatever more the processor has: for another, `.ci/libraries FOLDER` makes what 1 takes.
 //!
 //! 3 and 4 trust the checkout's `target` as they trust the checkout. `rt` refuses an rlib whose files do not match the
 //! sum beside them, as after a copy that broke off; but whoever can write there can forge the sum too, or put another
@@ -20,6 +23,12 @@ use std::path::{Path, PathBuf};
 use std::process::{self, Command};
 use std::time::{Duration, Instant, SystemTime};
 use std::{env, fs};
+
+/// The folders of a release, each with a library for a processor.
+const PROCESSORS: [&str; 3] = ["x86-64", "x86-64-v3", "aarch64"];
+
+/// What x86-64-v3 has and x86-64 has not, by cargo's names.
+const V3: [&str; 9] = ["avx", "avx2", "bmi1", "bmi2", "f16c", "fma", "lzcnt", "movbe", "popcnt"];
 
 /// A release's library, and the name that every program links.
 const LIBRARY: &str = "libmenakovitsy.a";
@@ -34,18 +43,22 @@ fn main() {
     println!("cargo:rerun-if-changed=build.rs");
     println!("cargo:rerun-if-env-changed=MENAKOVITSY_LIB_DIR");
     let target = env::var("CARGO_CFG_TARGET_ARCH").unwrap_or_default();
+    let system = env::var("CARGO_CFG_TARGET_OS").unwrap_or_default();
+    if ["macos", "windows"].contains(&system.as_str()) {
+        fail(&format!("the library is for Linux, and this build is for {system}: choose a Linux target"));
+    }
     let here = PathBuf::from(env::var_os("CARGO_MANIFEST_DIR").expect("cargo sets CARGO_MANIFEST_DIR"));
     let out = PathBuf::from(env::var_os("OUT_DIR").expect("cargo sets OUT_DIR"));
     let library = match env::var_os("MENAKOVITSY_LIB_DIR") {
-        Some(folder) => named(&absolute(Path::new(&folder))),
+        Some(folder) => named(&absolute(Path::new(&folder)), &target),
         None => found_or_built(&absolute(&here.join("../..")), &out, &target),
     };
     match machine(&library) {
         Ok(made_for) if made_for == target => {}
         Ok(made_for) => fail(&format!(
-            "{} is for {made_for}, and this build is for {target}: build for {made_for}{}",
-            library.display(),
-            on_arm(&target)
+            "{} is for {made_for}, and this build is for {target}: build for {made_for}, or set MENAKOVITSY_LIB_DIR to a \
+             release's folder, which has a library for each processor",
+            library.display()
         )),
         Err(error) => fail(&format!("{} cannot be read: {error}", library.display())),
     }
@@ -67,13 +80,40 @@ fn absolute(path: &Path) -> PathBuf {
     fs::canonicalize(path).unwrap_or_else(|_| path.to_path_buf())
 }
 
-/// The library in the folder that the caller named.
-fn named(folder: &Path) -> PathBuf {
-    let library = [LIBRARY, BUILT].map(|name| folder.join(name)).into_iter().find(|file| file.is_file());
-    library.unwrap_or_else(|| {
+/// The folders of a release whose libraries run on what this build is for, the fastest first.
+fn processors(target: &str) -> &'static [&'static str] {
+    let features = env::var("CARGO_CFG_TARGET_FEATURE").unwrap_or_default();
+    let has = |wanted: &&str| features.split(',').any(|feature| feature == *wanted);
+    match target {
+        "x86_64" if V3.iter().all(has) => &["x86-64-v3", "x86-64"],
+        "x86_64" => &["x86-64"],
+        "aarch64" => &["aarch64"],
+        _ => &[],
+    }
+}
+
+/// The library for this build in a folder that holds one, or a release's. A release without one for it is refused.
+fn held(folder: &Path, target: &str) -> Option<PathBuf> {
+    let one = [LIBRARY, BUILT].map(|name| folder.join(name)).into_iter().find(|file| file.is_file());
+    let of = |processor: &&str| Some(folder.join(processor).join(LIBRARY)).filter(|file| file.is_file());
+    let library = one.or_else(|| processors(target).iter().find_map(of));
+    let others: Vec<&str> = PROCESSORS.into_iter().filter(|processor| of(processor).is_some()).collect();
+    if library.is_none() && !others.is_empty() {
         fail(&format!(
-            "MENAKOVITSY_LIB_DIR names {}, which holds neither {LIBRARY} nor {BUILT}: name a release's folder, or \
-             target/staticlib of a checkout after `rt staticlib exports`, or unset it",
+            "{} has libraries for {}, and this build is for {target}: choose a target of one of these processors",
+            folder.display(),
+            others.join(", ")
+        ));
+    }
+    library
+}
+
+/// The library in the folder that the caller named.
+fn named(folder: &Path, target: &str) -> PathBuf {
+    held(folder, target).unwrap_or_else(|| {
+        fail(&format!(
+            "MENAKOVITSY_LIB_DIR names {}, which holds neither {LIBRARY} nor {BUILT}, nor a folder for each processor: \
+             name a release's folder, or target/staticlib of a checkout after `rt staticlib exports`, or unset it",
             folder.display()
         ))
     })
@@ -81,8 +121,8 @@ fn named(folder: &Path) -> PathBuf {
 
 /// The library of the release that `root` is; otherwise that of the checkout, which is proved and built.
 fn found_or_built(root: &Path, out: &Path, target: &str) -> PathBuf {
-    if root.join(LIBRARY).is_file() {
-        return root.join(LIBRARY);
+    if let Some(library) = held(root, target) {
+        return library;
     }
     if !root.join("crates/exports").is_dir() {
         fail(&format!(
@@ -92,10 +132,11 @@ fn found_or_built(root: &Path, out: &Path, target: &str) -> PathBuf {
         ));
     }
     if target != "x86_64" {
-        fail(&format!(
-            "the library is built for x86-64, and this build is for {target}: choose an x86-64 target{}",
-            on_arm(target)
-        ));
+        let way = match target {
+            "aarch64" => "run `.ci/libraries FOLDER` in it, and set MENAKOVITSY_LIB_DIR to FOLDER",
+            _ => "choose a target for x86-64 or aarch64",
+        };
+        fail(&format!("a checkout is built for x86-64, and this build is for {target}: {way}"));
     }
     let out = out.join("repository");
     if let Err(error) = copied(root, &out) {
@@ -273,15 +314,6 @@ fn taken(library: &Path, folder: &Path) -> io::Result<()> {
     }
     fs::create_dir_all(folder)?;
     fs::copy(library, folder.join(LIBRARY)).map(|_| ())
-}
-
-/// What else there is on Arm.
-fn on_arm(target: &str) -> &'static str {
-    if target == "aarch64" {
-        ", or under an emulator as .ci/x86 says"
-    } else {
-        ""
-    }
 }
 
 /// Copies what a proof reads: the list of crates, and each crate's sources, specifications and

@@ -1,9 +1,10 @@
 /* Proved readers and writers for the integer columns (run length encoding, version 2), flag columns and byte
  * values of Apache ORC files.
  *
- * Linking. Link libmenakovitsy.a, which is beside this header in a release (x86-64, little endian, 64-bit
- * size_t). In a checkout `.ci/release` makes a release, and `rt staticlib exports` the library alone, as
- * target/staticlib/libexports.a. The header compiles without a warning as C99, C11 and C++17.
+ * Linking. Link libmenakovitsy.a: a release has one for each processor, in the folders x86-64, x86-64-v3 and
+ * aarch64 beside this header (little endian, 64-bit size_t). In a checkout `.ci/release` makes a release, and
+ * `rt staticlib exports` the x86-64 library alone, as target/staticlib/libexports.a. The header compiles
+ * without a warning as C99, C11 and C++17.
  *
  * Slices. A slice is a pointer, and after it the length in elements (bytes, int64_t or uint64_t). If the
  * length is 0, the pointer may be null. A slice with a const pointer is read. Any other is a buffer that the
@@ -39,7 +40,7 @@
 #include <stdint.h>
 
 #if SIZE_MAX != UINT64_MAX
-#error "libmenakovitsy.a is for a processor with 64-bit pointers (x86-64): compile for one"
+#error "libmenakovitsy.a is for a processor with 64-bit pointers (x86-64 or Arm): compile for one"
 #endif
 
 #ifdef __cplusplus

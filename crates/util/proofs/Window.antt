@@ -9,7 +9,7 @@ use native.Mathlib.Omega.{arith}
 use mathlib.Core.List.{List, [], _∷_, _++_, map, map-append, append-assoc, reverse, reverseAux, reverse-reverse}
 use lib.ListN.{length, getD, set, take, drop, length-append, length-drop, length-map, length-reverse, take-append-drop}
 use lib.IntN.{ℤ, pos}
-use lib.Seq.{take-at, take-all, drop-at, take-suc, drop-cons, set-at, take-append-le, drop-append-le, drop-append-add, length-take-le}
+use lib.Seq.{take-at, take-all, drop-at, take-suc, drop-cons, set-at, take-add, drop-drop, take-append-le, drop-append-le, drop-append-add, length-take-le}
 use lib.Pow.{pow-add, pow-pos, shr-shr, high, ones-split, ones-lt}
 use Rattle.format.specs.Digits.{AllBelow, number, digits, spread}
 use Rattle.format.specs.Fields.{bytesFor, padBits}
@@ -18,7 +18,7 @@ use Rattle.format.proofs.Digits.{spread-number, digits-add, length-digits, numb
 use Rattle.format.proofs.Below.{below-all, below-take, below-drop}
 use Rattle.format.proofs.Widths.{IsWidth}
 use Rattle.util.proofs.BigEndian.{number-bits}
-use Rattle.util.specs.Packed.{fields, bits, fieldAt, Width, FieldsLaid, lowFirst, swap}
+use Rattle.util.specs.Packed.{fields, bits, fieldAt, Width, FieldsLaid, lowTwo, lowFour, lowFirst, swap}
 
 -- ---- bits
 
@@ -98,6 +98,11 @@ laid-more w n k z s o out d l h r e t =
       rows = rw (t .rows, drop-cons o k (pos 0) m, set-at p _ _ z k q, add-one, take-suc (fields w n s) k 0 (rw length-fields h), field-at w n k s d h l, map-append, append-assoc, e);
     }
 
+-- and one more, found from bit q on
+pub laid-row : (w n k m q : ℕ) (z : ℤ) (s : List ℕ) (o out : List ℤ) → AllBelow 256 s → bytesFor (n * w) ≤ length s → k < n → k < length out
+    → z ≡ asI64 (bits q w s) → q ≡ k * w → k + 1 ≡ m → FieldsLaid w n s k o out → FieldsLaid w n s m o (set out k z)
+laid-row w n k m q z s o out d l h r e p i t = rw i at (laid-more w n k z s o out d l h r (e ∙ ap (λ (x : ℕ). asI64 (bits x w s)) p) t)
+
 -- all fields are laid
 pub laid-all : (w n : ℕ) (s : List ℕ) (o out : List ℤ) → FieldsLaid w n s n o out → out ≡ map asI64 (fields w n s) ++ drop n o
 laid-all w n s o out t = rw (take-all n (fields w n s) (rw length-fields (le-refl n))) at (t .rows)
@@ -112,11 +117,55 @@ aligned w j h = by (decLe w 56)
 
 -- ---- eight bytes at once
 
+four-bytes : (s : List ℕ) (i : ℕ) → i + 4 ≤ length s
+    → take 4 (drop i s) ≡ getD s i 0 ∷ getD s (i + 1) 0 ∷ getD s (i + 2) 0 ∷ getD s (i + 3) 0 ∷ []
+four-bytes s i h =
+    simp towards-suc
+    (rw (drop-cons s i 0 (omega arith), drop-cons s (suc i) 0 (omega arith), drop-cons s (suc (suc i)) 0 (omega arith), drop-cons s (suc (suc (suc i))) 0 (omega arith)))
+
+-- four bytes that are read the lowest first and turned round, in the high half of a word
+turned : (a b c d : ℕ) → a < 256 → b < 256 → c < 256 → d < 256 → swap (a + b * 256 + c * 65536 + d * 16777216) / 4294967296 ≡ ((a * 256 + b) * 256 + c) * 256 + d
+turned a b c d ha hb hc hd =
+    let x = a + b * 256 + c * 65536 + d * 16777216 in
+    let e0 : x % 256 ≡ a = omega arith in
+    let e1 : x / 256 ≡ b + c * 256 + d * 65536 = omega arith in
+    let f1 : (b + c * 256 + d * 65536) % 256 ≡ b = omega arith in
+    let e2 : x / 65536 ≡ c + d * 256 = omega arith in
+    let f2 : (c + d * 256) % 256 ≡ c = omega arith in
+    let e3 : x / 16777216 ≡ d = omega arith in
+    let f3 : d % 256 ≡ d = omega arith in
+    let e4 : x / 4294967296 ≡ 0 = omega arith in
+    let e5 : x / 1099511627776 ≡ 0 = omega arith in
+    let e6 : x / 281474976710656 ≡ 0 = omega arith in
+    let e7 : x / 72057594037927936 ≡ 0 = omega arith in
+    rw (e0, e1, f1, e2, f2, e3, f3, e4, e5, e6, e7) (omega arith)
+
+pub half-is : (s : List ℕ) (i : ℕ) → i + 4 ≤ length s → ((k : ℕ) → getD s k 0 < 256) → swap (lowFour s i) / 4294967296 ≡ number 256 (take 4 (drop i s))
+unfolding number
+half-is s i h f = turned (getD s i 0) (getD s (i + 1) 0) (getD s (i + 2) 0) (getD s (i + 3) 0) (f i) (f (i + 1)) (f (i + 2)) (f (i + 3)) ∙ rw (four-bytes s i h) (omega arith)
+
+-- if the lower quarter of a word's high half is empty, the upper one is all of it
+high-quarter : (x m : ℕ) → x / 4294967296 ≡ (m * 256 + 0) * 256 + 0 → x / 281474976710656 ≡ m
+high-quarter x m e = omega arith
+
+-- two bytes alike, in the high quarter
+pub quarter-is : (s : List ℕ) (i : ℕ) → i + 2 ≤ length s → ((k : ℕ) → getD s k 0 < 256) → swap (lowTwo s i) / 281474976710656 ≡ number 256 (take 2 (drop i s))
+unfolding number
+quarter-is s i h f =
+    let a = getD s i 0 in
+    let b = getD s (i + 1) 0 in
+    let z : a + b * 256 ≡ a + b * 256 + 0 * 65536 + 0 * 16777216 = omega arith in
+    let t = ap (λ (x : ℕ). swap x / 4294967296) z ∙ turned a b 0 0 (f i) (f (i + 1)) (omega arith) (omega arith) in
+    let two : take 2 (drop i s) ≡ a ∷ b ∷ [] = simp towards-suc (rw (drop-cons s i 0 (omega arith), drop-cons s (suc i) 0 (omega arith))) in
+    high-quarter (swap (a + b * 256)) (a * 256 + b) t ∙ rw two (omega arith)
+
 eight-bytes : (s : List ℕ) (i : ℕ) → i + 8 ≤ length s
     → take 8 (drop i s) ≡ getD s i 0 ∷ getD s (i + 1) 0 ∷ getD s (i + 2) 0 ∷ getD s (i + 3) 0 ∷ getD s (i + 4) 0 ∷ getD s (i + 5) 0 ∷ getD s (i + 6) 0 ∷ getD s (i + 7) 0 ∷ []
 eight-bytes s i h =
-    simp towards-suc
-    (rw (drop-cons s i 0 (omega arith), drop-cons s (suc i) 0 (omega arith), drop-cons s (suc (suc i)) 0 (omega arith), drop-cons s (suc (suc (suc i))) 0 (omega arith), drop-cons s (suc (suc (suc (suc i)))) 0 (omega arith), drop-cons s (suc (suc (suc (suc (suc i))))) 0 (omega arith), drop-cons s (suc (suc (suc (suc (suc (suc i)))))) 0 (omega arith), drop-cons s (suc (suc (suc (suc (suc (suc (suc i))))))) 0 (omega arith)))
+    let e1 : i + 4 + 1 ≡ i + 5 = omega arith in
+    let e2 : i + 4 + 2 ≡ i + 6 = omega arith in
+    let e3 : i + 4 + 3 ≡ i + 7 = omega arith in
+    take-add 4 4 (drop i s) ∙ rw (drop-drop 4 i s, four-bytes s i (omega arith), four-bytes s (i + 4) (omega arith), e1, e2, e3)
 
 low-is : (s : List ℕ) (i : ℕ) → i + 8 ≤ length s → lowFirst s i ≡ number 256 (reverse (take 8 (drop i s)))
 unfolding number

@@ -41,10 +41,18 @@ Lays w s k m out out' = (n : ℕ) (o : List ℤ) → m ≤ n → bytesFor (n * w
 
 -- ---- eight bytes, as a machine's word has them
 
--- the eight bytes at i as a number, the lowest first
+-- the two bytes at i as a number, the lowest first
+abbrev pub lowTwo : List ℕ → ℕ → ℕ
+lowTwo s i = getD s i 0 + getD s (i + 1) 0 * 256
+
+-- the four bytes
+abbrev pub lowFour : List ℕ → ℕ → ℕ
+lowFour s i = lowTwo s i + getD s (i + 2) 0 * 65536 + getD s (i + 3) 0 * 16777216
+
+-- the eight bytes
 abbrev pub lowFirst : List ℕ → ℕ → ℕ
 lowFirst s i =
-    getD s i 0 + getD s (i + 1) 0 * 256 + getD s (i + 2) 0 * 65536 + getD s (i + 3) 0 * 16777216 + getD s (i + 4) 0 * 4294967296
+    lowFour s i + getD s (i + 4) 0 * 4294967296
     + getD s (i + 5) 0 * 1099511627776 + getD s (i + 6) 0 * 281474976710656 + getD s (i + 7) 0 * 72057594037927936
 
 -- the eight bytes of x in the other order

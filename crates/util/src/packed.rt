@@ -1,13 +1,12 @@
 // Packed fields: a block of n fields of width w, highest bit of each byte first, both ways.
 ghost use mathlib.Core.Path.{_≡_};
-ghost use mathlib.Core.Bool.{true};
 ghost use mathlib.Core.List.{_++_, map};
 ghost use Prim.Native.Nat.{_+_, _-_, _*_, _/_, _%_, _^_, _≤_, _<_};
 ghost use lib.ListN.{length, take, drop};
 ghost use Rattle.format.specs.Digits.{AllBelow, number};
 ghost use Rattle.format.specs.Fields.{bytesFor, blockBytes};
 ghost use Rattle.format.specs.Rows.{asI64};
-ghost use Rattle.util.specs.Packed.{fields, bits, fieldAt, Width, Room, FieldsLaid, Lays, lowFirst, swap};
+ghost use Rattle.util.specs.Packed.{fields, bits, fieldAt, Width, Room, FieldsLaid, Lays, lowTwo, lowFour, lowFirst, swap};
 use crate::big_endian;
 use crate::number;
 use crate::pattern;
@@ -47,6 +46,41 @@ pub(crate) fn word(s: &[u8], i: usize) -> u64
     ensures { λ r. ⌜ r ≡ number 256 (take 8 (drop i (now (s .entry)))) ⌝ }
 {
     swapped(low_first(s, i))
+}
+
+// Four bytes, the lowest first: one load as well.
+fn low_four(s: &[u8], i: usize) -> u64
+    requires { ⌜ i + 4 ≤ length (now s) ⌝ }
+    ensures { λ r. ⌜ r ≡ lowFour (now (s .entry)) i ⌝ }
+{
+    number::wide(s[i])
+        + number::wide(s[i + 1]) * 256
+        + number::wide(s[i + 2]) * 65536
+        + number::wide(s[i + 3]) * 16777216
+}
+
+// The four bytes at i as a number.
+fn half(s: &[u8], i: usize) -> u64
+    requires { ⌜ i + 4 ≤ length (now s) ⌝ }
+    ensures { λ r. ⌜ r ≡ number 256 (take 4 (drop i (now (s .entry)))) ⌝ }
+{
+    swapped(low_four(s, i)) / 4294967296
+}
+
+// Two bytes, the lowest first: one load as well.
+fn low_two(s: &[u8], i: usize) -> u64
+    requires { ⌜ i + 2 ≤ length (now s) ⌝ }
+    ensures { λ r. ⌜ r ≡ lowTwo (now (s .entry)) i ⌝ }
+{
+    number::wide(s[i]) + number::wide(s[i + 1]) * 256
+}
+
+// The two bytes at i as a number.
+fn quarter(s: &[u8], i: usize) -> u64
+    requires { ⌜ i + 2 ≤ length (now s) ⌝ }
+    ensures { λ r. ⌜ r ≡ number 256 (take 2 (drop i (now (s .entry)))) ⌝ }
+{
+    swapped(low_two(s, i)) / 281474976710656
 }
 
 // The w bits of x above its lowest `low`.
@@ -95,28 +129,21 @@ pub fn block_size(w: usize, n: usize) -> usize
     (n * w + 7) / 8
 }
 
-// Whether so many bits are bytes that one load takes.
-fn one_load(w: usize) -> bool
-    ensures { λ r. ⌜ (r ≡ true → 8 * (w / 8) ≡ w) ⌝ }
-{
-    match w {
-        8 => true,
-        16 => true,
-        32 => true,
-        _ => false,
-    }
-}
-
-// Of the eight fields that start with byte b, the one from their bit p on: whole bytes that one load takes, or bits out of x, the word at
-// b, or else out of a word of its own.
-fn one_of_eight(s: &[u8], b: usize, x: u64, p: usize, w: usize) -> u64
-    requires { ⌜ (0 < w) × (p % 8 + w ≤ 64) × (p + w ≤ 8 * w) × (b + w ≤ length (now s)) × (b + 8 ≤ length (now s)) ⌝ }
+// Of the eight fields that start with byte b, the one numbered j: two or four bytes, or bits out of x, the word at b, or else out of a word of
+// its own.
+fn one_of_eight(s: &[u8], b: usize, x: u64, j: usize, w: usize) -> u64
+    requires { ⌜ Width w ⌝ }
+    requires { ⌜ (j < 8) × (b + w ≤ length (now s)) × (b + 8 ≤ length (now s)) ⌝ }
     requires { ⌜ x ≡ number 256 (take 8 (drop b (now s))) ⌝ }
-    ensures { λ r. ⌜ r ≡ bits (8 * b + p) w (now (s .entry)) ⌝ }
+    ensures { λ r. ⌜ r ≡ bits (8 * b + j * w) w (now (s .entry)) ⌝ }
 {
-    if p % 8 == 0 && one_load(w) {
-        return big_endian::bytes(s, b + p / 8, w / 8);
+    if w == 32 {
+        return half(s, b + 4 * j);
     }
+    if w == 16 {
+        return quarter(s, b + 2 * j);
+    }
+    let p = j * w;
     if p + w <= 64 {
         return cut(x, 64 - (p + w), w);
     }
@@ -124,22 +151,59 @@ fn one_of_eight(s: &[u8], b: usize, x: u64, p: usize, w: usize) -> u64
     cut(word(s, b + i), 8 * (i + 8) - (p + w), w)
 }
 
-// Eight fields are w bytes: those from byte b on, put into the places from `from` on. The loop counts bits, so that it is unrolled
-// where the width is a number, and only there.
-fn eight(s: &[u8], b: usize, w: usize, out: &mut [i64], from: usize)
+// The same as a row.
+fn row_of_eight(s: &[u8], b: usize, x: u64, j: usize, w: usize) -> i64
     requires { ⌜ Width w ⌝ }
-    requires { ⌜ (8 * b ≡ from * w) × (b + w ≤ length (now s)) × (b + 8 ≤ length (now s)) × (from + 8 ≤ length (now out)) ⌝ }
-    ensures { λ _. ⌜ Lays w (now (s .entry)) from (from + 8) (now (out .entry)) (now (out .exit)) ⌝ }
+    requires { ⌜ (j < 8) × (b + w ≤ length (now s)) × (b + 8 ≤ length (now s)) ⌝ }
+    requires { ⌜ x ≡ number 256 (take 8 (drop b (now s))) ⌝ }
+    ensures { λ r. ⌜ r ≡ asI64 (bits (8 * b + j * w) w (now (s .entry))) ⌝ }
+{
+    pattern::to_i64(one_of_eight(s, b, x, j, w))
+}
+
+// Of the same eight, the four from number j on, put into the places from k on. All four are read before the first is put down: the optimiser
+// can't know that the places are not the bytes' own, and takes the four at once only in this order.
+fn four(s: &[u8], b: usize, x: u64, j: usize, w: usize, out: &mut [i64], k: usize)
+    requires { ⌜ Width w ⌝ }
+    requires { ⌜ (j + 4 ≤ 8) × (b + w ≤ length (now s)) × (b + 8 ≤ length (now s)) ⌝ }
+    requires { ⌜ x ≡ number 256 (take 8 (drop b (now s))) ⌝ }
+    requires { ⌜ (8 * b + j * w ≡ k * w) × (k + 4 ≤ length (now out)) ⌝ }
+    ensures { λ _. ⌜ Lays w (now (s .entry)) k (k + 4) (now (out .entry)) (now (out .exit)) ⌝ }
+{
+    let r0 = row_of_eight(s, b, x, j, w);
+    let r1 = row_of_eight(s, b, x, j + 1, w);
+    let r2 = row_of_eight(s, b, x, j + 2, w);
+    let r3 = row_of_eight(s, b, x, j + 3, w);
+    out[k] = r0;
+    out[k + 1] = r1;
+    out[k + 2] = r2;
+    out[k + 3] = r3;
+}
+
+// Eight fields are w bytes: those from byte b on, put into the places from k on.
+fn eight(s: &[u8], b: usize, w: usize, out: &mut [i64], k: usize)
+    requires { ⌜ Width w ⌝ }
+    requires { ⌜ (8 * b ≡ k * w) × (b + w ≤ length (now s)) × (b + 8 ≤ length (now s)) × (k + 8 ≤ length (now out)) ⌝ }
+    ensures { λ _. ⌜ Lays w (now (s .entry)) k (k + 8) (now (out .entry)) (now (out .exit)) ⌝ }
 {
     let x = word(s, b);
-    let mut p = 0;
-    let mut k = from;
-    while p < 8 * w {
-        let row = pattern::to_i64(one_of_eight(s, b, x, p, w));
+    four(s, b, x, 0, w, out, k);
+    four(s, b, x, 4, w, out, k + 4);
+}
+
+// All n fields of one byte each. One a turn: out of this loop the optimiser makes one of as many as the processor takes at once.
+fn single_bytes(s: &[u8], w: usize, n: usize, out: &mut [i64]) -> usize
+    requires { ⌜ w ≡ 8 ⌝ }
+    requires { ⌜ Room w n (now s) (now out) ⌝ }
+    ensures { λ r. ⌜ FieldsLaid w n (now (s .entry)) r (now (out .entry)) (now (out .exit)) ⌝ }
+{
+    let mut k = 0;
+    while k < n {
+        let row = pattern::to_i64(big_endian::bytes(s, k, 1));
         out[k] = row;
-        p += w;
         k += 1;
     }
+    k
 }
 
 // As many fields, up to n, as eights that lie in whole words: how many. The width is said twice: a caller that gives v as a number has
@@ -179,7 +243,7 @@ fn eights_at(s: &[u8], w: usize, n: usize, out: &mut [i64]) -> usize
         5 => eights(s, w, 5, n, out),
         6 => eights(s, w, 6, n, out),
         7 => eights(s, w, 7, n, out),
-        8 => eights(s, w, 8, n, out),
+        8 => single_bytes(s, w, n, out),
         9 => eights(s, w, 9, n, out),
         10 => eights(s, w, 10, n, out),
         11 => eights(s, w, 11, n, out),

@@ -52,16 +52,14 @@ compared with the model's before its time counts. `cargo run --release -p bench`
 this page and the plot.
 ";
 
-/// The page, its plot, and what it says of the library: what is released is x86-64 code, and other processors
-/// have pages of their own.
+/// The page, its plot, and what it says of the library. Processors that are not x86-64 have pages of their own.
 const PAGE: [&str; 3] = if cfg!(target_arch = "x86_64") {
     ["BENCH.md", "bench.svg", ""]
 } else {
     [
         "BENCH-ARM.md",
         "bench-arm.svg",
-        "\nThe library is the same proved module, compiled for this processor by `.ci/native`. What is released is for\n\
-         x86-64: BENCH.md.\n",
+        "\nThe library is the same proved module, compiled for this processor by `.ci/libraries`. BENCH.md is of x86-64.\n",
     ]
 };
 

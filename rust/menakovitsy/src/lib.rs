@@ -47,17 +47,18 @@
 //!
 //! # Building
 //!
-//! In a release's folder the build script takes the library that stands there, `libmenakovitsy.a`. In a checkout it
+//! In a release's folder the build script takes the library for cargo's target that stands there: x86-64, x86-64-v3
+//! (if the target has all of its features) or Arm. In a checkout, for x86-64, it
 //! takes what `rt staticlib exports` left in `target/staticlib`, if no source has changed since; otherwise it proves
 //! and builds the library in its own output folder, over what `target` has proved, and cargo shows that it does. If
 //! `MENAKOVITSY_LIB_DIR` is set, it takes what that folder holds, of a release or of `target/staticlib`, and runs
-//! nothing. The library is for x86-64. Programs in C link the same one, by `menakovitsy.h`.
+//! nothing. Programs in C link the same library, by `menakovitsy.h`.
 #![warn(missing_docs, clippy::missing_errors_doc)]
 
 // Which processor the library is for, the build script finds in it.
 #[cfg(not(all(target_endian = "little", target_pointer_width = "64")))]
 compile_error!(
-    "libmenakovitsy.a is for a little-endian processor with 64-bit pointers (x86-64): build for one"
+    "libmenakovitsy.a is for a little-endian processor with 64-bit pointers (x86-64 or Arm): build for one"
 );
 
 mod ahead;

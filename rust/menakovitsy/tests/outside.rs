@@ -29,7 +29,7 @@ fn says_what_is_missing() {
         project.refused(cargo)
     };
     let line = said();
-    assert!(line.contains("holds neither libmenakovitsy.a nor libexports.a: name a release"), "{line}");
+    assert!(line.contains("nor libexports.a, nor a folder for each processor: name a release"), "{line}");
     // either name is looked at, the release's first
     for name in ["libexports.a", "libmenakovitsy.a"] {
         fs::write(folder.join(name), "!<arch>\n").unwrap();
@@ -40,7 +40,7 @@ fn says_what_is_missing() {
     let expected = if cfg!(target_arch = "x86_64") {
         "`rt`, which proves and compiles the library, is not on the PATH"
     } else {
-        "the library is built for x86-64, and this build is for "
+        "a checkout is built for x86-64, and this build is for "
     };
     assert!(line.contains(expected), "{line}");
 }

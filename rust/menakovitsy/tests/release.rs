@@ -1,6 +1,6 @@
 //! A release, made by `.ci/release` and carried elsewhere: what it holds, and that it builds where there is
-//! neither the repository nor its toolchain. A release is of the x86-64 library.
-#![cfg(target_arch = "x86_64")]
+//! neither the repository nor its toolchain.
+mod libraries;
 mod project;
 
 use std::collections::BTreeSet;
@@ -8,6 +8,7 @@ use std::path::{Path, PathBuf};
 use std::process::{self, Command, Output};
 use std::{env, fs};
 
+use libraries::{lay, linked, LIBRARY, OWN, PROCESSORS};
 use project::{Project, WRITTEN};
 
 const HERE: &str = env!("CARGO_MANIFEST_DIR");
@@ -16,15 +17,10 @@ const HEADER: &str = include_str!("../menakovitsy.h");
 /// A folder outside the repository that holds a release, and is removed with it.
 struct Release(PathBuf);
 
-/// The library that is linked here.
-fn linked() -> PathBuf {
-    Path::new(env!("MENAKOVITSY_LINKED")).join("libmenakovitsy.a")
-}
-
-/// Makes a release of a library in a folder.
-fn released(library: &Path, folder: &Path) -> Output {
+/// Makes a release of a folder's libraries in another.
+fn released(libraries: &Path, folder: &Path) -> Output {
     let mut release = Command::new("bash");
-    release.arg(Path::new(HERE).join("../../.ci/release")).arg("--library").arg(library).arg(folder);
+    release.arg(Path::new(HERE).join("../../.ci/release")).arg("--libraries").arg(libraries).arg(folder);
     release.output().unwrap()
 }
 
@@ -40,7 +36,8 @@ fn compiler() -> String {
 impl Release {
     fn new(name: &str) -> Self {
         let folder = temporary(name);
-        let made = released(&linked(), &folder.join("made"));
+        lay(&folder.join("libraries"));
+        let made = released(&folder.join("libraries"), &folder.join("made"));
         assert!(made.status.success(), "{}", String::from_utf8_lossy(&made.stderr));
         // carried: nothing in it may know where it was made
         fs::rename(folder.join("made"), folder.join("carried")).unwrap();
@@ -103,12 +100,14 @@ fn defined(archive: &[u8]) -> BTreeSet<String> {
 }
 
 #[test]
-fn holds_what_a_user_needs_and_no_other_name() {
+fn holds_what_a_user_needs() {
     let release = Release::new("held");
     let files = release.files();
     for file in [
         "README.md",
-        "libmenakovitsy.a",
+        "x86-64/libmenakovitsy.a",
+        "x86-64-v3/libmenakovitsy.a",
+        "aarch64/libmenakovitsy.a",
         "menakovitsy.h",
         "SHA256SUMS",
         "docs/EVIDENCE.md",
@@ -132,23 +131,39 @@ fn holds_what_a_user_needs_and_no_other_name() {
         assert!(text.contains(has) && !text.contains(has_not), "{file}:\n{text}");
     }
 
-    // every file is summed, and a flipped byte is told
+    // every file is summed
     let sums = fs::read_to_string(release.path("SHA256SUMS")).unwrap();
     let mut summed: BTreeSet<String> = sums.lines().map(|line| line[66..].into()).collect();
     summed.insert("SHA256SUMS".into());
     assert_eq!(summed, files);
     assert!(release.sums_hold());
-    let mut library = fs::read(release.path("libmenakovitsy.a")).unwrap();
+}
+
+/// Each is what was given, has its sum on the README too, and a flipped byte in it is told.
+#[test]
+fn holds_a_library_for_each_processor() {
+    let release = Release::new("each");
+    let [sums, readme] =
+        ["SHA256SUMS", "README.md"].map(|file| fs::read_to_string(release.path(file)).unwrap());
     let declared = HEADER.lines().filter_map(|line| line.strip_prefix("uint64_t orc_")?.split_once('('));
     let declared: BTreeSet<String> = declared.map(|(name, _)| format!("orc_{name}")).collect();
-    assert_eq!(defined(&library), declared);
-    *library.last_mut().unwrap() ^= 1;
-    fs::write(release.path("libmenakovitsy.a"), &library).unwrap();
-    assert!(!release.sums_hold());
+    for processor in PROCESSORS {
+        let file = format!("{processor}/{LIBRARY}");
+        let library = fs::read(release.path(&file)).unwrap();
+        assert_eq!(library, fs::read(release.0.join("libraries").join(&file)).unwrap(), "{file}");
+        assert_eq!(defined(&library), declared, "{file}");
+        let sum = sums.lines().find_map(|line| line.strip_suffix(&file)).unwrap().trim();
+        assert!(readme.contains(&format!("| `{file}` | `{sum}` |\n")), "{file}: {sum}\n{readme}");
+        let mut flipped = library.clone();
+        *flipped.last_mut().unwrap() ^= 1;
+        fs::write(release.path(&file), flipped).unwrap();
+        assert!(!release.sums_hold(), "{file}");
+        fs::write(release.path(&file), library).unwrap();
+    }
 }
 
 /// From a folder that was empty, with no `rt`: the release's own wrapper, then the repository's beside it, which
-/// says what to do where it is told nothing; and the line for C of the release's README.
+/// says what to do where it is told nothing.
 #[test]
 fn builds_from_an_empty_folder() {
     let release = Release::new("built");
@@ -168,13 +183,29 @@ fn builds_from_an_empty_folder() {
     let mut cargo = project.cargo_without_rt();
     cargo.env("MENAKOVITSY_LIB_DIR", release.path(""));
     assert_eq!(project.run(cargo), WRITTEN);
+}
 
+/// The lines for C of the release's README, a line for each processor: those of this one.
+#[test]
+fn links_from_c() {
+    let release = Release::new("c");
     let readme = fs::read_to_string(release.path("README.md")).unwrap();
-    let line = readme.lines().find_map(|line| line.strip_prefix("cc ")).unwrap();
-    let line = format!("{} {line}", compiler());
-    let ran = Command::new("sh").args(["-c", &line]).current_dir(release.path("")).output().unwrap();
-    assert!(ran.status.success(), "{}", String::from_utf8_lossy(&ran.stderr));
-    assert!(String::from_utf8_lossy(&ran.stdout).starts_with("flag 23 is 1, flag 24 is 0\n"));
+    let lines: Vec<&str> = readme.lines().filter_map(|line| line.strip_prefix("cc ")).collect();
+    let of = |processor: &str| {
+        let library = format!(" {processor}/{LIBRARY} ");
+        *lines.iter().find(|line| line.contains(&library)).unwrap()
+    };
+    assert_eq!(lines, PROCESSORS.map(of));
+    #[cfg(target_arch = "x86_64")]
+    let v3 = std::is_x86_feature_detected!("avx2").then_some("x86-64-v3");
+    #[cfg(not(target_arch = "x86_64"))]
+    let v3 = None;
+    for processor in [OWN].into_iter().chain(v3) {
+        let line = format!("{} {}", compiler(), of(processor));
+        let ran = Command::new("sh").args(["-c", &line]).current_dir(release.path("")).output().unwrap();
+        assert!(ran.status.success(), "{}", String::from_utf8_lossy(&ran.stderr));
+        assert!(String::from_utf8_lossy(&ran.stdout).starts_with("flag 23 is 1, flag 24 is 0\n"), "{line}");
+    }
 }
 
 /// A folder that is named and has something in it is left alone.
@@ -183,35 +214,49 @@ fn writes_over_nothing() {
     let folder = temporary("not-one");
     fs::create_dir_all(&folder).unwrap();
     fs::write(folder.join("letters"), "to keep").unwrap();
-    let release = released(&linked(), &folder);
+    let release = released(&folder, &folder);
     let kept = fs::read_to_string(folder.join("letters")).unwrap();
     fs::remove_dir_all(&folder).unwrap();
     assert_eq!((release.status.code(), kept.as_str()), (Some(2), "to keep"));
     assert!(String::from_utf8_lossy(&release.stderr).contains("is there, and is no empty folder"));
 }
 
-/// The same library with one name more makes no release, and leaves nothing behind.
+/// A folder without one of the libraries makes no release, and neither does one with a library that defines one name
+/// more, whichever it is. Nothing is left of it.
 #[test]
-fn refuses_a_library_with_another_name() {
-    let folder = temporary("another-name");
-    fs::create_dir_all(&folder).unwrap();
+fn refuses_other_libraries() {
+    let folder = temporary("other");
+    lay(&folder);
     fs::write(folder.join("unpack.c"), "int unpack(void)\n{\n    return 1;\n}\n").unwrap();
     let both = folder.join("both.o");
     let mut link = Command::new(compiler());
     link.args(["-nostdlib", "-r", "-o"]).arg(&both).arg(folder.join("unpack.c"));
     link.arg("-Wl,--whole-archive").arg(linked());
     assert!(link.status().unwrap().success());
-    let release = released(&both, &folder.join("made"));
-    let left: Vec<String> = fs::read_dir(&folder)
-        .unwrap()
-        .map(|entry| entry.unwrap().file_name().into_string().unwrap())
-        .filter(|name| name.starts_with("made"))
-        .collect();
+    let mut said = Vec::new();
+    for processor in PROCESSORS {
+        let library = folder.join(processor).join(LIBRARY);
+        let right = fs::read(&library).unwrap();
+        fs::copy(&both, &library).unwrap();
+        said.push((
+            processor,
+            "does not define exactly what the header declares",
+            released(&folder, &folder.join("made")),
+        ));
+        fs::remove_file(&library).unwrap();
+        said.push((processor, "make it with .ci/libraries", released(&folder, &folder.join("made"))));
+        fs::write(&library, right).unwrap();
+    }
+    let left = fs::read_dir(&folder).unwrap().map(|entry| entry.unwrap().file_name().into_string().unwrap());
+    let left: Vec<String> = left.filter(|name| name.starts_with("made")).collect();
     fs::remove_dir_all(&folder).unwrap();
-    let said = String::from_utf8_lossy(&release.stderr);
-    assert_eq!((release.status.code(), left), (Some(1), vec![]));
-    assert!(
-        said.contains("> unpack\n") && said.contains("does not define exactly what the header declares"),
-        "{said}"
-    );
+    assert_eq!(left, [""; 0]);
+    for (processor, expected, release) in said {
+        let said = String::from_utf8_lossy(&release.stderr);
+        let named = said.contains("> unpack\n") || said.contains("holds no ");
+        assert!(
+            !release.status.success() && said.contains(processor) && named && said.contains(expected),
+            "{said}"
+        );
+    }
 }

@@ -34,9 +34,12 @@ impl Project {
         let tools = self.0.join("tools");
         fs::create_dir_all(&tools).unwrap();
         let path = env::var_os("PATH").unwrap_or_default();
-        // where cargo builds for another processor, that one's linker too
-        let other = env::var("CARGO_TARGET_X86_64_UNKNOWN_LINUX_GNU_LINKER").ok();
-        for tool in ["cc", "ld", "as", "rustc"].into_iter().chain(other.as_deref()) {
+        // if cargo builds for another processor, that one's linker too
+        let linker = |(name, value): (String, String)| {
+            (name.starts_with("CARGO_TARGET_") && name.ends_with("_LINKER")).then_some(value)
+        };
+        let other: Vec<String> = env::vars().filter_map(linker).collect();
+        for tool in ["cc", "ld", "as", "rustc"].into_iter().chain(other.iter().map(String::as_str)) {
             let found = env::split_paths(&path).map(|folder| folder.join(tool)).find(|tool| tool.is_file());
             if let Some(found) = found.filter(|_| !tools.join(tool).exists()) {
                 std::os::unix::fs::symlink(found, tools.join(tool)).unwrap();
