@@ -1,6 +1,7 @@
 //! `bench [--print | --smoke]`: times every case, prints the tables, and writes docs/BENCH.md and
-//! docs/bench.svg of the repository, on Arm docs/BENCH-ARM.md and docs/bench-arm.svg (with `--print` it
-//! writes nothing; `--smoke` takes three samples of some cases, and writes nothing).
+//! docs/bench.svg of the repository; built for x86-64-v3 docs/BENCH-V3.md and docs/bench-v3.svg, and on Arm
+//! docs/BENCH-ARM.md and docs/bench-arm.svg (with `--print` it writes nothing; `--smoke` takes three samples
+//! of some cases, and writes nothing).
 #![forbid(unsafe_code)]
 
 #[cfg(feature = "ours")]
@@ -52,9 +53,16 @@ compared with the model's before its time counts. `cargo run --release -p bench`
 this page and the plot.
 ";
 
-/// The page, its plot, and what it says of the library. Processors that are not x86-64 have pages of their own.
-const PAGE: [&str; 3] = if cfg!(target_arch = "x86_64") {
-    ["BENCH.md", "bench.svg", ""]
+/// The page, its plot, and what it says of the library. Each processor has a page of its own.
+const PAGE: [&str; 3] = if cfg!(all(target_arch = "x86_64", target_feature = "avx2")) {
+    [
+        "BENCH-V3.md",
+        "bench-v3.svg",
+        "\nOurs and the Rust are compiled for x86-64-v3 (AVX2): `RUSTFLAGS='-C target-cpu=x86-64-v3'`, and \
+         `MENAKOVITSY_LIB_DIR`\nnames a folder of `.ci/libraries`. BENCH.md is of plain x86-64.\n",
+    ]
+} else if cfg!(target_arch = "x86_64") {
+    ["BENCH.md", "bench.svg", "\nBENCH-V3.md is the same page for x86-64-v3 (AVX2).\n"]
 } else {
     [
         "BENCH-ARM.md",

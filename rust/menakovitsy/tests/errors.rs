@@ -22,7 +22,7 @@ fn report(error: &dyn Error) -> String {
     text
 }
 
-/// By the texts of README, "Answers", and of FORMAT.md, "Places and cut bytes".
+/// By the texts of FORMAT.md, "Refusals" and "Places and cut bytes".
 #[test]
 fn a_report_says_each_thing_once() {
     let names = Dictionary { block: b"drums", lengths: &[5], numbers: &[1], flags: &[1] };

@@ -24,9 +24,18 @@ cut: column offsets: at byte 6: refusal 12: the varint that begins at byte 11 is
 if there are none, the stream is cut or the offset is wrong)
 ";
 
+/// The page for users shows what the examples write, the chunk table's first lines.
+const PAGE: &str = include_str!("../../../docs/USING.md");
+
+fn on_the_page(output: &str, lines: usize) {
+    let shown: String = output.split_inclusive('\n').take(lines).collect();
+    assert!(PAGE.contains(&format!("```\n{shown}```\n")), "docs/USING.md does not show\n{shown}");
+}
+
 #[test]
 fn chunk_table() {
     assert_eq!(chunk_table::report(), EXPECTED);
+    on_the_page(EXPECTED, 5);
 }
 
 #[path = "../examples/preview.rs"]
@@ -46,4 +55,5 @@ flags))
 #[test]
 fn start_at_a_chunk() {
     assert_eq!(preview::report().as_deref(), Ok(PREVIEW));
+    on_the_page(PREVIEW, 4);
 }
