@@ -142,13 +142,15 @@ fn names_of_any_look() {
 fn a_closed_output() {
     let folder = scratch("closed");
     let file = folder.holding("file", &EVERY_KIND[..6].repeat(100_000));
-    let mut child = Command::new(env!("CARGO_BIN_EXE_menakovitsy"))
-        .args(["annotate", &file])
-        .stdout(Stdio::piped())
-        .stderr(Stdio::piped())
-        .spawn()
-        .expect("the command can be started");
-    drop(child.stdout.take());
-    let output = child.wait_with_output().expect("the command ends");
-    assert_eq!((output.status.code(), output.stderr.len()), (Some(2), 0));
+    for subcommand in ["annotate", "values"] {
+        let mut child = Command::new(env!("CARGO_BIN_EXE_menakovitsy"))
+            .args([subcommand, &file])
+            .stdout(Stdio::piped())
+            .stderr(Stdio::piped())
+            .spawn()
+            .expect("the command can be started");
+        drop(child.stdout.take());
+        let output = child.wait_with_output().expect("the command ends");
+        assert_eq!((output.status.code(), output.stderr.len()), (Some(2), 0), "{subcommand}");
+    }
 }

@@ -1,8 +1,6 @@
 //! `menakovitsy values`, by running it.
 mod running;
 
-use std::process::{Command, Stdio};
-
 use running::{json, menakovitsy, scratch, Ran, BEFORE_THE_END, EVERY_KIND};
 
 /// The rows of some bytes, by the model.
@@ -87,20 +85,4 @@ fn json_lines() {
     assert!(said.output.ends_with(
         "{\"type\":\"row\",\"row\":95,\"value\":9223372036854775807,\"value_text\":\"9223372036854775807\"}\n"
     ));
-}
-
-/// Whoever reads the rows may stop.
-#[test]
-fn a_closed_output() {
-    let folder = scratch("values-closed");
-    let file = folder.holding("file", &EVERY_KIND[..6].repeat(100_000));
-    let mut child = Command::new(env!("CARGO_BIN_EXE_menakovitsy"))
-        .args(["values", &file])
-        .stdout(Stdio::piped())
-        .stderr(Stdio::piped())
-        .spawn()
-        .expect("the command can be started");
-    drop(child.stdout.take());
-    let output = child.wait_with_output().expect("the command ends");
-    assert_eq!((output.status.code(), output.stderr.len()), (Some(2), 0));
 }
