@@ -1,5 +1,7 @@
 // Rows in batches (FORMAT.md, "Rows in batches"): as many rows of an integer stream as there are places, from a position on that ORC's row
 // index names.
+#![tactic(auto)]
+
 ghost use Rattle.std.specs.Prelude.{◌≡◌, ◌+◌, ◌≤◌, ◌<◌, length, take, drop, ◌++◌};
 ghost use Rattle.format.specs.Fields.{two64};
 ghost use Rattle.batches.specs.BatchPromise.{position_in, batch_read_as, RowsRead};
@@ -34,7 +36,7 @@ pub enum Batch {
 
 // Where a position's row is: at a byte, which is not looked at yet; or within a run. Refused: it is not reached.
 #[derive(Drop)]
-pub enum Sought {
+enum Sought {
     Begins(ByteOffset),
     Within(RowPosition),
     Refused(Refusal),
@@ -72,7 +74,7 @@ impl BatchRead {
 }
 
 // Finds a position's row. Runs that are skipped as a whole are measured and not decoded; with no row to skip nothing is looked at.
-pub fn seek(input: &[u8], from: RowPosition) -> Sought
+fn seek(input: &[u8], from: RowPosition) -> Sought
     ensures { Finds input.now from result }
 {
     let at = from.run;

@@ -1,5 +1,7 @@
 // Standard input in blocks, cut into lines: what the programs share. What was read and is not taken yet is the beginning of one line, so
 // that a line of any length takes no more room.
+#![tactic(auto)]
+
 pub mod reading;
 
 ghost use Rattle.std.specs.Prelude.{◌≡◌, ◌+◌, ◌≤◌, length, drop, replicate};
@@ -14,7 +16,7 @@ pub const MAX_HELD: usize = 8801;
 // How much is read at once.
 const BLOCK: usize = 65536;
 
-// What stands in the input after a read: the beginning of a line that was kept, what came after it, and what the system answered.
+// What stands in the input after a read: the beginning of a line that was kept, what came behind it, and what the system answered.
 #[derive(Drop)]
 pub(crate) struct Block {
     pub held: usize,
@@ -59,7 +61,7 @@ fn keep(input: &mut [u8], from: usize, end: usize) -> usize
     n
 }
 
-// One read: what is left of the block before is moved to the front, and what is read stands after it. Places after the input have nothing
+// One read: what is left of the block before is moved to the front, and what is read stands behind it. Places behind the input have nothing
 // left in them. What the system answers goes on as it is: no contract can name it before.
 pub(crate) fn read_on(input: &mut [u8], from: usize, end: usize) -> Block
     ensures { Came (part from end input.old) input.new result.held result.stop result.got }

@@ -1,7 +1,14 @@
 -- Batches by the column: what a batch takes stands in the column after what is skipped. Assumes nothing.
-use Rattle.format.proofs.Common.{◌≡◌, refl, sym, ap, ◌∙◌, ℕ, zero, suc, ◌+◌, ◌-◌, ◌/◌, ◌<◌, ◌≤◌, arith, dec_lt, le_refl, List, [], ◌∷◌, ◌++◌}
-use Rattle.format.proofs.Common.{length, take, drop, length-append, length-drop, ltb, leb, drop-drop, drop_at, drop-append-le, take-add}
-use Rattle.format.proofs.Common.{take-append-le, length-take-le, lt-ltb, le-leb, lt-leb}
+use mathlib.Core.Path.{◌≡◌, refl, sym, ap, ◌∙◌}
+use Prim.Native.Nat.{ℕ, zero, suc, ◌+◌, ◌-◌, ◌/◌, ◌<◌, ◌≤◌}
+use native.Mathlib.Omega.{arith}
+use native.Mathlib.Decide.{dec_lt}
+use native.Mathlib.Nat.{le_refl}
+use mathlib.Core.List.{List, [], ◌∷◌, ◌++◌}
+use lib.ListN.{length, take, drop, length-append, length-drop}
+use lib.Dec.{ltb, leb}
+use lib.Seq.{drop-drop, drop_at, drop-append-le, take-add, take-append-le, length-take-le}
+use borrow.Author.Tests.{lt-ltb, le-leb, lt-leb}
 use Rattle.format.specs.Digits.{AllBelow}
 use Rattle.format.specs.Fields.{pick, bytes_for}
 use Rattle.format.specs.Parse.{Reason, Parsed}

@@ -1,5 +1,9 @@
 -- THE LAW OF BATCHES: n values and then m at the position after them are n + m at once, and so for any batches. Assumes nothing.
-use Rattle.format.proofs.Common.{◌≡◌, refl, sym, ◌∙◌, ℕ, ◌+◌, arith, List, [], ◌∷◌, drop}
+use mathlib.Core.Path.{◌≡◌, refl, sym, ◌∙◌}
+use Prim.Native.Nat.{ℕ, ◌+◌}
+use native.Mathlib.Omega.{arith}
+use mathlib.Core.List.{List, [], ◌∷◌}
+use lib.ListN.{drop}
 use Rattle.format.specs.Digits.{AllBelow}
 use Rattle.format.specs.Booleans.{bits}
 use Rattle.format.proofs.Booleans.{length-bits}

@@ -1,5 +1,7 @@
 // The converter to kept widths (FORMAT.md, "Converter"). It walks the stream twice: first without a place to write to, since nothing is
 // written on a refusal, wherever in the stream it stands; then it writes.
+#![tactic(auto)]
+
 ghost use Rattle.std.specs.Prelude.{◌≡◌, ◌≤◌, length};
 ghost use Rattle.convert.specs.Convert.{done, Converts};
 ghost use Rattle.convert.specs.Walk.{counted, finished, Put, Lays, Walked};

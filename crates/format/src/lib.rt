@@ -1,4 +1,6 @@
 // The nouns of docs/FORMAT.md: units, kinds, answers. What bytes mean stands in specs/, and the laws of that meaning in proofs/.
+#![tactic(auto)]
+
 ghost use Rattle.std.specs.Prelude.{◌≡◌, ◌<◌};
 ghost use Rattle.format.specs.Answers.{running, ran, refusing, cutting, refused_at, cut_at, kind_number, read_whole, broke_at};
 ghost use Rattle.format.specs.Answers.{answer_number, answer_place, answer_cut, answer_width, answer_rows, answer_bytes, answer_packed};

@@ -1,10 +1,12 @@
 // Labels for the chunk list: stem names are a dictionary (one byte block and a column of lengths), a column of numbers, and flags that say
 // which rows have a name.
+#![tactic(auto)]
+
 ghost use Rattle.std.specs.Prelude.{◌≡◌, true, ◌≤◌, ◌<◌, pos, length, get_or};
 ghost use Rattle.labels.specs.Labels.{name_at, fallback_of, refused_with, add_up_to, add_up, start_of, entry_of, Labelled, PartHanded};
 ghost use Rattle.labels.specs.Labels as Labels;
 ghost use Rattle.labels.specs.Whole.{whole_of};
-ghost use Rattle.labels.specs.Column.{places_in, column_refused, row_refused, LabelledAll};
+ghost use Rattle.labels.specs.Column.{places_in, labelled_rows, column_refused, row_refused, LabelledAll};
 
 use format::{ByteOffset, Refusal, RowNumber};
 
@@ -61,6 +63,12 @@ impl Label {
 }
 
 impl LabelColumn {
+    pub fn rows(rows: RowNumber) -> Self
+        ensures { result ≡ labelled_rows rows.rows }
+    {
+        LabelColumn::Rows(rows)
+    }
+
     pub fn refused(number: u8) -> Self
         ensures { result ≡ column_refused number }
     {
@@ -252,5 +260,5 @@ pub fn label_column(
     }
     column::put_offsets(lengths, block, offsets);
     column::put_labels(flags, numbers, lengths, offsets, starts, sizes);
-    LabelColumn::Rows(RowNumber { rows })
+    LabelColumn::rows(RowNumber { rows })
 }

@@ -1,6 +1,6 @@
 // The answer of `present::spread`.
 ghost use Rattle.std.specs.Prelude.{◌≡◌};
-ghost use Rattle.present.specs.Present.{not_spread};
+ghost use Rattle.present.specs.Present.{spread_over, not_spread};
 
 use format::{ByteOffset, Refusal, RowNumber};
 
@@ -12,6 +12,12 @@ pub enum Spread {
 }
 
 impl Spread {
+    pub fn rows(rows: RowNumber) -> Self
+        ensures { result ≡ spread_over rows.rows }
+    {
+        Spread::Rows(rows)
+    }
+
     pub fn refused(number: u8) -> Self
         ensures { result ≡ not_spread number }
     {

@@ -1,5 +1,7 @@
 // Standard input to standard output: lines of hexadecimal, one frame a line, and for each its answer line. Reading and writing go in large
 // blocks. What was read and is not answered yet is the beginning of one line, so that a line of any length takes no more room.
+#![tactic(auto)]
+
 mod cutting;
 mod saying;
 
@@ -90,7 +92,7 @@ fn answer_last(reads: Reads, before: Said, line: &[u8], output: &mut [u8]) -> Ou
     }
 }
 
-// What to do with what is held and what came after it, by what the system answered. The error is handed in, so that the answer is
+// What to do with what is held and what came behind it, by what the system answered. The error is handed in, so that the answer is
 // determined.
 fn answer_came(
     reads: Reads,
@@ -126,7 +128,7 @@ fn answer_came(
     }
 }
 
-// One block, after what is left of the one before.
+// One block, behind what is left of the one before.
 fn turn(
     reads: Reads,
     before: Said,
@@ -159,8 +161,8 @@ fn turn(
     }
 }
 
-// Reads and answers to the end. A proved loop has to end, and nothing says that the input does: the loop counts its turns down, from a
-// number that no input uses up.
+// Reads and answers to the end. A proved loop has to end, and nothing says that the input does: the loop counts its turns down, from a number
+// that no input uses up.
 fn run() -> Standing
     ensures { Over result.left result.reads result.said }
 {

@@ -29,9 +29,9 @@ pub(crate) fn is_cut(said: Said) -> bool
     said.cut
 }
 
-// Every byte that the program writes to its output goes through here, beside the bytes that it answers: it is what the definition writes
-// for them, and what comes next of the text for all that was read. No contract can say what the system writes, so that it is said here of
-// what is handed over.
+// Every byte that the program writes to its output goes through here, beside the bytes that it answers: it is what the definition writes for
+// them, and what comes next of the text for all that was read. No contract can say what the system writes, so that it is said here of what is
+// handed over.
 pub(crate) fn say(reads: Reads, before: Said, asked: &[u8], text: &[u8]) -> Said
     requires { (text.now ≡ program_text asked.now) × Due reads before text.now }
     ensures { SaidOn before text.now result }

@@ -1,5 +1,7 @@
 // Salvage of a damaged stream: its row groups, each kept byte for byte if it reads whole with its rows, or replaced by runs of a fill row;
 // and a report with a line for each.
+#![tactic(auto)]
+
 ghost use Rattle.std.specs.Prelude.{◌≡◌, Bool, length};
 ghost use Rattle.salvage.specs.Salvage.{written_of, refused_with, Salvaged};
 ghost use Rattle.salvage.specs.Laws.{RightStarts};

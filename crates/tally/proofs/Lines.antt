@@ -1,6 +1,5 @@
 -- A line is answered as the run reader answers its bytes, and refused with numbers below 15 alone. Assumes nothing.
-use Rattle.format.proofs.Common.{◌≡◌, refl, sym, ap, ◌∙◌, ℕ, ◌<◌, arith, Bool, List, [], ◌∷◌, ◌++◌, length, take, drop, take_at, eqb, ℤ}
-use Rattle.format.proofs.Common.{lt-ltb}
+use Rattle.std.proofs.Common.{◌≡◌, ℕ, ◌<◌, Bool, eqb, List, [], ◌∷◌, ◌++◌, length, take, drop, ℤ, sym, refl, ap, ◌∙◌, arith, take_at, lt-ltb}
 use Rattle.format.specs.Digits.{AllBelow}
 use Rattle.format.specs.Runs.{Description, row_count}
 use Rattle.format.specs.Rows.{i64_rows}
@@ -13,7 +12,7 @@ use Rattle.promises.specs.Refusals.{Table, refusal-1, refusal-2, refusal-3, refu
 use Rattle.promises.specs.Refusals.{in-first-row, in-base-delta, in_rows, in-magnitudes, in-values, in_list, TableGives, by_number, by_field}
 use Rattle.promises.proofs.Refusals.{refusals}
 use Rattle.tally.specs.Totals.{number_of, refusal, line_of, answered}
-use Rattle.tally.specs.HeldTotals.{slot, line_with, reply_to}
+use Rattle.tally.specs.Held.{slot, line_with, reply_to}
 use Rattle.tally.specs.Laws.{Listed, from-1, from-12, LineRead, LinesRead}
 
 table-listed : {bs : List ℕ} {n : ℕ} → Table 512 bs n → Listed n

@@ -37,7 +37,7 @@ impl Wide {
         }
     }
 
-    // The low words wrap if their sum is below either of them: then one is carried into the high words.
+    // The low words wrap where their sum is below either of them: then one is carried into the high words.
     pub fn plus(self, more: Wide) -> Self
         ensures { result ≡ add_wide self more }
     {

@@ -1,5 +1,7 @@
-// Standard input to standard output: lines of hexadecimal, one frame a line, and at the end the totals over all of them. Reading goes in
-// large blocks, so that an input of any length takes no more room. A line that would pass a limit ends the reading.
+// Standard input to standard output: lines of hexadecimal, one frame a line, and at the end the totals over all of them. Reading goes in large
+// blocks, so that an input of any length takes no more room. A line that would pass a limit ends the reading.
+#![tactic(auto)]
+
 mod taking;
 
 ghost use Rattle.std.specs.Prelude.{◌≡◌, ◌+◌, ◌≤◌, length, take};
@@ -15,7 +17,7 @@ use tally::totals::Totals;
 
 const REFUSED_20: [u8; 11] = *b"refused 20\n";
 
-// The totals and how it goes on, after some reads.
+// The totals and how it goes on, after so many reads.
 #[derive(Drop)]
 struct Standing {
     totals: Totals,
@@ -23,8 +25,8 @@ struct Standing {
     reads: Reads,
 }
 
-// Every byte that the program writes to its output goes through here, and is what the definition writes for the totals of all that was
-// read. No contract can say what the system writes, so that it is said here of what is handed over.
+// Every byte that the program writes to its output goes through here, and is what the definition writes for the totals of all that was read.
+// No contract can say what the system writes, so that it is said here of what is handed over.
 fn say(totals: Totals, stopped: bool, reads: Reads, text: &[u8])
     requires { Final reads totals stopped × (text.now ≡ written_for totals stopped) }
 {
@@ -154,7 +156,7 @@ fn take_all() -> Standing
     }
 }
 
-// Writes the totals, unless reading failed.
+// The totals are told, unless reading failed.
 fn main() {
     let all = take_all();
     let totals = all.totals;

@@ -1,6 +1,6 @@
 // Lines taken into the totals: the part of the program that neither reads nor writes.
 ghost use Rattle.std.specs.Prelude.{◌≡◌, length};
-ghost use Rattle.tally.specs.HeldTotals.{take_line};
+ghost use Rattle.tally.specs.Held.{take_line};
 ghost use Rattle.blocks.specs.Blocks.{NoNewline};
 ghost use Rattle.totals.specs.Program.{answer_to, is_stopped, AfterBlock, AfterEnd};
 

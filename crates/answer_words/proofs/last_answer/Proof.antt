@@ -4,4 +4,4 @@ use Rattle.answer_words.proofs.last_answer.Statement.{statement}
 use Rattle.answer_words.proofs.last_answer.Tie as tie
 
 pub last-answer-spec : {M : Type 1} → statement M
-last-answer-spec = tie.close (tie.spec (search rules) (search rules) (λ c. search rules) (λ c. rw c.before.last.given.1))
+last-answer-spec = tie.close (tie.spec (λ c. search rules) (λ c. search rules) (λ c. search rules) (λ c. rw c.before.last.given.1))

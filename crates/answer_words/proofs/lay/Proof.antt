@@ -1,6 +1,14 @@
 -- Each turn lays one word more; where the words are too few there is none. Assumes nothing.
-use Rattle.format.proofs.Common.{◌≡◌, refl, ◌∙◌, List, ◌++◌, ℕ, suc, ◌-◌, ◌≤◌, ◌<◌, arith, zero-add, add-one, needs, le-leb, lt-leb}
-use Rattle.format.proofs.Common.{length, length-set, set, get_or, take, drop, paste-suc, take_all}
+use mathlib.Core.Path.{◌≡◌, refl, ◌∙◌}
+use mathlib.Core.List.{List, ◌++◌}
+use Prim.Native.Nat.{ℕ, suc, ◌-◌, ◌≤◌, ◌<◌}
+use native.Mathlib.Omega.{arith}
+use native.Mathlib.Nat.{zero-add}
+use native.Mathlib.Numerals.{add-one}
+use borrow.Author.Rules.{rules}
+use borrow.Author.Tests.{le-leb, lt-leb}
+use lib.ListN.{length, length-set, set, get_or, take, drop}
+use lib.Seq.{paste-suc, take_all}
 use Rattle.answer_words.proofs.lay.Statement.{statement}
 use Rattle.answer_words.proofs.lay.Tie as tie
 
@@ -41,5 +49,6 @@ returns-2 c =
     rw (le-leb (length s) (length a.words.now) e.if1.false) (rw (i-is, take_all (length s) s (omega arith)) at l.invariant.2)
 
 pub lay-spec : {M : Type 1} → statement M
-lay-spec = tie.close (tie.spec invariant-loop decreases-loop returns loop-holds (search needs) (search needs) (search needs) (search needs) (search needs) (search needs)
-    loop-again (search needs) returns-2)
+lay-spec =
+    tie.close (tie.spec invariant-loop decreases-loop returns loop-holds (λ c. search rules) (λ c. search rules) (λ c. search rules) (λ c. search rules) (λ c. search rules) (λ c. search rules) loop-again
+    (λ c. search rules) returns-2)

@@ -1,5 +1,8 @@
 -- The words are stored one after another, and are the answer's. Assumes nothing.
-use Rattle.format.proofs.Common.{sets-eq, arith, length-set, needs}
+use lib.Seq.{sets-eq}
+use native.Mathlib.Omega.{arith}
+use lib.ListN.{length-set}
+use borrow.Author.Rules.{rules}
 use Rattle.answer_words.specs.Words.{answer_words}
 use Rattle.answer_words.proofs.store_answer.Statement.{statement}
 use Rattle.answer_words.proofs.store_answer.Tie as tie
@@ -13,8 +16,9 @@ returns c =
     record { number_is = cc; words_are = cc (sets-eq (answer_words s.args.answer) s.args.words.now 0 s.requires) }
 
 pub store-answer-spec : {M : Type 1} → statement M
-store-answer-spec = tie.close (tie.spec (search needs) (search needs) (search needs) (search needs) (λ c. simp length-set (omega arith)) (search needs)
-    (λ c. simp length-set (omega arith)) (search needs) (search needs) (λ c. simp length-set (omega arith)) (search needs)
-    (λ c. simp length-set (omega arith)) (search needs) (λ c. simp length-set (omega arith)) (search needs) (search needs)
-    (λ c. simp length-set (omega arith)) (search needs) (search needs) (λ c. simp length-set (omega arith)) (search needs)
-    (λ c. simp length-set (omega arith)) (search needs) (search needs) (λ c. simp length-set) returns)
+store-answer-spec =
+    tie.close (tie.spec (λ c κs. search rules) (λ c. search rules) (λ c κs. search rules) (λ c. search rules) (λ c. simp length-set (omega arith)) (λ c κs. search rules)
+    (λ c. simp length-set (omega arith)) (λ c κs. search rules) (λ c. search rules) (λ c. simp length-set (omega arith)) (λ c κs. search rules)
+    (λ c. simp length-set (omega arith)) (λ c κs. search rules) (λ c. simp length-set (omega arith)) (λ c κs. search rules) (λ c κs. search rules)
+    (λ c. simp length-set (omega arith)) (λ c κs. search rules) (λ c κs. search rules) (λ c. simp length-set (omega arith)) (λ c κs. search rules)
+    (λ c. simp length-set (omega arith)) (λ c κs. search rules) (λ c. search rules) (λ c. simp length-set) returns)

@@ -1,5 +1,8 @@
--- The words are stored one after another: first the stream's counts, then its last run as the answer of that run. Assumes nothing.
-use Rattle.format.proofs.Common.{sets-eq, arith, length-set, needs}
+-- The words are stored one after another, and are the stream's. Assumes nothing.
+use lib.Seq.{sets-eq}
+use native.Mathlib.Omega.{arith}
+use lib.ListN.{length-set}
+use borrow.Author.Rules.{rules}
 use Rattle.answer_words.specs.Words.{stream_words}
 use Rattle.answer_words.proofs.store_stream.Statement.{statement}
 use Rattle.answer_words.proofs.store_stream.Tie as tie
@@ -34,10 +37,11 @@ returns c =
     }
 
 pub store-stream-spec : {M : Type 1} → statement M
-store-stream-spec = tie.close (tie.spec (search needs) (search needs) (search needs) (search needs) (search needs) (search needs)
-    (λ c. simp length-set (omega arith)) (search needs) (λ c. simp length-set (omega arith)) (λ c. simp length-set (omega arith)) (search needs)
-    (λ c. simp length-set (omega arith)) (search needs) (λ c. simp length-set (omega arith)) (search needs) (search needs)
-    (λ c. simp length-set (omega arith)) (search needs) (search needs) (λ c. simp length-set (omega arith)) (λ c. simp length-set (omega arith))
-    (search needs) (λ c. simp length-set (omega arith)) (search needs) (search needs) (λ c. simp length-set (omega arith)) (search needs)
-    (λ c. simp length-set (omega arith)) (search needs) (λ c. simp length-set (omega arith)) (search needs) (λ c. simp length-set (omega arith))
-    (search needs) (search needs) (λ c. simp length-set) returns)
+store-stream-spec =
+    tie.close (tie.spec (λ c κs. search rules) (λ c κs. search rules) (λ c κs. search rules) (λ c. search rules) (λ c κs. search rules) (λ c. search rules)
+    (λ c. simp length-set (omega arith)) (λ c κs. search rules) (λ c. simp length-set (omega arith)) (λ c. simp length-set (omega arith)) (λ c κs. search rules)
+    (λ c. simp length-set (omega arith)) (λ c κs. search rules) (λ c. simp length-set (omega arith)) (λ c κs. search rules) (λ c κs. search rules)
+    (λ c. simp length-set (omega arith)) (λ c κs. search rules) (λ c κs. search rules) (λ c. simp length-set (omega arith)) (λ c. simp length-set (omega arith))
+    (λ c κs. search rules) (λ c. simp length-set (omega arith)) (λ c κs. search rules) (λ c. search rules) (λ c. simp length-set (omega arith)) (λ c κs. search rules)
+    (λ c. simp length-set (omega arith)) (λ c κs. search rules) (λ c. simp length-set (omega arith)) (λ c κs. search rules) (λ c. simp length-set (omega arith))
+    (λ c κs. search rules) (λ c. search rules) (λ c. simp length-set) returns)

@@ -1,5 +1,8 @@
 -- What the run reader laid aside holds the run's rows, so the part that is copied is the run's own. Assumes nothing.
-use Rattle.format.proofs.Common.{◌<◌, arith, length, needs}
+use Prim.Native.Nat.{◌<◌}
+use native.Mathlib.Omega.{arith}
+use lib.ListN.{length}
+use borrow.Author.Rules.{rules}
 use Rattle.format.specs.Fields.{two64}
 use Rattle.batches.proofs.PartOfRun.{not-refused, not-ended, held-run, part-read}
 use Rattle.batches.proofs.read_aside.Statement.{statement}
@@ -66,7 +69,7 @@ returns-4 c =
 
 pub read-aside-spec : {M : Type 1} → statement M
 read-aside-spec =
-    tie.close (tie.spec (λ c κs. search needs) (λ c. search needs) (λ c κs. search needs) (λ c. search needs) (λ c. search needs)
-    lay-part-requires (λ c. search needs) returns (λ c κs. search needs) (λ c. search needs) (λ c κs. search needs) (λ c. search needs)
-    (λ c. search needs) lay-part-requires-2 (λ c. search needs) (λ c κs. search needs) (λ c. search needs) (λ c κs. search needs)
-    (λ c. search needs) returns-2 returns-3 returns-4)
+    tie.close (tie.spec (λ c κs. search rules) (λ c. search rules) (λ c κs. search rules) (λ c. search rules) (λ c. search rules)
+    lay-part-requires (λ c. search rules) returns (λ c κs. search rules) (λ c. search rules) (λ c κs. search rules) (λ c. search rules)
+    (λ c. search rules) lay-part-requires-2 (λ c. search rules) (λ c κs. search rules) (λ c. search rules) (λ c κs. search rules)
+    (λ c. search rules) returns-2 returns-3 returns-4)

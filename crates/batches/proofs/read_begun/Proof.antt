@@ -1,5 +1,7 @@
 -- If rows were read there is a batch; or else what stands at the byte says which answer it is. Assumes nothing.
-use Rattle.format.proofs.Common.{◌≡◌, subst, arith, needs}
+use mathlib.Core.Path.{◌≡◌, subst}
+use native.Mathlib.Omega.{arith}
+use borrow.Author.Rules.{rules}
 use Rattle.format.specs.declared.Answer.{Answer}
 use Rattle.format.specs.declared.Answer.TheVariants as answer
 use Rattle.format.proofs.Below.{below_all}
@@ -56,5 +58,5 @@ returns-4 c =
 
 pub read-begun-spec : {M : Type 1} → statement M
 read-begun-spec =
-    tie.close (tie.spec (λ c κs. search needs) (λ c. search needs) returns (λ c κs. search needs) (λ c. search needs) (λ c. search needs)
-    (λ c. search needs) (λ c. search needs) returns-2 (λ c. search needs) returns-3 (λ c. search needs) returns-4)
+    tie.close (tie.spec (λ c κs. search rules) (λ c. search rules) returns (λ c κs. search rules) (λ c. search rules) (λ c. search rules)
+    (λ c. search rules) (λ c. search rules) returns-2 (λ c. search rules) returns-3 (λ c. search rules) returns-4)

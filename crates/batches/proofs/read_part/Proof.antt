@@ -1,6 +1,8 @@
 -- Of a direct run the rows stand in their places already; if another run stands there the places are as they were, and it is read aside.
 -- Assumes nothing.
-use Rattle.format.proofs.Common.{arith, length, needs}
+use native.Mathlib.Omega.{arith}
+use lib.ListN.{length}
+use borrow.Author.Rules.{rules}
 use Rattle.batches.proofs.PartInPlaces.{untouched, some-rows, end_fits, in-places-cut, in-places-whole}
 use Rattle.batches.proofs.read_part.Statement.{statement}
 use Rattle.batches.proofs.read_part.Tie as tie
@@ -41,7 +43,7 @@ returns-2 c =
     let e = c.before.before.before in
     let r = run-known e.before in
     let x = part-read r in
-    rw c.up_to_lem.ensures (in-places-whole (entry x).pre x.read.ensures r.run.given.1 (omega (arith, e.if1.false)))
+    rw c.up_to.ensures (in-places-whole (entry x).pre x.read.ensures r.run.given.1 (omega (arith, e.if1.false)))
 
 -- ---- another
 
@@ -53,5 +55,5 @@ returns-3 c =
 
 pub read-part-spec : {M : Type 1} → statement M
 read-part-spec =
-    tie.close (tie.spec (λ c κs. search needs) (λ c. search needs) sub-left (λ c. search needs) (λ c κs. search needs) (λ c. search needs) returns
-    add-t21 (λ c κs. search needs) (λ c. search needs) (λ c κs. search needs) (λ c. search needs) returns-2 (λ c. search needs) returns-3)
+    tie.close (tie.spec (λ c κs. search rules) (λ c. search rules) sub-left (λ c. search rules) (λ c κs. search rules) (λ c. search rules) returns
+    add-t21 (λ c κs. search rules) (λ c. search rules) (λ c κs. search rules) (λ c. search rules) returns-2 (λ c. search rules) returns-3)

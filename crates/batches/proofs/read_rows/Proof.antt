@@ -1,5 +1,6 @@
 -- The position that was found has the same batches, so the call there answers for this one. Assumes nothing.
-use Rattle.format.proofs.Common.{◌≡◌, subst, needs}
+use mathlib.Core.Path.{◌≡◌, subst}
+use borrow.Author.Rules.{rules}
 use Rattle.batches.specs.BatchSteps.{Finds}
 use Rattle.batches.specs.declared.Sought.{Sought}
 use Rattle.batches.specs.declared.Sought.TheVariants as sought
@@ -33,7 +34,7 @@ returns : tie.Need-returns
 returns c =
     let m = c.before in
     let a = (entry m.before.before).args in
-    answered-refused a.input.now a.from a.signed a.out.now _ ((refused-is m).refused a.signed _)
+    answered-refused a.input.now a.from a.signed a.out.now _ (refused-is m a.signed _)
 
 returns-2 : tie.Need-returns-2
 returns-2 c =
@@ -44,12 +45,12 @@ returns-3 : tie.Need-returns-3
 returns-3 c =
     let m = c.before.before.before.before in
     let a = (entry m.before.before).args in
-    let (holds, past, same) = within-is m in
+    let (holds, same) = within-is m in
     answered-there same
     (answered-rows a.input.now m.p.given.0.0 a.signed a.out.now c.before.read-within.ensures
     (some-given a.signed _ holds))
 
 pub read-rows-spec : {M : Type 1} → statement M
 read-rows-spec =
-    tie.close (tie.spec (λ c κs. search needs) (λ c. search needs) (λ c. search needs) (λ c κs. search needs) (λ c. search needs)
-    read-within-requires returns (λ c. search needs) returns-2 (λ c. search needs) returns-3)
+    tie.close (tie.spec (λ c κs. search rules) (λ c. search rules) (λ c. search rules) (λ c κs. search rules) (λ c. search rules)
+    read-within-requires returns (λ c. search rules) returns-2 (λ c. search rules) returns-3)

@@ -1,6 +1,12 @@
 -- Each turn reads one run more into its places, so the rows so far and the batch that is still to come are the whole; a turn that reads
 -- none ends it. Assumes nothing.
-use Rattle.format.proofs.Common.{◌≡◌, ◌∙◌, ap, subst, ◌-◌, ◌≤◌, arith, List, ◌++◌, length, take, drop, ℤ, needs}
+use mathlib.Core.Path.{◌≡◌, ◌∙◌, ap, subst}
+use Prim.Native.Nat.{◌-◌, ◌≤◌}
+use native.Mathlib.Omega.{arith}
+use mathlib.Core.List.{List, ◌++◌}
+use lib.ListN.{length, take, drop}
+use lib.IntN.{ℤ}
+use borrow.Author.Rules.{rules}
 use Rattle.format.specs.declared.Answer.{Answer}
 use Rattle.format.specs.declared.Answer.TheVariants as answer
 use Rattle.format.specs.Digits.{AllBelow}
@@ -160,7 +166,7 @@ returns-2 : tie.Need-returns-2 invariant-loop decreases-loop
 returns-2 c =
     let m = c.before.before.before.before in
     let z : m.a2.given.0.0.number ≡ 8 → ⊥ = λ e. omega (arith, e) in
-    rw (c.up_to_lem.ensures, refused-same m) (walked-broken (at-loop (refused-call m)).loop.inv (refused-is m) z)
+    rw (c.up_to.ensures, refused-same m) (walked-broken (at-loop (refused-call m)).loop.inv (refused-is m) z)
 
 returns-3 : tie.Need-returns-3 invariant-loop decreases-loop
 returns-3 c =
@@ -175,10 +181,10 @@ returns-4 c =
 pub read-runs-spec : {M : Type 1} → statement M
 read-runs-spec =
     tie.close (tie.spec invariant-loop decreases-loop (λ c. walked-first _ _ _ _) (λ c. omega arith) (λ c. omega arith) (λ c. omega arith)
-    (λ c. omega arith) (λ c κs. search needs) (λ c. search needs) add-k add-p loop-less loop-again (λ c. search needs) mul-read-part
-    (λ c. within c.before.before.before) (λ c. within c.before.before.before) (λ c. search needs) read-part-requires
-    after-requires same_length returns (λ c κs. search needs)
+    (λ c. omega arith) (λ c κs. search rules) (λ c. search rules) add-k add-p loop-less loop-again (λ c. search rules) mul-read-part
+    (λ c. within c.before.before.before) (λ c. within c.before.before.before) (λ c. search rules) read-part-requires
+    after-requires same_length returns (λ c κs. search rules)
     (λ c. let m = c.before.before.before.before in
-    ap length (refused-same m) ∙ (at-loop (refused-call m)).loop.inv.long) returns-2 (λ c. search needs) (λ c κs. search needs)
-    (λ c. ap length (ended_same c.before) ∙ (at-loop (ended-call c.before)).loop.inv.long) returns-3 (λ c κs. search needs)
+    ap length (refused-same m) ∙ (at-loop (refused-call m)).loop.inv.long) returns-2 (λ c. search rules) (λ c κs. search rules)
+    (λ c. ap length (ended_same c.before) ∙ (at-loop (ended-call c.before)).loop.inv.long) returns-3 (λ c κs. search rules)
     (λ c. c.before.before.loop.invariant.long) returns-4)

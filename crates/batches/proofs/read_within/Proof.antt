@@ -1,5 +1,10 @@
 -- The run's own part fills the places, or the batch of the runs after it follows in those that are left. Assumes nothing.
-use Rattle.format.proofs.Common.{◌≡◌, ◌≢◌, ◌≤◌, arith, length, drop, needs}
+use mathlib.Core.Path.{◌≡◌}
+use mathlib.Core.Logic.{◌≢◌}
+use Prim.Native.Nat.{◌≤◌}
+use native.Mathlib.Omega.{arith}
+use lib.ListN.{length, drop}
+use borrow.Author.Rules.{rules}
 use Rattle.format.specs.Digits.{AllBelow}
 use Rattle.format.proofs.Below.{below_all}
 use Rattle.util.proofs.Grow.{rest-is}
@@ -77,6 +82,6 @@ returns-3 c =
 
 pub read-within-spec : {M : Type 1} → statement M
 read-within-spec =
-    tie.close (tie.spec (λ c κs. search needs) returns (λ c κs. search needs) (λ c. search needs) returns-2 mul-read-runs
-    (λ c. omega (arith, some c.before)) (λ c. omega (arith, some c.before)) (λ c. search needs) (λ c κs. search needs) after-requires
-    (λ c. search needs) returns-3)
+    tie.close (tie.spec (λ c κs. search rules) returns (λ c κs. search rules) (λ c. search rules) returns-2 mul-read-runs
+    (λ c. omega (arith, some c.before)) (λ c. omega (arith, some c.before)) (λ c. search rules) (λ c κs. search rules) after-requires
+    (λ c. search rules) returns-3)

@@ -1,5 +1,7 @@
 -- Each turn passes one run more, so the position that is reached is always one of the same row. Assumes nothing.
-use Rattle.format.proofs.Common.{◌≡◌, refl, subst, arith, needs}
+use mathlib.Core.Path.{◌≡◌, refl, subst}
+use native.Mathlib.Omega.{arith}
+use borrow.Author.Rules.{rules}
 use Rattle.format.specs.declared.Answer.{Answer}
 use Rattle.format.specs.declared.Answer.TheVariants as answer
 use Rattle.format.proofs.Below.{below_all}
@@ -24,15 +26,21 @@ at-loop x = x.before.before
 abbrev entry : tie.At-loop invariant-loop decreases-loop → tie.Start invariant-loop decreases-loop
 entry t = t.before.before.before.before
 
--- .. the measure, if it gave a run
+-- .. and the measure, by its three answers
 abbrev ran_call : tie.After-a invariant-loop decreases-loop → tie.After-measure invariant-loop decreases-loop
 ran_call m = m.before.before
+
+abbrev refused-call : tie.After-a2 invariant-loop decreases-loop → tie.After-measure invariant-loop decreases-loop
+refused-call m = m.before.before
+
+abbrev ended-call : tie.After-enum-told invariant-loop decreases-loop → tie.After-measure invariant-loop decreases-loop
+ended-call m = m.before.before
 
 -- the run, once its rows and bytes are known
 abbrev of-run : tie.After-struct-known invariant-loop decreases-loop → tie.After-a invariant-loop decreases-loop
 of-run k = k.before.before.before.before
 
--- ---- what a turn's measure says
+-- ---- what a turn's measure says, and its three cases
 
 abbrev StepAt : tie.At-loop invariant-loop decreases-loop → Answer → Type 0
 StepAt t = Step (entry t).args.input.now t.loop.place
@@ -47,14 +55,19 @@ there x =
 ran-is : (m : tie.After-a invariant-loop decreases-loop) → StepAt (at-loop (ran_call m)) (answer.Run m.a.given.0.0)
 ran-is m = subst (StepAt (at-loop (ran_call m))) m.a.given.1 (there (ran_call m))
 
+refused-is : (m : tie.After-a2 invariant-loop decreases-loop) → StepAt (at-loop (refused-call m)) (answer.Refused m.a2.given.0.0)
+refused-is m = subst (StepAt (at-loop (refused-call m))) m.a2.given.1 (there (refused-call m))
+
+ended_is : (m : tie.After-enum-told invariant-loop decreases-loop) → StepAt (at-loop (ended-call m)) answer.End
+ended_is m = subst (StepAt (at-loop (ended-call m))) m.enum_told.given.1 (there (ended-call m))
+
 -- ---- a turn
 
 returns : tie.Need-returns invariant-loop decreases-loop
 returns c =
     let m = of-run c.before in
     let o = ran-is m in
-    let turn = (ran_call m).before in
-    (record { run = o.run; stands = o.stands; skips = omega (arith, o.rows_are) }, turn.loop-test.taken, turn.before.loop.inv)
+    (record { run = o.run; stands = o.stands; skips = omega (arith, o.rows_are) }, (at-loop (ran_call m)).loop.inv)
 
 add-place : tie.Need-overflow-add-place invariant-loop decreases-loop
 add-place c =
@@ -72,15 +85,12 @@ loop-again c =
     passed (at-loop (ran_call m)).loop.inv (ran-is m) (omega arith)
 
 returns-2 : tie.Need-returns-2 invariant-loop decreases-loop
-returns-2 c =
-    let x = c.before.before.before in
-    refused-there (at-loop x).loop.invariant (subst (StepAt (at-loop x)) c.before.a2.given.1 (there x)) x.before.loop-test.true
+returns-2 c = let m = c.before in refused-there (at-loop (refused-call m)).loop.inv (refused-is m)
 
 returns-3 : tie.Need-returns-3 invariant-loop decreases-loop
 returns-3 c =
-    let x = c.before.before.before in
-    let ended = subst (StepAt (at-loop x)) c.before.enum_told.given.1 (there x) in
-    rw c.new.ensures (no-such-row (at-loop x).loop.invariant ended x.before.loop-test.true)
+    let m = c.before in
+    rw c.new.ensures (no-such-row (at-loop (ended-call m)).loop.inv (ended_is m) (ended-call m).before.loop-test.true)
 
 -- ---- no row is left to skip
 
@@ -91,5 +101,5 @@ returns-4 c =
 
 pub seek-spec : {M : Type 1} → statement M
 seek-spec =
-    tie.close (tie.spec invariant-loop decreases-loop (λ c. record { same = λ signed n. refl; enough = refl; place = refl }) (λ c κs. search needs)
-    (λ c. search needs) returns add-place loop-less loop-again (λ c. search needs) returns-2 (λ c. search needs) (λ c κs. search needs) returns-3 returns-4)
+    tie.close (tie.spec invariant-loop decreases-loop (λ c. record { same = λ signed n. refl }) (λ c κs. search rules) (λ c. search rules) returns
+    add-place loop-less loop-again (λ c. search rules) returns-2 (λ c. search rules) (λ c κs. search rules) returns-3 returns-4)

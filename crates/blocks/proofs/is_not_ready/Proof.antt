@@ -1,5 +1,5 @@
 -- Both numbers that are looked for are small, so the bits of a negative error are neither. Assumes nothing.
-use Rattle.format.proofs.Common.{◌≡◌, arith, w32, of_z, SFits, eqb, ℤ, pos, negsuc, eq-eqb, ne_eqb}
+use Rattle.std.proofs.Common.{◌≡◌, eqb, ℤ, pos, negsuc, arith, w32, SFits, of_z, eq-eqb, ne_eqb}
 use Rattle.blocks.specs.Blocks.{not_ready}
 use Rattle.blocks.proofs.is_not_ready.Statement.{statement}
 use Rattle.blocks.proofs.is_not_ready.Tie as tie

@@ -1,5 +1,5 @@
 -- Each turn moves one byte to the front: the first i are moved, and the others are as they were. Assumes nothing.
-use Rattle.format.proofs.Common.{◌≡◌, refl, ◌∙◌, ◌+◌, ◌-◌, ◌<◌, ◌≤◌, arith, needs, length, take, drop, length-set}
+use Rattle.std.proofs.Common.{◌≡◌, ◌+◌, ◌-◌, ◌<◌, ◌≤◌, length, take, drop, refl, ◌∙◌, arith, length-set, rules}
 use Rattle.util.proofs.Grow.{kept as unmoved}
 use Rattle.blocks.proofs.Moves.{moved_front, kept-count, kept-front}
 use Rattle.blocks.proofs.keep.Statement.{statement}
@@ -37,5 +37,5 @@ returns c =
 
 pub keep_spec : {M : Type 1} → statement M
 keep_spec =
-    tie.close (tie.spec invariant-loop decreases-loop (λ c. omega arith) (λ c κs. search needs) (λ c. (omega arith, refl, refl, refl)) (λ c. omega arith) (λ c. omega arith)
+    tie.close (tie.spec invariant-loop decreases-loop (λ c. omega arith) (λ c κs. search rules) (λ c. (omega arith, refl, refl, refl)) (λ c. omega arith) (λ c. omega arith)
     (λ c. omega arith) (λ c. omega arith) (λ c. omega arith) loop-again (λ c. c.before.loop.invariant.1) returns)

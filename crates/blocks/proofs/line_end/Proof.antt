@@ -1,5 +1,5 @@
 -- Each turn passes one byte that is no newline: the line ends where the one from i on does. Assumes nothing.
-use Rattle.format.proofs.Common.{◌≡◌, refl, ◌+◌, ◌-◌, arith, length, drop, length-drop}
+use Rattle.std.proofs.Common.{◌≡◌, ◌+◌, ◌-◌, length, drop, refl, arith, length-drop}
 use Rattle.blocks.specs.Blocks.{line_length}
 use Rattle.blocks.proofs.Lines.{line-le, newline-here, newline-later}
 use Rattle.blocks.proofs.line_end.Statement.{statement}

@@ -1,10 +1,11 @@
 -- What is kept stands at the front and leaves room; the system reads into the rest, and the bytes counted are those that it says came. Assumes
 -- nothing.
-use Rattle.format.proofs.Common.{◌≡◌, ap, ◌∙◌, ℕ, ◌+◌, ◌-◌, arith, w64, to_z, of_z, to_z-of_z, length, take, drop, needs, sfits_of}
+use Rattle.std.proofs.Common.{◌≡◌, ℕ, ◌+◌, ◌-◌, length, take, drop, ap, ◌∙◌, arith, to_z-of_z, w64, to_z, of_z, rules}
+use borrow.Author.Rules.{sfits_of}
 use Rattle.libc.specs.Io.{Moved}
 use Rattle.blocks.specs.Blocks.{came, part, Kept}
 use Rattle.blocks.proofs.Moves.{part-le, kept-clamped}
-use Rattle.blocks.proofs.BlockReads.{kept-le, came-is, held-le, room-is, stop_le, front-is}
+use Rattle.blocks.proofs.Turns.{kept-le, came-is, held-le, room-is, stop_le, front-is}
 use Rattle.blocks.proofs.read_on.Statement.{statement}
 use Rattle.blocks.proofs.read_on.Tie as tie
 
@@ -73,7 +74,7 @@ returns c =
 
 pub read-on-spec : {M : Type 1} → statement M
 read-on-spec =
-    tie.close (tie.spec (λ c κs. search needs) (λ c κs. search needs)
-    (λ c κs. omega (arith, c.least2.ensures, c.before.before.least.ensures)) sub_read part-read-start (λ c. search needs)
-    (λ c κs. search needs) sub-count part-count-start (λ c. search needs)
-    (λ c κs. search needs) (λ c. search needs) (λ c. search needs) returns)
+    tie.close (tie.spec (λ c κs. search rules) (λ c κs. search rules)
+    (λ c κs. omega (arith, c.least2.ensures, c.before.before.least.ensures)) sub_read part-read-start (λ c. search rules)
+    (λ c κs. search rules) sub-count part-count-start (λ c. search rules)
+    (λ c κs. search rules) (λ c. search rules) (λ c. search rules) returns)

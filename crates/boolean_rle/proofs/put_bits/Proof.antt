@@ -1,5 +1,8 @@
 -- Each turn stores one bit more of those after the skipped. Assumes nothing.
-use Rattle.format.proofs.Common.{◌≡◌, refl, ◌+◌, ◌-◌, ◌≤◌, ◌<◌, arith, length, drop, length-drop, length-set}
+use mathlib.Core.Path.{◌≡◌, refl}
+use Prim.Native.Nat.{◌+◌, ◌-◌, ◌≤◌, ◌<◌}
+use native.Mathlib.Omega.{arith}
+use lib.ListN.{length, drop, length-drop, length-set}
 use Rattle.format.specs.Digits.{digits}
 use Rattle.format.proofs.Digits.{length_digits}
 use Rattle.boolean_rle.specs.Found.{Wrote}

@@ -1,6 +1,9 @@
 -- Each turn stores one byte of the number in which the bits are spread, so that the bits after the first j are the bytes left of it.
 -- Assumes nothing.
-use Rattle.format.proofs.Common.{◌≡◌, refl, ◌+◌, ◌-◌, ◌≤◌, ◌<◌, arith, length, length-set}
+use mathlib.Core.Path.{◌≡◌, refl}
+use Prim.Native.Nat.{◌+◌, ◌-◌, ◌≤◌, ◌<◌}
+use native.Mathlib.Omega.{arith}
+use lib.ListN.{length, length-set}
 use Rattle.format.specs.Digits.{digits}
 use Rattle.format.proofs.Digits.{length_digits}
 use Rattle.boolean_rle.specs.Found.{Wrote}

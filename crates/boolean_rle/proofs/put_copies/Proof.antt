@@ -1,5 +1,8 @@
 -- Each turn lays down the bits of one copy more. Assumes nothing.
-use Rattle.format.proofs.Common.{◌≡◌, refl, ◌∙◌, ◌+◌, ◌-◌, ◌*◌, ◌≤◌, ◌<◌, arith, length, replicate, length-replicate, get_or-replicate}
+use mathlib.Core.Path.{◌≡◌, refl, ◌∙◌}
+use Prim.Native.Nat.{◌+◌, ◌-◌, ◌*◌, ◌≤◌, ◌<◌}
+use native.Mathlib.Omega.{arith}
+use lib.ListN.{length, replicate, length-replicate, get_or-replicate}
 use Rattle.format.specs.Booleans.{bits}
 use Rattle.boolean_rle.specs.Found.{Wrote}
 use Rattle.boolean_rle.proofs.RunBytes.{wrote_none, byte_more}

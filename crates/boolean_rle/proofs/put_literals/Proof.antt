@@ -1,6 +1,9 @@
 -- Each turn lays down the bits of one byte more. Assumes nothing.
-use Rattle.format.proofs.Common.{◌≡◌, refl, ◌∙◌, ◌+◌, ◌-◌, ◌*◌, ◌≤◌, ◌<◌, arith, length, get_or, take, drop, length-drop, length-take-le}
-use Rattle.format.proofs.Common.{get_or-take, get_or-drop}
+use mathlib.Core.Path.{◌≡◌, refl, ◌∙◌}
+use Prim.Native.Nat.{◌+◌, ◌-◌, ◌*◌, ◌≤◌, ◌<◌}
+use native.Mathlib.Omega.{arith}
+use lib.ListN.{length, get_or, take, drop, length-drop}
+use lib.Seq.{length-take-le, get_or-take, get_or-drop}
 use Rattle.format.specs.Booleans.{bits}
 use Rattle.boolean_rle.specs.Found.{Wrote}
 use Rattle.boolean_rle.proofs.RunBytes.{wrote_none, byte_more}

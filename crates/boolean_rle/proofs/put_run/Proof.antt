@@ -1,16 +1,15 @@
 -- The places from k up to n are those of whole bytes, and then of the first bits of one byte; or the run has no more. Assumes nothing.
-use Rattle.format.proofs.Common.{◌≡◌, sym, ◌+◌, ◌-◌, ◌*◌, ◌/◌, ◌%◌, ◌<◌, arith, length, drop, get_or, length-drop, get_or-drop, needs}
+use mathlib.Core.Path.{◌≡◌, sym}
+use Prim.Native.Nat.{◌+◌, ◌-◌, ◌*◌, ◌/◌, ◌%◌, ◌<◌}
+use native.Mathlib.Omega.{arith}
+use lib.ListN.{length, drop, get_or, length-drop}
+use lib.Seq.{get_or-drop}
 use Rattle.format.specs.Booleans.{byte_run}
 use Rattle.boolean_rle.specs.Found.{bytes_at}
 use Rattle.boolean_rle.proofs.RunBytes.{length-bytes, byte_more}
+use borrow.Author.Rules.{rules}
 use Rattle.boolean_rle.proofs.put_run.Statement.{statement}
 use Rattle.boolean_rle.proofs.put_run.Tie as tie
-
--- the run stands for as many bytes as was found
-many : (entry : tie.Start) → let a = entry.args in length (bytes_at a.input.now a.at) ≡ a.run.count
-many entry =
-    let a = entry.args in
-    length-bytes (length a.input.now) (byte_run (drop a.at a.input.now)) a.run entry.requires.0
 
 returns-2 : tie.Need-returns-2
 returns-2 c =
@@ -23,7 +22,9 @@ returns-2 c =
     let all = bytes_at a.input.now a.at in
     let bs = drop a.skip all in
     let whole = (a.n - a.k) / 8 in
-    let there : whole < length bs = rw length-drop (omega (arith, many entry)) in
+    let there : whole < length bs =
+    rw length-drop
+    (omega (arith, length-bytes (length a.input.now) (byte_run (drop a.at a.input.now)) a.run entry.requires.0)) in
     let byte-is : get_or all (a.skip + whole) 0 ≡ get_or bs whole 0 = sym (get_or-drop a.skip all whole 0) in
     let up-to-n : a.k + 8 * whole + (a.n - a.k) % 8 ≡ a.n = omega arith in (
       omega arith,
@@ -33,9 +34,8 @@ returns-2 c =
 
 pub put-run-spec : {M : Type 1} → statement M
 put-run-spec =
-    tie.close (tie.spec (λ c. search needs) (λ c κs. search needs)
-    (λ c κs. let tested = c.before.before in omega (arith, many tested.before.before.before))
-    (λ c. search needs) (λ c. search needs) (λ c. search needs) (λ c. search needs)
-    (λ c κs. let tested = c.before.before in omega (arith, many tested.before.before.before)) (λ c. search needs)
-    (λ c κs. let tested = c.before.before.before.before.before in omega (arith, many tested.before.before.before))
-    (λ c. search needs) (λ c. search needs) (λ c. search needs) (λ c κs. search needs) (λ c. search needs) returns-2)
+    tie.close (tie.spec (λ c. search rules) (λ c κs. search rules) (λ c κs. search rules) (λ c. search rules) (λ c. search rules)
+    (λ c. search rules) (λ c. search rules)
+    (λ c κs. search rules) (λ c. search rules) (λ c κs. search rules) (λ c. search rules) (λ c. search rules) (λ c. search rules)
+    (λ c κs. search rules)
+    (λ c. search rules) returns-2)

@@ -1,9 +1,14 @@
 -- By what the first pass finds: a cut is refused with its field, and if all runs are there, so are the booleans. Assumes nothing.
-use Rattle.format.proofs.Common.{◌≡◌, sym, ◌∙◌, List, ℕ, arith, length, drop, needs}
+use mathlib.Core.Path.{◌≡◌, sym, ◌∙◌}
+use mathlib.Core.List.{List}
+use Prim.Native.Nat.{ℕ}
+use native.Mathlib.Omega.{arith}
+use lib.ListN.{length, drop}
 use Rattle.format.specs.Booleans.{booleans}
 use Rattle.boolean_rle.specs.declared.Span.TheVariants as span
 use Rattle.boolean_rle.specs.Found.{span_of}
 use Rattle.boolean_rle.proofs.SecondPass.{reads-cut, reads-8, reads-room, reads_all}
+use borrow.Author.Rules.{rules}
 use Rattle.boolean_rle.proofs.read_booleans.Statement.{statement}
 use Rattle.boolean_rle.proofs.read_booleans.Tie as tie
 
@@ -58,5 +63,5 @@ returns-3 c =
 
 pub read-booleans-spec : {M : Type 1} → statement M
 read-booleans-spec =
-    tie.close (tie.spec (λ c κs. search needs) (λ c. search needs) (λ c. search needs) (λ c κs. search needs)
-    (λ c κs. search needs) returns (λ c κs. search needs) returns-2 put-booleans-requires (λ c κs. search needs) (λ c. search needs) returns-3)
+    tie.close (tie.spec (λ c κs. search rules) (λ c. search rules) (λ c. search rules) (λ c κs. search rules)
+    (λ c κs. search rules) returns (λ c κs. search rules) returns-2 put-booleans-requires (λ c κs. search rules) (λ c. search rules) returns-3)

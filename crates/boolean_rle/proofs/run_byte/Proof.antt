@@ -1,31 +1,40 @@
--- The byte is a part of its run: it stands where the control says. Assumes nothing.
-use Rattle.format.proofs.Common.{arith, sym, ap, ◌∙◌, List, ℕ, ◌+◌, get_or}
-use Rattle.boolean_rle.specs.Found.{bytes_at}
-use Rattle.boolean_rle.proofs.RunParts.{PartOf, part, head-is}
+-- `boolean_rle::run_byte` meets its contract: a run's byte stands where its control says. Assumes nothing.
+use native.Mathlib.Omega.{arith}
+use lib.ListN.{drop}
+use Rattle.format.specs.Booleans.{byte_run}
+use Rattle.boolean_rle.specs.Found.{run_bytes_in}
+use Rattle.boolean_rle.proofs.FirstPass.{here}
+use Rattle.boolean_rle.proofs.RunBytes.{bytes-are, ByteAt, byte-at}
 use Rattle.boolean_rle.proofs.run_byte.Statement.{statement}
 use Rattle.boolean_rle.proofs.run_byte.Tie as tie
 
 byte-is : (c : tie.After-shared-slice-known)
-    → let a = c.before.args in
-    PartOf a.input.now a.at a.i 1
-byte-is c = part (λ i. (c.shared-slice-known.given i).fits) (omega arith) (omega arith)
+    → ByteAt c.before.args.input.now c.before.args.at c.before.args.i (run_bytes_in (byte_run (drop c.before.args.at c.before.args.input.now)))
+byte-is c =
+    let a = c.before.args in
+    let (d, h) = here a.input.now a.at a.run (λ i. (c.shared-slice-known.given i).fits) c.before.requires.0 in
+    rw (bytes-are a.input.now a.at a.run d h) (byte-at a.input.now a.at a.run d h a.i c.before.requires.1)
+
+add-result : tie.Need-overflow-add-result
+add-result c = omega (arith, (byte-is c.before).there)
+
+shared-slice-read-result : tie.Need-shared-slice-read-result
+shared-slice-read-result c = ((byte-is c.before.before).copied c.before.if1.true).0
 
 returns : tie.Need-returns
-returns c =
-    let a = c.before.before.before.args in
-    let copied = ((byte-is c.before.before).copied c.before.if1.true).1 in
-    sym (ap (λ (x : List ℕ). get_or x 0 0) copied) ∙ head-is (bytes_at a.input.now a.at) a.i
+returns c = ((byte-is c.before.before).copied c.before.if1.true).1
+
+add-result-2 : tie.Need-overflow-add-result-2
+add-result-2 c = omega (arith, (byte-is c.before).there)
+
+add-result-3 : tie.Need-overflow-add-result-3
+add-result-3 c = omega (arith, ((byte-is c.before).literal c.if1.false).0)
+
+shared-slice-read-result-2 : tie.Need-shared-slice-read-result-2
+shared-slice-read-result-2 c = ((byte-is c.before.before).literal c.before.if1.false).0
 
 returns-2 : tie.Need-returns-2
-returns-2 c =
-    let a = c.before.before.before.args in
-    let literal = ((byte-is c.before.before).literal c.before.if1.false).1 in
-    sym (ap (λ (x : List ℕ). get_or x 0 0) literal ∙ head-is a.input.now (a.at + 1 + a.i))
-    ∙ head-is (bytes_at a.input.now a.at) a.i
+returns-2 c = ((byte-is c.before.before).literal c.before.if1.false).1
 
 pub run-byte-spec : {M : Type 1} → statement M
-run-byte-spec =
-    tie.close (tie.spec (λ c. (byte-is c).there) (λ c. omega (arith, (byte-is c.before).there))
-    (λ c. ((byte-is c.before.before).copied c.before.if1.true).0) returns (λ c. omega (arith, (byte-is c.before).there))
-    (λ c. omega (arith, ((byte-is c.before).literal c.if1.false).0))
-    (λ c. omega (arith, ((byte-is c.before.before).literal c.before.if1.false).0)) returns-2)
+run-byte-spec = tie.close (tie.spec (λ c. (byte-is c).there) add-result shared-slice-read-result returns add-result-2 add-result-3 shared-slice-read-result-2 returns-2)

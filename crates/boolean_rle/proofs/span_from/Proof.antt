@@ -1,6 +1,9 @@
--- Each turn passes a run: what the whole takes is what was passed, up to `end`, and what the `left` bytes take that are still needed.
--- Assumes nothing.
-use Rattle.format.proofs.Common.{◌≡◌, sym, ◌∙◌, le_refl, add-zero, arith, needs, length, drop, length-drop}
+-- `boolean_rle::span_from` meets its contract. The loop's invariant: the runs up to `end` are passed, and `left` bytes are still needed. Assumes nothing.
+use mathlib.Core.Path.{◌≡◌, sym, ◌∙◌}
+use native.Mathlib.Nat.{le_refl, add-zero}
+use native.Mathlib.Omega.{arith}
+use borrow.Author.Rules.{rules}
+use lib.ListN.{length, drop, length-drop}
 use Rattle.format.specs.Booleans.{ByteRun, joined_runs, booleans}
 use Rattle.format.proofs.ByteRuns.{runs_none}
 use Rattle.boolean_rle.specs.Found.{span_of}
@@ -41,9 +44,9 @@ loop-less c = omega (arith, (run-here c.before).1.some)
 
 loop-again : tie.Need-loop-preserved invariant-loop decreases-loop
 loop-again c =
-    let known = c.before in
-    let h = run-here known in
-    let l = known.before.before.before.before.before.before in
+    let back-6 = c.before.before.before.before.before.before in
+    let h = run-here c.before in
+    let l = back-6.before in
     rw c.less.ensures
     (pass l.before.before.before.args.input.now _ _ l.loop.end l.loop.left _ h.0 h.1 (omega arith) l.loop.invariant)
 
@@ -54,8 +57,7 @@ returns c =
     let l = r.before.before.loop in
     let i = l.invariant.1 in
     let s = r.before.before.before.before.before.args.input.now in
-    sym (i.2 ∙ rw (span-cut (length s) i.0 l.left (drop l.end s) b.number.given.0.0 b.number.given.0.1.0
-    r.before.loop-test.true (rw length-drop i.1) (sym r.run_at.ensures ∙ b.number.given.1)))
+    sym (i.2 ∙ rw (span-cut (length s) i.0 l.left (drop l.end s) b.number.given.0.0 b.number.given.0.1.0 r.before.loop-test.true (rw length-drop i.1) (sym r.run_at.ensures ∙ b.number.given.1)))
 
 returns-2 : tie.Need-returns-2 invariant-loop decreases-loop
 unfolding joined_runs
@@ -67,6 +69,5 @@ returns-2 c =
 
 pub span-from-spec : {M : Type 1} → statement M
 span-from-spec =
-    tie.close (tie.spec invariant-loop decreases-loop (λ c κs. tt) loop-holds (λ c κs. tt) (λ c. search needs) (λ c. omega (arith, (run-here c).1.inside))
-    (λ c κs. tt) loop-less
-    loop-again (λ c. search needs) returns (λ c. c.before.loop.invariant.0) returns-2)
+    tie.close (tie.spec invariant-loop decreases-loop (λ c κs. tt) loop-holds (λ c κs. tt) (λ c. search rules) (λ c. omega (arith, (run-here c).1.inside)) (λ c κs. tt) loop-less
+    loop-again (λ c. search rules) returns (λ c. c.before.loop.invariant.0) returns-2)

@@ -1,5 +1,6 @@
 -- How many rows are left, by where the row stands. Assumes nothing.
-use Rattle.format.proofs.Common.{needs, arith}
+use borrow.Author.Rules.{rules}
+use native.Mathlib.Omega.{arith}
 use Rattle.index.proofs.Lists.{too_many, so-many}
 use Rattle.index.proofs.left_from.Statement.{statement}
 use Rattle.index.proofs.left_from.Tie as tie
@@ -30,4 +31,4 @@ returns-5 c =
     so-many a.first.rows a.rows.rows a.row.rows a.places _ (omega arith) (omega arith)
 
 pub left-from-spec : {M : Type 1} → statement M
-left-from-spec = tie.close (tie.spec (λ c. search needs) returns returns-2 (λ c. search needs) returns-3 (λ c. search needs) returns-4 returns-5)
+left-from-spec = tie.close (tie.spec (λ c. search rules) returns returns-2 (λ c. search rules) returns-3 (λ c. search rules) returns-4 returns-5)

@@ -1,5 +1,7 @@
 -- Each test of the columns, in the order of the refusals. Assumes nothing.
-use Rattle.format.proofs.Common.{sym, ◌∙◌, needs, not-true, not-false}
+use mathlib.Core.Path.{sym, ◌∙◌}
+use borrow.Author.Rules.{rules}
+use borrow.Author.Tests.{not-true, not-false}
 use Rattle.index.proofs.LookUps.{unequal-offsets, unequal-counts, wrong-so, none_so, found-so}
 use Rattle.index.proofs.look_up.Statement.{statement}
 use Rattle.index.proofs.look_up.Tie as tie
@@ -46,7 +48,7 @@ returns-5 c =
 
 pub look-up-spec : {M : Type 1} → statement M
 look-up-spec =
-    tie.close (tie.spec (λ c κs. search needs) returns (λ c κs. search needs) returns-2 (λ c κs. search needs) (λ c κs. search needs) returns-3
-    (λ c κs. search needs)
-    (λ c κs. search needs) returns-4 (λ c. search needs) (λ c. search needs) (λ c. search needs) (λ c. search needs) (λ c. search needs) (λ c. search needs)
-    (λ c κs. search needs) returns-5)
+    tie.close (tie.spec (λ c κs. search rules) returns (λ c κs. search rules) returns-2 (λ c κs. search rules) (λ c κs. search rules) returns-3
+    (λ c κs. search rules)
+    (λ c κs. search rules) returns-4 (λ c. search rules) (λ c. search rules) (λ c. search rules) (λ c. search rules) (λ c. search rules) (λ c. search rules)
+    (λ c κs. search rules) returns-5)

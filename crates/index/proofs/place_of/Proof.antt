@@ -1,5 +1,9 @@
 -- Each turn passes one entry that does not hold the row. Assumes nothing.
-use Rattle.format.proofs.Common.{◌≡◌, ◌+◌, ◌-◌, ◌≤◌, arith, length, drop, needs}
+use mathlib.Core.Path.{◌≡◌}
+use Prim.Native.Nat.{◌+◌, ◌-◌, ◌≤◌}
+use native.Mathlib.Omega.{arith}
+use lib.ListN.{length, drop}
+use borrow.Author.Rules.{rules}
 use Rattle.index.specs.Walk.{place_of}
 use Rattle.index.proofs.Lists.{place-first, place_here, place-next, place_none}
 use Rattle.index.proofs.place_of.Statement.{statement}
@@ -39,5 +43,5 @@ returns-2 c =
 
 pub place-of-spec : {M : Type 1} → statement M
 place-of-spec =
-    tie.close (tie.spec invariant-loop decreases-loop (λ c. (omega arith, place-first _ _ _)) (λ c. search needs) (λ c. omega arith) (λ c. search needs) (λ c. omega arith)
-    (λ c κs. search needs) returns (λ c. omega arith) (λ c. omega arith) loop-again returns-2)
+    tie.close (tie.spec invariant-loop decreases-loop (λ c. (omega arith, place-first _ _ _)) (λ c. search rules) (λ c. omega arith) (λ c. search rules) (λ c. omega arith)
+    (λ c κs. search rules) returns (λ c. omega arith) (λ c. omega arith) loop-again returns-2)

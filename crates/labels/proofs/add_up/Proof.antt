@@ -1,7 +1,13 @@
 -- The lengths add up exactly if what is left of them does, with the sum so far. Assumes nothing.
-use Rattle.format.proofs.Common.{suc, ◌+◌, ◌≤◌, ◌-◌, ◌≡◌, sym, ◌∙◌, arith, List, length, drop, ℤ, needs}
+use Prim.Native.Nat.{suc, ◌+◌, ◌≤◌, ◌-◌}
+use mathlib.Core.Path.{◌≡◌, sym, ◌∙◌}
+use native.Mathlib.Omega.{arith}
+use mathlib.Core.List.{List}
+use lib.ListN.{length, drop}
+use lib.IntN.{ℤ}
+use borrow.Author.Rules.{rules}
 use Rattle.labels.specs.Labels.{add_up_to}
-use Rattle.labels.proofs.LabelSums.{left_over, begin, left-spoilt, left_passed, left_step, left-none}
+use Rattle.labels.proofs.Columns.{left_over, begin, left-spoilt, left_passed, left_step, left-none}
 use Rattle.labels.proofs.add_up.Statement.{statement}
 use Rattle.labels.proofs.add_up.Tie as tie
 
@@ -56,5 +62,5 @@ returns-3 c =
 
 pub add-up-spec : {M : Type 1} → statement M
 add-up-spec =
-    tie.close (tie.spec invariant-loop decreases-loop loop-holds (λ c κs. omega arith) (λ c. search needs) (λ c. search needs) returns
+    tie.close (tie.spec invariant-loop decreases-loop loop-holds (λ c κs. omega arith) (λ c. search rules) (λ c. search rules) returns
     (λ c. omega arith) returns-2 (λ c. omega arith) (λ c. omega arith) (λ c. omega arith) loop-again returns-3)

@@ -1,6 +1,13 @@
 -- An i64 is below 0, or the natural number that it is. Assumes nothing.
-use Rattle.format.proofs.Common.{◌≡◌, refl, Bool, true, false, arith, ℤ, pos, negsuc, w64, SFits, to_z, of_z, to_z-of_z, ltb-true}
+use mathlib.Core.Path.{◌≡◌, refl}
+use mathlib.Core.Bool.{Bool, true, false}
+use native.Mathlib.Omega.{arith}
+use lib.IntN.{ℤ, pos, negsuc}
 use lib.Signed.{lt_z}
+use mir.Syntax.{w64}
+use mir.Val.{SFits, to_z, of_z}
+use mir.Facts.{to_z-of_z}
+use borrow.Author.Tests.{ltb-true}
 use Rattle.format.specs.Rows.{as_u64}
 use Rattle.format.proofs.Patterns.{as-lt}
 use Rattle.format.proofs.Tests.{never}

@@ -1,5 +1,10 @@
 -- The entry read is the one at that place of the column. Assumes nothing.
-use Rattle.format.proofs.Common.{ap, ◌∙◌, ℤ, pos, get_or, w64, to_z-of_z, needs, sfits_of}
+use mathlib.Core.Path.{ap, ◌∙◌}
+use lib.IntN.{ℤ, pos}
+use lib.ListN.{get_or}
+use mir.Syntax.{w64}
+use mir.Facts.{to_z-of_z}
+use borrow.Author.Rules.{rules, sfits_of}
 use Rattle.labels.specs.Whole.{whole_of}
 use Rattle.labels.proofs.entry.Statement.{statement}
 use Rattle.labels.proofs.entry.Tie as tie
@@ -11,4 +16,4 @@ returns c =
     c.as-whole.ensures ∙ ap whole_of (to_z-of_z {w = w64} {z = z} (sfits_of c.before.as-whole-arg.given))
 
 pub entry_spec : {M : Type 1} → statement M
-entry_spec = tie.close (tie.spec (λ c. search needs) (λ c. search needs) (λ c κs. search needs) returns)
+entry_spec = tie.close (tie.spec (λ c. search rules) (λ c. search rules) (λ c κs. search rules) returns)

@@ -1,5 +1,7 @@
 -- The part of the flags that is lent is the flags before the row. Assumes nothing.
-use Rattle.format.proofs.Common.{sym, length-take-le, needs}
+use mathlib.Core.Path.{sym}
+use lib.Seq.{length-take-le}
+use borrow.Author.Rules.{rules}
 use Rattle.labels.specs.Labels.{entry_of}
 use Rattle.labels.proofs.entry_of.Statement.{statement}
 use Rattle.labels.proofs.entry_of.Tie as tie
@@ -14,4 +16,4 @@ unfolding entry_of
 returns c = c.count-present.ensures
 
 pub entry-of-spec : {M : Type 1} → statement M
-entry-of-spec = tie.close (tie.spec part-long (λ c κs. search needs) returns)
+entry-of-spec = tie.close (tie.spec part-long (λ c κs. search rules) returns)

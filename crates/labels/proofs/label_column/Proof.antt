@@ -1,5 +1,11 @@
 -- The code makes the definition's tests in the definition's order, and lays the three columns after all of them. Assumes nothing.
-use Rattle.format.proofs.Common.{◌≡◌, refl, sym, ap, ◌∙◌, ◌≤◌, true, arith, length, needs, not-true, not-false}
+use mathlib.Core.Path.{◌≡◌, sym, ap, ◌∙◌}
+use Prim.Native.Nat.{◌≤◌}
+use mathlib.Core.Bool.{true}
+use native.Mathlib.Omega.{arith}
+use lib.ListN.{length}
+use borrow.Author.Rules.{rules}
+use borrow.Author.Tests.{not-true, not-false}
 use Rattle.labels.specs.Labels.{add_up_to}
 use Rattle.labels.specs.Column.{LabelPlaces, good_rows, column_refused, row_refused, LabelledAll}
 use Rattle.labels.specs.declared.LabelColumn.{LabelColumn}
@@ -101,7 +107,7 @@ put-labels-requires c κs =
 
 returns-6 : tie.Need-returns-6
 returns-6 c =
-    let labels-put = c.before.before.before.before in
+    let labels-put = c.before.before.before.before.before in
     let offsets-put = labels-put.before.before.before.before.before.before in
     let roomy = offsets-put.before.before in
     let e = good-at roomy in
@@ -110,10 +116,10 @@ returns-6 c =
     lays_all a.flags.now a.numbers.now a.lengths.now a.block.bytes (lent s) _
     (comes-all a.flags.now a.numbers.now a.lengths.now a.block.bytes (lent s) (adds e) (good e)
     (enough-places a.flags.now a.lengths.now (lent s) (room roomy)))
-    refl _ _ _ offsets-put.put-offsets.ensures labels-put.put-labels.ensures
+    c.rows.ensures _ _ _ offsets-put.put-offsets.ensures labels-put.put-labels.ensures
 
 pub label-column-spec : {M : Type 1} → statement M
 label-column-spec =
-    tie.close (tie.spec (λ c κs. search needs) (λ c κs. search needs) returns (λ c κs. search needs) (λ c κs. search needs) returns-2
-    (λ c κs. search needs) returns-3 (λ c κs. search needs) returns-4 (λ c κs. search needs) returns-5 put-offsets-requires
-    put-labels-requires (λ c. search needs) (λ c. search needs) (λ c. search needs) returns-6)
+    tie.close (tie.spec (λ c κs. search rules) (λ c κs. search rules) returns (λ c κs. search rules) (λ c κs. search rules) returns-2
+    (λ c κs. search rules) returns-3 (λ c κs. search rules) returns-4 (λ c κs. search rules) returns-5 put-offsets-requires
+    put-labels-requires (λ c κs. search rules) (λ c. search rules) (λ c. search rules) (λ c. search rules) returns-6)

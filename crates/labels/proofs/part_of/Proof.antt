@@ -1,12 +1,16 @@
 -- A name lies in the block, since the lengths add up to it. Assumes nothing.
-use Rattle.format.proofs.Common.{arith, length, ◌+◌, ◌≤◌, sym, ap, ◌∙◌, add-sub_cancel_left, needs}
+use native.Mathlib.Omega.{arith}
+use lib.ListN.{length}
+use Prim.Native.Nat.{◌+◌, ◌≤◌}
+use mathlib.Core.Path.{sym, ap, ◌∙◌}
+use native.Mathlib.Nat.{add-sub_cancel_left}
 use Rattle.labels.specs.Labels.{part_of}
-use Rattle.labels.proofs.LabelSums.{name-inside}
+use Rattle.labels.proofs.Columns.{name-inside}
+use borrow.Author.Rules.{rules}
 use Rattle.labels.proofs.part_of.Statement.{statement}
 use Rattle.labels.proofs.part_of.Tie as tie
 
-inside-block : (c : tie.After-said)
-    → c.said.given.0.0.start.bytes + c.said.given.0.0.size.bytes ≤ length c.before.before.before.before.before.before.args.block.now
+inside-block : (c : tie.After-said) → c.said.given.0.0.start.bytes + c.said.given.0.0.size.bytes ≤ length c.before.before.before.before.before.before.args.block.now
 inside-block c = name-inside _ _ _ _ _ _ _ (sym c.before.before.label_of.ensures.answer ∙ c.said.given.1)
 
 add-to : tie.Need-overflow-add-to
@@ -35,6 +39,5 @@ returns-3 c =
 
 pub part-of-spec : {M : Type 1} → statement M
 part-of-spec =
-    tie.close (tie.spec (λ c κs. search needs) (λ c. search needs) add-to (λ c. search needs) (λ c. search needs) part-result-end returns
-    (λ c. search needs) returns-2
-    (λ c. search needs) (λ c. search needs) returns-3)
+    tie.close (tie.spec (λ c κs. search rules) (λ c. search rules) add-to (λ c. search rules) (λ c. search rules) part-result-end returns (λ c. search rules) returns-2
+    (λ c. search rules) (λ c. search rules) returns-3)

@@ -1,7 +1,10 @@
 -- The sum so far is where name i begins, and no sum passes the block. Assumes nothing.
-use Rattle.format.proofs.Common.{ℕ, suc, ◌+◌, ◌≤◌, ◌-◌, ◌≡◌, refl, sym, ap, ◌∙◌, arith, needs}
+use Prim.Native.Nat.{ℕ, suc, ◌+◌, ◌≤◌, ◌-◌}
+use mathlib.Core.Path.{◌≡◌, refl, sym, ap, ◌∙◌}
+use native.Mathlib.Omega.{arith}
+use borrow.Author.Rules.{rules}
 use Rattle.labels.specs.Labels.{start_of, total}
-use Rattle.labels.proofs.LabelSums.{adds-whole, adds-start, whole-size}
+use Rattle.labels.proofs.Columns.{adds-whole, adds-start, whole-size}
 use Rattle.labels.proofs.start_of.Statement.{statement}
 use Rattle.labels.proofs.start_of.Tie as tie
 
@@ -12,8 +15,8 @@ abbrev decreases-loop : tie.decreases-loop
 decreases-loop lengths block k sum₀ i₀ sum i = k - i
 
 -- the sum with the length that was read
-more : (c : tie.After-known-told invariant-loop decreases-loop) → let at-loop = c.before.before.before.before.before in
-    start_of at-loop.before.before.args.lengths.now (at-loop.loop.i + 1) ≡ at-loop.loop.sum + c.before.size.given.0.0
+more : (c : tie.After-known-told invariant-loop decreases-loop) → let back-6 = c.before.before.before.before.before.before in start_of back-6.before.args.lengths.now (c.before.before.before.before.before.loop.i + 1)
+    ≡ c.before.before.before.before.before.loop.sum + c.before.size.given.0.0
 more c =
     let e = c.before.before.before in
     let l = e.before.before.loop in
@@ -33,14 +36,13 @@ returns c =
 
 add-sum : tie.Need-overflow-add-sum invariant-loop decreases-loop
 add-sum c =
-    let at-loop = c.before.before.before.before.before in
-    omega (arith, more c, adds-start _ _ (at-loop.loop.i + 1) at-loop.before.before.requires.0)
+    let back-6 = c.before.before.before.before.before.before in
+    omega (arith, more c, adds-start _ _ (c.before.before.before.before.before.loop.i + 1) back-6.before.requires.0)
 
 returns-2 : tie.Need-returns-2 invariant-loop decreases-loop
 returns-2 c = let e : c.before.loop.i ≡ c.before.before.before.args.k = omega arith in c.before.loop.invariant.1 ∙ ap (start_of _) e
 
 pub start-of-spec : {M : Type 1} → statement M
 start-of-spec =
-    tie.close (tie.spec invariant-loop decreases-loop loop-holds (λ c κs. omega arith) (λ c. search needs) (λ c. search needs) returns add-sum (λ c. omega arith)
-    (λ c. omega arith)
+    tie.close (tie.spec invariant-loop decreases-loop loop-holds (λ c κs. omega arith) (λ c. search rules) (λ c. search rules) returns add-sum (λ c. omega arith) (λ c. omega arith)
     (λ c. (omega arith, sym (more c))) returns-2)

@@ -1,5 +1,7 @@
 -- Columns of different lengths are rejected; of equal lengths the walk answers. Assumes nothing.
-use Rattle.format.proofs.Common.{sym, ◌∙◌, needs, not-true, not-false}
+use mathlib.Core.Path.{sym, ◌∙◌}
+use borrow.Author.Rules.{rules}
+use borrow.Author.Tests.{not-true, not-false}
 use Rattle.planner.specs.Check.{proposal}
 use Rattle.planner.proofs.Checking.{unequal}
 use Rattle.planner.proofs.check.Statement.{statement}
@@ -12,6 +14,8 @@ returns c =
     unequal a.signed a.rows.now (proposal a.first.now a.counts.now a.forms.now a.widths.now a.bases.now) a.room.bytes
     (sym c.before.are-equal.ensures ∙ not-true _ c.if1.true)
 
+walk-requires : tie.Need-walk-requires
+walk-requires c κs = sym c.before.are-equal.ensures ∙ not-false _ c.if1.false
+
 pub check-spec : {M : Type 1} → statement M
-check-spec =
-    tie.close (tie.spec (λ c κs. search needs) returns (λ c κs. sym c.before.are-equal.ensures ∙ not-false _ c.if1.false) (λ c. search needs))
+check-spec = tie.close (tie.spec (λ c κs. search rules) returns walk-requires (λ c. search rules))

@@ -1,5 +1,8 @@
 -- What is proposed is passed on where it is sound, and else the direct runs are proposed. Assumes nothing.
-use Rattle.format.proofs.Common.{◌<◌, arith, length, needs}
+use Prim.Native.Nat.{◌<◌}
+use native.Mathlib.Omega.{arith}
+use lib.ListN.{length}
+use borrow.Author.Rules.{rules}
 use Rattle.planner.specs.Plan.{no_rows}
 use Rattle.planner.proofs.Proposing.{keeps, falls-back}
 use Rattle.planner.proofs.plan.Statement.{statement}
@@ -17,15 +20,18 @@ begun c =
 some-rows : (c : tie.After-sound) → 0 < length (begun c).before.before.before.before.before.before.args.rows.now
 some-rows c = omega (arith, (begun c).if1.false)
 
+returns-2 : tie.Need-returns-2
+returns-2 c = keeps _ _ _ _ (some-rows c.before) c.if2.true c.before.sound.ensures
+
 returns-3 : tie.Need-returns-3
 returns-3 c =
     let back = c.before.before.before.before.before in
     let laid = back.before.before.before.before.before in
     let checked = laid.before.before.before.before.before.before.before in
-    falls-back _ _ _ _ (some-rows checked) (laid.fall-back.ensures _)
+    falls-back _ _ _ _ (some-rows checked) (laid.propose2.ensures _)
 
 pub plan-spec : {M : Type 1} → statement M
 plan-spec =
-    tie.close (tie.spec (λ c. no_rows c.if1.true) (λ c κs. search needs) (λ c κs. search needs) (λ c. search needs) (λ c. search needs)
-    (λ c. search needs) (λ c. search needs) (λ c. search needs) (λ c. keeps _ _ _ _ (some-rows c.before) c.if2.true c.before.sound.ensures)
-    (λ c κs. search needs) (λ c. search needs) (λ c. search needs) (λ c. search needs) (λ c. search needs) (λ c. search needs) returns-3)
+    tie.close (tie.spec (λ c. no_rows c.if1.true) (λ c κs. search rules) (λ c κs. search rules) (λ c. search rules) (λ c. search rules) (λ c. search rules)
+    (λ c. search rules) (λ c. search rules) returns-2 (λ c κs. search rules) (λ c. search rules) (λ c. search rules) (λ c. search rules) (λ c. search rules)
+    (λ c. search rules) returns-3)

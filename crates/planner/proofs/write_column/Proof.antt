@@ -1,8 +1,13 @@
 -- The check's answer says which: the proposal's runs are written, or the direct runs if they have room, or nothing. Assumes nothing.
-use Rattle.format.proofs.Common.{◌≡◌, refl, sym, ◌∙◌, true, length, leb, needs, not-true, not-false, leb-true}
+use mathlib.Core.Path.{◌≡◌, refl, sym, ◌∙◌}
+use mathlib.Core.Bool.{true}
+use lib.ListN.{length}
+use lib.Dec.{leb}
+use borrow.Author.Rules.{rules}
+use borrow.Author.Tests.{not-true, not-false, leb-true}
 use Rattle.format.specs.Runs.{joined}
 use Rattle.planner.specs.Check.{proposal, wide}
-use Rattle.planner.proofs.ColumnPromise.{was-accepted, wide_test, wrote-planned, wrote-direct, wrote-eight}
+use Rattle.planner.proofs.Columns.{was-accepted, wide_test, wrote-planned, wrote-direct, wrote-eight}
 use Rattle.planner.proofs.write_column.Statement.{statement}
 use Rattle.planner.proofs.write_column.Tie as tie
 
@@ -61,5 +66,5 @@ returns-3 c =
 
 pub write-column-spec : {M : Type 1} → statement M
 write-column-spec =
-    tie.close (tie.spec (λ c κs. search needs) (λ c. search needs) planned-requires (λ c. search needs) (λ c κs. search needs) (λ c κs. search needs) returns
-    (λ c κs. leb-true _ _ (fits c.before)) (λ c. search needs) returns-2 (λ c. search needs) returns-3)
+    tie.close (tie.spec (λ c κs. search rules) (λ c. search rules) planned-requires (λ c. search rules) (λ c κs. search rules) (λ c κs. search rules) returns
+    (λ c κs. leb-true _ _ (fits c.before)) (λ c. search rules) returns-2 (λ c. search rules) returns-3)

@@ -1,5 +1,9 @@
 -- The rows found, and those that the flags left stand for, are always all. Assumes nothing.
-use Rattle.format.proofs.Common.{◌+◌, ◌≤◌, ◌-◌, ◌≡◌, arith, length, drop, get_or, needs}
+use Prim.Native.Nat.{◌+◌, ◌≤◌, ◌-◌}
+use mathlib.Core.Path.{◌≡◌}
+use native.Mathlib.Omega.{arith}
+use lib.ListN.{length, drop, get_or}
+use borrow.Author.Rules.{rules}
 use Rattle.present.specs.Present.{present}
 use Rattle.present.proofs.SpreadLoop.{at_most_one, count_next, count_none}
 use Rattle.present.proofs.count_present.Statement.{statement}
@@ -33,5 +37,5 @@ returns c =
 
 pub count-present-spec : {M : Type 1} → statement M
 count-present-spec =
-    tie.close (tie.spec invariant-loop decreases-loop (λ c. omega arith) (λ c. omega arith) (λ c κs. search needs) add-found (λ c. omega arith)
+    tie.close (tie.spec invariant-loop decreases-loop (λ c. omega arith) (λ c. omega arith) (λ c κs. search rules) add-found (λ c. omega arith)
     (λ c. omega arith) loop-again returns)

@@ -1,7 +1,15 @@
 -- Each turn of the first loop lays one row, there or missing; once the rows are used up, each turn of the second lays a missing one.
 -- Assumes nothing.
-use Rattle.format.proofs.Common.{◌-◌, ◌<◌, ◌≤◌, ◌≡◌, refl, ap, ◌∙◌, arith, List, length, get_or, length-set, ℤ, w64, to_z, of_z, to_z-of_z, needs}
-use Rattle.format.proofs.Common.{sfits_of}
+use Prim.Native.Nat.{◌-◌, ◌<◌, ◌≤◌}
+use mathlib.Core.Path.{◌≡◌, refl, ap, ◌∙◌}
+use native.Mathlib.Omega.{arith}
+use mathlib.Core.List.{List}
+use lib.ListN.{length, get_or, length-set}
+use lib.IntN.{ℤ}
+use mir.Syntax.{w64}
+use mir.Val.{to_z, of_z}
+use mir.Facts.{to_z-of_z}
+use borrow.Author.Rules.{rules, sfits_of}
 use Rattle.format.specs.Fields.{pick}
 use Rattle.present.specs.Present.{is_there}
 use Rattle.present.proofs.SpreadLoop.{at_most_one, row_at, row_read, SpreadSoFar, so-far-none, flag-left, so-far-next}
@@ -101,8 +109,8 @@ returns c =
 pub lay-spec : {M : Type 1} → statement M
 lay-spec =
     tie.close (tie.spec invariant-loop decreases-loop invariant-loop2 decreases-loop2 (λ c. so-far-none _ _ _ _) (λ c. has-flag c.before) (λ c. omega arith)
-    (λ c. omega arith) (λ c κs. search needs) (λ c. omega (arith, has-place c.before.before.before))
-    (λ c. has-place c.before.before.before) (λ c κs. search needs) add-next
+    (λ c. omega arith) (λ c κs. search rules) (λ c. omega (arith, has-place c.before.before.before))
+    (λ c. has-place c.before.before.before) (λ c κs. search rules) add-next
     (λ c. omega (arith, has-flag c.before.before.before.before.before))
     (λ c. omega (arith, has-flag c.before.before.before.before.before)) loop-again (λ c. (refl, λ entry l w. w))
     (λ c. omega (arith, has-place-2 c)) has-place-2 (λ c. omega arith) (λ c. omega arith) loop2-again same_length returns)

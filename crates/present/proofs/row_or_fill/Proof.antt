@@ -1,5 +1,14 @@
 -- A flag stands for one row or none, so the place looked up is 1, with the row, or 0, with the fill. Assumes nothing.
-use Rattle.format.proofs.Common.{ap, ap₂, ◌∙◌, ℕ, arith, [], ◌∷◌, get_or, ℤ, pos, w64, to_z, of_z, to_z-of_z, needs, sfits_of}
+use mathlib.Core.Path.{ap, ap₂, ◌∙◌}
+use Prim.Native.Nat.{ℕ}
+use native.Mathlib.Omega.{arith}
+use mathlib.Core.List.{[], ◌∷◌}
+use lib.ListN.{get_or}
+use lib.IntN.{ℤ, pos}
+use mir.Syntax.{w64}
+use mir.Val.{to_z, of_z}
+use mir.Facts.{to_z-of_z}
+use borrow.Author.Rules.{rules, sfits_of}
 use Rattle.format.specs.Fields.{pick}
 use Rattle.present.specs.Present.{is_there}
 use Rattle.present.proofs.SpreadLoop.{at_most_one, one-of-both}
@@ -22,4 +31,4 @@ returns c =
     ∙ ap₂ (λ (x y : ℤ). pick (is_there a.flag) x y) (to_z-of_z entry.ranges.row) (to_z-of_z entry.ranges.fill)
 
 pub row-or-fill-spec : {M : Type 1} → statement M
-row-or-fill-spec = tie.close (tie.spec (λ c κs. search needs) mul-result array-copy-out-result returns)
+row-or-fill-spec = tie.close (tie.spec (λ c κs. search rules) mul-result array-copy-out-result returns)

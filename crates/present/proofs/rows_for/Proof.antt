@@ -1,5 +1,10 @@
 -- A flag is below 256, so with 255 more it passes 256 exactly if it is not 0. Assumes nothing.
-use Rattle.format.proofs.Common.{◌≡◌, refl, ℕ, ◌+◌, ◌/◌, ◌<◌, arith, Bool, true, false, not, eqb, eqb-true, eqb-false}
+use mathlib.Core.Path.{◌≡◌, refl}
+use Prim.Native.Nat.{ℕ, ◌+◌, ◌/◌, ◌<◌}
+use native.Mathlib.Omega.{arith}
+use mathlib.Core.Bool.{Bool, true, false, not}
+use lib.Dec.{eqb}
+use borrow.Author.Tests.{eqb-true, eqb-false}
 use Rattle.format.specs.Fields.{pick}
 use Rattle.present.specs.Present.{rows_for}
 use Rattle.present.proofs.rows_for.Statement.{statement}

@@ -1,5 +1,7 @@
 -- The code makes the definition's two tests in the definition's order, and lays the column after both. Assumes nothing.
-use Rattle.format.proofs.Common.{refl, arith, to_z-of_z, needs}
+use native.Mathlib.Omega.{arith}
+use mir.Facts.{to_z-of_z}
+use borrow.Author.Rules.{rules}
 use Rattle.present.proofs.Calls.{leaves-21, leaves-8, lays}
 use Rattle.present.proofs.spread.Statement.{statement}
 use Rattle.present.proofs.spread.Tie as tie
@@ -17,14 +19,15 @@ returns-2 c =
 
 returns-3 : tie.Need-returns-3
 returns-3 c =
-    let laid = c.before in
+    let laid = c.before.before in
     let roomy = laid.before.before in
     let lined = roomy.before in
     let counted = lined.before.before in
     lays _ _ _ _ _ (omega (arith, counted.count-present.ensures, lined.if1.false)) roomy.if2.false _
-    (rw (to_z-of_z counted.before.before.ranges.fill) at laid.lay.ensures) refl
+    (rw (to_z-of_z counted.before.before.ranges.fill) at laid.lay.ensures) c.rows.ensures
 
 pub spread-spec : {M : Type 1} → statement M
 spread-spec =
-    tie.close (tie.spec (λ c κs. search needs) (λ c κs. search needs) returns (λ c κs. search needs) returns-2 (λ c κs. search needs)
-    (λ c. search needs) returns-3)
+    tie.close (tie.spec (λ c κs. search rules) (λ c κs. search rules) returns (λ c κs. search rules) returns-2 (λ c κs. search rules)
+    (λ c κs. search rules)
+    (λ c. search rules) returns-3)

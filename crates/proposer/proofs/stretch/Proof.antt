@@ -1,5 +1,6 @@
 -- `proposer::stretch` is safe and ends: a turn takes one row. Assumes nothing.
-use Rattle.format.proofs.Common.{◌-◌, needs}
+use Prim.Native.Nat.{◌-◌}
+use borrow.Author.Rules.{rules}
 use Rattle.proposer.proofs.stretch.Statement.{statement}
 use Rattle.proposer.proofs.stretch.Tie as tie
 
@@ -11,5 +12,5 @@ decreases-loop rows count step end i₀ i = end - i
 
 pub stretch-spec : {M : Type 1} → statement M
 stretch-spec =
-    tie.close (tie.spec invariant-loop decreases-loop (λ c κs. search needs) (λ c κs. search needs) (λ c κs. search needs) (λ c κs. search needs) (λ c. search needs)
-    (λ c κs. search needs) (λ c. search needs) (λ c. search needs) (λ c. search needs) (λ c. search needs) (λ c. search needs))
+    tie.close (tie.spec invariant-loop decreases-loop (λ c κs. search rules) (λ c κs. search rules) (λ c κs. search rules) (λ c κs. search rules) (λ c. search rules)
+    (λ c κs. search rules) (λ c. search rules) (λ c. search rules) (λ c. search rules) (λ c. search rules) (λ c. search rules))

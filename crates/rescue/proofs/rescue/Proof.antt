@@ -1,108 +1,76 @@
--- A call that no test refuses has room for every group. Each turn rescues one group more, from the position that the turn before it made
--- plain. Assumes nothing.
-use Rattle.format.proofs.Common.{◌≡◌, sym, ◌∙◌, ◌+◌, ◌-◌, ◌<◌, ◌≤◌, arith, length, get_or, w64, to_z, to_z-of_z, needs}
-use Rattle.rescue.specs.RescueSteps.{refusal_of, Fit}
-use Rattle.rescue.proofs.GroupsWalk.{few-verdict, Walked, begun, end_fits, mark-fits, onward, done}
-use Rattle.rescue.proofs.RescueCalls.{was-refused, was-written, said-refused, all_said, fit-so}
+-- Each test that fails returns its number with every place as it was; if none does, all groups are written. Assumes nothing.
+use mathlib.Core.Path.{◌≡◌, sym, ◌∙◌}
+use native.Mathlib.Omega.{arith}
+use mathlib.Core.Bool.{true}
+use lib.ListN.{length}
+use borrow.Author.Rules.{rules}
+use borrow.Author.Tests.{not-true, not-false, ltb-false}
+use mir.Facts.{to_z-of_z}
+use Rattle.rescue.specs.Rescue.{positions, in_order}
+use Rattle.rescue.proofs.RescueCalls.{other-skips, other-counts, no-order, few-rows, few-marks, all_said, was-refused, was-written}
 use Rattle.rescue.proofs.rescue.Statement.{statement}
 use Rattle.rescue.proofs.rescue.Tie as tie
 
-abbrev invariant-loop : tie.invariant-loop
-invariant-loop input signed runs skips counts fill rows₀ verdicts₀ number end here₀ at₀ kept₀ i₀ rows verdicts here at kept i =
-    Walked input signed runs skips counts (to_z w64 fill) rows₀ verdicts₀ rows verdicts here at kept i
+returns : tie.Need-returns
+returns c = was-refused (other-skips _ _ _ _ _ _ _ _ (λ e. omega (arith, e))) c.refused.ensures
 
-abbrev decreases-loop : tie.decreases-loop
-decreases-loop input signed runs skips counts fill rows₀ verdicts₀ number end here₀ at₀ kept₀ i₀ rows verdicts here at kept i = length counts - i
+returns-2 : tie.Need-returns-2
+returns-2 c = was-refused (other-counts _ _ _ _ _ _ _ _ (omega arith) (λ e. omega (arith, e))) c.refused2.ensures
 
--- ---- points of the code: the entry, the call that is not refused, the loop's test, and the next position made plain, seen from the verdict
+returns-3 : tie.Need-returns-3
+returns-3 c =
+    let test = c.before in
+    let fails = sym test.before.in_order.ensures ∙ not-true _ test.if3.true in
+    was-refused (no-order _ _ _ _ _ _ _ _ (omega arith) (omega arith) fails) c.refused3.ensures
 
-abbrev entry : tie.Else1 invariant-loop decreases-loop → tie.Start invariant-loop decreases-loop
-entry e = e.before.before.before.before.before.before.before
+-- ---- points of the code: the last test that may refuse with 17, and the entry
 
-abbrev goes_on : tie.At-loop invariant-loop decreases-loop → tie.Else1 invariant-loop decreases-loop
-goes_on t = t.before.before.before
+abbrev entry : tie.Else3 → tie.Start
+entry e = e.before.before.before.before.before.before.before.before.before
 
-abbrev at-loop : tie.After-make-plain2 invariant-loop decreases-loop → tie.At-loop invariant-loop decreases-loop
-at-loop x = x.before.before.before.before
+abbrev in-order-test : tie.After-too-many → tie.Else3
+in-order-test x = x.before
 
-abbrev next-plain : tie.After-verdict invariant-loop decreases-loop → tie.After-make-plain2 invariant-loop decreases-loop
-next-plain v = v.before.before.before.before
+ordered : (x : tie.After-too-many) → let a = (entry (in-order-test x)).args in
+    in_order (length a.input.now) (positions a.runs.now a.skips.now) ≡ true
+ordered x = let e = in-order-test x in sym e.before.in_order.ensures ∙ not-false _ e.if3.left
 
--- a call that no test refuses has room
-no_number : (e : tie.Else1 invariant-loop decreases-loop) → let a = (entry e).args in
-    refusal_of a.input.now a.runs.now a.skips.now a.counts.now (length a.rows.now) (length a.verdicts.now) ≡ 0
-no_number e = sym e.before.refusal.ensures ∙ e.if1.false
+returns-4 : tie.Need-returns-4
+returns-4 c =
+    let test = c.before in
+    let call = test.before in
+    was-refused (few-rows _ _ _ _ _ _ _ _ (omega arith) (omega arith) (ordered call) (sym call.too_many.ensures ∙ test.if4.true))
+    c.refused4.ensures
 
-fits : (e : tie.Else1 invariant-loop decreases-loop) → let a = (entry e).args in
-    Fit a.runs.now a.skips.now a.counts.now (length a.rows.now) (length a.verdicts.now)
-fits e = fit-so (entry e).args.input.now (no_number e)
+returns-5 : tie.Need-returns-5
+returns-5 c =
+    let test = c.before.before in
+    let call = test.before in
+    was-refused (few-marks _ _ _ _ _ _ _ _ (omega arith) (omega arith) (ordered call) (sym call.too_many.ensures ∙ test.if4.false)
+    (omega arith))
+    c.refused5.ensures
 
--- the group's places are there
-ends : (t : tie.At-loop invariant-loop decreases-loop) → let l = t.loop in let ns = (entry (goes_on t)).args.counts.now in
-    l.i < length ns → l.at + get_or ns l.i 0 ≤ length l.rows
-ends t h = end_fits _ _ _ _ _ _ _ _ (fits (goes_on t)) _ _ _ _ _ _ t.loop.invariant h
+rescue-all-requires : tie.Need-rescue-all-requires
+rescue-all-requires c κs =
+    let test = c.before.before.before in
+    record {
+      skips-long = omega arith;
+      counts-long = omega arith;
+      rows_fit = ltb-false _ _ (sym test.before.too_many.ensures ∙ test.if4.false);
+      marks-fit = omega arith;
+    }
 
--- ---- before the first group
-
-position-at-requires : tie.Need-position-at-requires invariant-loop decreases-loop
-position-at-requires c κs = (fits c).skips-long
-
-loop-holds : tie.Need-loop-init invariant-loop decreases-loop
-loop-holds c = begun _ _ _ _ _ _ _ _ _ _ c.before.position_at.ensures c.make-plain.ensures
-
--- ---- a turn
-
-add-to : tie.Need-overflow-add-to invariant-loop decreases-loop
-add-to c = let t = c.before.before in omega (arith, ends t (omega arith), t.loop.invariant.rows_long, (entry (goes_on t)).good)
-
-position-at-requires-2 : tie.Need-position-at-requires-2 invariant-loop decreases-loop
-position-at-requires-2 c κs = (fits (goes_on c.before.before)).skips-long
-
-mul-rescue : tie.Need-overflow-mul-rescue invariant-loop decreases-loop
-mul-rescue c = let t = at-loop c in omega (arith, ends t (omega arith), t.loop.inv.rows_long, (entry (goes_on t)).good)
-
-part-rescue-start : tie.Need-slice-bounds-rescue-start invariant-loop decreases-loop
-part-rescue-start c = let t = at-loop c in omega (arith, ends t (omega arith), t.loop.inv.rows_long)
-
-part-rescue-end : tie.Need-slice-bounds-rescue-end invariant-loop decreases-loop
-part-rescue-end c = let t = at-loop c in omega (arith, ends t (omega arith), t.loop.inv.rows_long)
-
-slice-write-verdicts : tie.Need-slice-write-verdicts invariant-loop decreases-loop
-slice-write-verdicts c =
-    let t = at-loop (next-plain c) in
-    mark-fits _ _ _ _ _ _ _ _ (fits (goes_on t)) _ _ _ _ _ _ t.loop.inv (omega arith)
-
--- a verdict is 0 or 1
-small : (c : tie.After-verdict invariant-loop decreases-loop) → c.verdict.result ≤ 1
-small c = let call = c.before.before in omega (arith, c.verdict.ensures, few-verdict call.rescue.result)
-
-add_kept : tie.Need-overflow-add-kept invariant-loop decreases-loop
-add_kept c = let t = at-loop (next-plain c) in omega (arith, small c, t.loop.inv.few, (entry (goes_on t)).good)
-
-loop-again : tie.Need-loop-preserved invariant-loop decreases-loop
-loop-again c =
-    let call = c.before.before in
-    let x = next-plain c in
-    let t = at-loop x in
-    onward _ _ _ _ _ _ _ _ (fits (goes_on t)) _ _ _ _ _ _ t.loop.inv (omega arith) _ _ _ _ _ c.verdict.ensures
-    x.before.position-at2.ensures x.make-plain2.ensures call.rescue.ensures
-
--- ---- after the last group
-
-returns-2 : tie.Need-returns-2 invariant-loop decreases-loop
-returns-2 c =
-    let t = c.before.before in
-    let e = goes_on t in
-    rw c.written.ensures
-    (was-written (all_said _ _ _ _ _ _ _ _ (no_number e))
-    (rw (to_z-of_z (entry e).fits.fill) at (done _ _ _ _ _ _ _ _ (fits e) _ _ _ _ _ _ t.loop.invariant (omega arith))))
+returns-6 : tie.Need-returns-6
+returns-6 c =
+    let all = c.before.before.before in
+    let test = all.before.before.before.before in
+    let call = test.before in
+    was-written
+    (all_said _ _ _ _ _ _ _ _ (omega arith) (omega arith) (ordered call) (sym call.too_many.ensures ∙ test.if4.false) (omega arith))
+    (rw (to_z-of_z (entry (in-order-test call)).ranges.fill) at all.rescue-all.ensures)
 
 pub rescue-spec : {M : Type 1} → statement M
 rescue-spec =
-    tie.close (tie.spec invariant-loop decreases-loop (λ c κs. search needs) (λ c κs. search needs)
-    (λ c. was-refused (said-refused _ _ _ _ _ _ _ _ c.before.before.refusal.ensures c.before.if1.true) c.refused.ensures)
-    position-at-requires (λ c κs. search needs) loop-holds (λ c. omega arith) (λ c. omega arith) add-to
-    (λ c. omega arith) position-at-requires-2 (λ c κs. search needs) mul-rescue (λ c. omega arith) part-rescue-start part-rescue-end
-    (λ c κs. search needs) (λ c κs. search needs) slice-write-verdicts (λ c. omega (arith, small c)) add_kept
-    (λ c. omega (arith, (entry (goes_on (at-loop (next-plain c)))).good)) (λ c. omega arith) loop-again (λ c κs. search needs)
-    (λ c. c.before.before.loop.invariant.rows_long) (λ c. c.before.before.loop.invariant.marks-long) returns-2)
+    tie.close (tie.spec (λ c κs. search rules) returns (λ c κs. search rules) returns-2 (λ c κs. search rules) (λ c κs. search rules)
+    returns-3 (λ c κs. search rules) (λ c κs. search rules) returns-4 (λ c κs. search rules) returns-5 rescue-all-requires
+    (λ c. search rules) (λ c. search rules) returns-6)

@@ -1,7 +1,8 @@
 -- The test of the rows is that of the definition. Assumes nothing.
-use Rattle.format.proofs.Common.{sym, ◌∙◌, needs}
+use mathlib.Core.Path.{sym, ◌∙◌}
 use Rattle.format.specs.declared.Answer.TheVariants as answer
 use Rattle.format.proofs.Reading.{placed-8, placed-run, placed-none}
+use borrow.Author.Rules.{rules}
 use Rattle.rle_v2.proofs.in_places.Statement.{statement}
 use Rattle.rle_v2.proofs.in_places.Tie as tie
 
@@ -32,4 +33,4 @@ returns-4 c =
     λ total m e. placed-none a.at.bytes total a.places.rows m answer.End tt (sym c.enum_told.given.1 ∙ e)
 
 pub in-places-spec : {M : Type 1} → statement M
-in-places-spec = tie.close (tie.spec (λ c. search needs) (λ c κs. search needs) returns (λ c. search needs) (λ c. search needs) returns-2 returns-3 returns-4)
+in-places-spec = tie.close (tie.spec (λ c. search rules) (λ c κs. search rules) returns (λ c. search rules) (λ c. search rules) returns-2 returns-3 returns-4)

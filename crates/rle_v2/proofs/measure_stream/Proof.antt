@@ -1,6 +1,11 @@
 -- Each turn counts one run more, or ends with what the definition says: the runs so far are counted, and the rest is read in the places that are left.
 -- Assumes nothing.
-use Rattle.format.proofs.Common.{◌≡◌, ◌∙◌, ◌-◌, arith, [], length, drop, drop_of_length-le, needs}
+use mathlib.Core.Path.{◌≡◌, ◌∙◌}
+use Prim.Native.Nat.{◌-◌}
+use native.Mathlib.Omega.{arith}
+use mathlib.Core.List.{[]}
+use lib.ListN.{length, drop, drop_of_length-le}
+use borrow.Author.Rules.{rules}
 use Rattle.format.specs.Fields.{two64}
 use Rattle.format.proofs.Below.{below_all}
 use Rattle.rle_v2.proofs.OneRun.{OneRun, NoRun, Step, step_is, fits}
@@ -41,6 +46,12 @@ add-count c =
     let at-loop = ran.before.before.before.before.before in
     omega (arith, fits (two64 - 1 - at-loop.loop.count) (ran-is ran), at-loop.loop.invariant.fits)
 
+add-place : tie.Need-overflow-add-place invariant-loop decreases-loop
+add-place c = omega (arith, (ran-is c.before.before.before.before.before).within)
+
+loop-less : tie.Need-loop-smaller invariant-loop decreases-loop
+loop-less c = let o = ran-is c.before.before.before.before.before in omega (arith, o.within, o.some_bytes)
+
 loop-again : tie.Need-loop-preserved invariant-loop decreases-loop
 loop-again c =
     let ran = c.before.before.before.before.before in
@@ -75,8 +86,6 @@ returns-3 c =
 
 pub measure-stream-spec : {M : Type 1} → statement M
 measure-stream-spec =
-    tie.close (tie.spec invariant-loop decreases-loop (λ c. counted-first _ _ _) (λ c κs. search needs) (λ c. c.before.before.loop.invariant.fits) (λ c κs. search needs)
-    (λ c. search needs) add-count (λ c. omega (arith, (ran-is c.before.before.before.before.before).within))
-    (λ c. let o = ran-is c.before.before.before.before.before in omega (arith, o.within, o.some_bytes)) loop-again (λ c. search needs) sub-taken
-    (λ c κs. search needs) returns (λ c. search needs) sub-taken-2
-    (λ c κs. search needs) returns-2 sub-taken-3 (λ c κs. search needs) returns-3)
+    tie.close (tie.spec invariant-loop decreases-loop (λ c. counted-first _ _ _) (λ c κs. search rules) (λ c. c.before.before.loop.invariant.fits) (λ c κs. search rules)
+    (λ c. search rules) add-count add-place loop-less loop-again (λ c. search rules) sub-taken (λ c κs. search rules) returns (λ c. search rules) sub-taken-2
+    (λ c κs. search rules) returns-2 sub-taken-3 (λ c κs. search rules) returns-3)

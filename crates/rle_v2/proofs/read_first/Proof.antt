@@ -1,6 +1,6 @@
 -- A short repeat by its own reader, and any other run by the run reader. Assumes nothing.
-use Rattle.format.proofs.Common.{needs}
 use Rattle.rle_v2.proofs.ByKind.{is-short}
+use borrow.Author.Rules.{rules}
 use Rattle.rle_v2.proofs.read_first.Statement.{statement}
 use Rattle.rle_v2.proofs.read_first.Tie as tie
 
@@ -13,4 +13,4 @@ returns c =
 
 pub read-first-spec : {M : Type 1} → statement M
 read-first-spec =
-    tie.close (tie.spec (λ c. search needs) (λ c κs. search needs) (λ c. search needs) returns (λ c κs. search needs) (λ c. search needs) (λ c. search needs))
+    tie.close (tie.spec (λ c. search rules) (λ c κs. search rules) (λ c. search rules) returns (λ c κs. search rules) (λ c. search rules) (λ c. search rules))

@@ -1,9 +1,10 @@
 -- A direct run that is cut by its measure, and any other run by the run reader. Assumes nothing.
-use Rattle.format.proofs.Common.{sym, ◌∙◌, needs}
+use mathlib.Core.Path.{sym, ◌∙◌}
 use Rattle.format.specs.declared.Answer.TheVariants as answer
 use Rattle.format.proofs.Reading.{gives_none}
 use Rattle.rle_v2.proofs.ByKind.{is-direct}
 use Rattle.rle_v2.proofs.DirectRun.{run}
+use borrow.Author.Rules.{rules}
 use Rattle.rle_v2.proofs.read_gathered.Statement.{statement}
 use Rattle.rle_v2.proofs.read_gathered.Tie as tie
 
@@ -18,4 +19,4 @@ returns c =
 
 pub read-gathered-spec : {M : Type 1} → statement M
 read-gathered-spec =
-    tie.close (tie.spec (λ c. search needs) (λ c κs. search needs) (λ c. search needs) returns (λ c κs. search needs) (λ c. search needs) (λ c. search needs))
+    tie.close (tie.spec (λ c. search rules) (λ c κs. search rules) (λ c. search rules) returns (λ c κs. search rules) (λ c. search rules) (λ c. search rules))

@@ -1,12 +1,17 @@
 -- Each turn reads one run more, or ends with what the definition says: the runs so far left their rows in the first places, and a refused turn leaves all
 -- places as they were. Assumes nothing.
-use Rattle.format.proofs.Common.{◌-◌, ◌≡◌, ◌∙◌, ap, [], ◌++◌, length, take, drop, drop_of_length-le, needs, arith}
+use Prim.Native.Nat.{◌-◌}
+use mathlib.Core.Path.{◌≡◌, ◌∙◌, ap}
+use mathlib.Core.List.{[], ◌++◌}
 use Rattle.format.specs.Parse.{parse}
 use Rattle.format.specs.Promises.{Gives}
+use lib.ListN.{length, take, drop, drop_of_length-le}
 use Rattle.format.proofs.Below.{below_all}
 use Rattle.util.proofs.Grow.{rest-is}
 use Rattle.rle_v2.proofs.OneRun.{OneRun, NoRun, Step, fits}
 use Rattle.rle_v2.proofs.StreamPlaces.{Walked, walked-first, walked_step, walked-run, back-refused, back-ended, walked_whole, walked-refused}
+use borrow.Author.Rules.{rules}
+use native.Mathlib.Omega.{arith}
 use Rattle.rle_v2.proofs.read_stream.Statement.{statement}
 use Rattle.rle_v2.proofs.read_stream.Tie as tie
 use Rattle.rle_v2.proofs.read_stream.Reads as reads
@@ -17,32 +22,26 @@ invariant-loop input signed out₀ from p₀ k₀ last₀ out p k last = Walked 
 abbrev decreases-loop : tie.decreases-loop
 decreases-loop input signed out₀ from p₀ k₀ last₀ out p k last = length input - p
 
--- where a turn starts that calls the run reader
-abbrev turn : tie.After-read-run invariant-loop decreases-loop → tie.At-loop invariant-loop decreases-loop
-turn x = x.before.before.before
-
--- what the call says, and its three cases
+-- what the call of a turn says, and its three cases
 given : (x : tie.After-read-run invariant-loop decreases-loop) → let at-loop = x.before.before.before in let l = at-loop.loop in let a = at-loop.before.before.args in
-    Gives l.p (length a.input.now - l.p) a.signed (parse (drop l.p a.input.now)) (drop l.k l.out) x.read-run.new.1.1.1.0
-    x.read-run.result
+    Gives l.p (length a.input.now - l.p) a.signed (parse (drop l.p a.input.now)) (drop l.k l.out) x.read-run.new.1.1.1.0 x.read-run.result
 given x = let l = x.before.before.before.loop in rw (rest-is l.out l.k) at x.read-run.ensures
 
 step : (x : tie.After-read-run invariant-loop decreases-loop) → let at-loop = x.before.before.before in let l = at-loop.loop in let a = at-loop.before.before.args in
     Step a.input.now l.p (length a.out.now - l.k) x.read-run.result
 step x =
     let at-loop = x.before.before.before in
-    walked_step at-loop.loop.invariant (given x) (below_all 256 at-loop.before.before.args.input.now
-    (λ i. (at-loop.before.shared-slice-known.given i).fits))
+    walked_step at-loop.loop.invariant (given x) (below_all 256 at-loop.before.before.args.input.now (λ i. (at-loop.before.shared-slice-known.given i).fits))
 
-ran-is : (m : tie.After-a invariant-loop decreases-loop) → let t = turn m.before.before.before in let l = t.loop in let a = t.before.before.args in
+ran-is : (m : tie.After-a invariant-loop decreases-loop) → let at-loop = m.before.before.before.before.before.before in let l = at-loop.loop in let a = at-loop.before.before.args in
     OneRun a.input.now l.p (length a.out.now - l.k) m.a.given.0.0
 ran-is m = rw m.a.given.1 at (step m.before.before.before)
 
-refused-is : (m : tie.After-a2 invariant-loop decreases-loop) → let t = turn m.before.before.before in let l = t.loop in let a = t.before.before.args in
+refused-is : (m : tie.After-a2 invariant-loop decreases-loop) → let at-loop = m.before.before.before.before.before.before in let l = at-loop.loop in let a = at-loop.before.before.args in
     NoRun a.input.now l.p (length a.out.now - l.k) m.a2.given.0.0
 refused-is m = rw m.a2.given.1 at (step m.before.before.before)
 
-ended_is : (m : tie.After-enum-told invariant-loop decreases-loop) → let t = turn m.before.before.before in let l = t.loop in let a = t.before.before.args in
+ended_is : (m : tie.After-enum-told invariant-loop decreases-loop) → let at-loop = m.before.before.before.before.before.before in let l = at-loop.loop in let a = at-loop.before.before.args in
     drop l.p a.input.now ≡ []
 ended_is m = rw m.enum_told.given.1 at (step m.before.before.before)
 
@@ -60,6 +59,12 @@ add-k c =
     let ran = c.before.before.before.before in
     let at-loop = ran.before.before.before.before.before.before in
     omega (arith, fits _ (ran-is ran), at-loop.loop.invariant.counted.fits)
+
+add-p : tie.Need-overflow-add-p invariant-loop decreases-loop
+add-p c = omega (arith, (ran-is c.before.before.before.before.before).within)
+
+loop-less : tie.Need-loop-smaller invariant-loop decreases-loop
+loop-less c = let o = ran-is c.before.before.before.before.before in omega (arith, o.within, o.some_bytes)
 
 loop-again : tie.Need-loop-preserved invariant-loop decreases-loop
 loop-again c =
@@ -99,10 +104,6 @@ returns-3 c =
 
 pub read-stream-spec : {M : Type 1} → statement M
 read-stream-spec =
-    tie.close (tie.spec invariant-loop decreases-loop (λ c. walked-first _ _ _ _) (λ c. omega arith) (λ c. omega arith) (λ c. omega arith) (λ c. omega arith)
-    (λ c κs. search needs)
-    (λ c. search needs) add-k (λ c. omega (arith, (ran-is c.before.before.before.before.before).within))
-    (λ c. let o = ran-is c.before.before.before.before.before in omega (arith, o.within, o.some_bytes)) loop-again (λ c. search needs)
-    (λ c. omega arith) (λ c κs. search needs) same_length returns (λ c. search needs)
-    (λ c. omega arith) (λ c κs. search needs) same-length-2 returns-2 (λ c. omega arith) (λ c κs. search needs)
-    (λ c. c.before.before.loop.invariant.long) returns-3)
+    tie.close (tie.spec invariant-loop decreases-loop (λ c. walked-first _ _ _ _) (λ c. omega arith) (λ c. omega arith) (λ c. omega arith) (λ c. omega arith) (λ c κs. search rules)
+    (λ c. search rules) add-k add-p loop-less loop-again (λ c. search rules) (λ c. omega arith) (λ c κs. search rules) same_length returns (λ c. search rules)
+    (λ c. omega arith) (λ c κs. search rules) same-length-2 returns-2 (λ c. omega arith) (λ c κs. search rules) (λ c. c.before.before.loop.invariant.long) returns-3)

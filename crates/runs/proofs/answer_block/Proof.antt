@@ -1,10 +1,10 @@
--- What stands before `from` are whole lines, and each piece that is handed over is the definition's text of its lines. Assumes nothing.
-use Rattle.format.proofs.Common.{◌≡◌, refl, sym, ◌∙◌, ℕ, ◌+◌, ◌-◌, ◌≤◌, arith, length, take, drop, length-drop, length-take-le}
-use Rattle.format.proofs.Common.{drop-drop, List, []}
+-- `runs::answer_block` meets its contract, and each piece that it hands over is the definition's text of its lines. The loop's invariant: what stands
+-- before `from` are whole lines. Assumes nothing.
+use Rattle.std.proofs.Common.{◌≡◌, ◌+◌, ◌-◌, ◌≤◌, [], length, take, drop, sym, refl, ◌∙◌, arith, length-drop, length-take-le, drop-drop}
 use Rattle.util.proofs.Grow.{rest-is}
-use Rattle.blocks.specs.Blocks.{begun_from, NoNewline}
+use Rattle.blocks.specs.Blocks.{begun_from}
 use Rattle.blocks.proofs.Begun.{whole-more}
-use Rattle.runs.specs.Program.{Cut, Pending}
+use Rattle.runs.specs.Program.{Pending}
 use Rattle.runs.proofs.Pieces.{whole-text}
 use Rattle.runs.proofs.TextSaid.{lines-due, lines-on, pending-open}
 use Rattle.runs.proofs.answer_block.Statement.{statement}
@@ -21,72 +21,92 @@ loop-holds : tie.Need-loop-init invariant-loop decreases-loop
 unfolding begun_from
 loop-holds c = (omega arith, refl, refl, c.before.before.requires.0)
 
--- lines were answered: what they are, and that their answers fit
-module _ (k : tie.After-answer-lines invariant-loop decreases-loop) where
-  abbrev at-loop : tie.At-loop invariant-loop decreases-loop
-  at-loop = k.before.before.before
-
-  abbrev entry : tie.Start invariant-loop decreases-loop
-  entry = at-loop.before.before.before
-
-  abbrev rest : List ℕ
-  rest = drop at-loop.loop.from entry.args.input.now
-
-  cut : Cut rest at-loop.loop.output k.answer-lines.last.1.0 k.answer-lines.result.taken k.answer-lines.result.written
-  cut = rw (rest-is entry.args.input.now at-loop.loop.from) at k.answer-lines.ensures
-
-  inside : at-loop.loop.from + k.answer-lines.result.taken ≤ length entry.args.input.now
-  inside = omega (arith, cut.within, at-loop.loop.inv.0, length-drop at-loop.loop.from entry.args.input.now)
-
-  fits : k.answer-lines.result.written ≤ length k.answer-lines.last.1.0
-  fits = omega (arith, cut.fits, k.answer-lines.kept.1.0)
-
-  long : length k.answer-lines.last.1.0 ≡ length entry.args.output.now
-  long = k.answer-lines.kept.1.0 ∙ at-loop.loop.inv.1
-
--- that was some turns of the code ago, once they were handed over
-abbrev answered : tie.After-say invariant-loop decreases-loop → tie.After-answer-lines invariant-loop decreases-loop
-answered s = s.before.before.before.before.before.before
-
-none-taken : (n : ℕ) (s : List ℕ) → n ≡ 0 → NoNewline (drop n s) → NoNewline s
-none-taken n s e h = rw e at h
+same_length : tie.Need-same-length invariant-loop decreases-loop
+same_length c = let k = c.before.before.before in k.answer-lines.auto.1.0 ∙ k.before.before.before.loop.invariant.1
 
 returns : tie.Need-returns invariant-loop decreases-loop
 returns c =
     let k = c.before.before.before in
-    let l = (at-loop k).loop in
-    let open-end = none-taken _ (rest k) c.if1.true ((cut k).all (omega (arith, (cut k).some c.if1.true, l.inv.1, (entry k).requires.1))) in
-    (record { ends = refl; order = l.inv.0; whole = l.inv.2; begun = open-end }, pending-open _ _ _ open-end l.inv.3)
+    let l = k.before.before.before.loop in
+    let a = k.before.before.before.before.before.before.args in
+    let t = rw (rest-is a.input.now l.from) at k.answer-lines.ensures in
+    let o = rw c.if1.true at (t.all (omega (arith, t.some c.if1.true, l.invariant.1, k.before.before.before.before.before.before.requires.1))) in
+    (record { ends = refl; order = l.invariant.0; whole = l.invariant.2; begun = o }, pending-open _ _ _ o l.invariant.3)
+
+add-next : tie.Need-overflow-add-next invariant-loop decreases-loop
+add-next c =
+    let k = c.before.before.before in
+    let l = k.before.before.before.loop in
+    let a = k.before.before.before.before.before.before.args in
+    let t = rw (rest-is a.input.now l.from) at k.answer-lines.ensures in
+    omega (arith, t.within, length-drop l.from a.input.now)
+
+part-say-end : tie.Need-slice-bounds-say-end invariant-loop decreases-loop
+part-say-end c =
+    let k = c.before.before.before in
+    let l = k.before.before.before.loop in
+    let a = k.before.before.before.before.before.before.args in
+    let t = rw (rest-is a.input.now l.from) at k.answer-lines.ensures in
+    omega (arith, t.within, length-drop l.from a.input.now)
+
+slice-reshare-prefix-say : tie.Need-slice-reshare-prefix-say invariant-loop decreases-loop
+slice-reshare-prefix-say c =
+    let k = c.before.before.before.before in
+    let l = k.before.before.before.loop in
+    let a = k.before.before.before.before.before.before.args in
+    let t = rw (rest-is a.input.now l.from) at k.answer-lines.ensures in
+    omega (arith, t.fits, k.answer-lines.auto.1.0)
+
+slice-aggregate-say : tie.Need-slice-aggregate-say invariant-loop decreases-loop
+slice-aggregate-say c =
+    let k = c.before.before.before.before.before in
+    let l = k.before.before.before.loop in
+    let a = k.before.before.before.before.before.before.args in
+    let t = rw (rest-is a.input.now l.from) at k.answer-lines.ensures in
+    sym (length-take-le k.answer-lines.result.written k.answer-lines.new.1.0 (omega (arith, t.fits, k.answer-lines.auto.1.0)))
 
 say-requires : tie.Need-say-requires invariant-loop decreases-loop
 say-requires c κs =
     let k = c.before.before.before.before.before in
+    let l = k.before.before.before.loop in
+    let a = k.before.before.before.before.before.before.args in
+    let t = rw (rest-is a.input.now l.from) at k.answer-lines.ensures in
     let n = k.answer-lines.result.taken in
-    let z : (at-loop k).loop.from + n - (at-loop k).loop.from ≡ n = omega arith in
-    rw z (
-      (cut k).text ∙ sym (whole-text (take n (rest k)) (cut k).whole),
-      lines-due _ _ (rest k) n (cut k).whole (at-loop k).loop.invariant.3 _ (cut k).text,
-    )
+    let z : l.from + n - l.from ≡ n = omega arith in
+    rw z (t.text ∙ sym (whole-text (take n (drop l.from a.input.now)) t.whole), lines-due _ _ (drop l.from a.input.now) n t.whole l.invariant.3 _ t.text)
+
+same-length-2 : tie.Need-same-length-2 invariant-loop decreases-loop
+same-length-2 c =
+    let k = (let back-6 = c.before.before.before.before.before.before in back-6.before.before) in
+    k.answer-lines.kept.1.0 ∙ k.before.before.before.loop.inv.1
+
+returns-2 : tie.Need-returns-2 invariant-loop decreases-loop
+returns-2 c = sym c.before.is_cut.ensures ∙ c.if2.true
+
+loop-less : tie.Need-loop-smaller invariant-loop decreases-loop
+loop-less c =
+    let k = (let back-6 = c.before.before.before.before.before.before in back-6.before.before) in
+    let l = k.before.before.before.loop in
+    let a = k.before.before.before.before.before.before.args in
+    let t = rw (rest-is a.input.now l.from) at k.answer-lines.ensures in
+    omega (arith, t.within, length-drop l.from a.input.now)
 
 loop-again : tie.Need-loop-preserved invariant-loop decreases-loop
 loop-again c =
     let s = c.before.before in
-    let k = answered s in
-    let l = (at-loop k).loop in
+    let k = s.before.before.before.before.before.before in
+    let l = k.before.before.before.loop in
+    let a = k.before.before.before.before.before.before.args in
+    let t = rw (rest-is a.input.now l.from) at k.answer-lines.ensures in
     let n = k.answer-lines.result.taken in
-    let taken = sym c.before.is_cut.ensures ∙ c.if2.false in
-    let p = lines-on _ _ (rest k) n (cut k).whole l.inv.3 s.say.result _ (cut k).text s.say.ensures taken in (
-      inside k,
-      long k,
-      whole-more l.from n (entry k).args.input.now l.inv.2 (cut k).whole,
-      rw (drop-drop n l.from (entry k).args.input.now) at p,
+    let p = lines-on _ _ (drop l.from a.input.now) n t.whole l.invariant.3 s.say.result _ t.text s.say.ensures (sym c.before.is_cut.ensures ∙ c.if2.false) in (
+      omega (arith, t.within, length-drop l.from a.input.now),
+      k.answer-lines.auto.1.0 ∙ l.invariant.1,
+      whole-more l.from n a.input.now l.invariant.2 t.whole,
+      rw (drop-drop n l.from a.input.now) at p,
     )
 
 pub answer-block-spec : {M : Type 1} → statement M
 answer-block-spec =
-    tie.close (tie.spec invariant-loop decreases-loop loop-holds (λ c. omega arith) (λ c. omega arith) (λ c. omega arith) (λ c κs. tt)
-    (λ c. long c.before.before.before) returns (λ c. omega (arith, inside c.before.before.before)) (λ c. omega arith)
-    (λ c. omega arith) (λ c. inside c.before.before.before) (λ c. fits c.before.before.before.before)
-    (λ c. sym (length-take-le _ _ (fits c.before.before.before.before.before))) say-requires (λ c κs. tt)
-    (λ c. long (answered c.before.before)) (λ c. sym c.before.is_cut.ensures ∙ c.if2.true)
-    (λ c. omega (arith, inside (answered c.before.before))) loop-again)
+    tie.close (tie.spec invariant-loop decreases-loop loop-holds (λ c. omega arith) (λ c. omega arith) (λ c. omega arith) (λ c κs. tt) same_length returns add-next (λ c. omega arith)
+    (λ c. omega arith) part-say-end slice-reshare-prefix-say slice-aggregate-say say-requires (λ c κs. tt) same-length-2 returns-2 loop-less loop-again)

@@ -1,5 +1,5 @@
 -- `runs::answer_last` hands over the definition's text: an answer line stands within the bytes that were lent. Assumes nothing.
-use Rattle.format.proofs.Common.{sym, ◌∙◌, length-take-le, needs}
+use Rattle.std.proofs.Common.{sym, ◌∙◌, length-take-le, rules}
 use Rattle.runs.proofs.Lines.{answered-le}
 use Rattle.runs.proofs.Pieces.{open-text, no_answer, last-text}
 use Rattle.runs.proofs.TextSaid.{last-due, last-said, none_last}
@@ -13,8 +13,7 @@ slice-reshare-prefix-say : tie.Need-slice-reshare-prefix-say
 slice-reshare-prefix-say c = answered-le _ _ _ _ c.before.before.answer-line.ensures
 
 slice-aggregate-say : tie.Need-slice-aggregate-say
-slice-aggregate-say c = let k = c.before.before.before in
-    sym (length-take-le k.answer-line.result k.answer-line.new.1.0 (answered-le _ _ _ _ k.answer-line.ensures))
+slice-aggregate-say c = let k = c.before.before.before in sym (length-take-le k.answer-line.result k.answer-line.new.1.0 (answered-le _ _ _ _ k.answer-line.ensures))
 
 say-requires : tie.Need-say-requires
 say-requires c κs =
@@ -35,5 +34,5 @@ returns-3 c =
 
 pub answer-last-spec : {M : Type 1} → statement M
 answer-last-spec =
-    tie.close (tie.spec returns (λ c κs. search needs) slice-reshare-prefix-say slice-aggregate-say say-requires (λ c κs. search needs) (λ c. search needs)
-    (λ c. search needs) (λ c. search needs) returns-3)
+    tie.close (tie.spec returns (λ c κs. search rules) slice-reshare-prefix-say slice-aggregate-say say-requires (λ c κs. search rules) (λ c. search rules)
+    (λ c. search rules) (λ c. search rules) returns-3)

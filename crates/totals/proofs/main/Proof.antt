@@ -11,6 +11,5 @@ tell-requires-2 c κs = rw c.enum-told2.given.1 at c.before.before.before.before
 
 pub main_spec : {M : Type 1} → statement M
 main_spec =
-    tie.close (tie.spec (λ c κs. search rules) (λ c. search rules) tell-requires (λ c. search rules) tell-requires-2 (λ c. search rules)
-    (λ c. search rules) (λ c. tt) (λ c. tt)
+    tie.close (tie.spec (λ c κs. search rules) (λ c. search rules) tell-requires (λ c. search rules) tell-requires-2 (λ c. search rules) (λ c. search rules) (λ c. tt) (λ c. tt)
     (λ c. tt) (λ c. tt))

@@ -1,6 +1,9 @@
--- The lines stand in a buffer of their own first, so there is room for the refusal after them. Assumes nothing.
-use Rattle.format.proofs.Common.{sym, arith, length-take-le, needs}
-use Rattle.totals.proofs.TotalsText.{show-le, show-take, text-going, text-stopped}
+-- `put_text` meets its contract: the lines stand in a buffer of their own first, so that there is room for the refusal after them. Assumes nothing.
+use mathlib.Core.Path.{sym}
+use native.Mathlib.Omega.{arith}
+use lib.Seq.{length-take-le}
+use borrow.Author.Rules.{rules}
+use Rattle.totals.proofs.Room.{show-le, show-take, text-going, text-stopped}
 use Rattle.totals.proofs.put_text.Statement.{statement}
 use Rattle.totals.proofs.put_text.Tie as tie
 
@@ -23,17 +26,7 @@ put-word-requires-2 c κs =
     let w = p.before.before.before.before in
     let s = w.before.before.before.before in
     let h = show-le _ _ _ _ w.show.ensures in
-    omega (
-      arith,
-      p.put_word.ensures.next,
-      p.put_word.auto.1.0,
-      length-take-le w.show.result
-          w.show.new.1.0 h,
-      h,
-      w.show.auto.1.0,
-      w.before.before.buffer.ensures,
-      s.requires,
-    )
+    omega (arith, p.put_word.ensures.next, p.put_word.auto.1.0, length-take-le w.show.result w.show.new.1.0 h, h, w.show.auto.1.0, w.before.before.buffer.ensures, s.requires)
 
 returns : tie.Need-returns
 returns c =
@@ -41,8 +34,7 @@ returns c =
     let t = v.before.before.before in
     let p = t.before.before.before in
     let w = p.before.before.before.before in
-    text-stopped _ _ _ _ _ (show-take _ _ _ _ w.show.ensures (omega (arith, w.before.before.buffer.ensures))) p.put_word.ensures _
-    t.if1.true _ _ v.put-word2.ensures
+    text-stopped _ _ _ _ _ (show-take _ _ _ _ w.show.ensures (omega (arith, w.before.before.buffer.ensures))) p.put_word.ensures _ t.if1.true _ _ v.put-word2.ensures
 
 returns-2 : tie.Need-returns-2
 returns-2 c =
@@ -52,5 +44,5 @@ returns-2 c =
 
 pub put-text-spec : {M : Type 1} → statement M
 put-text-spec =
-    tie.close (tie.spec (λ c κs. search needs) (λ c. search needs) (λ c κs. search needs) array-share-prefix-lines slice-aggregate-put-word put-word-requires
-    (λ c. search needs) put-word-requires-2 (λ c. search needs) returns (λ c. search needs) returns-2)
+    tie.close (tie.spec (λ c κs. search rules) (λ c. search rules) (λ c κs. search rules) array-share-prefix-lines slice-aggregate-put-word put-word-requires
+    (λ c. search rules) put-word-requires-2 (λ c. search rules) returns (λ c. search rules) returns-2)

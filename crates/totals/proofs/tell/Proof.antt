@@ -1,7 +1,10 @@
 -- `tell` hands over the definition's text. Assumes nothing.
-use Rattle.format.proofs.Common.{sym, arith, length-take-le, needs}
+use mathlib.Core.Path.{sym}
+use native.Mathlib.Omega.{arith}
+use lib.Seq.{length-take-le}
+use borrow.Author.Rules.{rules}
 use Rattle.text.proofs.Texts.{written-fits}
-use Rattle.totals.proofs.TotalsText.{first-text}
+use Rattle.totals.proofs.Room.{first-text}
 use Rattle.totals.proofs.tell.Statement.{statement}
 use Rattle.totals.proofs.tell.Tie as tie
 
@@ -18,5 +21,4 @@ say-requires c κs =
 
 pub tell-spec : {M : Type 1} → statement M
 tell-spec =
-    tie.close (tie.spec (λ c κs. search needs) (λ c. search needs) (λ c κs. search needs) array-share-prefix-out slice-aggregate-say say-requires
-    (λ c. search needs))
+    tie.close (tie.spec (λ c κs. search rules) (λ c. search rules) (λ c κs. search rules) array-share-prefix-out slice-aggregate-say say-requires (λ c. search rules))

@@ -1,10 +1,13 @@
 -- The reader's words are stored, or there are too few of them. Assumes nothing.
-use Rattle.format.proofs.Common.{arith, needs}
+use native.Mathlib.Omega.{arith}
+use borrow.Author.Rules.{rules}
 use Rattle.answer_words.proofs.Telling.{few, put}
 use Rattle.answer_words.proofs.PartWords.{state-long}
 use Rattle.answer_words.proofs.parts.put_reader.Statement.{statement}
 use Rattle.answer_words.proofs.parts.put_reader.Tie as tie
 
+returns-2 : tie.Need-returns-2
+returns-2 c = let p = c.before.before in put state-long p.before.before.if1.false p.store-reader.ensures
+
 pub put-reader-spec : {M : Type 1} → statement M
-put-reader-spec = tie.close (tie.spec (λ c. few state-long (omega arith)) (search needs) (search needs)
-    λ c. let at_store = c.before.before in put state-long at_store.before.before.if1.false at_store.store-reader.ensures)
+put-reader-spec = tie.close (tie.spec (λ c. few state-long (omega arith)) (λ c κs. search rules) (λ c. search rules) returns-2)

@@ -4,5 +4,5 @@ use Rattle.answer_words.proofs.parts.repeats.Statement.{statement}
 use Rattle.answer_words.proofs.parts.repeats.Tie as tie
 
 pub repeats-spec : {M : Type 1} → statement M
-repeats-spec = tie.close (tie.spec (search rules) (search rules) (search rules) (λ c. rw c.before.standing.given.1)
-    (λ c. search rules) (λ c. search rules))
+repeats-spec =
+    tie.close (tie.spec (λ c. search rules) (λ c. search rules) (λ c. search rules) (λ c. rw c.before.standing.given.1) (λ c. search rules) (λ c. search rules))

@@ -1,5 +1,6 @@
 -- The first word says how the reader stands. Assumes nothing.
-use Rattle.format.proofs.Common.{get_or, needs}
+use lib.ListN.{get_or}
+use borrow.Author.Rules.{rules}
 use Rattle.answer_words.specs.Parts.{standing_of, refusal_of}
 use Rattle.answer_words.proofs.PartWords.{stands-closed}
 use Rattle.answer_words.proofs.parts.standing_of.Statement.{statement}
@@ -20,4 +21,4 @@ returns-3 c =
     stands-closed (get_or ws 0 0) (refusal_of ws) e.if1.false c.if2.false
 
 pub standing-of-spec : {M : Type 1} → statement M
-standing-of-spec = tie.close (tie.spec (search needs) returns (search needs) (search needs) returns-2 returns-3)
+standing-of-spec = tie.close (tie.spec (λ c. search rules) returns (λ c. search rules) (λ c κs. search rules) returns-2 returns-3)

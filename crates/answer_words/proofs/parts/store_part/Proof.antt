@@ -1,5 +1,8 @@
 -- The words are stored one after another, and are those of what the call did. Assumes nothing.
-use Rattle.format.proofs.Common.{sets-eq, arith, length-set, needs}
+use lib.Seq.{sets-eq}
+use native.Mathlib.Omega.{arith}
+use lib.ListN.{length-set}
+use borrow.Author.Rules.{rules}
 use Rattle.answer_words.specs.Parts.{part_words}
 use Rattle.answer_words.proofs.parts.store_part.Statement.{statement}
 use Rattle.answer_words.proofs.parts.store_part.Tie as tie
@@ -21,19 +24,18 @@ returns c =
     let c6 = c5.before in
     let p = c6.before in
     let s = p.before.before in
-    let stored = sets-eq (part_words s.args.step) s.args.words.now 0 s.requires in
     record {
       number_is = rw (c.number2.ensures, p.plain.ensures);
       words_are =
-          rw (c6.case.ensures, c5.number.ensures, c4.place.ensures, c3.kind.ensures, c2.rows.ensures, c1.consumed.ensures)
-          (rw (f.cut-case.ensures, f-at.Cut-field.ensures, b.cut-byte.ensures, b_at.cut-field2.ensures)
-          (rw (w.width.ensures, t.start.ensures, p.plain.ensures) stored));
+          rw (c6.case.ensures, c5.number.ensures, c4.place.ensures, c3.kind.ensures, c2.rows.ensures, c1.consumed.ensures, f.cut-case.ensures, f-at.Cut-field.ensures, b.cut-byte.ensures, b_at.cut-field2.ensures, w.width.ensures, t.start.ensures, p.plain.ensures)
+          (sets-eq (part_words s.args.step) s.args.words.now 0 s.requires);
     }
 
 pub store-part-spec : {M : Type 1} → statement M
-store-part-spec = tie.close (tie.spec (search needs) (search needs) (search needs) (search needs) (search needs) (λ c. simp length-set (omega arith))
-    (search needs) (λ c. simp length-set (omega arith)) (search needs) (search needs) (λ c. simp length-set (omega arith)) (search needs)
-    (λ c. simp length-set (omega arith)) (search needs) (λ c. simp length-set (omega arith)) (search needs) (search needs)
-    (λ c. simp length-set (omega arith)) (search needs) (search needs) (λ c. simp length-set (omega arith)) (search needs)
-    (λ c. simp length-set (omega arith)) (search needs) (λ c. simp length-set (omega arith)) (λ c. simp length-set (omega arith)) (search needs)
-    (search needs) (λ c. simp length-set) returns)
+store-part-spec =
+    tie.close (tie.spec (λ c κs. search rules) (λ c κs. search rules) (λ c. search rules) (λ c κs. search rules) (λ c. search rules) (λ c. simp length-set (omega arith))
+    (λ c κs. search rules) (λ c. simp length-set (omega arith)) (λ c κs. search rules) (λ c. search rules) (λ c. simp length-set (omega arith)) (λ c κs. search rules)
+    (λ c. simp length-set (omega arith)) (λ c κs. search rules) (λ c. simp length-set (omega arith)) (λ c κs. search rules) (λ c κs. search rules)
+    (λ c. simp length-set (omega arith)) (λ c κs. search rules) (λ c κs. search rules) (λ c. simp length-set (omega arith)) (λ c κs. search rules)
+    (λ c. simp length-set (omega arith)) (λ c κs. search rules) (λ c. simp length-set (omega arith)) (λ c. simp length-set (omega arith)) (λ c κs. search rules)
+    (λ c. search rules) (λ c. simp length-set) returns)

@@ -1,5 +1,6 @@
 -- One read more is counted, and what came are the bytes between what was held and where it stops. Assumes nothing.
-use Rattle.format.proofs.Common.{◌≡◌, ◌-◌, arith, w32, w64, to_z-of_z, needs, sfits_of}
+use Rattle.std.proofs.Common.{◌≡◌, ◌-◌, arith, to_z-of_z, w32, w64, rules}
+use borrow.Author.Rules.{sfits_of}
 use Rattle.blocks.specs.Blocks.{came}
 use Rattle.blocks.proofs.reading.one_more.Statement.{statement}
 use Rattle.blocks.proofs.reading.one_more.Tie as tie
@@ -16,5 +17,5 @@ returns c =
 
 pub one-more-spec : {M : Type 1} → statement M
 one-more-spec =
-    tie.close (tie.spec (λ c κs. search needs) (λ c κs. search needs) (λ c. omega (arith, c.before.before.before.before.read-on.ensures.stop_is))
-    (λ c κs. search needs) (λ c κs. search needs) (λ c. search needs) returns)
+    tie.close (tie.spec (λ c κs. search rules) (λ c κs. search rules) (λ c. omega (arith, c.before.before.before.before.read-on.ensures.stop_is))
+    (λ c κs. search rules) (λ c κs. search rules) (λ c. search rules) returns)

@@ -1,6 +1,8 @@
 -- Each turn stores the byte at one place more. Assumes nothing.
-use Rattle.format.proofs.Common.{◌≡◌, refl, sym, ◌+◌, ◌-◌, ◌≤◌, ◌<◌, arith, length, replicate, length-replicate, get_or-replicate}
-use Rattle.format.proofs.Common.{length-set}
+use mathlib.Core.Path.{◌≡◌, refl, sym}
+use Prim.Native.Nat.{◌+◌, ◌-◌, ◌≤◌, ◌<◌}
+use native.Mathlib.Omega.{arith}
+use lib.ListN.{length, replicate, length-replicate, get_or-replicate, length-set}
 use Rattle.boolean_rle.specs.Found.{Wrote}
 use Rattle.boolean_rle.proofs.RunBytes.{wrote_none, one_more}
 use Rattle.boolean_rle.proofs.bytes.fill.Statement.{statement}

@@ -1,70 +1,121 @@
 -- By the two positions that are found, the one that the call's comes to and the one after n bytes: a cut on the way to either is the
 -- column's own, and if both are there, so are the bytes. Assumes nothing.
-use Rattle.format.proofs.Common.{◌≡◌, sym, ◌∙◌, ℕ, ◌+◌, arith, needs, length-drop}
+use mathlib.Core.Path.{◌≡◌, sym, ◌∙◌}
+use mathlib.Core.List.{List}
+use Prim.Native.Nat.{ℕ, ◌+◌}
+use native.Mathlib.Omega.{arith}
+use native.Mathlib.Nat.{add-zero, le_refl}
+use borrow.Author.Rules.{rules}
+use Rattle.format.specs.Digits.{AllBelow}
 use Rattle.format.proofs.Below.{below_all}
+use Rattle.boolean_rle.specs.declared.positions.BytePosition.{BytePosition}
 use Rattle.boolean_rle.specs.declared.positions.ByteEnd.TheVariants as end
-use Rattle.boolean_rle.specs.Found.{byte_end}
-use Rattle.boolean_rle.proofs.BatchReader.{cut-first, cut-second, no_room, all_read}
-use Rattle.boolean_rle.proofs.ByteReader.{ByteReader, bytes-reader}
+use Rattle.boolean_rle.specs.Found.{bytes_ahead, byte_end}
+use Rattle.boolean_rle.proofs.ByteReader.{bytes_on, bytes_same, bytes_cut, bytes_8, bytes-room, bytes-all}
 use Rattle.boolean_rle.proofs.bytes.read_bytes.Statement.{statement}
 use Rattle.boolean_rle.proofs.bytes.read_bytes.Tie as tie
 
-abbrev entry : tie.After-byte-end → tie.Start
-entry sought = sought.before.before.before.before
+module _ (sought : tie.After-byte-end) where
+  abbrev known : tie.After-shared-slice-known
+  known = sought.before.before.before
 
-reader : (sought : tie.After-byte-end) → ByteReader (entry sought).args.input.now
-reader sought =
-    let s = (entry sought).args.input.now in
-    bytes-reader s (below_all 256 s (λ i. (sought.before.before.before.shared-slice-known.given i).fits))
+  abbrev entry : tie.Start
+  entry = known.before
 
--- the position that the call's comes to, and the one after the n bytes
-begins : (c : tie.After-begin) → let a = (entry c.before.before).args in
-    byte_end a.input.now a.from.run.bytes (a.from.bytes.bytes + 0) ≡ end.At c.begin.given.0.0
-begins c = sym c.before.before.byte-end.ensures ∙ c.begin.given.1
+  abbrev s : List ℕ
+  s = entry.args.input.now
 
-abbrev begun : tie.After-next → tie.After-begin
-begun c = c.before.before.before.before
+  abbrev from : BytePosition
+  from = entry.args.from
 
-ends : (c : tie.After-next) → let a = (entry (begun c).before.before).args in let q = (begun c).begin.given.0.0 in
-    byte_end a.input.now q.run.bytes (q.bytes.bytes + a.n.rows) ≡ end.At c.next.given.0.0
-ends c = sym c.before.before.byte-end2.ensures ∙ c.next.given.1
+  bytes : AllBelow 256 s
+  bytes = below_all 256 s (λ i. (known.shared-slice-known.given i).fits)
+
+-- the position that the call's comes to
+module _ (c : tie.After-begin) where
+  abbrev before-begin : tie.After-byte-end
+  before-begin = c.before.before
+
+  abbrev begin : BytePosition
+  begin = c.begin.given.0.0
+
+  begins : byte_end (s before-begin) (from before-begin).run.bytes (from before-begin).bytes.bytes ≡ end.At begin
+  begins = rw add-zero at (sym before-begin.byte-end.ensures ∙ c.begin.given.1)
+
+  on : (x : ℕ) → byte_end (s before-begin) (from before-begin).run.bytes ((from before-begin).bytes.bytes + x)
+      ≡ byte_end (s before-begin) begin.run.bytes (begin.bytes.bytes + x)
+  on = bytes_on (s before-begin) (bytes before-begin) (from before-begin).run.bytes (from before-begin).bytes.bytes begin begins
+
+-- and the one after the n bytes
+module _ (c : tie.After-next) where
+  abbrev at-begin : tie.After-begin
+  at-begin = c.before.before.before.before
+
+  abbrev first : tie.After-byte-end
+  first = before-begin at-begin
+
+  abbrev n : ℕ
+  n = (entry first).args.n.rows
+
+  abbrev next : BytePosition
+  next = c.next.given.0.0
+
+  ends : byte_end (s first) (from first).run.bytes ((from first).bytes.bytes + n) ≡ end.At next
+  ends = on at-begin n ∙ sym c.before.before.byte-end2.ensures ∙ c.next.given.1
+
+  same : bytes_ahead (s first) (from first) ≡ bytes_ahead (s first) (begin at-begin)
+  same = bytes_same (s first) (bytes first) (from first).run.bytes (from first).bytes.bytes (begin at-begin) (begins at-begin)
 
 returns : tie.Need-returns
 returns c =
     let none = c.before.before in
     let sought = none.before.before in
-    rw c.cut.ensures (cut-first (reader sought) (sym sought.byte-end.ensures ∙ none.number.given.1))
+    let a = (entry sought).args in
+    rw c.cut.ensures
+    (bytes_cut (s sought) (bytes sought) a.from a.n.rows a.out.now (a.from.bytes.bytes + 0) none.number.given.0.0
+    none.number.given.0.1.0 (omega arith) (sym sought.byte-end.ensures ∙ none.number.given.1))
 
 returns-2 : tie.Need-returns-2
 returns-2 c =
     let none = c.before.before in
-    let sought = none.before.before in
-    let at-begin = sought.before.before in
+    let sought-again = none.before.before in
+    let at-begin = sought-again.before.before in
+    let sought = before-begin at-begin in
+    let a = (entry sought).args in
     rw c.cut2.ensures
-    (cut-second (reader at-begin.before.before) (begins at-begin) (sym sought.byte-end2.ensures ∙ none.number2.given.1))
+    (bytes_cut (s sought) (bytes sought) a.from a.n.rows a.out.now (a.from.bytes.bytes + a.n.rows)
+    none.number2.given.0.0 none.number2.given.0.1.0 (le_refl _)
+    (on at-begin a.n.rows ∙ sym sought-again.byte-end2.ensures ∙ none.number2.given.1))
 
 returns-3 : tie.Need-returns-3
 returns-3 c =
-    let at_next = c.before.before.before in
-    rw c.new.ensures (no_room (reader (begun at_next).before.before) (begins (begun at_next)) (ends at_next) c.before.if1.true)
+    let too_few = c.before in
+    let at_next = too_few.before.before in
+    let a = (entry (first at_next)).args in
+    rw c.new.ensures
+    (bytes_8 (s (first at_next)) (bytes (first at_next)) a.from a.n.rows a.out.now (next at_next) (ends at_next)
+    too_few.if1.true)
 
 put-values-requires : tie.Need-put-values-requires
 put-values-requires c κs =
     let at_next = c.before.before.before in
-    let sought = (begun at_next).before.before in
-    let q = (begun at_next).begin.given.0.0 in
-    let there = ((reader sought).of_at q.run.bytes (q.bytes.bytes + (entry sought).args.n.rows) _ (ends at_next)).0 in
-    (omega arith, rw length-drop (omega arith))
+    let sought = first at_next in
+    let a = (entry sought).args in
+    let room = bytes-room (s sought) (bytes sought) a.from a.n.rows a.out.now (next at_next) (ends at_next) in
+    (omega arith, rw (same at_next) at room)
 
 returns-4 : tie.Need-returns-4
 returns-4 c =
     let laid = c.before.before in
     let enough = laid.before.before in
     let at_next = enough.before.before in
-    all_read (reader (begun at_next).before.before) (begins (begun at_next)) (ends at_next) enough.if1.false laid.put-values.ensures
+    let sought = first at_next in
+    let a = (entry sought).args in
+    bytes-all (s sought) (bytes sought) a.from a.n.rows a.out.now (next at_next) (ends at_next) _ enough.if1.false
+    (rw (same at_next) laid.put-values.ensures)
 
 pub read-bytes-spec : {M : Type 1} → statement M
 read-bytes-spec =
-    tie.close (tie.spec (λ c κs. search needs) (λ c. search needs) (λ c. search needs) (λ c κs. search needs) returns
-    (λ c κs. search needs) (λ c. search needs) (λ c. search needs) (λ c κs. search needs) returns-2 (λ c κs. search needs) returns-3
-    put-values-requires (λ c. search needs) returns-4)
+    tie.close (tie.spec (λ c κs. search rules) (λ c. search rules) (λ c. search rules) (λ c κs. search rules) returns
+    (λ c κs. search rules) (λ c. search rules)
+    (λ c. search rules) (λ c κs. search rules) returns-2 (λ c κs. search rules) returns-3 put-values-requires (λ c. search rules) returns-4)

@@ -1,8 +1,12 @@
--- The true among the first n are the ones of the whole bytes, and those of the highest bits of the byte after them. Assumes nothing.
-use Rattle.format.proofs.Common.{ℕ, ◌+◌, ◌*◌, ◌/◌, ◌%◌, ◌≤◌, ◌≡◌, sym, ap, ◌∙◌, get_or, needs, arith}
+-- `count_true` meets its contract. Assumes nothing.
+use Prim.Native.Nat.{ℕ, ◌+◌, ◌*◌, ◌/◌, ◌%◌, ◌≤◌}
+use mathlib.Core.Path.{◌≡◌, sym, ap, ◌∙◌}
+use lib.ListN.{get_or}
 use Rattle.boolean_rle.specs.declared.count.Count.TheVariants.{True, Refused}
 use Rattle.boolean_rle.specs.Ones.{ones_in}
 use Rattle.boolean_rle.proofs.Ones.{ones-more, ones_at_most, ones-part, too_few, enough}
+use borrow.Author.Rules.{rules}
+use native.Mathlib.Omega.{arith}
 use Rattle.boolean_rle.proofs.count.count_true.Statement.{statement}
 use Rattle.boolean_rle.proofs.count.count_true.Tie as tie
 
@@ -29,10 +33,8 @@ add-t16 c =
     let k = w.before.before in
     let a = k.before.args in
     let bytes = a.bytes.now in
-    let few : w.ones_in_lem.result.rows ≤ 8 * (a.n.rows / 8) =
-    rw w.ones_in_lem.ensures (ones_at_most (a.n.rows / 8) bytes (λ j. (k.shared-slice-known.given j).fits)) in
-    let more : c.ones-of.result ≤ a.n.rows % 8 =
-    rw c.ones-of.ensures (ones-part (a.n.rows % 8) (get_or bytes (a.n.rows / 8) 0) (omega arith) (k.shared-slice-known.given (a.n.rows / 8)).fits) in
+    let few : w.ones_in_lem.result.rows ≤ 8 * (a.n.rows / 8) = rw w.ones_in_lem.ensures (ones_at_most (a.n.rows / 8) bytes (λ j. (k.shared-slice-known.given j).fits)) in
+    let more : c.ones-of.result ≤ a.n.rows % 8 = rw c.ones-of.ensures (ones-part (a.n.rows % 8) (get_or bytes (a.n.rows / 8) 0) (omega arith) (k.shared-slice-known.given (a.n.rows / 8)).fits) in
     omega arith
 
 returns-4 : tie.Need-returns-4
@@ -50,6 +52,5 @@ returns-4 c =
 
 pub count-true-spec : {M : Type 1} → statement M
 count-true-spec =
-    tie.close (tie.spec (λ c κs. search needs) returns (λ c κs. search needs) returns-2 (λ c κs. search needs) returns-3 (λ c. search needs)
-    (λ c κs. search needs)
+    tie.close (tie.spec (λ c κs. search rules) returns (λ c κs. search rules) returns-2 (λ c κs. search rules) returns-3 (λ c. search rules) (λ c κs. search rules)
     add-t16 returns-4)

@@ -1,6 +1,10 @@
 -- The flags ahead are those of the byte that is begun, and then those of the bytes after it; if no bit is skipped, of whole bytes alone.
 -- Assumes nothing.
-use Rattle.format.proofs.Common.{◌≡◌, ap, ◌∙◌, ℕ, ◌-◌, ◌≤◌, arith, needs, length, drop}
+use mathlib.Core.Path.{◌≡◌, ap, ◌∙◌}
+use Prim.Native.Nat.{ℕ, ◌-◌, ◌≤◌}
+use native.Mathlib.Omega.{arith}
+use borrow.Author.Rules.{rules}
+use lib.ListN.{length, drop}
 use Rattle.format.proofs.Below.{below_all}
 use Rattle.boolean_rle.specs.Found.{flags_ahead}
 use Rattle.boolean_rle.proofs.RunBytes.{wrote_on}
@@ -56,6 +60,6 @@ returns-3 c =
 
 pub put-flags-spec : {M : Type 1} → statement M
 put-flags-spec =
-    tie.close (tie.spec (λ c κs. search needs) (λ c. search needs) returns (λ c κs. search needs)
-    (λ c. search needs) returns-2 add-put-booleans (λ c κs. search needs)
-    (λ c. search needs) returns-3)
+    tie.close (tie.spec (λ c κs. search rules) (λ c. search rules) returns (λ c κs. search rules)
+    (λ c. search rules) returns-2 add-put-booleans (λ c κs. search rules)
+    (λ c. search rules) returns-3)

@@ -1,6 +1,11 @@
 -- Each turn passes one run, so the position sought from the start on is the one sought from `place` on, `left` and `rest` bytes after it.
 -- Assumes nothing.
-use Rattle.format.proofs.Common.{◌≡◌, refl, sym, ◌∙◌, List, ℕ, ◌+◌, ◌-◌, arith, needs, length}
+use mathlib.Core.Path.{◌≡◌, refl, sym, ◌∙◌}
+use mathlib.Core.List.{List}
+use Prim.Native.Nat.{ℕ, ◌+◌, ◌-◌}
+use native.Mathlib.Omega.{arith}
+use borrow.Author.Rules.{rules}
+use lib.ListN.{length}
 use Rattle.format.specs.Booleans.{ByteRun}
 use Rattle.format.proofs.Below.{below_all}
 use Rattle.boolean_rle.specs.declared.ByteRun as code
@@ -81,8 +86,8 @@ returns-3 c =
 
 pub byte-end-spec : {M : Type 1} → statement M
 byte-end-spec =
-    tie.close (tie.spec invariant-loop decreases-loop (λ c. refl) (λ c κs. tt) (λ c κs. tt) (λ c. search needs) (λ c κs. tt)
+    tie.close (tie.spec invariant-loop decreases-loop (λ c. refl) (λ c κs. tt) (λ c κs. tt) (λ c. search rules) (λ c κs. tt)
     (λ c. omega (arith, c.before.less.ensures, (run-here c.before.before).1.few)) returns (λ c κs. tt)
     (λ c. let found = c.before.before.before.before in omega (arith, (run-here found).1.inside))
     (λ c. let found = c.before.before.before.before in let h = (run-here found).1 in omega (arith, h.inside, h.takes)) loop-again
-    (λ c. search needs) returns-2 returns-3)
+    (λ c. search rules) returns-2 returns-3)

@@ -1,5 +1,9 @@
 -- n flags are whole bytes, and then some bits of one that has to be there: it is if its run is. Assumes nothing.
-use Rattle.format.proofs.Common.{sym, ◌∙◌, List, ℕ, arith, needs}
+use mathlib.Core.Path.{sym, ◌∙◌}
+use mathlib.Core.List.{List}
+use Prim.Native.Nat.{ℕ}
+use native.Mathlib.Omega.{arith}
+use borrow.Author.Rules.{rules}
 use Rattle.format.specs.Digits.{AllBelow}
 use Rattle.format.proofs.Below.{below_all}
 use Rattle.boolean_rle.proofs.FirstPass.{here}
@@ -58,6 +62,6 @@ returns-4 c =
 
 pub flag-end-spec : {M : Type 1} → statement M
 flag-end-spec =
-    tie.close (tie.spec (λ c. search needs) (λ c. search needs) (λ c. search needs) (λ c κs. search needs) (λ c. search needs)
-    (λ c. search needs) returns returns-2
-    (λ c κs. search needs) (λ c. search needs) (λ c. search needs) returns-3 returns-4)
+    tie.close (tie.spec (λ c. search rules) (λ c. search rules) (λ c. search rules) (λ c κs. search rules) (λ c. search rules)
+    (λ c. search rules) returns returns-2
+    (λ c κs. search rules) (λ c. search rules) (λ c. search rules) returns-3 returns-4)

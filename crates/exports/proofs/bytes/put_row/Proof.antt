@@ -1,5 +1,11 @@
--- Each turn stores one byte, so what stands so far and the bytes of what is left of the number are the whole. Assumes nothing.
-use Rattle.format.proofs.Common.{◌++◌, ◌≡◌, refl, ◌≤◌, ◌-◌, ◌+◌, ◌%◌, add-zero, add_assoc, arith, length, take, drop, length-set}
+-- `put_row` meets its contract. The loop's invariant: what stands so far, then the bytes of what is left of the number, is the whole.
+-- Assumes nothing.
+use mathlib.Core.List.{◌++◌}
+use mathlib.Core.Path.{◌≡◌, refl}
+use Prim.Native.Nat.{◌≤◌, ◌-◌, ◌+◌, ◌%◌}
+use native.Mathlib.Nat.{add-zero, add_assoc}
+use native.Mathlib.Omega.{arith}
+use lib.ListN.{length, take, drop, length-set}
 use Rattle.format.specs.Digits.{lowest_first}
 use Rattle.util.proofs.Grow.{grow, kept, filled}
 use Rattle.exports.proofs.RowBytes.{byte_more}
@@ -36,5 +42,5 @@ returns c =
 
 pub put-row-spec : {M : Type 1} → statement M
 put-row-spec =
-    tie.close (tie.spec invariant-loop decreases-loop (λ c. (omega arith, refl, rw add-zero, refl)) (λ c. omega arith) (λ c. omega arith) (λ c. omega arith)
-    (λ c. omega arith) (λ c. omega arith) loop-again (λ c. c.before.loop.invariant.1) returns)
+    tie.close (tie.spec invariant-loop decreases-loop (λ c. (omega arith, refl, rw add-zero, refl)) (λ c. omega arith) (λ c. omega arith) (λ c. omega arith) (λ c. omega arith)
+    (λ c. omega arith) loop-again (λ c. c.before.loop.invariant.1) returns)

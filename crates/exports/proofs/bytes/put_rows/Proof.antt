@@ -1,36 +1,61 @@
--- Each turn lays out one row, so what stands so far and the bytes of the rows that are left are the whole. Assumes nothing.
-use Rattle.format.proofs.Common.{w64, to_z-of_z, List, ◌≡◌, refl, ◌∙◌, ap, ℕ, ◌-◌, sub-zero, sub_self, arith, ℤ, pos, take, drop, get_or}
-use Rattle.format.proofs.Common.{needs, sfits_of}
+-- `put_rows` meets its contract. The loop's invariant: what stands so far, then the bytes of the rows that are left, is the whole.
+-- Assumes nothing.
+use mir.Syntax.{w64}
+use mir.Facts.{to_z-of_z}
+use mathlib.Core.List.{◌++◌, append_assoc}
+use mathlib.Core.Path.{◌≡◌, refl, ◌∙◌, ap}
+use Prim.Native.Nat.{◌≤◌, ◌-◌, ◌+◌, ◌*◌}
+use native.Mathlib.Nat.{sub-zero}
+use native.Mathlib.Omega.{arith}
+use lib.IntN.{pos}
+use lib.ListN.{length, take, drop, get_or}
 use Rattle.format.specs.Rows.{as_u64}
+use Rattle.format.specs.Digits.{lowest_first}
 use Rattle.exports.specs.RowBytes.{row_bytes}
-use Rattle.exports.proofs.RowBytes.{Laid, one_more, all_laid, row_more}
+use Rattle.util.proofs.Grow.{front-is, kept_by, long-by, filled}
+use Rattle.exports.proofs.RowBytes.{row_more, bytes-long}
+use borrow.Author.Rules.{rules, sfits_of}
 use Rattle.exports.proofs.bytes.put_rows.Statement.{statement}
 use Rattle.exports.proofs.bytes.put_rows.Tie as tie
 
-abbrev left : List ℤ → ℕ → ℕ → List ℕ
-left rows n i = row_bytes (take (n - i) (drop i rows))
-
 abbrev invariant-loop : tie.invariant-loop
-invariant-loop rows out₀ n i₀ out i = Laid out₀ (row_bytes (take n rows)) (left rows n) n out i
+invariant-loop rows out₀ n i₀ out i =
+    (i ≤ n)
+    × (length out ≡ length out₀)
+    × (take (8 * i) out ++ row_bytes (take (n - i) (drop i rows)) ≡ row_bytes (take n rows))
+    × (drop (8 * i) out ≡ drop (8 * i) out₀)
 
 abbrev decreases-loop : tie.decreases-loop
 decreases-loop rows out₀ n i₀ out i = n - i
 
 loop-again : tie.Need-loop-preserved invariant-loop decreases-loop
 loop-again c =
-    let at-put = c.before.before in
-    let at_row = at-put.before.before in
-    let at-loop = at_row.before.before.before in
-    let a = at-loop.before.before.args in
-    let rows = a.rows.now in
-    let row : at_row.to-u64.result ≡ as_u64 (get_or rows at-loop.loop.i (pos 0)) =
-    at_row.to-u64.ensures ∙ ap as_u64 (to_z-of_z {w = w64} {z = get_or rows at-loop.loop.i (pos 0)} (sfits_of at_row.before.row.given)) in
-    let more = row_more rows a.count.rows at-loop.loop.i (omega arith) (omega arith) in
-    one_more at-loop.loop.invariant at_row.to-u64.result (omega arith) (omega arith) (rw row more) at-put.put-row.ensures
+    let p = c.before.before in
+    let t = p.before.before in
+    let l = t.before.before.before.loop in
+    let a = t.before.before.before.before.before.args in
+    let x = t.to-u64.result in
+    let e = p.put-row.ensures in
+    let n : 8 * (l.i + 1) ≡ 8 * l.i + 8 = omega arith in
+    let u : x ≡ as_u64 (get_or a.rows.now l.i (pos 0))
+    = t.to-u64.ensures ∙ ap as_u64 (to_z-of_z {w = w64} {z = get_or a.rows.now l.i (pos 0)} (sfits_of t.before.row.given)) in (
+      omega arith,
+      long-by l.out p.put-row.new.1.0 (lowest_first 8 x) (8 * l.i) 8 (omega arith) (bytes-long 8 x) e (omega arith) ∙ l.invariant.1,
+      rw (n, front-is l.out p.put-row.new.1.0 (lowest_first 8 x) (8 * l.i) 8 (omega arith) (bytes-long 8 x) e, append_assoc, u)
+          (rw (row_more a.rows.now a.count.rows l.i (omega arith) (omega arith)) at l.invariant.2),
+      rw n (kept_by l.out p.put-row.new.1.0 (lowest_first 8 x) (8 * l.i) 8 (omega arith) (bytes-long 8 x) e a.out.now l.invariant.3),
+    )
+
+returns : tie.Need-returns invariant-loop decreases-loop
+unfolding row_bytes
+returns c =
+    let l = c.before.loop in
+    let a = c.before.before.before.args in
+    let d : l.i ≡ a.count.rows = omega arith in
+    let z : a.count.rows - l.i ≡ 0 = omega arith in
+    filled l.out a.out.now _ (8 * a.count.rows) (rw d at (simp (z, row_bytes) at l.invariant.2)) (rw d at l.invariant.3)
 
 pub put-rows-spec : {M : Type 1} → statement M
-unfolding row_bytes
-put-rows-spec = tie.close (tie.spec invariant-loop decreases-loop (λ c. record { within = omega arith; long = refl; whole = simp sub-zero; rest = refl })
-    (λ c. omega arith) (λ c. omega arith) (search needs) (λ c. omega arith)
-    (λ c κs. omega arith) (λ c. omega arith) (λ c. omega arith) loop-again (λ c. c.before.loop.invariant.long)
-    (λ c. all_laid c.before.loop.invariant (omega arith) (rw sub_self)))
+put-rows-spec =
+    tie.close (tie.spec invariant-loop decreases-loop (λ c. (omega arith, refl, simp sub-zero, refl)) (λ c. omega arith) (λ c. omega arith) (λ c κs. search rules) (λ c. omega arith)
+    (λ c κs. omega arith) (λ c. omega arith) (λ c. omega arith) loop-again (λ c. c.before.loop.invariant.1) returns)

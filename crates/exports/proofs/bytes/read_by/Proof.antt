@@ -1,15 +1,18 @@
--- What the run reader gives in the first rows is laid out as bytes, and its counts are packed. Assumes nothing.
-use Rattle.format.proofs.Common.{sym, ap, ◌∙◌, ◌≡◌, ◌++◌, arith, length, take, drop, length-append, length-take-le, needs}
+-- `read_by` meets its contract: what the run reader gives in the first rows is laid out as bytes, and its counts are packed. Assumes nothing.
+use mathlib.Core.Path.{sym, ap, ◌∙◌, ◌≡◌}
+use mathlib.Core.List.{◌++◌}
+use native.Mathlib.Omega.{arith}
+use lib.ListN.{length, take, drop, length-append}
+use lib.Seq.{length-take-le}
 use Rattle.format.specs.Answers.{answer_packed}
 use Rattle.format.proofs.Below.{below_all}
 use Rattle.exports.proofs.Reading.{Reads, reads}
+use borrow.Author.Rules.{rules}
 use Rattle.exports.proofs.bytes.read_by.Statement.{statement}
 use Rattle.exports.proofs.bytes.read_by.Tie as tie
 
 slice-aggregate-read-run : tie.Need-slice-aggregate-read-run
-slice-aggregate-read-run c =
-    let a = c.before.before.before.before.before.args in
-    sym (length-take-le c.before.before.least.result a.rows.now (omega arith))
+slice-aggregate-read-run c = let a = c.before.before.before.before.before.args in sym (length-take-le c.before.before.least.result a.rows.now (omega arith))
 
 -- what is known once the run is read
 told : (x : tie.After-read-run) → let k = x.before.before.before.least.result in let a = x.before.before.before.before.before.before.args in
@@ -18,8 +21,7 @@ told x =
     let k = x.before.before.before.least.result in
     let s = x.before.before.before.before.before in
     let a = s.before.args in
-    reads a.input.now a.signed a.out.now a.rows.now (take k a.rows.now) x.read-run.new.1.1.1.0
-    x.before.before.new.result.bytes k x.read-run.result
+    reads a.input.now a.signed a.out.now a.rows.now (take k a.rows.now) x.read-run.new.1.1.1.0 x.before.before.new.result.bytes k x.read-run.result
     (below_all 256 a.input.now (λ i. (s.shared-slice-known.given i).fits))
     s.before.requires
     x.before.before.before.least.ensures
@@ -39,8 +41,7 @@ put-rows-requires c κs =
 
 packed-requires : tie.Need-packed-requires
 packed-requires c κs =
-    let at-put = c.before.before.before in
-    let t = told at-put.before.before.before.before in
+    let t = told (let back-6 = c.before.before.before.before.before.before in back-6.before) in
     (omega (arith, t.few), omega (arith, t.short))
 
 returns : tie.Need-returns
@@ -54,5 +55,5 @@ returns c =
 
 pub read-by-spec : {M : Type 1} → statement M
 read-by-spec =
-    tie.close (tie.spec (λ c κs. search needs) (λ c κs. search needs) (λ c. search needs) slice-aggregate-read-run (λ c κs. search needs) (λ c κs. search needs)
-    put-rows-requires packed-requires (λ c. search needs) (λ c. search needs) returns)
+    tie.close (tie.spec (λ c κs. search rules) (λ c κs. search rules) (λ c. search rules) slice-aggregate-read-run (λ c κs. search rules) (λ c κs. search rules)
+    put-rows-requires packed-requires (λ c. search rules) (λ c. search rules) returns)

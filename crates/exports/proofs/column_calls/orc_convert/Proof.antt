@@ -1,12 +1,18 @@
 -- The converter's answer is put into the words, or there are too few of them. Assumes nothing.
-use Rattle.format.proofs.Common.{arith, needs}
-use Rattle.exports.proofs.WordCounts.{convert-long}
-use Rattle.exports.proofs.Telling.{few-of, told-by}
+use native.Mathlib.Omega.{arith}
+use borrow.Author.Rules.{rules}
+use Rattle.exports.proofs.Telling.{convert-long, few-of, laid, told_of}
 use Rattle.exports.proofs.column_calls.orc_convert.Statement.{statement}
 use Rattle.exports.proofs.column_calls.orc_convert.Tie as tie
 
+returns-2 : tie.Need-returns-2
+returns-2 c =
+    let at-lay = c.before.before in
+    let at_of = at-lay.before.before.before in
+    let a = at_of.before.before.before in
+    let h = a.before.before.if1.false in
+    told_of convert-long a.convert.ensures.answer h a.convert.ensures.places (laid convert-long h at_of.of.ensures at-lay.lay.ensures)
+
 pub orc-convert-spec : {M : Type 1} → statement M
-orc-convert-spec = tie.close (tie.spec (λ c. few-of convert-long (omega arith)) (search needs) (search needs) (search needs) (search needs) (search needs)
-    (search needs) (search needs) λ c. let at_of = c.before.before.before.before.before in let at_call = at_of.before.before.before in
-    told-by convert-long at_call.before.before.if1.false at_call.convert.ensures.answer at_call.convert.ensures.places
-    at_of.of-converted.ensures c.before.before.lay.ensures)
+orc-convert-spec =
+    tie.close (tie.spec (λ c. few-of convert-long (omega arith)) (λ c κs. search rules) (λ c κs. search rules) (λ c. search rules) (λ c κs. search rules) (λ c. search rules) (λ c. search rules) (λ c. search rules) returns-2)

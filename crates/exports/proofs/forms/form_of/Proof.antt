@@ -1,5 +1,7 @@
--- Each number has its form, and every number from 3 on the last. Assumes nothing.
-use Rattle.format.proofs.Common.{sym, arith, needs}
+-- `form_of` meets its contract. Assumes nothing.
+use mathlib.Core.Path.{sym}
+use native.Mathlib.Omega.{arith}
+use borrow.Author.Rules.{rules}
 use Rattle.exports.specs.Runs.{form_of}
 use Rattle.exports.proofs.FormNumbers.{form-last}
 use Rattle.exports.proofs.forms.form_of.Statement.{statement}
@@ -7,15 +9,15 @@ use Rattle.exports.proofs.forms.form_of.Tie as tie
 
 returns : tie.Need-returns
 unfolding form_of
-returns c = search needs
+returns c = search rules
 
 returns-2 : tie.Need-returns-2
 unfolding form_of
-returns-2 c = search needs
+returns-2 c = search rules
 
 returns-3 : tie.Need-returns-3
 unfolding form_of
-returns-3 c = search needs
+returns-3 c = search rules
 
 returns-4 : tie.Need-returns-4
 returns-4 c = sym (form-last c.before.args.form (omega arith))

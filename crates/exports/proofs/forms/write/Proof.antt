@@ -1,5 +1,8 @@
--- A form that is none is refused, and a width that no byte holds is answered as 255 is. Assumes nothing.
-use Rattle.format.proofs.Common.{map, length, lt-ltb, le-ltb, needs}
+-- `write` meets its contract: a form that is none is refused, and a width that no byte holds is answered as 255 is. Assumes nothing.
+use mathlib.Core.List.{map}
+use lib.ListN.{length}
+use borrow.Author.Tests.{lt-ltb, le-ltb}
+use borrow.Author.Rules.{rules}
 use Rattle.format.specs.Rows.{as_u64}
 use Rattle.exports.specs.Runs.{form_of}
 use Rattle.exports.proofs.FormNumbers.{width-least}
@@ -23,4 +26,4 @@ returns-2 c =
     record { answer = rw (e, ← l) g.answer; places = rw (e, ← l) g.places }
 
 pub write_spec : {M : Type 1} → statement M
-write_spec = tie.close (tie.spec (search needs) returns (search needs) (search needs) (search needs) (λ c. search needs) returns-2)
+write_spec = tie.close (tie.spec (λ c κs. search rules) returns (λ c κs. search rules) (λ c κs. search rules) (λ c κs. search rules) (λ c. search rules) returns-2)

@@ -1,5 +1,8 @@
--- A width that no byte holds is answered as 255 is. Assumes nothing.
-use Rattle.format.proofs.Common.{map, length, to_z-of_z, needs}
+-- `write_patched` meets its contract: a width that no byte holds is answered as 255 is. Assumes nothing.
+use mathlib.Core.List.{map}
+use lib.ListN.{length}
+use mir.Facts.{to_z-of_z}
+use borrow.Author.Rules.{rules}
 use Rattle.format.specs.Rows.{as_u64}
 use Rattle.exports.proofs.FormNumbers.{patched-least}
 use Rattle.exports.proofs.forms.write_patched.Statement.{statement}
@@ -16,4 +19,4 @@ returns c =
     record { answer = rw (← l) g.answer; places = rw (← l) g.places }
 
 pub write-patched-spec : {M : Type 1} → statement M
-write-patched-spec = tie.close (tie.spec (λ c κs. search needs) (λ c κs. search needs) (λ c. search needs) returns)
+write-patched-spec = tie.close (tie.spec (λ c κs. search rules) (λ c κs. search rules) (λ c. search rules) returns)

@@ -1,12 +1,18 @@
 -- How many rows were read is put into the words, or there are too few of them. Assumes nothing.
-use Rattle.format.proofs.Common.{arith, needs}
-use Rattle.exports.proofs.WordCounts.{preview-long}
-use Rattle.exports.proofs.Telling.{few-of, told-by}
+use native.Mathlib.Omega.{arith}
+use borrow.Author.Rules.{rules}
+use Rattle.exports.proofs.Telling.{preview-long, few-of, laid, told_of}
 use Rattle.exports.proofs.index_calls.orc_read_from.Statement.{statement}
 use Rattle.exports.proofs.index_calls.orc_read_from.Tie as tie
 
+returns-2 : tie.Need-returns-2
+returns-2 c =
+    let at-lay = c.before.before in
+    let at_of = at-lay.before.before.before in
+    let a = at_of.before.before in
+    let h = a.before.before.if1.false in
+    told_of preview-long a.read-from.ensures.answer h a.read-from.ensures.places (laid preview-long h at_of.of-preview.ensures at-lay.lay.ensures)
+
 pub orc-read-from-spec : {M : Type 1} → statement M
-orc-read-from-spec = tie.close (tie.spec (λ c. few-of preview-long (omega arith)) (search needs) (search needs) (search needs) (search needs) (search needs)
-    (search needs) (search needs) λ c. let at_of = c.before.before.before.before.before in let at_call = at_of.before.before in
-    told-by preview-long at_call.before.before.if1.false at_call.read-from.ensures.answer at_call.read-from.ensures.places
-    at_of.of-preview.ensures c.before.before.lay.ensures)
+orc-read-from-spec =
+    tie.close (tie.spec (λ c. few-of preview-long (omega arith)) (λ c κs. search rules) (λ c κs. search rules) (λ c. search rules) (λ c κs. search rules) (λ c. search rules) (λ c. search rules) (λ c. search rules) returns-2)

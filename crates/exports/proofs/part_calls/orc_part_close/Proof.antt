@@ -1,5 +1,6 @@
 -- The closing call's answer and state are put into the words, or there are too few of them. Assumes nothing.
-use Rattle.format.proofs.Common.{refl, needs}
+use mathlib.Core.Path.{refl}
+use borrow.Author.Rules.{rules}
 use Rattle.answer_words.proofs.PartWords.{few-state, few_words, is-enough}
 use Rattle.exports.proofs.PartWords.{close-few, close-done}
 use Rattle.exports.proofs.part_calls.orc_part_close.Statement.{statement}
@@ -22,10 +23,9 @@ returns-3 c =
     let q = k.before.before.before in
     let e = q.before.before in
     let a = e.before.before.before.before.before.args in
-    let enough = is-enough a.state.now a.words.now e.before.if1.false e.if2.false in
-    close-done k.close.result enough p.put_step.ensures refl (rw q.reader-of.ensures at k.close.ensures)
+    close-done k.close.result (is-enough a.state.now a.words.now e.before.if1.false e.if2.false) p.put_step.ensures refl (rw q.reader-of.ensures at k.close.ensures)
 
 pub orc-part-close-spec : {M : Type 1} → statement M
 orc-part-close-spec =
-    tie.close (tie.spec returns returns-2 (search needs) (search needs) (search needs) (λ c. search needs) (λ c. search needs) (λ c. search needs)
-    (λ c. search needs) returns-3)
+    tie.close (tie.spec returns returns-2 (λ c κs. search rules) (λ c κs. search rules) (λ c κs. search rules) (λ c. search rules) (λ c. search rules) (λ c. search rules)
+    (λ c. search rules) returns-3)

@@ -1,5 +1,10 @@
 -- Each turn fills one place of each column: what stands there so far, then what is still to come, are the stream's columns. Assumes nothing.
-use Rattle.format.proofs.Common.{◌≡◌, ◌-◌, arith, [], length, drop, drop_of_length-le, needs}
+use mathlib.Core.Path.{◌≡◌}
+use Prim.Native.Nat.{◌-◌}
+use native.Mathlib.Omega.{arith}
+use mathlib.Core.List.{[]}
+use lib.ListN.{length, drop, drop_of_length-le}
+use borrow.Author.Rules.{rules}
 use Rattle.format.proofs.Below.{below_all}
 use Rattle.index.proofs.MeasuredRun.{Step, step_is, OneRun, NoRun}
 use Rattle.index.proofs.Fills.{Filling, filling-first, Room, has_room, filling-run, filling-refused, filling-end}
@@ -103,7 +108,7 @@ returns-3 c = filling-end c.before.loop.invariant (drop_of_length-le _ c.loop-te
 
 pub fill_spec : {M : Type 1} → statement M
 fill_spec =
-    tie.close (tie.spec invariant-loop decreases-loop loop-holds (λ c κs. search needs) (λ c. search needs) mul-first slice-write-first mul_at
-    (λ c. (roomy c.before.before.before).in-at) mul-counts slice-write-counts add_row add-place add-i loop-less loop-again (λ c. search needs) same_length
-    same-length-2 same-length-3 returns (λ c. search needs) same-length-4 same-length-5 same-length-6 returns-2 (λ c. c.before.loop.invariant.long-first)
+    tie.close (tie.spec invariant-loop decreases-loop loop-holds (λ c κs. search rules) (λ c. search rules) mul-first slice-write-first mul_at
+    (λ c. (roomy c.before.before.before).in-at) mul-counts slice-write-counts add_row add-place add-i loop-less loop-again (λ c. search rules) same_length
+    same-length-2 same-length-3 returns (λ c. search rules) same-length-4 same-length-5 same-length-6 returns-2 (λ c. c.before.loop.invariant.long-first)
     (λ c. c.before.loop.invariant.long-at) (λ c. c.before.loop.invariant.long-counts) returns-3)

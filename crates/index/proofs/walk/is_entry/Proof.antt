@@ -1,5 +1,6 @@
 -- One place of the columns, number by number. Assumes nothing.
-use Rattle.format.proofs.Common.{sym, ◌∙◌, needs}
+use mathlib.Core.Path.{sym, ◌∙◌}
+use borrow.Author.Rules.{rules}
 use Rattle.index.proofs.Totals.{other-first, other_offset, same-so-far, past-other}
 use Rattle.index.proofs.walk.is_entry.Statement.{statement}
 use Rattle.index.proofs.walk.is_entry.Tie as tie
@@ -29,4 +30,4 @@ returns-4 c m e =
     past-other a.first a.at a.count m a.place.bytes a.rows.rows (sym c.enum_told.given.1 ∙ e) c.before.before.ranges.first.fits
 
 pub is-entry-spec : {M : Type 1} → statement M
-is-entry-spec = tie.close (tie.spec (λ c. search needs) returns returns-2 (λ c. search needs) returns-3 returns-4)
+is-entry-spec = tie.close (tie.spec (λ c. search rules) returns returns-2 (λ c. search rules) returns-3 returns-4)

@@ -1,5 +1,7 @@
 -- A count that has not passed 2^64 - 1 goes on, and one that has stays so. Assumes nothing.
-use Rattle.format.proofs.Common.{sym, ◌∙◌, needs, arith}
+use mathlib.Core.Path.{sym, ◌∙◌}
+use borrow.Author.Rules.{rules}
+use native.Mathlib.Omega.{arith}
 use Rattle.index.proofs.Totals.{past_more, rows-past, rows_more}
 use Rattle.index.proofs.walk.more.Statement.{statement}
 use Rattle.index.proofs.walk.more.Tie as tie
@@ -14,4 +16,4 @@ returns-3 : tie.Need-returns-3
 returns-3 c m e = past_more m _ (sym c.enum_told.given.1 ∙ e)
 
 pub more-spec : {M : Type 1} → statement M
-more-spec = tie.close (tie.spec (λ c. search needs) (λ c. search needs) returns (λ c. search needs) (λ c. search needs) returns-2 returns-3)
+more-spec = tie.close (tie.spec (λ c. search rules) (λ c. search rules) returns (λ c. search rules) (λ c. search rules) returns-2 returns-3)

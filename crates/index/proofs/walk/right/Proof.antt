@@ -1,5 +1,11 @@
 -- Each turn compares one place of the columns with one run: if they are the same, the columns are right exactly if the rest of them is. Assumes nothing.
-use Rattle.format.proofs.Common.{◌≡◌, ◌-◌, arith, [], length, drop, drop_of_length-le, needs, not-true, not-false}
+use mathlib.Core.Path.{◌≡◌}
+use Prim.Native.Nat.{◌-◌}
+use native.Mathlib.Omega.{arith}
+use mathlib.Core.List.{[]}
+use lib.ListN.{length, drop, drop_of_length-le}
+use borrow.Author.Rules.{rules}
+use borrow.Author.Tests.{not-true, not-false}
 use Rattle.format.proofs.Below.{below_all}
 use Rattle.index.proofs.MeasuredRun.{Step, step_is, OneRun, NoRun}
 use Rattle.index.proofs.Walks.{Matched, matched-first, matched-short, matched-other, matched-run, matched-end, matched-refused}
@@ -88,7 +94,7 @@ returns-5 c =
 
 pub right-spec : {M : Type 1} → statement M
 right-spec =
-    tie.close (tie.spec invariant-loop decreases-loop (λ c. matched-first _ _ _ _) (λ c κs. search needs) (λ c. search needs) returns (λ c. search needs) (λ c. omega arith)
-    (λ c. search needs) (λ c. omega arith) (λ c. search needs) (λ c. omega arith) (λ c κs. search needs) returns-2 (λ c κs. search needs) add-place
+    tie.close (tie.spec invariant-loop decreases-loop (λ c. matched-first _ _ _ _) (λ c κs. search rules) (λ c. search rules) returns (λ c. search rules) (λ c. omega arith)
+    (λ c. search rules) (λ c. omega arith) (λ c. search rules) (λ c. omega arith) (λ c κs. search rules) returns-2 (λ c κs. search rules) add-place
     (λ c. omega arith)
-    loop-less loop-again (λ c. search needs) returns-3 (λ c. search needs) returns-4 returns-5)
+    loop-less loop-again (λ c. search rules) returns-3 (λ c. search rules) returns-4 returns-5)

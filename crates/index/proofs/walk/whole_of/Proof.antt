@@ -1,5 +1,10 @@
 -- Each turn counts one run more, or ends with what the stream is: the count so far, and what is still to come, are the whole's. Assumes nothing.
-use Rattle.format.proofs.Common.{◌≡◌, ◌-◌, arith, [], length, drop, drop_of_length-le, needs}
+use mathlib.Core.Path.{◌≡◌}
+use Prim.Native.Nat.{◌-◌}
+use native.Mathlib.Omega.{arith}
+use mathlib.Core.List.{[]}
+use lib.ListN.{length, drop, drop_of_length-le}
+use borrow.Author.Rules.{rules}
 use Rattle.format.proofs.Below.{below_all}
 use Rattle.index.proofs.MeasuredRun.{Step, step_is, OneRun, NoRun}
 use Rattle.index.proofs.Walks.{Surveyed, surveyed-first, surveyed-run, surveyed-whole, surveyed-refused}
@@ -61,6 +66,6 @@ returns-3 c = surveyed-whole c.before.loop.invariant (drop_of_length-le _ c.loop
 
 pub whole-of-spec : {M : Type 1} → statement M
 whole-of-spec =
-    tie.close (tie.spec invariant-loop decreases-loop (λ c. surveyed-first _) (λ c κs. search needs) (λ c. search needs)
-    (λ c κs. search needs) add-place add-runs loop-less loop-again
-    (λ c. search needs) returns (λ c. search needs) returns-2 returns-3)
+    tie.close (tie.spec invariant-loop decreases-loop (λ c. surveyed-first _) (λ c κs. search rules) (λ c. search rules)
+    (λ c κs. search rules) add-place add-runs loop-less loop-again
+    (λ c. search rules) returns (λ c. search rules) returns-2 returns-3)

@@ -1,5 +1,11 @@
 -- The rows passed, and the good ones of what is left, are always all. Assumes nothing.
-use Rattle.format.proofs.Common.{ℕ, ◌+◌, ◌≤◌, ◌-◌, ◌≡◌, sym, ◌∙◌, arith, List, length, drop, get_or, needs, not-true, not-false}
+use Prim.Native.Nat.{ℕ, ◌+◌, ◌≤◌, ◌-◌}
+use mathlib.Core.Path.{◌≡◌, sym, ◌∙◌}
+use native.Mathlib.Omega.{arith}
+use mathlib.Core.List.{List}
+use lib.ListN.{length, drop, get_or}
+use borrow.Author.Rules.{rules}
+use borrow.Author.Tests.{not-true, not-false}
 use Rattle.present.proofs.SpreadLoop.{at_most_one}
 use Rattle.labels.specs.Column.{good_rows}
 use Rattle.labels.proofs.ColumnWalk.{good-next, good-bad, good_none}
@@ -54,5 +60,5 @@ returns-2 c =
 
 pub good-rows-spec : {M : Type 1} → statement M
 good-rows-spec =
-    tie.close (tie.spec invariant-loop decreases-loop (λ c. omega arith) (λ c. omega arith) (λ c κs. search needs) returns (λ c κs. search needs) add-next
+    tie.close (tie.spec invariant-loop decreases-loop (λ c. omega arith) (λ c. omega arith) (λ c κs. search rules) returns (λ c κs. search rules) add-next
     (λ c. omega arith) (λ c. omega arith) loop-again returns-2)

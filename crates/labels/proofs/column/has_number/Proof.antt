@@ -1,5 +1,7 @@
 -- The tests are the definition's: a name, an entry, a number that is not below 0, and one of the dictionary. Assumes nothing.
-use Rattle.format.proofs.Common.{sym, ◌∙◌, needs, eq-eqb, ne_eqb}
+use mathlib.Core.Path.{sym, ◌∙◌}
+use borrow.Author.Rules.{rules}
+use borrow.Author.Tests.{eq-eqb, ne_eqb}
 use Rattle.labels.proofs.ColumnWalk.{next-missing, next-below, next-number}
 use Rattle.labels.proofs.column.has_number.Statement.{statement}
 use Rattle.labels.proofs.column.has_number.Tie as tie
@@ -31,4 +33,4 @@ returns-4 c =
     (sym (next-number a.lengths.now a.numbers.now a.at entered.if2.false _ (sym read.entry.ensures ∙ known.k.given.1)))
 
 pub has-number-spec : {M : Type 1} → statement M
-has-number-spec = tie.close (tie.spec returns returns-2 (λ c κs. search needs) (λ c. search needs) (λ c. search needs) returns-3 returns-4)
+has-number-spec = tie.close (tie.spec returns returns-2 (λ c κs. search rules) (λ c. search rules) (λ c. search rules) returns-3 returns-4)

@@ -1,5 +1,8 @@
 -- A named row has its number, so both look-ups are within their columns; any other row has 0 and 0. Assumes nothing.
-use Rattle.format.proofs.Common.{◌<◌, arith, length, eq-eqb, ne_eqb}
+use Prim.Native.Nat.{◌<◌}
+use native.Mathlib.Omega.{arith}
+use lib.ListN.{length}
+use borrow.Author.Tests.{eq-eqb, ne_eqb}
 use Rattle.labels.specs.Labels.{size_of}
 use Rattle.labels.proofs.ColumnWalk.{Inside, next-inside}
 use Rattle.labels.proofs.column.name_for.Statement.{statement}

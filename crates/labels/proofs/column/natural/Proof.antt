@@ -1,6 +1,9 @@
 -- An entry below 0 counts as 0, and any other as itself. Assumes nothing.
-use Rattle.format.proofs.Common.{sym, ◌∙◌, get_or, pos, needs}
-use Rattle.labels.proofs.LabelSums.{whole-natural}
+use mathlib.Core.Path.{sym, ◌∙◌}
+use lib.ListN.{get_or}
+use lib.IntN.{pos}
+use borrow.Author.Rules.{rules}
+use Rattle.labels.proofs.Columns.{whole-natural}
 use Rattle.labels.proofs.ColumnWalk.{whole_below}
 use Rattle.labels.proofs.column.natural.Statement.{statement}
 use Rattle.labels.proofs.column.natural.Tie as tie
@@ -18,4 +21,4 @@ returns-2 c =
     sym (whole-natural (get_or a.column.now a.i (pos 0)) _ (sym e.entry.ensures ∙ c.before.n.given.1))
 
 pub natural-spec : {M : Type 1} → statement M
-natural-spec = tie.close (tie.spec (λ c κs. search needs) (λ c. search needs) (λ c. search needs) returns returns-2)
+natural-spec = tie.close (tie.spec (λ c κs. search rules) (λ c. search rules) (λ c. search rules) returns returns-2)

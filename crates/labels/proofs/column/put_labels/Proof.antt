@@ -1,5 +1,8 @@
 -- Each turn lays the name of one row, where it begins and its length. Assumes nothing.
-use Rattle.format.proofs.Common.{◌-◌, arith, length, needs}
+use Prim.Native.Nat.{◌-◌}
+use native.Mathlib.Omega.{arith}
+use lib.ListN.{length}
+use borrow.Author.Rules.{rules}
 use Rattle.present.proofs.SpreadLoop.{count-le, count_next}
 use Rattle.labels.proofs.LabelLoop.{LabelsSoFar, labels-none, offsets-there, number-there, labels_next, labels-all}
 use Rattle.labels.proofs.column.put_labels.Statement.{statement}
@@ -62,5 +65,5 @@ returns c =
 pub put-labels-spec : {M : Type 1} → statement M
 put-labels-spec =
     tie.close (tie.spec invariant-loop decreases-loop loop-holds (λ c. omega arith) name-for-requires (λ c. omega arith) (λ c. omega arith)
-    (λ c. omega arith) (λ c. omega arith) (λ c κs. search needs) add-next (λ c. omega arith) (λ c. omega arith) loop-again
+    (λ c. omega arith) (λ c. omega arith) (λ c κs. search rules) add-next (λ c. omega arith) (λ c. omega arith) loop-again
     (λ c. c.before.loop.invariant.of-starts.long) (λ c. c.before.loop.invariant.of-sizes.long) returns)

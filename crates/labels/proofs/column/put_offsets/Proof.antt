@@ -1,6 +1,8 @@
 -- Each turn lays where one name begins; no sum passes the block, since the lengths add up to it. Assumes nothing.
-use Rattle.format.proofs.Common.{◌+◌, ◌-◌, arith, length}
-use Rattle.labels.proofs.LabelSums.{adds-start}
+use Prim.Native.Nat.{◌+◌, ◌-◌}
+use native.Mathlib.Omega.{arith}
+use lib.ListN.{length}
+use Rattle.labels.proofs.Columns.{adds-start}
 use Rattle.labels.proofs.OffsetLoop.{OffsetsSoFar, offsets-none, next-sum, offsets-next, offsets-all}
 use Rattle.labels.proofs.column.put_offsets.Statement.{statement}
 use Rattle.labels.proofs.column.put_offsets.Tie as tie

@@ -4,8 +4,13 @@ use Rattle.parts.specs.Steps.{cut_short}
 use Rattle.parts.proofs.steps.cut_short.Statement.{statement}
 use Rattle.parts.proofs.steps.cut_short.Tie as tie
 
-pub cut-short-spec : {M : Type 1} → statement M
+returns : tie.Need-returns
 unfolding cut_short
-cut-short-spec =
-    tie.close (tie.spec (λ c. search rules) (λ c. search rules)
-    (λ c. rw c.enum_told.given.1) (λ c. rw c.enum-told2.given.1))
+returns c = rw c.enum_told.given.1
+
+returns-2 : tie.Need-returns-2
+unfolding cut_short
+returns-2 c = rw c.enum-told2.given.1
+
+pub cut-short-spec : {M : Type 1} → statement M
+cut-short-spec = tie.close (tie.spec (λ c. search rules) (λ c. search rules) returns returns-2)

@@ -16,6 +16,8 @@ returns-3 : tie.Need-returns-3
 unfolding form_of
 returns-3 c = rw c.if3.true
 
+returns-4 : tie.Need-returns-4
+returns-4 c = form-packed _ c.before.before.if1.false c.before.if2.false c.if3.false
+
 pub form-of-spec : {M : Type 1} → statement M
-form-of-spec =
-    tie.close (tie.spec returns returns-2 returns-3 (λ c. form-packed _ c.before.before.if1.false c.before.if2.false c.if3.false))
+form-of-spec = tie.close (tie.spec returns returns-2 returns-3 returns-4)

@@ -1,9 +1,16 @@
 -- A form above 3 is measured by writing it in room for any run, another by `size_of_run`; a width above 255 has no size. Assumes nothing.
-use Rattle.format.proofs.Common.{arith, needs}
+use native.Mathlib.Omega.{arith}
+use borrow.Author.Rules.{rules}
 use Rattle.planner.specs.Check.{any_run, write_in}
 use Rattle.planner.proofs.Steps.{size_none, none-wide, by_form}
 use Rattle.planner.proofs.segment.size.Statement.{statement}
 use Rattle.planner.proofs.segment.size.Tie as tie
+
+returns : tie.Need-returns
+returns c =
+    let w = c.before.before in
+    let s = w.before.before.before.before.before in
+    rw s.requires at w.write.ensures.size
 
 returns-2 : tie.Need-returns-2
 returns-2 c =
@@ -22,6 +29,5 @@ returns-3 c =
 
 pub size-spec : {M : Type 1} → statement M
 size-spec =
-    tie.close (tie.spec (λ c κs. search needs) (λ c. search needs)
-    (λ c. let w = c.before.before in let s = w.before.before.before.before.before in rw s.requires at w.write.ensures.size)
-    (λ c κs. search needs) (λ c. search needs) (λ c κs. search needs) returns-2 returns-3)
+    tie.close (tie.spec (λ c κs. search rules) (λ c. search rules) returns (λ c κs. search rules) (λ c. search rules)
+    (λ c κs. search rules) returns-2 returns-3)

@@ -1,21 +1,39 @@
 -- A segment that is not in place has no size; one in place has that of its rows, which the slice holds. Assumes nothing.
-use Rattle.format.proofs.Common.{◌-◌, ◌≤◌, arith, length, needs}
+use mathlib.Core.Path.{◌≡◌}
+use Prim.Native.Nat.{◌+◌, ◌-◌, ◌≤◌}
+use native.Mathlib.Omega.{arith}
+use lib.ListN.{length}
+use borrow.Author.Rules.{rules}
 use Rattle.planner.specs.Check.{any_run}
 use Rattle.planner.specs.Walk.{step_in}
 use Rattle.planner.proofs.Steps.{size_none, step-elsewhere, within-is, step-here}
 use Rattle.planner.proofs.segment.step_size.Statement.{statement}
 use Rattle.planner.proofs.segment.step_size.Tie as tie
 
+returns : tie.Need-returns
+returns c =
+    let t = c.before in
+    let a = t.before.before.args in
+    size_none (step_in a.signed a.rows.now a.at.rows a.s any_run)
+    (step-elsewhere a.signed a.rows.now a.at.rows a.s any_run _ t.is-in-place.ensures c.if1.true)
+
 within : (c : tie.Else1) → let a = c.before.before.before.args in a.s.count ≤ length a.rows.now - a.at.rows
-within c = let a = c.before.before.before.args in within-is _ (length a.rows.now) a.s _ c.before.is-in-place.ensures c.if1.false
+within c =
+    let t = c.before in
+    let a = t.before.before.args in
+    within-is a.at.rows (length a.rows.now) a.s _ t.is-in-place.ensures c.if1.false
+
+returns-2 : tie.Need-returns-2
+returns-2 c =
+    let w = c.before.before in
+    let e = w.before.before.before in
+    let t = e.before in
+    let a = t.before.before.args in
+    let k : a.at.rows + a.s.count - a.at.rows ≡ a.s.count = omega arith in
+    rw (step-here a.signed a.rows.now a.at.rows a.s any_run _ t.is-in-place.ensures e.if1.false) (rw k at w.size.ensures)
 
 pub step-size-spec : {M : Type 1} → statement M
 step-size-spec =
-    tie.close (tie.spec (λ c κs. search needs)
-    (λ c. let a = c.before.before.before.args in size_none (step_in a.signed a.rows.now a.at.rows a.s any_run)
-    (step-elsewhere a.signed a.rows.now a.at.rows a.s any_run _ c.before.is-in-place.ensures c.if1.true))
-    (λ c. omega (arith, within c)) (λ c. omega (arith, within c))
-    (λ c. omega (arith, within c)) (λ c. omega (arith, within c)) (λ c. omega (arith, within c)) (λ c κs. search needs) (λ c. search needs)
-    (λ c. let e = c.before.before.before.before.before in let a = e.before.before.before.args in
-    rw (step-here a.signed a.rows.now a.at.rows a.s any_run _ e.before.is-in-place.ensures e.if1.false)
-    c.before.before.size.ensures))
+    tie.close (tie.spec (λ c κs. search rules) returns (λ c. omega (arith, within c)) (λ c. omega (arith, within c))
+    (λ c. omega (arith, within c)) (λ c. omega (arith, within c)) (λ c. omega (arith, within c))
+    (λ c κs. search rules) (λ c. search rules) returns-2)

@@ -1,5 +1,10 @@
 -- The slice holds the run's rows, so the writer's promise for it is that of the direct run. Assumes nothing.
-use Rattle.format.proofs.Common.{◌≡◌, map, ◌+◌, ◌-◌, arith, length, take, drop, needs}
+use mathlib.Core.Path.{◌≡◌}
+use mathlib.Core.List.{map}
+use Prim.Native.Nat.{◌+◌, ◌-◌}
+use native.Mathlib.Omega.{arith}
+use lib.ListN.{length, take, drop}
+use borrow.Author.Rules.{rules}
 use Rattle.format.specs.declared.Form.TheVariants.{Direct}
 use Rattle.format.specs.Rows.{as_u64}
 use Rattle.format.specs.Writing.{writing}
@@ -19,6 +24,6 @@ returns c =
 
 pub wide-run-spec : {M : Type 1} → statement M
 wide-run-spec =
-    tie.close (tie.spec (λ c. search needs) (λ c. search needs) (λ c. search needs) (λ c. search needs) (λ c. search needs)
-    (λ c κs. search needs) (λ c κs. search needs)
-    (λ c. search needs) returns)
+    tie.close (tie.spec (λ c. search rules) (λ c. search rules) (λ c. search rules) (λ c. search rules) (λ c. search rules)
+    (λ c κs. search rules) (λ c κs. search rules)
+    (λ c. search rules) returns)

@@ -1,4 +1,4 @@
--- No number has more than 64 leading zeros, so none needs more than 64 bits. Assumes nothing.
+-- `proposer::bits::needs` meets its contract: no number has more than 64 leading zeros. Assumes nothing.
 use lib.Count.{leading_le}
 use borrow.Author.Rules.{rules}
 use Rattle.proposer.proofs.bits.needs.Statement.{statement}

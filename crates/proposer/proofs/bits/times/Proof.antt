@@ -1,5 +1,8 @@
 -- `proposer::bits::times` is safe: the product is of 32 bits. Assumes nothing.
-use Rattle.format.proofs.Common.{◌≤◌, ◌%◌, mul-le-mul, arith, needs}
+use Prim.Native.Nat.{◌≤◌, ◌%◌}
+use native.Mathlib.Nat.{mul-le-mul}
+use native.Mathlib.Omega.{arith}
+use borrow.Author.Rules.{rules}
 use Rattle.proposer.proofs.bits.times.Statement.{statement}
 use Rattle.proposer.proofs.bits.times.Tie as tie
 
@@ -10,4 +13,4 @@ mul-result c =
     omega (arith, mul-le-mul {n₂ = 65536} {m₂ = 65536} a b)
 
 pub times-spec : {M : Type 1} → statement M
-times-spec = tie.close (tie.spec mul-result (λ c. search needs))
+times-spec = tie.close (tie.spec mul-result (λ c. search rules))

@@ -1,5 +1,7 @@
 -- `proposer::candidates::count` is safe and ends: a turn counts one row. Assumes nothing.
-use Rattle.format.proofs.Common.{◌-◌, length, needs}
+use Prim.Native.Nat.{◌-◌}
+use lib.ListN.{length}
+use borrow.Author.Rules.{rules}
 use Rattle.proposer.proofs.candidates.count.Statement.{statement}
 use Rattle.proposer.proofs.candidates.count.Tie as tie
 
@@ -11,5 +13,5 @@ decreases-loop rows signed numbers₀ steps₀ seen₀ i₀ numbers steps seen i
 
 pub count_spec : {M : Type 1} → statement M
 count_spec =
-    tie.close (tie.spec invariant-loop decreases-loop (λ c κs. search needs) (λ c. search needs) (λ c κs. search needs) (λ c κs. search needs) (λ c. search needs)
-    (λ c. search needs) (λ c. search needs) (λ c. search needs))
+    tie.close (tie.spec invariant-loop decreases-loop (λ c κs. search rules) (λ c. search rules) (λ c κs. search rules) (λ c κs. search rules) (λ c. search rules) (λ c. search rules)
+    (λ c. search rules) (λ c. search rules))

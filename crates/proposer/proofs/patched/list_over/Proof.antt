@@ -1,5 +1,7 @@
 -- `proposer::patched::list_over` is safe and ends: a turn takes one row. Assumes nothing.
-use Rattle.format.proofs.Common.{◌-◌, length, needs}
+use Prim.Native.Nat.{◌-◌}
+use lib.ListN.{length}
+use borrow.Author.Rules.{rules}
 use Rattle.proposer.proofs.patched.list_over.Statement.{statement}
 use Rattle.proposer.proofs.patched.list_over.Tie as tie
 
@@ -11,5 +13,5 @@ decreases-loop rows base width list₀ i₀ list i = length rows - i
 
 pub list-over-spec : {M : Type 1} → statement M
 list-over-spec =
-    tie.close (tie.spec invariant-loop decreases-loop (λ c. search needs) (λ c κs. search needs) (λ c κs. search needs) (λ c. search needs) (λ c κs. search needs)
-    (λ c. search needs) (λ c. search needs) (λ c. search needs) (λ c. search needs))
+    tie.close (tie.spec invariant-loop decreases-loop (λ c. search rules) (λ c κs. search rules) (λ c κs. search rules) (λ c. search rules) (λ c κs. search rules) (λ c. search rules)
+    (λ c. search rules) (λ c. search rules) (λ c. search rules))

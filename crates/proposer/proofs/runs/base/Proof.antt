@@ -1,5 +1,7 @@
 -- `proposer::runs::base` is safe and ends: a turn takes one row. Assumes nothing.
-use Rattle.format.proofs.Common.{◌-◌, length, needs}
+use Prim.Native.Nat.{◌-◌}
+use lib.ListN.{length}
+use borrow.Author.Rules.{rules}
 use Rattle.proposer.proofs.runs.base.Statement.{statement}
 use Rattle.proposer.proofs.runs.base.Tie as tie
 
@@ -11,6 +13,6 @@ decreases-loop rows width first frame₀ i₀ frame i = length rows - i
 
 pub base-spec : {M : Type 1} → statement M
 base-spec =
-    tie.close (tie.spec invariant-loop decreases-loop (λ c κs. search needs) (λ c κs. search needs) (λ c κs. search needs) (λ c κs. search needs) (λ c κs. search needs)
-    (λ c. search needs) (λ c κs. search needs) (λ c κs. search needs) (λ c. search needs) (λ c. search needs) (λ c. search needs) (λ c κs. search needs)
-    (λ c κs. search needs) (λ c. search needs))
+    tie.close (tie.spec invariant-loop decreases-loop (λ c κs. search rules) (λ c κs. search rules) (λ c κs. search rules) (λ c κs. search rules) (λ c κs. search rules)
+    (λ c. search rules) (λ c κs. search rules) (λ c κs. search rules) (λ c. search rules) (λ c. search rules) (λ c. search rules) (λ c κs. search rules)
+    (λ c κs. search rules) (λ c. search rules))

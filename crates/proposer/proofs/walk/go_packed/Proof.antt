@@ -1,5 +1,6 @@
 -- `proposer::walk::go_packed` is safe and ends: k grows up to the count. Assumes nothing.
-use Rattle.format.proofs.Common.{◌-◌, needs}
+use Prim.Native.Nat.{◌-◌}
+use borrow.Author.Rules.{rules}
 use Rattle.proposer.proofs.walk.go_packed.Statement.{statement}
 use Rattle.proposer.proofs.walk.go_packed.Tie as tie
 
@@ -11,5 +12,5 @@ decreases-loop runs₀ widths count first fresh best₀ k₀ runs best k = count
 
 pub go-packed-spec : {M : Type 1} → statement M
 go-packed-spec =
-    tie.close (tie.spec invariant-loop decreases-loop (λ c. search needs) (λ c κs. search needs) (λ c κs. search needs) (λ c. search needs) (λ c. search needs)
-    (λ c. search needs) (λ c. search needs))
+    tie.close (tie.spec invariant-loop decreases-loop (λ c. search rules) (λ c κs. search rules) (λ c κs. search rules) (λ c. search rules) (λ c. search rules) (λ c. search rules)
+    (λ c. search rules))

@@ -1,5 +1,11 @@
 -- Each turn puts the row into one place more, so at the end it is in all of them. Assumes nothing.
-use Rattle.format.proofs.Common.{◌≡◌, refl, ◌∙◌, ◌-◌, ◌≤◌, arith, length, take, replicate, length-set, w64, to_z, to_z-of_z}
+use mathlib.Core.Path.{◌≡◌, refl, ◌∙◌}
+use Prim.Native.Nat.{◌-◌, ◌≤◌}
+use native.Mathlib.Omega.{arith}
+use lib.ListN.{length, take, replicate, length-set}
+use mir.Syntax.{w64}
+use mir.Val.{to_z}
+use mir.Facts.{to_z-of_z}
 use Rattle.rescue.proofs.ListParts.{fill-next, fill-last}
 use Rattle.rescue.proofs.group.fill_all.Statement.{statement}
 use Rattle.rescue.proofs.group.fill_all.Tie as tie

@@ -1,6 +1,10 @@
 -- A group of no rows ends where it begins; for any other the call of batches says where it ends, and its rows are in the places.
 -- Assumes nothing.
-use Rattle.format.proofs.Common.{refl, ◌∙◌, arith, length, needs, eq-eqb, ne_eqb}
+use mathlib.Core.Path.{refl, ◌∙◌}
+use native.Mathlib.Omega.{arith}
+use lib.ListN.{length}
+use borrow.Author.Rules.{rules}
+use borrow.Author.Tests.{eq-eqb, ne_eqb}
 use Rattle.format.specs.Digits.{AllBelow}
 use Rattle.format.proofs.Below.{below_all}
 use Rattle.batches.specs.declared.Batch.TheVariants as answer
@@ -67,6 +71,6 @@ returns-5 c =
 
 pub read_spec : {M : Type 1} → statement M
 read_spec =
-    tie.close (tie.spec (λ c κs. search needs) returns (λ c κs. search needs) (λ c. search needs) (λ c. search needs) returns-2
-    (λ c κs. search needs) (λ c. search needs) (λ c. search needs) (λ c. search needs) returns-3 (λ c. search needs) returns-4
-    (λ c. search needs) returns-5)
+    tie.close (tie.spec (λ c κs. search rules) returns (λ c κs. search rules) (λ c. search rules) (λ c. search rules) returns-2
+    (λ c κs. search rules) (λ c. search rules) (λ c. search rules) (λ c. search rules) returns-3 (λ c. search rules) returns-4
+    (λ c. search rules) returns-5)

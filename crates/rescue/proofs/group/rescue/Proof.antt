@@ -1,5 +1,6 @@
 -- Either the group was read as it is, or every place is filled. Assumes nothing.
-use Rattle.format.proofs.Common.{needs, to_z-of_z}
+use borrow.Author.Rules.{rules}
+use mir.Facts.{to_z-of_z}
 use Rattle.rescue.proofs.GroupReads.{was-kept, was-filled}
 use Rattle.rescue.proofs.group.rescue.Statement.{statement}
 use Rattle.rescue.proofs.group.rescue.Tie as tie
@@ -18,4 +19,4 @@ returns-2 c =
 
 pub rescue-spec : {M : Type 1} → statement M
 rescue-spec =
-    tie.close (tie.spec (λ c κs. search needs) (λ c. search needs) returns (λ c κs. search needs) (λ c. search needs) returns-2)
+    tie.close (tie.spec (λ c κs. search rules) (λ c. search rules) returns (λ c κs. search rules) (λ c. search rules) returns-2)

@@ -1,5 +1,6 @@
 -- The bytes are compared first, and the skips only if these are equal. Assumes nothing.
-use Rattle.format.proofs.Common.{arith, eq-eqb, ne_eqb}
+use native.Mathlib.Omega.{arith}
+use borrow.Author.Tests.{eq-eqb, ne_eqb}
 use Rattle.rescue.proofs.group.same.Statement.{statement}
 use Rattle.rescue.proofs.group.same.Tie as tie
 

@@ -1,6 +1,12 @@
 -- Each turn tests one position against the one before it, so the list is in order exactly if the rest rises from there. Assumes nothing.
-use Rattle.format.proofs.Common.{◌≡◌, sym, ap, ◌∙◌, suc, ◌+◌, ◌-◌, ◌<◌, ◌≤◌, arith, ◌&&◌, length, drop, get_or, eqb, needs, eq-eqb, ne_eqb}
-use Rattle.format.proofs.Common.{not-true, not-false}
+use mathlib.Core.Path.{◌≡◌, sym, ap, ◌∙◌}
+use Prim.Native.Nat.{suc, ◌+◌, ◌-◌, ◌<◌, ◌≤◌}
+use native.Mathlib.Omega.{arith}
+use mathlib.Core.Bool.{◌&&◌}
+use lib.ListN.{length, drop, get_or}
+use lib.Dec.{eqb}
+use borrow.Author.Rules.{rules}
+use borrow.Author.Tests.{eq-eqb, ne_eqb, not-true, not-false}
 use Rattle.batches.specs.BatchPromise.{position_in}
 use Rattle.batches.specs.declared.RowPosition.{RowPosition}
 use Rattle.rescue.specs.Rescue.{position, positions, not_after, rising, in_order}
@@ -92,5 +98,5 @@ returns-5 c =
 
 pub in-order-spec : {M : Type 1} → statement M
 in-order-spec =
-    tie.close (tie.spec invariant-loop decreases-loop returns (λ c. search needs) returns-2 (λ c. search needs) returns-3 (λ c κs. search needs)
-    loop-holds (λ c κs. (entry c.before).pre) (λ c κs. search needs) returns-4 (λ c. omega arith) (λ c. omega arith) loop-again returns-5)
+    tie.close (tie.spec invariant-loop decreases-loop returns (λ c. search rules) returns-2 (λ c. search rules) returns-3 (λ c κs. search rules)
+    loop-holds (λ c κs. (entry c.before).pre) (λ c κs. search rules) returns-4 (λ c. omega arith) (λ c. omega arith) loop-again returns-5)

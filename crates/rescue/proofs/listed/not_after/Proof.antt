@@ -1,5 +1,6 @@
 -- The bytes decide unless they are equal, and then the skips do. Assumes nothing.
-use Rattle.format.proofs.Common.{arith, lt-ltb, le-ltb, eq-eqb, ne_eqb}
+use native.Mathlib.Omega.{arith}
+use borrow.Author.Tests.{lt-ltb, le-ltb, eq-eqb, ne_eqb}
 use Rattle.rescue.proofs.listed.not_after.Statement.{statement}
 use Rattle.rescue.proofs.listed.not_after.Tie as tie
 

@@ -1,7 +1,12 @@
 -- Each turn takes one number from the places that are left, so what is left is too little for the others exactly if all are too many.
 -- Assumes nothing.
-use Rattle.format.proofs.Common.{◌≡◌, refl, sym, ◌∙◌, suc, ◌+◌, ◌-◌, ◌≤◌, arith, length, drop, get_or, ltb, lt-ltb, le-ltb}
-use Rattle.format.specs.Digits.{sum}
+use mathlib.Core.Path.{◌≡◌, refl, sym, ◌∙◌}
+use Prim.Native.Nat.{suc, ◌+◌, ◌-◌, ◌≤◌}
+use native.Mathlib.Omega.{arith}
+use lib.ListN.{length, drop, get_or}
+use lib.Dec.{ltb}
+use borrow.Author.Tests.{lt-ltb, le-ltb}
+use Rattle.rescue.specs.Rescue.{sum}
 use Rattle.rescue.proofs.ListedColumns.{sum-at, sum-end, fewer}
 use Rattle.rescue.proofs.listed.too_many.Statement.{statement}
 use Rattle.rescue.proofs.listed.too_many.Tie as tie

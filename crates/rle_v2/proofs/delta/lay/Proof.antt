@@ -1,8 +1,10 @@
 -- Each form's rows are those of the law for it. Assumes nothing.
-use Rattle.format.proofs.Common.{arith, length-drop, needs}
+use native.Mathlib.Omega.{arith}
+use lib.ListN.{length-drop}
 use Rattle.util.proofs.Grow.{rest-is}
 use Rattle.rle_v2.specs.DeltaStart.{Behind}
 use Rattle.rle_v2.proofs.DeltaRows.{steps-laid, packed-laid}
+use borrow.Author.Rules.{rules}
 use Rattle.rle_v2.proofs.delta.lay.Statement.{statement}
 use Rattle.rle_v2.proofs.delta.lay.Tie as tie
 
@@ -38,12 +40,10 @@ returns-2 c =
     let e = l.before.before.before.before.before in
     let k = e.before in
     let a = (entry k).args in
-    packed-laid a.input.now a.signed a.f a.out.now l.lay-packed.new.1.1.1.1.1.0 _ _ k.before.before.before.row.ensures
-    k.before.before.unzigzag.ensures e.if1.false
+    packed-laid a.input.now a.signed a.f a.out.now l.lay-packed.new.1.1.1.1.1.0 _ _ k.before.before.before.row.ensures k.before.before.unzigzag.ensures e.if1.false
     (behind e).two (rw (rest-is a.input.now a.f.next.bytes) at l.lay-packed.ensures)
 
 pub lay-spec : {M : Type 1} → statement M
 lay-spec =
-    tie.close (tie.spec (λ c κs. search needs) (λ c κs. search needs) (λ c κs. search needs) (λ c. (behind c.before.before).two)
-    (λ c. (behind c.before.before).within)
-    (λ c. (behind c.before.before).within) (λ c. search needs) lay-packed-requires (λ c. search needs) returns (λ c. search needs) returns-2)
+    tie.close (tie.spec (λ c κs. search rules) (λ c κs. search rules) (λ c κs. search rules) (λ c. (behind c.before.before).two) (λ c. (behind c.before.before).within)
+    (λ c. (behind c.before.before).within) (λ c. search rules) lay-packed-requires (λ c. search rules) returns (λ c. search rules) returns-2)

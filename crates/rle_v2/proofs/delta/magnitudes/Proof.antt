@@ -1,10 +1,13 @@
 -- The magnitudes are laid down as patterns and then summed up in their places. Assumes nothing.
-use Rattle.format.proofs.Common.{map, length-map, ◌∙◌, needs}
+use mathlib.Core.List.{map}
+use lib.ListN.{length-map}
+use mathlib.Core.Path.{◌∙◌}
 use Rattle.format.specs.Rows.{as_i64}
 use Rattle.util.specs.Packed.{fields}
 use Rattle.util.proofs.Window.{length_fields}
 use Rattle.rle_v2.specs.Pass.{summed}
 use Rattle.rle_v2.proofs.Pass.{then-pass}
+use borrow.Author.Rules.{rules}
 use Rattle.rle_v2.proofs.delta.magnitudes.Statement.{statement}
 use Rattle.rle_v2.proofs.delta.magnitudes.Tie as tie
 
@@ -18,4 +21,4 @@ returns c =
     (length-map vs as_i64 ∙ length_fields a.bits a.n.rows a.block.now) u.unpack.ensures d.sum.ensures
 
 pub magnitudes-spec : {M : Type 1} → statement M
-magnitudes-spec = tie.close (tie.spec (λ c κs. search needs) (λ c κs. search needs) (λ c. search needs) returns)
+magnitudes-spec = tie.close (tie.spec (λ c κs. search rules) (λ c κs. search rules) (λ c. search rules) returns)

@@ -1,5 +1,6 @@
 -- Each test says which of the two it is. Assumes nothing.
-use Rattle.format.proofs.Common.{◌≡◌, eqb-true, eqb-false}
+use mathlib.Core.Path.{◌≡◌}
+use borrow.Author.Tests.{eqb-true, eqb-false}
 use Rattle.format.proofs.Tests.{never}
 use Rattle.rle_v2.proofs.delta.too_few.Statement.{statement}
 use Rattle.rle_v2.proofs.delta.too_few.Tie as tie

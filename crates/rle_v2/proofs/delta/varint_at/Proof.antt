@@ -1,6 +1,7 @@
 -- A short varint is that of its bytes, and any other is the reader's. Assumes nothing.
-use Rattle.format.proofs.Common.{arith, needs}
+use native.Mathlib.Omega.{arith}
 use Rattle.rle_v2.proofs.ShortVarint.{none-there, one_byte, two_bytes}
+use borrow.Author.Rules.{rules}
 use Rattle.rle_v2.proofs.delta.varint_at.Statement.{statement}
 use Rattle.rle_v2.proofs.delta.varint_at.Tie as tie
 
@@ -32,6 +33,5 @@ returns-4 c =
 
 pub varint-at-spec : {M : Type 1} → statement M
 varint-at-spec =
-    tie.close (tie.spec returns (λ c. search needs) (λ c. search needs) (λ c. search needs) returns-2 (λ c κs. search needs) (λ c. search needs)
-    (λ c. search needs)
-    cast-bits (λ c. search needs) (λ c. search needs) (λ c. search needs) (λ c. search needs) returns-4 (λ c κs. search needs) (λ c. search needs))
+    tie.close (tie.spec returns (λ c. search rules) (λ c. search rules) (λ c. search rules) returns-2 (λ c κs. search rules) (λ c. search rules) (λ c. search rules)
+    cast-bits (λ c. search rules) (λ c. search rules) (λ c. search rules) (λ c. search rules) returns-4 (λ c κs. search rules) (λ c. search rules))

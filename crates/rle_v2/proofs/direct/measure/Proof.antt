@@ -1,9 +1,13 @@
 -- Each answer is that of the law for the tests that led there. Assumes nothing.
-use Rattle.format.proofs.Common.{◌≡◌, ◌∙◌, ◌+◌, ◌*◌, arith, get_or, needs}
+use mathlib.Core.Path.{◌≡◌, ◌∙◌}
+use Prim.Native.Nat.{◌+◌, ◌*◌}
+use native.Mathlib.Omega.{arith}
+use lib.ListN.{get_or}
 use Rattle.format.specs.Fields.{width, bytes_for}
 use Rattle.format.specs.Parse.{code_of, rows_less}
 use Rattle.format.proofs.Rows.{width-le}
 use Rattle.rle_v2.proofs.DirectRun.{no_header, no_body, run_is}
+use borrow.Author.Rules.{rules}
 use Rattle.rle_v2.proofs.direct.measure.Statement.{statement}
 use Rattle.rle_v2.proofs.direct.measure.Tie as tie
 
@@ -16,8 +20,7 @@ entry e = e.before.before
 
 -- what the code found in the header
 size_is : (z : tie.After-block-size) → let a = z.before.before.before.before.before.before.before.before.args in
-    z.block_size.result ≡ bytes_for ((rows_less (get_or a.input.now a.at.bytes 0) (get_or a.input.now (a.at.bytes + 1) 0) + 1) * width
-    (code_of (get_or a.input.now a.at.bytes 0)))
+    z.block_size.result ≡ bytes_for ((rows_less (get_or a.input.now a.at.bytes 0) (get_or a.input.now (a.at.bytes + 1) 0) + 1) * width (code_of (get_or a.input.now a.at.bytes 0)))
 size_is z = let h = z.before.before.before.two_bytes.ensures in z.block_size.ensures ∙ rw (z.before.bits_of.ensures, h.0, h.1)
 
 returns : tie.Need-returns
@@ -40,12 +43,10 @@ returns-3 c =
     let e = there b in
     let a = (entry e).args in
     let h = b.two_bytes.ensures in
-    c.run.ensures ∙ rw (size_is z, z.before.bits_of.ensures, h.0, h.1)
-    (run_is a.input.now a.at.bytes e.if1.left (rw (size_is z) at c.before.if2.false))
+    c.run.ensures ∙ rw (size_is z, z.before.bits_of.ensures, h.0, h.1) (run_is a.input.now a.at.bytes e.if1.left (rw (size_is z) at c.before.if2.false))
 
 pub measure-spec : {M : Type 1} → statement M
 measure-spec =
-    tie.close (tie.spec (λ c. search needs) (λ c κs. search needs) returns (λ c. search needs) (λ c. search needs) (λ c. search needs) (λ c κs. search needs)
-    (λ c κs. search needs) (λ c. search needs) block-size-requires (λ c. search needs) (λ c κs. search needs) returns-2 (λ c. search needs)
-    (λ c κs. search needs)
+    tie.close (tie.spec (λ c. search rules) (λ c κs. search rules) returns (λ c. search rules) (λ c. search rules) (λ c. search rules) (λ c κs. search rules)
+    (λ c κs. search rules) (λ c. search rules) block-size-requires (λ c. search rules) (λ c κs. search rules) returns-2 (λ c. search rules) (λ c κs. search rules)
     returns-3)

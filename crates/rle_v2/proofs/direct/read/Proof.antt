@@ -1,28 +1,49 @@
--- The run that the measure names is laid down if there is room for it. Assumes nothing.
-use Rattle.format.proofs.Common.{◌+◌, ◌≤◌, sym, ◌∙◌, arith, length, drop, length-drop, needs}
+-- The direct reader meets its contract: what the measure named is laid down where there is room. Assumes nothing.
+use Prim.Native.Nat.{◌+◌, ◌-◌}
+use mathlib.Core.Path.{◌≡◌, sym, ◌∙◌}
+use native.Mathlib.Omega.{arith}
+use lib.ListN.{length}
+use Rattle.format.specs.declared.Answer.TheVariants as answer
+use Rattle.format.specs.Promises.{answer_of}
+use Rattle.format.proofs.Reading.{gives_none}
+use mathlib.Core.List.{map}
+use lib.ListN.{length-drop}
+use Rattle.format.specs.Rows.{as_i64}
+use Rattle.format.proofs.Reading.{block_at}
 use Rattle.util.proofs.Grow.{rest-is}
 use Rattle.rle_v2.specs.Pass.{decoded}
-use Rattle.rle_v2.proofs.Pass.{pass-fields}
-use Rattle.rle_v2.proofs.Blocks.{code-width}
-use Rattle.rle_v2.proofs.DirectRun.{Measured, measured, rows-there, read_is}
-use Rattle.rle_v2.proofs.TestedRun.{no_run, no_room}
+use Rattle.rle_v2.proofs.Pass.{then-pass}
+use Rattle.rle_v2.proofs.Blocks.{code-width, block-rows}
+use Rattle.rle_v2.proofs.DirectRun.{run, Measured, measured, rows-there, no_room, read_is}
+use borrow.Author.Rules.{rules}
 use Rattle.rle_v2.proofs.direct.read.Statement.{statement}
 use Rattle.rle_v2.proofs.direct.read.Tie as tie
 
--- where the walk starts, the run that the measure names, and its packed rows
+-- the points of the walk: where it starts, and the run that is named where there is room for it
 abbrev entry : tie.After-measured → tie.Start
 entry m = m.before.before.before.before
-
-measured-is : (m : tie.After-measured) → let a = (entry m).args in Measured a.input.now a.at.bytes m.decreases.given.0.0
-measured-is m =
-    let s = entry m in
-    measured s.args.input.now s.args.at.bytes _ s.pre (sym m.decreases.given.1 ∙ m.before.before.measure.ensures)
 
 abbrev run-there : tie.Else1 → tie.After-measured
 run-there e = e.before.before.before.before
 
-body-there : (e : tie.Else1) → let a = (entry (run-there e)).args in a.at.bytes + 2 ≤ length a.input.now
-body-there e = omega (arith, (measured-is (run-there e)).head)
+-- the run that the measure named
+named : (m : tie.After-measured) → let a = (entry m).args in answer.Run m.decreases.given.0.0 ≡ answer_of a.at.bytes (length a.input.now - a.at.bytes) (run a.input.now a.at.bytes)
+named m = sym m.decreases.given.1 ∙ m.before.before.measure.ensures
+
+measured-is : (m : tie.After-measured) → let a = (entry m).args in Measured a.input.now a.at.bytes m.decreases.given.0.0
+measured-is m = let s = entry m in measured s.args.input.now s.args.at.bytes _ s.pre (named m)
+
+returns : tie.Need-returns
+returns c =
+    let m = c.before.before.before.before.before in
+    let a = (entry m).args in
+    rw c.refused.ensures (no_room a.input.now a.at.bytes a.signed a.out.now _ (named m) (measured-is m) c.before.if1.true)
+
+sub-unpack : tie.Need-overflow-sub-unpack
+sub-unpack c = let m = measured-is (run-there c.before) in omega (arith, m.head)
+
+part-unpack-start : tie.Need-slice-bounds-unpack-start
+part-unpack-start c = let m = measured-is (run-there c.before) in omega (arith, m.head)
 
 unpack-requires : tie.Need-unpack-requires
 unpack-requires c κs =
@@ -40,20 +61,31 @@ unpack-requires c κs =
 
 returns-2 : tie.Need-returns-2
 returns-2 c =
-    let u = c.before.before.before.before in
+    let d = c.before in
+    let u = d.before.before.before in
     let e = u.before.before.before.before in
-    let a = (entry (run-there e)).args in
-    let r = (run-there e).decreases.given.0.0 in
+    let m = run-there e in
+    let a = (entry m).args in
     let s = a.input.now in
     let body = a.at.bytes + 2 in
-    read_is s a.at.bytes (measured-is (run-there e)) e.if1.false
-    (pass-fields (decoded a.signed) r.width r.rows.rows (drop body s) a.out.now (rw (rest-is s body) at u.unpack.ensures)
-    c.before.decode.ensures)
+    let r = m.decreases.given.0.0 in
+    let o = then-pass (decoded a.signed) (map as_i64 (block_at s body r.width r.rows.rows).values) a.out.now u.unpack.new.1.1.1.0 d.decode.new.1.1.0 r.rows.rows
+    (block-rows s body r.width r.rows.rows) (rw (rest-is s body) at u.unpack.ensures) d.decode.ensures in
+    read_is s a.at.bytes a.signed a.out.now r (named m) (measured-is m) d.decode.new.1.1.0 e.if1.false o
+
+returns-3 : tie.Need-returns-3
+returns-3 c =
+    let m = c.before.before in
+    let a = m.before.before.args in
+    gives_none a.at.bytes _ a.signed (run a.input.now a.at.bytes) a.out.now _ (rw c.enum_told.given.1 tt) m.measure.ensures
+
+returns-4 : tie.Need-returns-4
+returns-4 c =
+    let m = c.before.before in
+    let a = m.before.before.args in
+    gives_none a.at.bytes _ a.signed (run a.input.now a.at.bytes) a.out.now _ (rw c.enum-told2.given.1 tt) m.measure.ensures
 
 pub read_spec : {M : Type 1} → statement M
 read_spec =
-    tie.close (tie.spec (λ c κs. search needs) (λ c. search needs) (λ c κs. search needs)
-    (λ c. rw c.refused.ensures (no_room (measured-is c.before.before.before.before.before).answered c.before.if1.true)) (λ c. search needs)
-    (λ c. omega (arith, body-there c.before)) (λ c. omega (arith, body-there c.before)) (λ c. search needs) unpack-requires (λ c κs. search needs)
-    (λ c. search needs) (λ c. search needs) (λ c. search needs) returns-2 (λ c. no_run c.before.before.measure.ensures (rw c.enum_told.given.1 tt))
-    (λ c. no_run c.before.before.measure.ensures (rw c.enum-told2.given.1 tt)))
+    tie.close (tie.spec (λ c κs. search rules) (λ c. search rules) (λ c κs. search rules) returns (λ c. search rules) sub-unpack part-unpack-start (λ c. search rules)
+    unpack-requires (λ c κs. search rules) (λ c. search rules) (λ c. search rules) (λ c. search rules) returns-2 returns-3 returns-4)

@@ -1,5 +1,9 @@
 -- The fields up to the next eight are laid, and those after them begin with a byte. Assumes nothing.
-use Rattle.format.proofs.Common.{◌+◌, ◌*◌, ◌/◌, ◌≤◌, arith, ◌≡◌, sym, ap, ◌∙◌, length, length-drop, needs}
+use Prim.Native.Nat.{◌+◌, ◌*◌, ◌/◌, ◌≤◌}
+use native.Mathlib.Omega.{arith}
+use mathlib.Core.Path.{◌≡◌, sym, ap, ◌∙◌}
+use lib.ListN.{length, length-drop}
+use borrow.Author.Rules.{rules}
 use Rattle.format.specs.Digits.{AllBelow}
 use Rattle.format.proofs.Below.{below_all}
 use Rattle.util.proofs.Grow.{rest-is}
@@ -89,6 +93,6 @@ returns-2 c =
 
 pub lay-spec : {M : Type 1} → statement M
 lay-spec =
-    tie.close (tie.spec (λ c. search needs) (λ c κs. search needs) lay-in-eight-requires (λ c. search needs) mul-unpack sub-unpack part-unpack-start
-    (λ c. search needs) (λ c. search needs) (λ c. search needs) (λ c. search needs) (λ c. search needs) (λ c. search needs) unpack-requires
-    (λ c. search needs) returns (λ c. search needs) returns-2)
+    tie.close (tie.spec (λ c. search rules) (λ c κs. search rules) lay-in-eight-requires (λ c. search rules) mul-unpack sub-unpack part-unpack-start
+    (λ c. search rules) (λ c. search rules) (λ c. search rules) (λ c. search rules) (λ c. search rules) (λ c. search rules) unpack-requires
+    (λ c. search rules) returns (λ c. search rules) returns-2)

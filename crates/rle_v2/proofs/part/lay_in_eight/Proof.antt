@@ -1,5 +1,8 @@
 -- The eight is unpacked from its first byte on, so the fields copied out of it are those of the block. Assumes nothing.
-use Rattle.format.proofs.Common.{◌*◌, ◌/◌, arith, length, length-drop, needs}
+use Prim.Native.Nat.{◌*◌, ◌/◌}
+use native.Mathlib.Omega.{arith}
+use lib.ListN.{length, length-drop}
+use borrow.Author.Rules.{rules}
 use Rattle.format.specs.Digits.{AllBelow}
 use Rattle.format.proofs.Below.{below_all}
 use Rattle.util.proofs.Grow.{rest-is}
@@ -45,5 +48,5 @@ returns c =
 
 pub lay-in-eight-spec : {M : Type 1} → statement M
 lay-in-eight-spec =
-    tie.close (tie.spec (λ c κs. search needs) mul-unpack sub-unpack part-unpack-start (λ c. search needs) (λ c. search needs) (λ c. search needs)
-    unpack-requires (λ c. search needs) (λ c κs. search needs) (λ c. search needs) returns)
+    tie.close (tie.spec (λ c κs. search rules) mul-unpack sub-unpack part-unpack-start (λ c. search rules) (λ c. search rules) (λ c. search rules)
+    unpack-requires (λ c. search rules) (λ c κs. search rules) (λ c. search rules) returns)

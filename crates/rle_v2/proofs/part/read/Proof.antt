@@ -1,14 +1,17 @@
 -- Each answer is that of the law for the tests that led there; the fields that are laid are decoded into the run's rows. Assumes nothing.
-use Rattle.format.proofs.Common.{◌+◌, sym, ◌∙◌, arith, drop, length-drop, needs}
-use Rattle.format.specs.Parse.{parse}
-use Rattle.format.proofs.Reading.{NoRun}
+use Prim.Native.Nat.{◌+◌, ◌-◌}
+use mathlib.Core.Path.{◌≡◌, sym, ◌∙◌}
+use native.Mathlib.Omega.{arith}
+use lib.ListN.{length, length-drop}
+use borrow.Author.Rules.{rules}
+use Rattle.format.specs.Digits.{AllBelow}
+use Rattle.format.specs.Promises.{answer_of}
+use Rattle.format.specs.declared.Answer.TheVariants as answer
 use Rattle.format.proofs.Below.{below_all}
 use Rattle.util.proofs.Grow.{rest-is}
 use Rattle.rle_v2.proofs.Blocks.{code-width}
 use Rattle.rle_v2.proofs.ByKind.{nothing-there, is-direct}
-use Rattle.rle_v2.specs.Part.{PartGives}
-use Rattle.rle_v2.specs.declared.part.DirectPart.TheVariants as part
-use Rattle.rle_v2.proofs.DirectRun.{Measured, measured, rows-there}
+use Rattle.rle_v2.proofs.DirectRun.{run, Measured, measured, rows-there}
 use Rattle.rle_v2.proofs.PartRun.{none-there, none_named, none-direct, part_none, part-read}
 use Rattle.rle_v2.proofs.part.read.Statement.{statement}
 use Rattle.rle_v2.proofs.part.read.Tie as tie
@@ -33,10 +36,14 @@ abbrev run-known : tie.After-less → tie.After-r
 run-known l = rows-known (more_rows l).before
 
 -- the run that the measure named
+named : (r : tie.After-r) → let a = (entry (byte-there (kind-is r))).args in
+    answer.Run r.r.given.0.0 ≡ answer_of a.at.bytes (length a.input.now - a.at.bytes) (run a.input.now a.at.bytes)
+named r = sym r.r.given.1 ∙ r.before.before.measure.ensures
+
 measured-is : (r : tie.After-r) → let a = (entry (byte-there (kind-is r))).args in Measured a.input.now a.at.bytes r.r.given.0.0
 measured-is r =
     let e = byte-there (kind-is r) in
-    measured (entry e).args.input.now (entry e).args.at.bytes _ e.if1.left (sym r.r.given.1 ∙ r.before.before.measure.ensures)
+    measured (entry e).args.input.now (entry e).args.at.bytes _ e.if1.left (named r)
 
 -- ---- no rows
 
@@ -59,17 +66,25 @@ returns-3 c =
     let e = byte-there k in
     let a = (entry e).args in
     rw (is-direct a.input.now a.at.bytes e.if1.left k.if2.left)
-    (part_none a.input.now a.at.bytes a.skip.rows a.signed a.out.now (measured-is r) (omega (arith, c.if3.true)))
+    (part_none a.input.now a.at.bytes a.skip.rows a.signed a.out.now _ (named r) (measured-is r) (omega (arith, c.if3.true)))
 
--- the measure names no run
-none_told : (m : tie.After-measure) → NoRun m.measure.result → let a = (entry (byte-there m.before)).args in
-    PartGives a.skip.rows a.signed (parse (drop a.at.bytes a.input.now)) a.out.now a.out.now part.NotRead
-none_told m u =
+returns-5 : tie.Need-returns-5
+returns-5 c =
+    let m = c.before.before in
     let k = m.before in
     let e = byte-there k in
     let a = (entry e).args in
     rw (is-direct a.input.now a.at.bytes e.if1.left k.if2.false)
-    (none_named a.skip.rows a.signed a.out.now a.at.bytes _ _ _ u m.measure.ensures)
+    (none_named a.skip.rows a.signed a.out.now a.at.bytes _ _ _ (rw c.enum_told.given.1 tt) m.measure.ensures)
+
+returns-6 : tie.Need-returns-6
+returns-6 c =
+    let m = c.before.before in
+    let k = m.before in
+    let e = byte-there k in
+    let a = (entry e).args in
+    rw (is-direct a.input.now a.at.bytes e.if1.left k.if2.false)
+    (none_named a.skip.rows a.signed a.out.now a.at.bytes _ _ _ (rw c.enum-told2.given.1 tt) m.measure.ensures)
 
 -- ---- rows
 
@@ -106,12 +121,11 @@ returns-4 c =
     let a = (entry e).args in
     let s = a.input.now in
     rw (is-direct s a.at.bytes e.if1.left k.if2.left)
-    (part-read s a.at.bytes a.skip.rows a.signed a.out.now (measured-is r) l.less.result _ _
+    (part-read s a.at.bytes a.skip.rows a.signed a.out.now _ (named r) (measured-is r) l.less.result _ _
     (omega (arith, (more_rows l).if3.false)) l.less.ensures (rw (rest-is s (a.at.bytes + 2)) at x.lay.ensures) d.decode.ensures)
 
 pub read_spec : {M : Type 1} → statement M
 read_spec =
-    tie.close (tie.spec returns (λ c. search needs) returns-2 (λ c κs. search needs) (λ c. search needs) returns-3 (λ c. search needs)
-    (λ c κs. search needs) (λ c. search needs) sub-lay part-lay-start (λ c. search needs) lay-requires (λ c κs. search needs) (λ c. search needs)
-    (λ c. search needs) (λ c. search needs) returns-4 (λ c. none_told c.before.before (rw c.enum_told.given.1 tt))
-    (λ c. none_told c.before.before (rw c.enum-told2.given.1 tt)))
+    tie.close (tie.spec returns (λ c. search rules) returns-2 (λ c κs. search rules) (λ c. search rules) returns-3 (λ c. search rules)
+    (λ c κs. search rules) (λ c. search rules) sub-lay part-lay-start (λ c. search rules) lay-requires (λ c κs. search rules) (λ c. search rules)
+    (λ c. search rules) (λ c. search rules) returns-4 returns-5 returns-6)

@@ -1,6 +1,8 @@
 -- An entry of the list is taken apart as the definition says. Assumes nothing.
-use Rattle.format.proofs.Common.{◌<◌, ◌^◌, eq-eqb, ne_eqb, needs}
+use Prim.Native.Nat.{◌<◌, ◌^◌}
+use borrow.Author.Tests.{eq-eqb, ne_eqb}
 use Rattle.rle_v2.proofs.PatchRows.{entry-is}
+use borrow.Author.Rules.{rules}
 use Rattle.rle_v2.proofs.patch_list.entry_at.Statement.{statement}
 use Rattle.rle_v2.proofs.patch_list.entry_at.Tie as tie
 
@@ -17,4 +19,4 @@ returns-2 c =
     entry-is a.args.pw _ _ _ _ c.before.before.field.ensures c.before.cut.ensures a.requires.1.0 f (rw (ne_eqb _ _ c.if1.false))
 
 pub entry-at-spec : {M : Type 1} → statement M
-entry-at-spec = tie.close (tie.spec (λ c κs. search needs) (λ c. search needs) (λ c κs. search needs) returns returns-2)
+entry-at-spec = tie.close (tie.spec (λ c κs. search rules) (λ c. search rules) (λ c κs. search rules) returns returns-2)

@@ -1,10 +1,15 @@
 -- The walk over the rest of a list that is refused finds a patch that is too large, or none. Assumes nothing.
-use Rattle.format.proofs.Common.{◌≡◌, refl, sym, ◌∙◌, ◌-◌, ◌≤◌, drop, needs, arith}
+use mathlib.Core.Path.{◌≡◌, refl, sym, ◌∙◌}
+use mathlib.Core.List.{◌∷◌}
+use Prim.Native.Nat.{◌+◌, ◌-◌, ◌≤◌}
+use lib.ListN.{drop}
 use Rattle.format.proofs.Below.{below_all}
-use Rattle.util.specs.Packed.{fields}
-use Rattle.util.proofs.Window.{length_fields}
+use Rattle.util.specs.Packed.{fields, field_at}
+use Rattle.util.proofs.Window.{field-there, length_fields}
 use Rattle.rle_v2.specs.PatchList.{large}
-use Rattle.rle_v2.proofs.PatchWalk.{IsNext, entry_next, entry-asks, large-next, large-here, large-none}
+use Rattle.rle_v2.proofs.PatchWalk.{entry_next, large-next, large-here, large-none}
+use borrow.Author.Rules.{rules}
+use native.Mathlib.Omega.{arith}
 use Rattle.rle_v2.proofs.patch_list.out_of_place.Statement.{statement}
 use Rattle.rle_v2.proofs.patch_list.out_of_place.Tie as tie
 
@@ -14,40 +19,46 @@ invariant-loop list bits pw from n width limit k₀ k = (k ≤ n) × (large widt
 abbrev decreases-loop : tie.decreases-loop
 decreases-loop list bits pw from n width limit k₀ k = n - k
 
--- where the walk starts, and the entry that a turn reads
-abbrev entry : tie.At-loop invariant-loop decreases-loop → tie.Start invariant-loop decreases-loop
-entry l = l.before.before.before
-
-next-is : (x : tie.After-entry-at invariant-loop decreases-loop) → let l = x.before.before in let a = (entry l).args in IsNext a.bits a.n a.list.now l.loop.k
+-- the entry that a turn reads
+next-is : (x : tie.After-entry-at invariant-loop decreases-loop) → let l = x.before.before.loop in let a = x.before.before.before.before.before.args in
+    drop l.k (fields a.bits a.n a.list.now) ≡ field_at a.bits l.k a.list.now ∷ drop (l.k + 1) (fields a.bits a.n a.list.now)
 next-is x =
-    let l = x.before.before in
-    entry_next (entry l).requires.0 x.before.loop-test.true (below_all 256 (entry l).args.list.now
-    (λ i. (l.before.before.shared-slice-known.given i).fits))
+    let l = x.before.before.loop in
+    let k = x.before.before.before.before in
+    let a = k.before.args in
+    entry_next a.bits a.n l.k a.list.now (below_all 256 a.list.now (λ i. (k.shared-slice-known.given i).fits)) x.before.loop-test.true k.before.requires.0.there
+
+entry-at-requires : tie.Need-entry-at-requires invariant-loop decreases-loop
+entry-at-requires c κs =
+    let z = c.before.before.before.before in
+    let a = z.args in
+    (z.requires.0.wide, (z.requires.0.some, z.requires.0.few, omega arith, field-there a.bits a.n c.before.loop.k a.list.now c.loop-test.true z.requires.0.there))
 
 returns : tie.Need-returns invariant-loop decreases-loop
 returns c =
     let x = c.before.before in
-    let l = x.before.before in
-    let a = (entry l).args in
-    rw (sym l.loop.invariant.1 ∙ large-here a.width (fields a.bits a.n a.list.now) l.loop.k (next-is x) x.entry_at.ensures
-    (rw l.before.patch-limit.ensures at c.if1.true))
+    let l = x.before.before.loop in
+    let p = x.before.before.before in
+    let a = p.before.before.args in
+    rw (sym l.invariant.1 ∙ large-here a.width a.pw (fields a.bits a.n a.list.now) l.k _ _ (next-is x) x.entry_at.ensures.patch-is (rw p.patch-limit.ensures at c.if1.true))
 
 loop-again : tie.Need-loop-preserved invariant-loop decreases-loop
 loop-again c =
     let x = c.before.before in
-    let l = x.before.before in
-    let a = (entry l).args in
-    let small = rw l.before.patch-limit.ensures at c.if1.false in
-    (omega arith, sym (large-next a.width (fields a.bits a.n a.list.now) l.loop.k (next-is x) x.entry_at.ensures small) ∙ l.loop.invariant.1)
+    let l = x.before.before.loop in
+    let p = x.before.before.before in
+    let a = p.before.before.args in (
+      omega arith,
+      sym (large-next a.width a.pw (fields a.bits a.n a.list.now) l.k _ _ (next-is x) x.entry_at.ensures.patch-is (rw p.patch-limit.ensures at c.if1.false)) ∙ l.invariant.1,
+    )
 
 returns-2 : tie.Need-returns-2 invariant-loop decreases-loop
 returns-2 c =
-    let l = c.before in
-    let a = (entry l).args in
-    rw (sym l.loop.invariant.1 ∙ large-none a.width a.pw (fields a.bits a.n a.list.now) l.loop.k (rw length_fields c.loop-test.false))
+    let l = c.before.loop in
+    let a = c.before.before.before.before.args in
+    rw (sym l.invariant.1 ∙ large-none a.width a.pw (fields a.bits a.n a.list.now) l.k (rw length_fields c.loop-test.false))
 
 pub out-of-place-spec : {M : Type 1} → statement M
 out-of-place-spec =
-    tie.close (tie.spec invariant-loop decreases-loop (λ c κs. search needs) (λ c. (search needs, refl))
-    (λ c κs. entry-asks (entry c.before).pre.0 c.loop-test.true) returns
-    (λ c. omega arith) (λ c. omega arith) loop-again returns-2)
+    tie.close (tie.spec invariant-loop decreases-loop (λ c κs. search rules) (λ c. (search rules, refl)) entry-at-requires returns (λ c. omega arith) (λ c. omega arith) loop-again
+    returns-2)

@@ -1,7 +1,12 @@
 -- The limit of a patch, with the case of 64 bits. Assumes nothing.
-use Rattle.format.proofs.Common.{◌≡◌, sym, ◌∙◌, ◌*◌, ◌-◌, ◌^◌, ◌%◌, ◌<◌, one-mul, mod-eq_of_lt, arith, eq-eqb, needs}
+use mathlib.Core.Path.{◌≡◌, sym, ◌∙◌}
+use Prim.Native.Nat.{◌*◌, ◌-◌, ◌^◌, ◌%◌, ◌<◌}
+use native.Mathlib.Nat.{one-mul, mod-eq_of_lt}
+use native.Mathlib.Omega.{arith}
 use lib.Pow.{pow-lt}
 use Rattle.format.proofs.RunComplete.{limit_is}
+use borrow.Author.Tests.{eq-eqb}
+use borrow.Author.Rules.{rules}
 use Rattle.rle_v2.proofs.patch_list.patch_limit.Statement.{statement}
 use Rattle.rle_v2.proofs.patch_list.patch_limit.Tie as tie
 
@@ -13,4 +18,4 @@ returns-2 c =
     e ∙ sym (limit_is w)
 
 pub patch-limit-spec : {M : Type 1} → statement M
-patch-limit-spec = tie.close (tie.spec (λ c. search needs) (λ c. omega arith) (λ c. rw (eq-eqb _ _ c.if1.true)) returns-2)
+patch-limit-spec = tie.close (tie.spec (λ c. search rules) (λ c. omega arith) (λ c. rw (eq-eqb _ _ c.if1.true)) returns-2)

@@ -1,6 +1,9 @@
 -- The four header bytes are taken apart, and the answer is the body's. Assumes nothing.
-use Rattle.format.proofs.Common.{arith, ◌+◌, needs}
+use native.Mathlib.Omega.{arith}
+use Prim.Native.Nat.{◌+◌}
 use Rattle.rle_v2.proofs.PatchedRun.{no_header, is_body}
+use Rattle.rle_v2.proofs.PatchedFound.{gone-plain}
+use borrow.Author.Rules.{rules}
 use Rattle.rle_v2.proofs.patched_base.headed.Statement.{statement}
 use Rattle.rle_v2.proofs.patched_base.headed.Tie as tie
 
@@ -12,7 +15,10 @@ abbrev entry : tie.Else1 → tie.Start
 entry e = e.before.before
 
 returns : tie.Need-returns
-returns c = let s = c.before.before.before in rw c.gone.ensures (no_header s.args.input.now s.args.at.bytes s.requires c.before.if1.true)
+returns c =
+    let s = c.before.before.before.before in
+    rw (c.gone.ensures, c.before.new.ensures)
+    (gone-plain s.args.input.now s.args.at.bytes _ 1 (λ z. omega arith) (no_header s.args.input.now s.args.at.bytes s.requires c.before.before.if1.true))
 
 cast-base : tie.Need-overflow-cast-base
 cast-base c = let k = c.before in omega (arith, k.shared-slice-known5.given ((entry (there k)).args.at.bytes + 2))
@@ -55,7 +61,6 @@ returns-2 c =
 
 pub headed-spec : {M : Type 1} → statement M
 headed-spec =
-    tie.close (tie.spec (λ c. search needs) (λ c κs. search needs) returns (λ c. search needs) (λ c. search needs) (λ c. search needs)
-    (λ c κs. search needs) (λ c. search needs) (λ c. search needs) (λ c. search needs) (λ c. search needs) cast-base add-base cast-gap add-gap
-    (λ c. search needs)
+    tie.close (tie.spec (λ c. search rules) (λ c κs. search rules) (λ c κs. search rules) returns (λ c. search rules) (λ c. search rules) (λ c. search rules)
+    (λ c κs. search rules) (λ c. search rules) (λ c. search rules) (λ c. search rules) (λ c. search rules) cast-base add-base cast-gap add-gap (λ c. search rules)
     by-widths-requires returns-2)

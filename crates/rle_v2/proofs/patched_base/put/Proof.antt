@@ -1,6 +1,7 @@
 -- The values with the base added, and then the patches. Assumes nothing.
-use Rattle.format.proofs.Common.{arith, needs}
+use native.Mathlib.Omega.{arith}
 use Rattle.util.proofs.Grow.{rest-is}
+use borrow.Author.Rules.{rules}
 use Rattle.rle_v2.proofs.patched_base.put.Statement.{statement}
 use Rattle.rle_v2.proofs.patched_base.put.Tie as tie
 
@@ -29,6 +30,5 @@ returns c =
 
 pub put_spec : {M : Type 1} → statement M
 put_spec =
-    tie.close (tie.spec (λ c. search needs) (λ c κs. search needs) (λ c. search needs) (λ c. search needs) (λ c. search needs) (λ c κs. search needs)
-    (λ c. search needs)
-    (λ c. search needs) (λ c. search needs) put-requires (λ c. search needs) returns)
+    tie.close (tie.spec (λ c. search rules) (λ c κs. search rules) (λ c. search rules) (λ c. search rules) (λ c. search rules) (λ c κs. search rules) (λ c. search rules)
+    (λ c. search rules) (λ c. search rules) put-requires (λ c. search rules) returns)

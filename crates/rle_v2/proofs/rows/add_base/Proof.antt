@@ -1,7 +1,11 @@
--- Each turn adds the base to what one place holds: a pass that carries the base on. Assumes nothing.
-use Rattle.format.proofs.Common.{to_z-of_z, refl, ◌∙◌, pos, ℕ, ◌-◌, needs, sfits_of, arith}
+use mir.Facts.{to_z-of_z}
+use mathlib.Core.Path.{refl, ◌∙◌}
+use lib.IntN.{pos}
+use Prim.Native.Nat.{ℕ, ◌-◌}
 use Rattle.format.specs.Rows.{plus, as_i64, as_u64}
 use Rattle.rle_v2.proofs.Pass.{Turn, turn-first, turn-next, turn_last}
+use borrow.Author.Rules.{rules, sfits_of}
+use native.Mathlib.Omega.{arith}
 use Rattle.rle_v2.proofs.rows.add_base.Statement.{statement}
 use Rattle.rle_v2.proofs.rows.add_base.Tie as tie
 
@@ -15,17 +19,12 @@ loop-again : tie.Need-loop-preserved invariant-loop decreases-loop
 loop-again c =
     let l = c.before.before.before.before.before.loop in
     turn-next _ _ _ _ _ l.out l.i _ (pos 0) _ _ l.invariant (omega arith) (omega arith)
-    (to_z-of_z (sfits_of c.to-i64.type-inv) ∙ c.to-i64.ensures ∙ rw (
-      c.before.add.ensures,
-      c.before.before.to-u64.ensures,
-      to_z-of_z
-          (sfits_of c.before.before.before.to-u64-arg.given),
-    )) refl
+    (to_z-of_z (sfits_of c.to-i64.type-inv) ∙ c.to-i64.ensures ∙ rw (c.before.add.ensures, c.before.before.to-u64.ensures, to_z-of_z (sfits_of c.before.before.before.to-u64-arg.given))) refl
 
 returns : tie.Need-returns invariant-loop decreases-loop
 returns c = turn_last _ _ _ _ _ _ _ _ c.before.loop.invariant c.loop-test.false
 
 pub add-base-spec : {M : Type 1} → statement M
 add-base-spec =
-    tie.close (tie.spec invariant-loop decreases-loop (λ c. turn-first _ _ _ _ _) (λ c. omega arith) (λ c. omega arith) (λ c κs. search needs) (λ c κs. search needs)
-    (λ c κs. search needs) (λ c. omega arith) (λ c. omega arith) (λ c. omega arith) (λ c. omega arith) loop-again (λ c. c.before.loop.invariant.long) returns)
+    tie.close (tie.spec invariant-loop decreases-loop (λ c. turn-first _ _ _ _ _) (λ c. omega arith) (λ c. omega arith) (λ c κs. search rules) (λ c κs. search rules)
+    (λ c κs. search rules) (λ c. omega arith) (λ c. omega arith) (λ c. omega arith) (λ c. omega arith) loop-again (λ c. c.before.loop.invariant.long) returns)

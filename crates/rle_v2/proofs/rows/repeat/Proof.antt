@@ -1,8 +1,15 @@
--- Each turn lays two rows, and a last one if the count is odd: steps of 0 lead to the same row. Assumes nothing.
 use Rattle.rle_v2.proofs.Pass.{Turn, turn-first, turn-next, turn_last}
 use Rattle.format.specs.Rows.{plus, as_i64}
-use Rattle.format.proofs.Common.{◌+◌, ◌-◌, ◌^◌, ◌<◌, add-zero, mod-eq_of_lt, length-set, pos, ◌≡◌, sym, ◌∙◌, to_z-of_z, to_z, of_z, w64, needs}
-use Rattle.format.proofs.Common.{sfits_of, arith}
+use Prim.Native.Nat.{◌+◌, ◌-◌, ◌^◌, ◌<◌}
+use native.Mathlib.Nat.{add-zero, mod-eq_of_lt}
+use lib.ListN.{length-set}
+use lib.IntN.{pos}
+use mathlib.Core.Path.{◌≡◌, sym, ◌∙◌}
+use mir.Facts.{to_z-of_z}
+use mir.Val.{to_z, of_z}
+use mir.Syntax.{w64}
+use borrow.Author.Rules.{rules, sfits_of}
+use native.Mathlib.Omega.{arith}
 use Rattle.rle_v2.proofs.rows.repeat.Statement.{statement}
 use Rattle.rle_v2.proofs.rows.repeat.Tie as tie
 
@@ -40,13 +47,10 @@ returns-2 : tie.Need-returns-2 invariant-loop decreases-loop
 returns-2 c =
     let at-loop = c.before.before in
     let l = at-loop.loop in
-    turn_last _ _ _ _ _ _ (l.i + 1) _ (turn-next _ _ _ _ _ l.out l.i _ (pos 0) _ _ l.invariant (omega arith) (omega arith) (row_is at-loop)
-    (again at-loop)) (omega arith)
+    turn_last _ _ _ _ _ _ (l.i + 1) _ (turn-next _ _ _ _ _ l.out l.i _ (pos 0) _ _ l.invariant (omega arith) (omega arith) (row_is at-loop) (again at-loop)) (omega arith)
 
 pub repeat-spec : {M : Type 1} → statement M
 repeat-spec =
-    tie.close (tie.spec invariant-loop decreases-loop (λ c κs. search needs) (λ c. turn-first _ _ _ _ _) (λ c. omega arith) (λ c. omega arith) (λ c. omega arith)
-    (λ c. omega arith)
-    (λ c. omega arith) slice-set-from-row-2 (λ c. omega arith) (λ c. omega arith) loop-again (λ c. c.before.before.loop.invariant.long) returns
-    (λ c. omega arith)
+    tie.close (tie.spec invariant-loop decreases-loop (λ c κs. search rules) (λ c. turn-first _ _ _ _ _) (λ c. omega arith) (λ c. omega arith) (λ c. omega arith) (λ c. omega arith)
+    (λ c. omega arith) slice-set-from-row-2 (λ c. omega arith) (λ c. omega arith) loop-again (λ c. c.before.before.loop.invariant.long) returns (λ c. omega arith)
     (λ c. omega arith) same-length-2 returns-2)

@@ -1,7 +1,11 @@
--- Each turn lays one row and carries the next one on. Assumes nothing.
 use Rattle.rle_v2.proofs.Pass.{Turn, turn-first, turn-next, turn_last}
 use Rattle.format.specs.Rows.{plus, as_i64}
-use Rattle.format.proofs.Common.{◌-◌, pos, ◌∙◌, to_z-of_z, needs, sfits_of, arith}
+use Prim.Native.Nat.{◌-◌}
+use lib.IntN.{pos}
+use mathlib.Core.Path.{◌∙◌}
+use mir.Facts.{to_z-of_z}
+use borrow.Author.Rules.{rules, sfits_of}
+use native.Mathlib.Omega.{arith}
 use Rattle.rle_v2.proofs.rows.steps.Statement.{statement}
 use Rattle.rle_v2.proofs.rows.steps.Tie as tie
 
@@ -22,6 +26,5 @@ returns c = turn_last _ _ _ _ _ _ _ _ c.before.loop.invariant c.loop-test.false
 
 pub steps-spec : {M : Type 1} → statement M
 steps-spec =
-    tie.close (tie.spec invariant-loop decreases-loop (λ c. turn-first _ _ _ _ _) (λ c κs. search needs) (λ c. omega arith) (λ c. omega arith) (λ c κs. search needs)
-    (λ c. omega arith)
+    tie.close (tie.spec invariant-loop decreases-loop (λ c. turn-first _ _ _ _ _) (λ c κs. search rules) (λ c. omega arith) (λ c. omega arith) (λ c κs. search rules) (λ c. omega arith)
     (λ c. omega arith) loop-again (λ c. c.before.loop.invariant.long) returns)

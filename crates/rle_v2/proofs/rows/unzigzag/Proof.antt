@@ -1,8 +1,12 @@
--- Each turn decodes what one place holds: a pass that carries nothing on. Assumes nothing.
 use Rattle.rle_v2.proofs.Pass.{Turn, turn-first, turn-next, turn_last}
 use Rattle.format.specs.Rows.{as_i64, as_u64}
 use Rattle.format.specs.Fields.{zigzag}
-use Rattle.format.proofs.Common.{ℕ, ◌-◌, pos, refl, ◌∙◌, to_z-of_z, needs, sfits_of, arith}
+use Prim.Native.Nat.{ℕ, ◌-◌}
+use lib.IntN.{pos}
+use mathlib.Core.Path.{refl, ◌∙◌}
+use mir.Facts.{to_z-of_z}
+use borrow.Author.Rules.{rules, sfits_of}
+use native.Mathlib.Omega.{arith}
 use Rattle.rle_v2.proofs.rows.unzigzag.Statement.{statement}
 use Rattle.rle_v2.proofs.rows.unzigzag.Tie as tie
 
@@ -16,17 +20,12 @@ loop-again : tie.Need-loop-preserved invariant-loop decreases-loop
 loop-again c =
     let l = c.before.before.before.before.before.loop in
     turn-next _ _ _ _ _ l.out l.i _ (pos 0) _ _ l.invariant (omega arith) (omega arith)
-    (to_z-of_z (sfits_of c.to-i64.type-inv) ∙ c.to-i64.ensures ∙ rw (
-      c.before.unzigzag.ensures,
-      c.before.before.to-u64.ensures,
-      to_z-of_z
-          (sfits_of c.before.before.before.to-u64-arg.given),
-    )) refl
+    (to_z-of_z (sfits_of c.to-i64.type-inv) ∙ c.to-i64.ensures ∙ rw (c.before.unzigzag.ensures, c.before.before.to-u64.ensures, to_z-of_z (sfits_of c.before.before.before.to-u64-arg.given))) refl
 
 returns : tie.Need-returns invariant-loop decreases-loop
 returns c = turn_last _ _ _ _ _ _ _ _ c.before.loop.invariant c.loop-test.false
 
 pub unzigzag-spec : {M : Type 1} → statement M
 unzigzag-spec =
-    tie.close (tie.spec invariant-loop decreases-loop (λ c. turn-first _ _ _ _ _) (λ c. omega arith) (λ c. omega arith) (λ c κs. search needs) (λ c κs. search needs)
-    (λ c κs. search needs) (λ c. omega arith) (λ c. omega arith) (λ c. omega arith) (λ c. omega arith) loop-again (λ c. c.before.loop.invariant.long) returns)
+    tie.close (tie.spec invariant-loop decreases-loop (λ c. turn-first _ _ _ _ _) (λ c. omega arith) (λ c. omega arith) (λ c κs. search rules) (λ c κs. search rules)
+    (λ c κs. search rules) (λ c. omega arith) (λ c. omega arith) (λ c. omega arith) (λ c. omega arith) loop-again (λ c. c.before.loop.invariant.long) returns)

@@ -1,5 +1,6 @@
 -- Each turn writes one full run: what is written, and the runs that are left, are all; the rows that fill no run come last. Assumes nothing.
-use Rattle.format.proofs.Common.{arith, ◌∙◌}
+use native.Mathlib.Omega.{arith}
+use mathlib.Core.Path.{◌∙◌}
 use Rattle.salvage.proofs.Laying.{Runs, runs-begin, runs-full, runs-next, runs_done, runs-rest-room, runs-rest}
 use Rattle.salvage.proofs.fill.put_runs.Statement.{statement}
 use Rattle.salvage.proofs.fill.put_runs.Tie as tie

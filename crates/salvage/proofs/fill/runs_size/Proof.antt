@@ -1,5 +1,7 @@
 -- At most 2^55 runs of at most 13 bytes, so no product passes 2^64, and the sum is the length of the runs. Assumes nothing.
-use Rattle.format.proofs.Common.{◌+◌, ◌/◌, arith, needs}
+use Prim.Native.Nat.{◌+◌, ◌/◌}
+use native.Mathlib.Omega.{arith}
+use borrow.Author.Rules.{rules}
 use Rattle.format.proofs.Varints.{shortest-length}
 use Rattle.salvage.proofs.Laying.{runs-small, filled-even, filled-odd}
 use Rattle.salvage.proofs.fill.runs_size.Statement.{statement}
@@ -27,4 +29,4 @@ returns-2 : tie.Need-returns-2
 returns-2 c = let z = c.before.before in let a = z.before.before.args in rw z.size.ensures (filled-odd a.first a.rows.rows (λ e. omega arith))
 
 pub runs-size-spec : {M : Type 1} → statement M
-runs-size-spec = tie.close (tie.spec (λ c κs. search needs) add-size mul-t7 returns (λ c. search needs) mul-t8 returns-2)
+runs-size-spec = tie.close (tie.spec (λ c κs. search rules) add-size mul-t7 returns (λ c. search rules) mul-t8 returns-2)

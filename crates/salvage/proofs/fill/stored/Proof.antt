@@ -1,5 +1,7 @@
 -- The row's 64 bits, which a signed stream stores by zigzag and another as they are. Assumes nothing.
-use Rattle.format.proofs.Common.{◌≡◌, ap, ◌∙◌, to_z-of_z, needs}
+use mathlib.Core.Path.{◌≡◌, ap, ◌∙◌}
+use mir.Facts.{to_z-of_z}
+use borrow.Author.Rules.{rules}
 use Rattle.format.specs.Fields.{zigzagged}
 use Rattle.format.specs.Rows.{as_u64}
 use Rattle.format.specs.Writing
@@ -18,4 +20,4 @@ unfolding Writing.stored
 returns-2 c = rw c.if1.false (bits c.before)
 
 pub stored-spec : {M : Type 1} → statement M
-stored-spec = tie.close (tie.spec (λ c κs. search needs) (λ c κs. search needs) returns returns-2)
+stored-spec = tie.close (tie.spec (λ c κs. search rules) (λ c κs. search rules) returns returns-2)

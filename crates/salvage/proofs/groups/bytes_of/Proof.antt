@@ -1,5 +1,7 @@
 -- The starts rise and none passes the end, so the group lies in the stream. Assumes nothing.
-use Rattle.format.proofs.Common.{◌≤◌, length, get_or, needs}
+use Prim.Native.Nat.{◌≤◌}
+use lib.ListN.{length, get_or}
+use borrow.Author.Rules.{rules}
 use Rattle.salvage.proofs.Walking.{inside}
 use Rattle.salvage.proofs.groups.bytes_of.Statement.{statement}
 use Rattle.salvage.proofs.groups.bytes_of.Tie as tie
@@ -12,5 +14,5 @@ lies c =
 
 pub bytes-of-spec : {M : Type 1} → statement M
 bytes-of-spec =
-    tie.close (tie.spec (λ c. search needs) (λ c. search needs) (λ c κs. search needs) (λ c. (lies c).0) (λ c. (lies c).0) (λ c. (lies c).1)
+    tie.close (tie.spec (λ c. search rules) (λ c. search rules) (λ c κs. search rules) (λ c. (lies c).0) (λ c. (lies c).0) (λ c. (lies c).1)
     (λ c. rw c.before.stop-of.ensures))

@@ -1,5 +1,7 @@
 -- A group without bytes is kept if no rows are listed; any other if its measure answers with as many rows as are listed. Assumes nothing.
-use Rattle.format.proofs.Common.{sym, ◌∙◌, arith, needs}
+use mathlib.Core.Path.{sym, ◌∙◌}
+use native.Mathlib.Omega.{arith}
+use borrow.Author.Rules.{rules}
 use Rattle.format.proofs.Below.{below_all}
 use Rattle.salvage.proofs.Keeping.{kept-empty, kept_whole, kept-refused}
 use Rattle.salvage.proofs.groups.is_kept.Statement.{statement}
@@ -22,5 +24,5 @@ returns-3 c =
     (sym m.measure-stream.ensures ∙ c.enum_told.given.1)
 
 pub is-kept-spec : {M : Type 1} → statement M
-is-kept-spec = tie.close (tie.spec (λ c. kept-empty _ _ c.before.if1.true) (λ c κs. search needs) (λ c. search needs)
-    (λ c. search needs) returns-2 returns-3)
+is-kept-spec = tie.close (tie.spec (λ c. kept-empty _ _ c.before.if1.true) (λ c κs. search rules) (λ c. search rules)
+    (λ c. search rules) returns-2 returns-3)

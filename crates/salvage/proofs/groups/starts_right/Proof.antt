@@ -1,5 +1,8 @@
 -- Each turn compares one start with the last: the starts are right exactly if those that are left rise from it. Assumes nothing.
-use Rattle.format.proofs.Common.{◌≡◌, sym, ◌∙◌, suc, ◌+◌, ◌-◌, ◌≤◌, arith, length, drop}
+use mathlib.Core.Path.{◌≡◌, sym, ◌∙◌}
+use Prim.Native.Nat.{suc, ◌+◌, ◌-◌, ◌≤◌}
+use native.Mathlib.Omega.{arith}
+use lib.ListN.{length, drop}
 use Rattle.salvage.specs.Salvage.{rising, starts_right}
 use Rattle.salvage.proofs.Walking.{right-none, right-late, right-first, rising-on, rising-stops, rising-end}
 use Rattle.salvage.proofs.groups.starts_right.Statement.{statement}

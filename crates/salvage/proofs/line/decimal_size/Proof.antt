@@ -1,5 +1,8 @@
 -- Each turn drops one digit: the digits counted, and those of the rest, are all. Assumes nothing.
-use Rattle.format.proofs.Common.{◌≡◌, ap, ◌+◌, ◌<◌, ◌^◌, arith, length}
+use mathlib.Core.Path.{◌≡◌, ap}
+use Prim.Native.Nat.{◌+◌, ◌<◌, ◌^◌}
+use native.Mathlib.Omega.{arith}
+use lib.ListN.{length}
 use Rattle.text.specs.Decimal.{decimal}
 use Rattle.text.proofs.Texts.{decimal-one, decimal-longer, decimal-length}
 use Rattle.salvage.proofs.line.decimal_size.Statement.{statement}

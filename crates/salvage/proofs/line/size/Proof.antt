@@ -1,5 +1,6 @@
 -- A line's length is that of its two numbers and of the words of its verdict, which the branch decides. Assumes nothing.
-use Rattle.format.proofs.Common.{arith, needs}
+use native.Mathlib.Omega.{arith}
+use borrow.Author.Rules.{rules}
 use Rattle.text.proofs.Texts.{decimal-length}
 use Rattle.salvage.proofs.Telling.{kept-long, replaced-long}
 use Rattle.salvage.proofs.line.size.Statement.{statement}
@@ -36,4 +37,4 @@ returns-2 c =
     omega (arith, d.before.decimal-size.ensures, d.decimal-size2.ensures, replaced-long a.keep a.number a.rows.rows c.if1.false)
 
 pub size-spec : {M : Type 1} → statement M
-size-spec = tie.close (tie.spec (λ c κs. search needs) (λ c κs. search needs) add-digits add-t9 returns add-t10 returns-2)
+size-spec = tie.close (tie.spec (λ c κs. search rules) (λ c κs. search rules) add-digits add-t9 returns add-t10 returns-2)

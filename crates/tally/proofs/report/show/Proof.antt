@@ -1,5 +1,5 @@
 -- Too little room is the answer 0 with nothing written, and otherwise the lines are those of `put_totals`. Assumes nothing.
-use Rattle.format.proofs.Common.{length, lt-ltb, le-ltb, needs}
+use Rattle.std.proofs.Common.{length, rules, le-ltb, lt-ltb}
 use Rattle.tally.specs.Text.{shown_in}
 use Rattle.tally.proofs.report.show.Statement.{statement}
 use Rattle.tally.proofs.report.show.Tie as tie
@@ -20,4 +20,4 @@ returns-2 c =
     record { count = rw e (from_first p.put-totals.ensures).0; places = rw e (from_first p.put-totals.ensures).1 }
 
 pub show-spec : {M : Type 1} → statement M
-show-spec = tie.close (tie.spec returns (λ c κs. search needs) (λ c. search needs) returns-2)
+show-spec = tie.close (tie.spec returns (λ c κs. search rules) (λ c. search rules) returns-2)

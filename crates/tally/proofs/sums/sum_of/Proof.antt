@@ -1,5 +1,6 @@
 -- Each turn adds one row: the words hold the sum of the first i rows, which at most 2^32 rows keep in range. Assumes nothing.
-use Rattle.format.proofs.Common.{◌-◌, ◌≤◌, length, get_or, ℤ, pos, w64, SFits, ap, ◌∙◌, take_all, sfits_of, needs, arith}
+use Rattle.std.proofs.Common.{◌-◌, ◌≤◌, length, get_or, ℤ, pos, ap, ◌∙◌, arith, take_all, w64, SFits, rules}
+use borrow.Author.Rules.{sfits_of}
 use Rattle.tally.specs.Wide.{wide_of}
 use Rattle.tally.specs.Totals.{sum_of}
 use Rattle.tally.proofs.Order.{taken-row}
@@ -28,5 +29,5 @@ returns c =
 
 pub sum-of-spec : {M : Type 1} → statement M
 sum-of-spec =
-    tie.close (tie.spec invariant-loop decreases-loop (λ c. (omega arith, summed-none _)) (λ c. search needs) (λ c. omega arith) (λ c κs. search needs) (λ c κs. search needs)
+    tie.close (tie.spec invariant-loop decreases-loop (λ c. (omega arith, summed-none _)) (λ c. search rules) (λ c. omega arith) (λ c κs. search rules) (λ c κs. search rules)
     (λ c. omega arith) (λ c. omega arith) loop-again returns)

@@ -1,7 +1,8 @@
 -- Each turn adds one count: the first i are sums, and those after them are as they were. Assumes nothing.
-use Rattle.format.proofs.Common.{ℕ, ◌-◌, ◌≤◌, min, dec_le, List, ◌++◌, length, take, drop, length-set, ◌≡◌, refl, ◌∙◌, needs, arith}
-use Rattle.tally.specs.HeldTotals.{each_plus}
-use Rattle.tally.proofs.HeldTotals.{each_more, each_all, each_left}
+use Rattle.std.proofs.Common.{◌≡◌, ℕ, ◌-◌, ◌≤◌, min, List, ◌++◌, length, take, drop, refl, ◌∙◌, arith, length-set, rules}
+use native.Mathlib.Decide.{dec_le}
+use Rattle.tally.specs.Held.{each_plus}
+use Rattle.tally.proofs.Held.{each_more, each_all, each_left}
 use Rattle.tally.proofs.totals.add_each.Statement.{statement}
 use Rattle.tally.proofs.totals.add_each.Tie as tie
 
@@ -32,7 +33,7 @@ returns c =
 
 pub add-each-spec : {M : Type 1} → statement M
 add-each-spec =
-    tie.close (tie.spec invariant-loop decreases-loop (λ c κs. search needs) (λ c. (omega arith, refl, refl)) (λ c. search needs) (λ c. omega arith) (λ c. search needs)
-    (λ c. omega arith) (λ c κs. search needs) (λ c. search needs) (λ c. omega arith) (λ c. omega arith)
+    tie.close (tie.spec invariant-loop decreases-loop (λ c κs. search rules) (λ c. (omega arith, refl, refl)) (λ c. search rules) (λ c. omega arith) (λ c. search rules)
+    (λ c. omega arith) (λ c κs. search rules) (λ c. search rules) (λ c. omega arith) (λ c. omega arith)
     (λ c. omega arith) loop-again (λ c. c.before.loop.invariant.1)
     returns)

@@ -1,6 +1,6 @@
 -- Each turn takes one row more: the two extremes are those of the first i rows. Assumes nothing.
-use Rattle.format.proofs.Common.{◌-◌, ◌<◌, ◌≤◌, length, take, get_or, ℤ, pos, List, [], ◌∷◌, ◌≡◌, refl, sym, ap, ◌∙◌, w64, SFits, to_z}
-use Rattle.format.proofs.Common.{take_all, sfits_of, needs, arith}
+use Rattle.std.proofs.Common.{◌≡◌, ◌-◌, ◌<◌, ◌≤◌, List, [], ◌∷◌, length, get_or, take, ℤ, pos, sym, refl, ap, ◌∙◌, arith, take_all, w64, SFits, to_z, rules}
+use borrow.Author.Rules.{sfits_of}
 use Rattle.tally.specs.declared.totals.Extreme.TheVariants.{Row}
 use Rattle.tally.specs.Totals.{lower, higher, of_all}
 use Rattle.tally.proofs.Order.{taken-row, lowers, highers, one-row, more-row}
@@ -58,5 +58,5 @@ returns-2 c =
 
 pub range-of-spec : {M : Type 1} → statement M
 range-of-spec =
-    tie.close (tie.spec invariant-loop decreases-loop returns (λ c. omega arith) (λ c. search needs) loop-holds (λ c. search needs) (λ c. omega arith) (λ c κs. search needs)
-    (λ c. search needs) (λ c. omega arith) (λ c κs. search needs) (λ c. omega arith) (λ c. omega arith) loop-again returns-2)
+    tie.close (tie.spec invariant-loop decreases-loop returns (λ c. omega arith) (λ c. search rules) loop-holds (λ c. search rules) (λ c. omega arith) (λ c κs. search rules)
+    (λ c. search rules) (λ c. omega arith) (λ c κs. search rules) (λ c. omega arith) (λ c. omega arith) loop-again returns-2)

@@ -1,5 +1,6 @@
 -- `row_of_two`: the flag says which choice is made, and a row that is passed on keeps its bits. Assumes nothing.
-use Rattle.format.proofs.Common.{◌∙◌, needs, sfits_of}
+use Rattle.std.proofs.Common.{◌∙◌, rules}
+use borrow.Author.Rules.{sfits_of}
 use Rattle.tally.proofs.Order.{taken-row}
 use Rattle.tally.proofs.totals.row_of_two.Statement.{statement}
 use Rattle.tally.proofs.totals.row_of_two.Tie as tie
@@ -17,4 +18,4 @@ returns-2 c =
     (taken-row _ (sfits_of c.higher-row.type-inv) ∙ c.higher-row.ensures ∙ rw (taken-row _ entry.ranges.a, taken-row _ entry.ranges.b))
 
 pub row-of-two-spec : {M : Type 1} → statement M
-row-of-two-spec = tie.close (tie.spec (λ c κs. search needs) (λ c κs. search needs) returns returns-2)
+row-of-two-spec = tie.close (tie.spec (λ c κs. search rules) (λ c κs. search rules) returns returns-2)

@@ -1,5 +1,6 @@
 -- The sum passes the limit exactly if the first does, or the second passes what the first leaves. Assumes nothing.
-use Rattle.format.proofs.Common.{ℕ, ◌+◌, ◌-◌, ◌<◌, ◌≤◌, ◌≡◌, sym, ltb, dec_lt, lt-ltb, le-ltb, arith}
+use Rattle.std.proofs.Common.{◌≡◌, ℕ, ◌+◌, ◌-◌, ◌<◌, ◌≤◌, ltb, sym, arith, le-ltb, lt-ltb}
+use native.Mathlib.Decide.{dec_lt}
 use Rattle.tally.specs.Totals.{limit}
 use Rattle.tally.proofs.totals.too_many.Statement.{statement}
 use Rattle.tally.proofs.totals.too_many.Tie as tie

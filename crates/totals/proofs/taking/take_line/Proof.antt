@@ -1,5 +1,8 @@
--- A line is bad, or it is what the run reader answers, with its rows in the first places. Assumes nothing.
-use Rattle.format.proofs.Common.{sym, arith, length-take-le, needs}
+-- `taking::take_line` meets its contract: a bad line, or what the run reader answers. Assumes nothing.
+use mathlib.Core.Path.{sym}
+use native.Mathlib.Omega.{arith}
+use lib.Seq.{length-take-le}
+use borrow.Author.Rules.{rules}
 use Rattle.totals.proofs.Answers.{read-within, took-bad, took}
 use Rattle.totals.proofs.taking.take_line.Statement.{statement}
 use Rattle.totals.proofs.taking.take_line.Tie as tie
@@ -35,6 +38,6 @@ returns-2 c =
 
 pub take-line-spec : {M : Type 1} → statement M
 take-line-spec =
-    tie.close (tie.spec (λ c κs. search needs) (λ c. search needs) (λ c. search needs) (λ c. search needs) (λ c κs. search needs) (λ c. search needs)
-    (λ c κs. search needs) (λ c κs. search needs) slice-reshare-prefix-take-2 slice-aggregate-take-2 (λ c κs. search needs) (λ c. search needs) returns
-    (λ c. search needs) returns-2)
+    tie.close (tie.spec (λ c κs. search rules) (λ c. search rules) (λ c. search rules) (λ c. search rules) (λ c κs. search rules) (λ c. search rules)
+    (λ c κs. search rules) (λ c κs. search rules) slice-reshare-prefix-take-2 slice-aggregate-take-2 (λ c κs. search rules) (λ c. search rules) returns
+    (λ c. search rules) returns-2)

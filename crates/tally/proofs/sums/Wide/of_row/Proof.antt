@@ -1,7 +1,7 @@
 -- Below 0 the bits turned over are those of a natural number, and otherwise the row is its low word. Assumes nothing.
-use Rattle.format.proofs.Common.{suc, ◌-◌, ◌%◌, ◌^◌, ◌<◌, ◌≡◌, Bool, true, false, mod-eq_of_lt, ℤ, pos, negsuc, w64, SFits, to_z, of_z}
-use Rattle.format.proofs.Common.{to_z-of_z, to_z_pos, ltb-true, arith}
+use Rattle.std.proofs.Common.{◌≡◌, suc, ◌-◌, ◌%◌, ◌^◌, ◌<◌, Bool, true, false, ℤ, pos, negsuc, mod-eq_of_lt, arith, to_z-of_z, w64, SFits, to_z, of_z, ltb-true}
 use lib.Signed.{lt_z}
+use mir.Facts.{to_z_pos}
 use Rattle.format.specs.Rows.{as_u64}
 use Rattle.format.proofs.Patterns.{as-lt}
 use Rattle.format.proofs.Tests.{never}

@@ -1,5 +1,5 @@
 -- The low words wrapped exactly if their sum is below the first of them, and then one is carried. Assumes nothing.
-use Rattle.format.proofs.Common.{◌+◌, ◌%◌, ◌^◌, ◌<◌, ◌≤◌, arith, needs}
+use Rattle.std.proofs.Common.{◌+◌, ◌%◌, ◌^◌, ◌<◌, ◌≤◌, arith, rules}
 use Rattle.tally.proofs.WideSums.{carries, no-carry}
 use Rattle.tally.proofs.sums.Wide.plus.Statement.{statement}
 use Rattle.tally.proofs.sums.Wide.plus.Tie as tie
@@ -21,4 +21,4 @@ returns-2 c =
     rw (c.before.before.wrapping-add-u642.ensures, e) (no-carry a.self a.more (omega arith) (omega arith) l)
 
 pub plus-spec : {M : Type 1} → statement M
-plus-spec = tie.close (tie.spec (λ c κs. search needs) (λ c κs. search needs) (λ c κs. search needs) returns returns-2)
+plus-spec = tie.close (tie.spec (λ c κs. search rules) (λ c κs. search rules) (λ c κs. search rules) returns returns-2)

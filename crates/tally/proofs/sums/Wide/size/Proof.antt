@@ -1,5 +1,5 @@
 -- Without the top bit the words are the size; with it, all bits turned over and one more. Assumes nothing.
-use Rattle.format.proofs.Common.{ap, ◌∙◌, needs, arith}
+use Rattle.std.proofs.Common.{ap, ◌∙◌, arith, rules}
 use Rattle.tally.specs.Wide.{size_of}
 use Rattle.tally.proofs.Decimal.{size_above, size_below}
 use Rattle.tally.proofs.sums.Wide.size.Statement.{statement}
@@ -15,4 +15,4 @@ returns-2 c =
     ap size_of c.plus.ensures ∙ size_below w (omega arith) (omega arith) i.if1.false
 
 pub size-spec : {M : Type 1} → statement M
-size-spec = tie.close (tie.spec returns (λ c. search needs) (λ c. search needs) (λ c κs. search needs) returns-2)
+size-spec = tie.close (tie.spec returns (λ c. search rules) (λ c. search rules) (λ c κs. search rules) returns-2)

@@ -1,6 +1,6 @@
 -- Long division by ten in half words: each remainder is below ten, so that no word overflows. Assumes nothing.
 use Rattle.tally.proofs.Decimal.{upper_fits, tenth-is}
-use Rattle.format.proofs.Common.{needs, arith}
+use Rattle.std.proofs.Common.{arith, rules}
 use Rattle.tally.proofs.sums.Wide.tenth.Statement.{statement}
 use Rattle.tally.proofs.sums.Wide.tenth.Tie as tie
 
@@ -16,5 +16,5 @@ returns c =
 
 pub tenth-spec : {M : Type 1} → statement M
 tenth-spec =
-    tie.close (tie.spec (λ c. search needs) add-upper (λ c. search needs) (λ c. search needs) (λ c. search needs) (λ c. search needs)
-    (λ c. search needs) returns)
+    tie.close (tie.spec (λ c. search rules) add-upper (λ c. search rules) (λ c. search rules) (λ c. search rules) (λ c. search rules)
+    (λ c. search rules) returns)

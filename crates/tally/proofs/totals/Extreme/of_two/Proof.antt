@@ -1,7 +1,8 @@
 -- `Extreme::of_two`: none is no choice, and of two rows the one that is chosen comes back with the bits that it had. Assumes nothing.
-use Rattle.format.proofs.Common.{ap, ◌∙◌, ℤ, w64, SFits, needs, sfits_of}
+use Rattle.std.proofs.Common.{ℤ, ap, ◌∙◌, w64, SFits, rules}
 use Rattle.tally.specs.declared.totals.Extreme.TheVariants.{Row}
 use Rattle.tally.proofs.Order.{taken-row}
+use borrow.Author.Rules.{sfits_of}
 use Rattle.tally.proofs.totals.Extreme.of_two.Statement.{statement}
 use Rattle.tally.proofs.totals.Extreme.of_two.Tie as tie
 
@@ -20,5 +21,5 @@ returns-3 c =
 
 pub of-two-spec : {M : Type 1} → statement M
 of-two-spec =
-    tie.close (tie.spec (λ c. search needs) (λ c. search needs) (λ c. search needs) (λ c. search needs) (λ c κs. search needs)
-    (λ c. search needs) returns-2 returns-3)
+    tie.close (tie.spec (λ c. search rules) (λ c. search rules) (λ c. search rules) (λ c. search rules) (λ c κs. search rules)
+    (λ c. search rules) returns-2 returns-3)

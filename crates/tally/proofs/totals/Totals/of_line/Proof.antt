@@ -1,8 +1,8 @@
 -- Each reply has its own totals: one count set, or those of a run. Assumes nothing.
-use Rattle.format.proofs.Common.{sym, ◌∙◌, length, ◌≤◌, needs, arith}
+use Rattle.std.proofs.Common.{◌≤◌, length, sym, ◌∙◌, arith, rules}
 use Rattle.tally.specs.Totals.{rows_in, limit}
-use Rattle.tally.specs.HeldTotals.{slot, line_with}
-use Rattle.tally.proofs.HeldTotals.{slot-below, one-bad, one_end, one-refusal}
+use Rattle.tally.specs.Held.{slot, line_with}
+use Rattle.tally.proofs.Held.{slot-below, one-bad, one_end, one-refusal}
 use Rattle.tally.proofs.totals.Totals.of_line.Statement.{statement}
 use Rattle.tally.proofs.totals.Totals.of_line.Tie as tie
 
@@ -34,5 +34,5 @@ returns-4 c = rw c.before.before.reply2.given.1 c.of-run.ensures
 
 pub of-line-spec : {M : Type 1} → statement M
 of-line-spec =
-    tie.close (tie.spec (λ c. search needs) (λ c κs. search needs) (λ c. search needs) (λ c κs. search needs) (λ c. search needs) (λ c κs. search needs)
-    (λ c κs. search needs) mul-one element-write-one (λ c. search needs) of-run-requires returns returns-2 returns-3 returns-4)
+    tie.close (tie.spec (λ c. search rules) (λ c κs. search rules) (λ c. search rules) (λ c κs. search rules) (λ c. search rules) (λ c κs. search rules)
+    (λ c κs. search rules) mul-one element-write-one (λ c. search rules) of-run-requires returns returns-2 returns-3 returns-4)

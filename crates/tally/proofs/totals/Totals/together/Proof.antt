@@ -1,5 +1,5 @@
 -- Field by field, what the callees promise is the definition's field. Assumes nothing.
-use Rattle.tally.specs.HeldTotals.{together}
+use Rattle.tally.specs.Held.{together}
 use Rattle.std.proofs.Common.{rules}
 use Rattle.tally.proofs.totals.Totals.together.Statement.{statement}
 use Rattle.tally.proofs.totals.Totals.together.Tie as tie

@@ -1,0 +1,16 @@
+-- Each case has its words. Assumes nothing.
+use borrow.Author.Rules.{rules}
+use Rattle.exports.specs.Batches.{flags_words}
+use Rattle.exports.proofs.batch_words.of_flags.Statement.{statement}
+use Rattle.exports.proofs.batch_words.of_flags.Tie as tie
+
+returns : tie.Need-returns
+unfolding flags_words
+returns c = rw c.before.before.batch.given.1
+
+returns-2 : tie.Need-returns-2
+unfolding flags_words
+returns-2 c = rw (c.cut-byte.ensures, c.before.cut-case.ensures, c.before.before.before.before.batch2.given.1)
+
+pub of-flags-spec : {M : Type 1} → statement M
+of-flags-spec = tie.close (tie.spec (λ c. search rules) (λ c. search rules) (λ c. search rules) (λ c κs. search rules) (λ c κs. search rules) returns returns-2)
