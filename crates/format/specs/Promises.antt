@@ -84,7 +84,7 @@ pub record StreamRead (input : List ℕ) (at : ℕ) (signed : Bool) (out out' : 
   pub answer : r ≡ stream_answer at (read_all (length out) (drop at input))
   pub places : out' ≡
       joined_rows signed (runs_of (read_all (length out) (drop at input)))
-        ++ drop (total_rows (runs_of (read_all (length out) (drop at input)))) out
+      ++ drop (total_rows (runs_of (read_all (length out) (drop at input)))) out
 
 -- THE STREAM'S MEASURE: the stream reader's answer with as many places as a count can name. That is room enough for every stream of less
 -- than 2^55 bytes (`counted-all`); in a longer one, refusal 8 stands at the run whose rows would pass 2^64 - 1.
