@@ -13,21 +13,21 @@ use rle_v2::part::DirectPart;
 use util::rows;
 
 // Where a row stands: the byte where a run begins, and how many rows to skip from there.
-#[derive(Drop)]
+#[derive(Clone, Copy)]
 pub struct RowPosition {
     pub run: ByteOffset,
     pub skip: RowNumber,
 }
 
 // A batch: how many rows it has, and the position of the row after them.
-#[derive(Drop)]
+#[derive(Clone, Copy)]
 pub struct BatchRead {
     pub rows: RowNumber,
     pub next: RowPosition,
 }
 
 // What a call answers.
-#[derive(Drop)]
+#[derive(Clone, Copy)]
 pub enum Batch {
     Rows(BatchRead),
     End,
@@ -35,7 +35,7 @@ pub enum Batch {
 }
 
 // Where a position's row is: at a byte, which is not looked at yet; or within a run. Refused: it is not reached.
-#[derive(Drop)]
+#[derive(Clone, Copy)]
 enum Sought {
     Begins(ByteOffset),
     Within(RowPosition),

@@ -17,7 +17,7 @@ pub const MAX_HELD: usize = 8801;
 const BLOCK: usize = 65536;
 
 // What stands in the input after a read: the beginning of a line that was kept, what came behind it, and what the system answered.
-#[derive(Drop)]
+#[derive(Clone, Copy)]
 pub(crate) struct Block {
     pub held: usize,
     pub stop: usize,

@@ -7,7 +7,7 @@ use crate::read_on;
 
 // How often was read and how many bytes came by it, what the system answered last, and its error then, which says something only of a read
 // that failed.
-#[derive(Drop)]
+#[derive(Clone, Copy)]
 pub struct Reads {
     count: u64,
     bytes: u64,
@@ -16,7 +16,7 @@ pub struct Reads {
 }
 
 // A read: what was held before what came, where that ends, what the system answered, and the reads with this one.
-#[derive(Drop)]
+#[derive(Clone, Copy)]
 pub struct Read {
     pub held: usize,
     pub stop: usize,

@@ -9,14 +9,14 @@ use format::{Refusal, RowNumber};
 use util::bytes;
 
 // A batch: how many bytes, and the position after them.
-#[derive(Drop)]
+#[derive(Clone, Copy)]
 pub struct BytesRead {
     pub rows: RowNumber,
     pub next: BytePosition,
 }
 
 // What the reader answers.
-#[derive(Drop)]
+#[derive(Clone, Copy)]
 pub enum ByteBatch {
     Read(BytesRead),
     Refused(Refusal),

@@ -6,7 +6,7 @@ ghost use Rattle.boolean_rle.specs.Ones.{ones_in, count_true};
 use format::{ByteOffset, Refusal, RowNumber};
 
 // How many booleans are true, or refusal 6.
-#[derive(Drop)]
+#[derive(Clone, Copy)]
 pub enum Count {
     True(usize),
     Refused(Refusal),

@@ -8,14 +8,14 @@ use crate::{Found, positions};
 use format::{Refusal, RowNumber};
 
 // A batch: how many flags, and the position after them.
-#[derive(Drop)]
+#[derive(Clone, Copy)]
 pub struct FlagsRead {
     pub rows: RowNumber,
     pub next: FlagPosition,
 }
 
 // What the reader answers.
-#[derive(Drop)]
+#[derive(Clone, Copy)]
 pub enum FlagBatch {
     Read(FlagsRead),
     Refused(Refusal),

@@ -18,21 +18,21 @@ pub mod flags;
 pub mod positions;
 
 // A byte run's size in the input, and how many bytes it stands for.
-#[derive(Drop)]
+#[derive(Clone, Copy)]
 struct ByteRun {
     size: usize,
     count: usize,
 }
 
 // What stands at a place: a run, or too few bytes for one: the refusal's number, and the byte where the cut field begins.
-#[derive(Drop)]
+#[derive(Clone, Copy)]
 enum Found {
     Run(ByteRun),
     Cut(u8, usize),
 }
 
 // The bytes that several runs take together, or where the input ends before them.
-#[derive(Drop)]
+#[derive(Clone, Copy)]
 enum Span {
     Whole(usize),
     Cut(u8, usize),

@@ -13,7 +13,7 @@ mod run;
 mod source;
 
 // What writing bytes comes to: how many were taken, and how many their runs have.
-#[derive(Drop)]
+#[derive(Clone, Copy)]
 pub enum Written {
     Bytes(RowNumber, ByteOffset),
     Refused(Refusal),

@@ -14,21 +14,21 @@ use turn::Step;
 use util::bytes;
 
 // What was converted: how many runs were altered, and how many bytes the stream now has.
-#[derive(Drop)]
+#[derive(Clone, Copy)]
 pub struct Conversion {
     pub altered: usize,
     pub bytes: ByteOffset,
 }
 
 // What the converter answers.
-#[derive(Drop)]
+#[derive(Clone, Copy)]
 pub enum Converted {
     Done(Conversion),
     Refused(Refusal),
 }
 
 // How far the output is filled, and whether the runs have no room.
-#[derive(Drop)]
+#[derive(Clone, Copy)]
 struct LaidOutput {
     end: ByteOffset,
     full: bool,

@@ -14,7 +14,7 @@ use util::rows;
 mod walk;
 
 // One run: its first row, where it begins, and how many rows it has.
-#[derive(Drop)]
+#[derive(Clone, Copy)]
 pub struct Entry {
     pub first: RowNumber,
     pub at: ByteOffset,
@@ -22,34 +22,34 @@ pub struct Entry {
 }
 
 // What was built: how many entries, and the rows and bytes of the stream.
-#[derive(Drop)]
+#[derive(Clone, Copy)]
 pub struct Sizes {
     pub entries: usize,
     pub rows: RowNumber,
     pub consumed: ByteOffset,
 }
 
-#[derive(Drop)]
+#[derive(Clone, Copy)]
 pub enum Built {
     Index(Sizes),
     Refused(Refusal),
 }
 
-#[derive(Drop)]
+#[derive(Clone, Copy)]
 pub enum Found {
     Entry(Entry),
     Refused(Refusal),
 }
 
 // The rows from a row on: how many they are.
-#[derive(Drop)]
+#[derive(Clone, Copy)]
 pub enum Preview {
     Rows(RowNumber),
     Refused(Refusal),
 }
 
 // The rows from a row on, as far as there are places for them.
-#[derive(Drop)]
+#[derive(Clone, Copy)]
 enum Left {
     Rows(RowNumber),
     TooMany,

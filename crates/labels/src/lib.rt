@@ -13,14 +13,14 @@ use format::{ByteOffset, Refusal, RowNumber};
 mod column;
 
 // A name: the byte of the block where it begins, and how many bytes it has.
-#[derive(Drop)]
+#[derive(Clone, Copy)]
 pub struct Name {
     pub start: ByteOffset,
     pub size: ByteOffset,
 }
 
 // What a row is called: a name of the dictionary; the caller's own fallback, by its length; or a refusal.
-#[derive(Drop)]
+#[derive(Clone, Copy)]
 pub enum Label {
     Name(Name),
     Fallback(ByteOffset),
@@ -28,7 +28,7 @@ pub enum Label {
 }
 
 // What all rows of a column are called: how many they are; a refusal; or a refusal with the first row that it is for.
-#[derive(Drop)]
+#[derive(Clone, Copy)]
 pub enum LabelColumn {
     Rows(RowNumber),
     Refused(Refusal),
@@ -36,7 +36,7 @@ pub enum LabelColumn {
 }
 
 // A length or a number of a column: not below 0, or below.
-#[derive(Drop)]
+#[derive(Clone, Copy)]
 enum Whole {
     Number(usize),
     Below,

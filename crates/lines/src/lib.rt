@@ -28,7 +28,7 @@ const MAX_FRAME: usize = MAX_LINE / 2;
 pub const ANSWER_ROOM: usize = 46 + 22 * Kind::MAX_ROWS;
 
 // What is read of a line: that it is bad, or what the run reader answers to its bytes.
-#[derive(Drop)]
+#[derive(Clone, Copy)]
 pub enum Reading {
     Bad,
     Answered(Answer),

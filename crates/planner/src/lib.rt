@@ -14,7 +14,7 @@ mod segment;
 mod write;
 
 // The runs of a column, their rows and their bytes.
-#[derive(Drop)]
+#[derive(Clone, Copy)]
 pub struct Columned {
     pub runs: usize,
     pub rows: RowNumber,
@@ -22,14 +22,14 @@ pub struct Columned {
 }
 
 // What the check answers.
-#[derive(Drop)]
+#[derive(Clone, Copy)]
 pub enum Checked {
     Accepted(Columned),
     Rejected,
 }
 
 // What the writer answers: the proposal's runs were written, or direct runs of 64 bits, or nothing.
-#[derive(Drop)]
+#[derive(Clone, Copy)]
 pub enum ColumnAnswer {
     Planned(Columned),
     Direct(Columned),

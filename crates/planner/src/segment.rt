@@ -8,7 +8,7 @@ use format::{ByteOffset, Form, RowNumber};
 use util::pattern;
 
 // As it is proposed: any five numbers.
-#[derive(Drop)]
+#[derive(Clone, Copy)]
 pub(crate) struct Segment {
     pub start: u64,
     pub count: u64,

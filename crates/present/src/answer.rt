@@ -5,7 +5,7 @@ ghost use Rattle.present.specs.Present.{spread_over, not_spread};
 use format::{ByteOffset, Refusal, RowNumber};
 
 // How many rows the whole column has, or a refusal.
-#[derive(Drop)]
+#[derive(Clone, Copy)]
 pub enum Spread {
     Rows(RowNumber),
     Refused(Refusal),

@@ -4,7 +4,7 @@ use util::pattern;
 
 // How many widths direct runs have and, for each class, the first of them that has it, in four bits; the same of packed deltas; and
 // the classes of at most two frames, as patched runs are called while their rows come in.
-#[derive(Drop)]
+#[derive(Clone, Copy)]
 pub(crate) struct Candidates {
     pub directs: u64,
     pub direct_of: u64,
@@ -13,7 +13,7 @@ pub(crate) struct Candidates {
     pub frames: Frames,
 }
 
-#[derive(Drop)]
+#[derive(Clone, Copy)]
 pub(crate) struct Frames {
     pub count: u64,
     pub one: u64,
@@ -21,14 +21,14 @@ pub(crate) struct Frames {
 }
 
 // Widths that are chosen: how many, and the first for each class.
-#[derive(Drop)]
+#[derive(Clone, Copy)]
 struct Chosen {
     count: u64,
     first: u64,
 }
 
 // The row and the step before, and how many steps differed so far.
-#[derive(Drop)]
+#[derive(Clone, Copy)]
 struct Seen {
     row: u64,
     step: u64,

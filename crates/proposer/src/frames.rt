@@ -5,7 +5,7 @@ use crate::states::FAR;
 use crate::{bits, cells, patched};
 use util::pattern;
 
-#[derive(Drop)]
+#[derive(Clone, Copy)]
 pub(crate) struct Frame {
     // where it begins, in rows
     pub start: u64,

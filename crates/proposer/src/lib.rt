@@ -31,7 +31,7 @@ use runs::Run;
 const LATE: u64 = WINDOW / 4 * 3;
 
 // The runs laid so far: where the next begins, how many, and their bytes. Those that the columns have no place for are counted and lost.
-#[derive(Drop)]
+#[derive(Clone, Copy)]
 struct LaidRuns {
     at: usize,
     count: usize,

@@ -10,7 +10,7 @@ pub(crate) const NONE: u64 = u64::MAX;
 pub(crate) const MAX_ENTRIES: u64 = Kind::MAX_PATCHES as u64;
 
 // What is patched so far: entries of the list, skips among them, the row of the last, the largest gap and the patches' bits.
-#[derive(Drop)]
+#[derive(Clone, Copy)]
 struct List {
     entries: u64,
     last: u64,

@@ -4,7 +4,7 @@ use crate::states::{DIRECT, FIXED, PACKED, PATCHED, SHORT};
 use crate::{bits, cells, frames, patched};
 use util::pattern;
 
-#[derive(Drop)]
+#[derive(Clone, Copy)]
 pub(crate) struct Run {
     pub form: u64,
     pub width: u64,

@@ -15,7 +15,7 @@ const MAX_EQUAL: u64 = Kind::MAX_REPEAT as u64 - 1;
 
 // The step before, whether the packed deltas that are open fall (1 or 0), whether this step turned them, the fixed delta, and how many
 // steps of 0 came last.
-#[derive(Drop)]
+#[derive(Clone, Copy)]
 struct Steps {
     step: u64,
     falls: u64,
@@ -25,7 +25,7 @@ struct Steps {
 }
 
 // These with one step more, and the cheapest of the runs that end there.
-#[derive(Drop)]
+#[derive(Clone, Copy)]
 struct Stepped {
     steps: Steps,
     best: u64,

@@ -15,21 +15,21 @@ mod group;
 mod listed;
 
 // How many rows were written, and how many groups were kept.
-#[derive(Drop)]
+#[derive(Clone, Copy)]
 pub struct Totals {
     pub rows: RowNumber,
     pub kept: usize,
 }
 
 // What a call answers.
-#[derive(Drop)]
+#[derive(Clone, Copy)]
 pub enum Rescued {
     Rows(Totals),
     Refused(Refusal),
 }
 
 // A position made plain. It is nowhere if a run on the way is refused, or if there are fewer rows than are to be skipped.
-#[derive(Drop)]
+#[derive(Clone, Copy)]
 enum Plain {
     At(RowPosition),
     Nowhere,

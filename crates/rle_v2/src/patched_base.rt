@@ -14,7 +14,7 @@ use format::{Answer, ByteOffset, CutField, Kind, Refusal, RowNumber};
 use util::{big_endian, packed, width};
 
 // What the four header bytes say: width code, rows, base bytes, patch width code, gap width, list length.
-#[derive(Drop)]
+#[derive(Clone, Copy)]
 struct Header {
     code: u8,
     rows: RowNumber,
@@ -25,7 +25,7 @@ struct Header {
 }
 
 // The widths in bits: of the values, the patches, and the list's entries.
-#[derive(Drop)]
+#[derive(Clone, Copy)]
 struct Widths {
     bits: usize,
     patch: usize,
@@ -33,7 +33,7 @@ struct Widths {
 }
 
 // The first byte of the values and of the list, and the byte after it.
-#[derive(Drop)]
+#[derive(Clone, Copy)]
 struct Parts {
     values: ByteOffset,
     list: ByteOffset,
@@ -43,7 +43,7 @@ struct Parts {
 // What the header of a patched base run says, and where its body stands: rows, base bytes and list length, the widths in bits, and the parts. Where
 // the number is not 0, the run is refused with it instead, and the input ends in the field that begins at a byte, or, where that is 0, in none. It is
 // no enum: one that a call gives back goes through memory twice.
-#[derive(Drop)]
+#[derive(Clone, Copy)]
 struct Found {
     number: u8,
     field: ByteOffset,

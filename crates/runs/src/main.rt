@@ -15,7 +15,7 @@ use blocks::reading::Reads;
 use saying::Said;
 
 // From where to where in the input a line has begun; that the input has ended; that reading failed; or that the output cannot be written.
-#[derive(Drop)]
+#[derive(Clone, Copy)]
 enum Left {
     Begun(usize, usize),
     Ended,
@@ -24,14 +24,14 @@ enum Left {
 }
 
 // How it goes on, after some answers.
-#[derive(Drop)]
+#[derive(Clone, Copy)]
 struct Outcome {
     left: Left,
     said: Said,
 }
 
 // The same after some reads.
-#[derive(Drop)]
+#[derive(Clone, Copy)]
 struct Standing {
     left: Left,
     reads: Reads,

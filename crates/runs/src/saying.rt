@@ -7,7 +7,7 @@ use blocks::reading::Reads;
 use libc::STDOUT_FILENO;
 
 // How many bytes were handed over, and whether the system did not take the last of them.
-#[derive(Drop)]
+#[derive(Clone, Copy)]
 pub(crate) struct Said {
     bytes: u64,
     cut: bool,

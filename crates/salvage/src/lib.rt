@@ -14,14 +14,14 @@ mod groups;
 mod line;
 
 // How many bytes were written: of the new stream, and of the report.
-#[derive(Drop)]
+#[derive(Clone, Copy)]
 pub struct Sizes {
     pub stream: ByteOffset,
     pub report: ByteOffset,
 }
 
 // What a call comes to.
-#[derive(Drop)]
+#[derive(Clone, Copy)]
 pub enum Outcome {
     Written(Sizes),
     Refused(Refusal),

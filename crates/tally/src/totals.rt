@@ -13,14 +13,14 @@ use util::number;
 pub const LIMIT: u64 = 4294967296;
 
 // The smallest or the largest of some rows: none where there are none.
-#[derive(Drop)]
+#[derive(Clone, Copy)]
 pub enum Extreme {
     None,
     Row(i64),
 }
 
 // How a line was answered, without its rows: a bad line, the end, a refusal by its number, or a run by its kind.
-#[derive(Drop)]
+#[derive(Clone, Copy)]
 pub enum Reply {
     Bad,
     End,
@@ -29,7 +29,7 @@ pub enum Reply {
 }
 
 // Totals: refusals by number, runs by the number of their kind.
-#[derive(Drop)]
+#[derive(Clone, Copy)]
 pub struct Totals {
     pub lines: u64,
     pub bads: u64,
@@ -43,21 +43,21 @@ pub struct Totals {
 }
 
 // Whether taking stopped: not, or by refusal 20.
-#[derive(Drop)]
+#[derive(Clone, Copy)]
 pub enum Stop {
     None,
     Refused(Refusal),
 }
 
 // The totals after taking: as before, where it stopped.
-#[derive(Drop)]
+#[derive(Clone, Copy)]
 pub struct Taken {
     pub totals: Totals,
     pub stop: Stop,
 }
 
 // Both extremes of some rows.
-#[derive(Drop)]
+#[derive(Clone, Copy)]
 struct Range {
     smallest: Extreme,
     largest: Extreme,

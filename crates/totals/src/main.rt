@@ -18,7 +18,7 @@ use tally::totals::Totals;
 const REFUSED_20: [u8; 11] = *b"refused 20\n";
 
 // The totals and how it goes on, after so many reads.
-#[derive(Drop)]
+#[derive(Clone, Copy)]
 struct Standing {
     totals: Totals,
     next: Next,

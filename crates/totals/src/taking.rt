@@ -9,7 +9,7 @@ use lines::Reading;
 use tally::totals::{Reply, Stop, Taken, Totals};
 
 // From where to where in the input a line has begun; that the input has ended; that refusal 20 ended the reading; or that reading failed.
-#[derive(Drop)]
+#[derive(Clone, Copy)]
 pub(crate) enum Next {
     Begun(usize, usize),
     Ended,
@@ -18,7 +18,7 @@ pub(crate) enum Next {
 }
 
 // The totals after some lines, and how it goes on.
-#[derive(Drop)]
+#[derive(Clone, Copy)]
 pub(crate) struct Turn {
     pub totals: Totals,
     pub next: Next,
