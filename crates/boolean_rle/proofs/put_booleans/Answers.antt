@@ -26,7 +26,7 @@ pub returns-in_default : goal.returns-in_default
 returns-in_default c =
     let s : List ℕ = c.args.input.now in
     let a = c.args in
-    absurd (laid-whole bits (spread-append 2 8) (s) refl _ a.k a.n a.out.now c.loop-done.place c.loop-done-test.false
+    absurd (laid-whole bits (spread-append 2 8) (s) refl _ a.k a.n a.out.now c.loop-done.place c.loop-done.left
     c.loop-done.done c.loop-done.out c.in_default.field-0 c.in_default.field-1 c.loop-done-test.true
     (sym c.run_at.ensures ∙ c.in_default.is) c.loop-done.invariant.3)
 
@@ -46,14 +46,14 @@ loop-done-preserved c =
     let (d, h) = run-here in
     let up : done ≡ min a.n (l.done + length (bits (drop l.left (run_bytes d)))) =
     c.put_run-done.ensures.value ∙ rw (length-bits, length-left d l.left, h.count-is) in
-    let (from, to) = between a.k a.n l.done _ done l.inv.0 l.inv.1 up in (
+    let (from, to) = between a.k a.n l.done _ done l.invariant.0 l.invariant.1 up in (
       from,
       to,
-      c.put_run-done.auto.out ∙ l.inv.2,
+      c.put_run-done.auto.out ∙ l.invariant.2,
       rw c.less-left.ensures
           (laid_on bits (spread-append 2 8) (s) _ a.k a.n a.out.now l.place l.left l.done l.out _ done
-          (run) d h c.loop-done-test.true l.inv.0 up
-          (rw (bytes-are (s) l.place (run) d h) at c.put_run-done.ensures.wrote) l.inv.3),
+          (run) d h c.loop-done-test.true l.invariant.0 up
+          (rw (bytes-are (s) l.place (run) d h) at c.put_run-done.ensures.wrote) l.invariant.3),
     )
 
 pub returns : goal.returns

@@ -31,7 +31,7 @@ loop-left-preserved c =
     (sym c.run_at.ensures ∙ c.in-Run.is) in
     let h = run-here in
     rw c.less-left.ensures
-    (pass c.args.input.now _ _ c.loop-left.end c.loop-left-test.false _ h.0 h.1 (omega arith) c.loop-left.invariant)
+    (pass c.args.input.now _ _ c.loop-left.end c.loop-left.left _ h.0 h.1 (omega arith) c.loop-left.invariant)
 
 pub returns-in-Cut : goal.returns-in-Cut
 returns-in-Cut c =

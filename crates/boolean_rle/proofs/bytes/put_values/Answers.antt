@@ -27,7 +27,7 @@ pub returns-in_default : goal.returns-in_default
 returns-in_default c =
     let s : List ℕ = c.args.input.now in
     let a = c.args in
-    absurd (laid-whole itself (λ x y. refl) (s) refl _ 0 a.n a.out.now c.loop-done.place c.loop-done-test.false
+    absurd (laid-whole itself (λ x y. refl) (s) refl _ 0 a.n a.out.now c.loop-done.place c.loop-done.left
     c.loop-done.done c.loop-done.out c.in_default.field-0 c.in_default.field-1 c.loop-done-test.true
     (sym c.run_at.ensures ∙ c.in_default.is) c.loop-done.invariant.2)
 
@@ -54,15 +54,15 @@ loop-done-preserved c =
     let count = c.lesser-count.result in
     let (d, h) = run-here in
     let up : l.done + count ≡ min a.n (l.done + length (drop l.left (run_bytes d))) =
-    up_to a.n l.done _ count l.inv.0 c.lesser-count.ensures
+    up_to a.n l.done _ count l.invariant.0 c.lesser-count.ensures
     ∙ rw (c.less.ensures, length-left d l.left, h.count-is) in
-    let (from, to) = between 0 a.n l.done _ (l.done + count) (omega arith) l.inv.0 up in (
+    let (from, to) = between 0 a.n l.done _ (l.done + count) (omega arith) l.invariant.0 up in (
       to,
-      c.put_part.auto.out ∙ l.inv.1,
+      c.put_part.auto.out ∙ l.invariant.1,
       rw c.less-left.ensures
           (laid_on itself (λ x y. refl) (s) _ 0 a.n a.out.now l.place l.left l.done l.out _ (l.done + count)
           (run) d h c.loop-done-test.true (omega arith) up
-          (rw (bytes-are (s) l.place (run) d h) at c.put_part.ensures) l.inv.2),
+          (rw (bytes-are (s) l.place (run) d h) at c.put_part.ensures) l.invariant.2),
     )
 
 pub returns : goal.returns

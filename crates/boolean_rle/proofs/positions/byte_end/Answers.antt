@@ -12,7 +12,7 @@ use Rattle.boolean_rle.proofs.positions.byte_end.Goals as goal
 pub returns-then-rest-unused : goal.returns-then-rest-unused
 returns-then-rest-unused c =
     let bytes-in : List ℕ = c.args.input.now in
-    let to-pass : ℕ = c.loop.left + c.loop-run.rest in
+    let to-pass : ℕ = c.loop-run.left + c.loop-run.rest in
     let run : code.ByteRun = c.in-Run.run' in
     let run-here : (d : ByteRun) × Here (bytes-in) c.loop-run.place (run) d = here (bytes-in) c.loop-run.place (run) (λ i. (c.shared_slice_known-1.given i).fits)
     (sym c.run_at.ensures ∙ c.in-Run.is) in
@@ -23,14 +23,14 @@ returns-then-rest-unused c =
 pub loop-run-preserved : goal.loop-run-preserved
 loop-run-preserved c =
     let bytes-in : List ℕ = c.args.input.now in
-    let to-pass : ℕ = c.loop.left + c.loop-run.rest in
+    let to-pass : ℕ = c.loop-run.left + c.loop-run.rest in
     let run : code.ByteRun = c.in-Run.run' in
     let run-here : (d : ByteRun) × Here (bytes-in) c.loop-run.place (run) d = here (bytes-in) c.loop-run.place (run) (λ i. (c.shared_slice_known-1.given i).fits)
     (sym c.run_at.ensures ∙ c.in-Run.is) in
     let unused = c.less-unused in
     let (d, h) = run-here in
     let both =
-    both-less c.loop.left c.loop-run.rest run.count unused.result unused.ensures c.if-rest-unused.false in
+    both-less c.loop-run.left c.loop-run.rest run.count unused.result unused.ensures c.if-rest-unused.false in
     c.loop-run.invariant
     ∙ end-run (bytes-in) c.loop-run.place (run) d h (to-pass) (omega (arith, unused.ensures))
     ∙ rw (both, c.less-left.ensures)
@@ -38,14 +38,14 @@ loop-run-preserved c =
 pub returns-in-Cut : goal.returns-in-Cut
 returns-in-Cut c =
     let bytes-in : List ℕ = c.args.input.now in
-    let to-pass : ℕ = c.loop.left + c.loop-run.rest in
+    let to-pass : ℕ = c.loop-run.left + c.loop-run.rest in
     sym (c.loop-run.invariant ∙ end-cut (bytes-in) c.loop-run.place (to-pass) _ _
     (omega (arith, c.later.ensures)) (sym c.run_at.ensures ∙ c.in-Cut.is))
 
 pub returns : goal.returns
 returns c =
     let bytes-in : List ℕ = c.args.input.now in
-    let to-pass : ℕ = c.loop.left + c.loop-run.rest in
+    let to-pass : ℕ = c.loop-run.left + c.loop-run.rest in
     let s = bytes-in in
     let none_left : to-pass ≡ 0 = omega (arith, c.later.ensures) in
     sym (c.loop-run.invariant
