@@ -45,7 +45,7 @@ unpack-requires c =
     let head = c.less-head.result in
     let one = c.lay_in_eight.new.out in record { width = y.width; n_bound = (
         omega (arith, y.few, y.within),
-        rw (rest-is one head, length-drop) (omega (arith, y.places, c.lay_in_eight.kept.1.1.1.1.1.0)),
+        rw (rest-is one head, length-drop) (omega (arith, y.places, c.lay_in_eight.auto.out)),
         rw (rest-is a.s.now ((a.skip + head) / 8 * a.w), length-drop)
             (next-after y (bytes) head (omega (arith, c.if-head-n.true)) (omega (arith, c.if-head-n.true, c.less-head.ensures))),
       ) }

@@ -1,5 +1,4 @@
 use mathlib.Core.Path.{◌≡◌, ◌∙◌}
-use mathlib.Core.Logic.{⊎_elim}
 use mathlib.Core.Bool.{false}
 use mathlib.Core.List.{◌∷◌}
 use Prim.Native.Nat.{◌+◌, ◌-◌, ◌<◌}
@@ -15,6 +14,7 @@ use borrow.Author.Rules.{rules, sfits_of}
 use native.Mathlib.Omega.{arith}
 use Rattle.format.proofs.Common.{w64}
 use Rattle.rle_v2.proofs.patch_list.put.Goals as goal
+use Rattle.rle_v2.proofs.patch_list.put.Goals.{then-not-e, else-not-e}
 
 pub loop-k-init : goal.loop-k-init
 loop-k-init c = (search rules, put_first _ _ _ _ _ c.requires.width_bound.3)
@@ -34,7 +34,7 @@ offset_bounds-out-row c =
     let named : c.entry_at-e.result.skip ≡ false → c.loop-k.row + c.entry_at-e.result.gap < c.args.count.rows = λ y. let l = c.loop-k in
     let a = c.args in
     put-inside a.width a.pw a.count.rows (fields a.bits a.n a.list.now) a.out.now l.out l.k l.row _ _ _ _ l.invariant.1 (next-is) c.entry_at-e.ensures y in
- omega (arith, named c.if-not-e.true, c.requires.width_bound.1)
+ omega (arith, named (not-true _ c.if-not-e.true), c.requires.width_bound.1)
 
 pub slice_copy_out-to_u64 : goal.slice_copy_out-to_u64
 slice_copy_out-to_u64 c =
@@ -46,7 +46,7 @@ slice_copy_out-to_u64 c =
     let a = c.args in
     put-inside a.width a.pw a.count.rows (fields a.bits a.n a.list.now) a.out.now l.out l.k l.row _ _ _ _ l.invariant.1 (next-is) c.entry_at-e.ensures y in
     let inside : c.entry_at-e.result.skip ≡ false → c.loop-k.row + c.entry_at-e.result.gap < length c.loop-k.out = λ y. omega (arith, named y, c.loop-k.invariant.1.long, c.requires.width_bound.2) in
- inside c.if-not-e.true
+ inside (not-true _ c.if-not-e.true)
 
 pub offset_bounds-out-row-then-not-e : goal.offset_bounds-out-row-then-not-e
 offset_bounds-out-row-then-not-e c =
@@ -57,7 +57,7 @@ offset_bounds-out-row-then-not-e c =
     let named : c.entry_at-e.result.skip ≡ false → c.loop-k.row + c.entry_at-e.result.gap < c.args.count.rows = λ y. let l = c.loop-k in
     let a = c.args in
     put-inside a.width a.pw a.count.rows (fields a.bits a.n a.list.now) a.out.now l.out l.k l.row _ _ _ _ l.invariant.1 (next-is) c.entry_at-e.ensures y in
- omega (arith, named c.if-not-e.true, c.requires.width_bound.1)
+ omega (arith, named (not-true _ c.if-not-e.true), c.requires.width_bound.1)
 
 pub bounds-out-row : goal.bounds-out-row
 bounds-out-row c =
@@ -69,7 +69,7 @@ bounds-out-row c =
     let a = c.args in
     put-inside a.width a.pw a.count.rows (fields a.bits a.n a.list.now) a.out.now l.out l.k l.row _ _ _ _ l.invariant.1 (next-is) c.entry_at-e.ensures y in
     let inside : c.entry_at-e.result.skip ≡ false → c.loop-k.row + c.entry_at-e.result.gap < length c.loop-k.out = λ y. omega (arith, named y, c.loop-k.invariant.1.long, c.requires.width_bound.2) in
- inside c.if-not-e.true
+ inside (not-true _ c.if-not-e.true)
 
 pub loop-k-preserved : goal.loop-k-preserved
 loop-k-preserved c =
@@ -81,15 +81,15 @@ loop-k-preserved c =
     let a = c.args in
     let es = fields a.bits a.n a.list.now in (
       omega arith,
-      ⊎_elim
-          (λ w.
-          rw w.6
-          (put-named a.width a.pw a.count.rows es a.out.now l.out l.k l.row _ _ _ _ l.invariant.1 (next-is) c.entry_at-e.ensures (not-true _ w.0.taken) c.requires.width_bound.1 _
-          (to_z-of_z {w = w64} (sfits_of w.5.ok) ∙ w.5.ensures ∙ rw (w.4.ensures, w.3.ensures, to_z-of_z {w = w64} (sfits_of w.2.given), w.1.ensures, add-mod-mod))))
-          (λ w.
-          rw w.1
-          (put-skip a.width a.pw a.count.rows es a.out.now l.out l.k l.row _ _ _ _ l.invariant.1 (next-is) c.entry_at-e.ensures (not-false _ w.0.left)))
-          c.if-not-e.branch,
+      elim c.if-not-e.branch [
+        then-not-e w ↦
+          rw w.out-is
+          (put-named a.width a.pw a.count.rows es a.out.now l.out l.k l.row _ _ _ _ l.invariant.1 (next-is) c.entry_at-e.ensures (not-true _ w.if-not-e.true) c.requires.width_bound.1 _
+          (to_z-of_z {w = w64} (sfits_of w.to_i64-r.type_inv) ∙ w.to_i64-r.ensures ∙ rw (w.add.ensures, w.to_u64.ensures, to_z-of_z {w = w64} (sfits_of w.to_u64-arg-1.given), w.raised-patch.ensures, add-mod-mod)))
+        | else-not-e w ↦
+          rw w.out-is
+          (put-skip a.width a.pw a.count.rows es a.out.now l.out l.k l.row _ _ _ _ l.invariant.1 (next-is) c.entry_at-e.ensures (not-false _ w.if-not-e.false))
+      ],
     )
 
 pub returns : goal.returns

@@ -1,5 +1,4 @@
 use mathlib.Core.Path.{◌≡◌}
-use mathlib.Core.Logic.{⊎_elim}
 use mathlib.Core.List.{◌∷◌}
 use Prim.Native.Nat.{◌+◌, ◌-◌, ◌<◌}
 use lib.ListN.{drop}
@@ -14,6 +13,7 @@ use Rattle.rle_v2.proofs.PatchWalk.{entry_next, walk_first, walk-last, walk-larg
 use borrow.Author.Rules.{rules}
 use native.Mathlib.Omega.{arith}
 use Rattle.rle_v2.proofs.patch_list.refused_with.Goals as goal
+use Rattle.rle_v2.proofs.patch_list.refused_with.Goals.{then-not-skip+else-place-free+else-rows-place, else-not-skip}
 
 pub entry_at-e-requires : goal.entry_at-e-requires
 entry_at-e-requires c =
@@ -69,15 +69,15 @@ loop-k-preserved c =
     let a = c.args in
     let es = fields a.bits a.n a.list.now in (
       omega arith,
-      ⊎_elim
-          (λ w.
-          rw w.3
-          (walk-named a.width a.pw a.count.rows es l.k l.place l.free _ _ _ l.skip _ l.invariant.1 (next-is) c.entry_at-e.ensures (small) (not-true _ w.0.taken) w.1.left w.2.left
-          c.requires.width_nonzero.2))
-          (λ w.
-          rw w.1
-          (walk-skip a.width a.pw a.count.rows es l.k l.place l.free _ _ _ l.skip _ l.invariant.1 (next-is) c.entry_at-e.ensures (small) (not-false _ w.0.left)))
-          c.if-not-skip.branch,
+      elim c.if-not-skip.branch [
+        then-not-skip+else-place-free+else-rows-place w ↦
+          rw w.free-is
+          (walk-named a.width a.pw a.count.rows es l.k l.place l.free _ _ _ l.skip _ l.invariant.1 (next-is) c.entry_at-e.ensures (small) w.if-not-skip.true w.if-place-free.false w.if-rows-place.false
+          c.requires.width_nonzero.2)
+        | else-not-skip w ↦
+          rw w.free-is
+          (walk-skip a.width a.pw a.count.rows es l.k l.place l.free _ _ _ l.skip _ l.invariant.1 (next-is) c.entry_at-e.ensures (small) w.if-not-skip.false)
+      ],
     )
 
 pub returns-then-skip : goal.returns-then-skip
