@@ -27,7 +27,8 @@ size-requires c =
 pub size-requires-in-Direct : goal.size-requires-in-Direct
 size-requires-in-Direct c = 
     let passed : Allowed c.args.form (length c.args.rows.now) c.args.width =  allowed c.count.ensures c.if-not-count.false c.width.ensures c.if-not-width.false in
-   direct-allowed (passed) c.in-Direct.is
+    let p = direct-allowed (passed) c.in-Direct.is in
+    record { in_bounds = p.0; code_value = p.1 }
 
 pub size_fixed-requires : goal.size_fixed-requires
 size_fixed-requires c = 
@@ -37,36 +38,29 @@ size_fixed-requires c =
 pub size_packed-requires : goal.size_packed-requires
 size_packed-requires c = 
     let passed : Allowed c.args.form (length c.args.rows.now) c.args.width =  allowed c.count.ensures c.if-not-count.false c.width.ensures c.if-not-width.false in
-   packed-allowed (passed) c.in-PackedDelta.is
+    let p = packed-allowed (passed) c.in-PackedDelta.is in
+    record { in_bounds = p.0; code_value = p.1 }
 
 pub returns-in-ShortRepeat : goal.returns-in-ShortRepeat
 returns-in-ShortRepeat c = 
     let passed : Allowed c.args.form (length c.args.rows.now) c.args.width =  allowed c.count.ensures c.if-not-count.false c.width.ensures c.if-not-width.false in
-    let sizes : {n : ℕ} {f : Form} → c.args.form ≡ f → Sized c.args.signed f c.args.width (map as_u64 c.args.rows.now) n
-    → n ≡ size_in (writing c.args.signed c.args.form c.args.width (map as_u64 c.args.rows.now) 4356) = λ g z. sized c.args.signed c.args.form c.args.width (map as_u64 c.args.rows.now)
-    (rw (length-map c.args.rows.now as_u64) (passed)) (for-form g z) in
-   sizes c.in-ShortRepeat.is c.size.ensures
+    sized c.args.signed c.args.form c.args.width (map as_u64 c.args.rows.now)
+    (rw (length-map c.args.rows.now as_u64) (passed)) (for-form c.in-ShortRepeat.is c.size.ensures)
 
 pub returns-in-Direct : goal.returns-in-Direct
 returns-in-Direct c = 
     let passed : Allowed c.args.form (length c.args.rows.now) c.args.width =  allowed c.count.ensures c.if-not-count.false c.width.ensures c.if-not-width.false in
-    let sizes : {n : ℕ} {f : Form} → c.args.form ≡ f → Sized c.args.signed f c.args.width (map as_u64 c.args.rows.now) n
-    → n ≡ size_in (writing c.args.signed c.args.form c.args.width (map as_u64 c.args.rows.now) 4356) = λ g z. sized c.args.signed c.args.form c.args.width (map as_u64 c.args.rows.now)
-    (rw (length-map c.args.rows.now as_u64) (passed)) (for-form g z) in
-   sizes c.in-Direct.is c.size-in-Direct.ensures
+    sized c.args.signed c.args.form c.args.width (map as_u64 c.args.rows.now)
+    (rw (length-map c.args.rows.now as_u64) (passed)) (for-form c.in-Direct.is c.size-in-Direct.ensures)
 
 pub returns-in-FixedDelta : goal.returns-in-FixedDelta
 returns-in-FixedDelta c = 
     let passed : Allowed c.args.form (length c.args.rows.now) c.args.width =  allowed c.count.ensures c.if-not-count.false c.width.ensures c.if-not-width.false in
-    let sizes : {n : ℕ} {f : Form} → c.args.form ≡ f → Sized c.args.signed f c.args.width (map as_u64 c.args.rows.now) n
-    → n ≡ size_in (writing c.args.signed c.args.form c.args.width (map as_u64 c.args.rows.now) 4356) = λ g z. sized c.args.signed c.args.form c.args.width (map as_u64 c.args.rows.now)
-    (rw (length-map c.args.rows.now as_u64) (passed)) (for-form g z) in
-   sizes c.in-FixedDelta.is c.size_fixed.ensures
+    sized c.args.signed c.args.form c.args.width (map as_u64 c.args.rows.now)
+    (rw (length-map c.args.rows.now as_u64) (passed)) (for-form c.in-FixedDelta.is c.size_fixed.ensures)
 
 pub returns-in-PackedDelta : goal.returns-in-PackedDelta
 returns-in-PackedDelta c = 
     let passed : Allowed c.args.form (length c.args.rows.now) c.args.width =  allowed c.count.ensures c.if-not-count.false c.width.ensures c.if-not-width.false in
-    let sizes : {n : ℕ} {f : Form} → c.args.form ≡ f → Sized c.args.signed f c.args.width (map as_u64 c.args.rows.now) n
-    → n ≡ size_in (writing c.args.signed c.args.form c.args.width (map as_u64 c.args.rows.now) 4356) = λ g z. sized c.args.signed c.args.form c.args.width (map as_u64 c.args.rows.now)
-    (rw (length-map c.args.rows.now as_u64) (passed)) (for-form g z) in
-   sizes c.in-PackedDelta.is c.size_packed.ensures
+    sized c.args.signed c.args.form c.args.width (map as_u64 c.args.rows.now)
+    (rw (length-map c.args.rows.now as_u64) (passed)) (for-form c.in-PackedDelta.is c.size_packed.ensures)

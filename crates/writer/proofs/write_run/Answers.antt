@@ -28,7 +28,8 @@ write-requires c =
 pub write-requires-in-Direct : goal.write-requires-in-Direct
 write-requires-in-Direct c = 
     let passed : (let a = c.args in Allowed a.form (length a.rows.now) a.width) =  allowed c.count.ensures c.if-not-count.false c.width.ensures c.if-not-width.false in
-   direct-allowed (passed) c.in-Direct.is
+    let p = direct-allowed (passed) c.in-Direct.is in
+    record { in_bounds = p.0; code_value = p.1 }
 
 pub write_fixed-requires : goal.write_fixed-requires
 write_fixed-requires c = 
@@ -38,7 +39,8 @@ write_fixed-requires c =
 pub write_packed-requires : goal.write_packed-requires
 write_packed-requires c = 
     let passed : (let a = c.args in Allowed a.form (length a.rows.now) a.width) =  allowed c.count.ensures c.if-not-count.false c.width.ensures c.if-not-width.false in
-   packed-allowed (passed) c.in-PackedDelta.is
+    let p = packed-allowed (passed) c.in-PackedDelta.is in
+    record { in_bounds = p.0; code_value = p.1 }
 
 pub returns-in-ShortRepeat : goal.returns-in-ShortRepeat
 returns-in-ShortRepeat c = rw c.in-ShortRepeat.is c.write.ensures

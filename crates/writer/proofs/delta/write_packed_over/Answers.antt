@@ -47,7 +47,7 @@ pack-requires c =
     (rw (rest-is c.args.rows.now 1) at c.steps.ensures) in
     let begun : Started (opening) c.args.out.now c.write_start-at.new.out c.write_start-at.result.bytes = started c.args.code (n) c.first_of-first.ensures c.base_of-base.ensures c.write_start-at.ensures in
     let g = c.requires.in_bounds in
-    let i = width-known c.args.code c.bits_of-bits.ensures in record { width = (i.pos, i.le, i.window); n_bound = omega (arith, g.1, g.4, g.6, size_is, begun.next, c.steps.kept.1.1.0); all_below = values-below (known) c.requires.sized g.5 _ (stand) }
+    let i = width-known c.args.code c.bits_of-bits.ensures in record { width = (i.pos, i.le, i.window); n_bound = omega (arith, g.1, g.4, g.6, size_is, begun.next, c.steps.auto.vals); all_below = values-below (known) c.requires.sized g.5 _ (stand) }
 
 pub returns : goal.returns
 returns c r e =

@@ -17,11 +17,11 @@ returns c =
     let f : List ℕ = shortest a.first in
     let b : List ℕ = shortest a.base in
     let out : List ℕ = a.out.now in
-    let one : w2.new.1.0 ≡ (h ++ f) ++ drop (length (h ++ f)) out =
-    behind h f out w1.new.1.1.1.0 w2.new.1.0 2 (length f) refl refl w1.ensures w2.ensures.places in
+    let one : w2.new.out ≡ (h ++ f) ++ drop (length (h ++ f)) out =
+    behind h f out w1.new.out w2.new.out 2 (length f) refl refl w1.ensures w2.ensures.places in
     let at : w2.result ≡ length (h ++ f) = w2.ensures.next ∙ sym (length-append h f) in
-    let two : w3.new.1.0 ≡ ((h ++ f) ++ b) ++ drop (length ((h ++ f) ++ b)) out =
-    behind (h ++ f) b out w2.new.1.0 w3.new.1.0 w2.result (length b) at refl one w3.ensures.places in
+    let two : w3.new.out ≡ ((h ++ f) ++ b) ++ drop (length ((h ++ f) ++ b)) out =
+    behind (h ++ f) b out w2.new.out w3.new.out w2.result (length b) at refl one w3.ensures.places in
     let all : (h ++ f) ++ b ≡ start a.code a.rows.rows a.first a.base = append_assoc h f b in
     record {
       next = w3.ensures.next ∙ rw (at, ← (length-append (h ++ f) b)) (ap (λ (l : List ℕ). length l) all);

@@ -27,7 +27,7 @@ loop-i-init c = (refl, filling _ _ _ _ _)
 
 pub loop-i-preserved-then-patch-eq0 : goal.loop-i-preserved-then-patch-eq0
 loop-i-preserved-then-patch-eq0 c = let l = c.loop-i in
-    (l.inv.0, no-patch l.inv.1 (omega arith) (omega arith) (sym c.above-patch.ensures ∙ c.if-patch-eq0.true))
+    (l.invariant.0, no-patch l.invariant.1 (omega arith) (omega arith) (sym c.above-patch.ensures ∙ c.if-patch-eq0.true))
 
 pub shape_of-list-then-k-list : goal.shape_of-list-then-k-list
 shape_of-list-then-k-list c = c.loop-i.invariant.0

@@ -35,7 +35,7 @@ returns-then-out-end c =
     let sized :     Sized c.args.h c.bits_of-bits.result
     c.entry_width-entry.result c.block_size.result c.block_size-2.result = record {
   bits_is = c.bits_of-bits.ensures;
-  entry-is = c.entry_width-entry.ensures ∙ rw c.bits_of-bits.ensures;
+  entry-is = c.entry_width-entry.ensures ∙ rw c.bits_of.ensures;
   values-are = c.block_size.ensures;
   list-is = c.block_size-2.ensures;
 } in
@@ -46,7 +46,7 @@ pack-requires c =
     let sized :     Sized c.args.h c.bits_of-bits.result
     c.entry_width-entry.result c.block_size.result c.block_size-2.result = record {
   bits_is = c.bits_of-bits.ensures;
-  entry-is = c.entry_width-entry.ensures ∙ rw c.bits_of-bits.ensures;
+  entry-is = c.entry_width-entry.ensures ∙ rw c.bits_of.ensures;
   values-are = c.block_size.ensures;
   list-is = c.block_size-2.ensures;
 } in
@@ -68,7 +68,7 @@ pack-requires-2 c =
     let sized :     Sized c.args.h c.bits_of-bits.result
     c.entry_width-entry.result c.block_size.result c.block_size-2.result = record {
   bits_is = c.bits_of-bits.ensures;
-  entry-is = c.entry_width-entry.ensures ∙ rw c.bits_of-bits.ensures;
+  entry-is = c.entry_width-entry.ensures ∙ rw c.bits_of.ensures;
   values-are = c.block_size.ensures;
   list-is = c.block_size-2.ensures;
 } in
@@ -90,7 +90,7 @@ returns c =
     let sized :     Sized c.args.h c.bits_of-bits.result
     c.entry_width-entry.result c.block_size.result c.block_size-2.result = record {
   bits_is = c.bits_of-bits.ensures;
-  entry-is = c.entry_width-entry.ensures ∙ rw c.bits_of-bits.ensures;
+  entry-is = c.entry_width-entry.ensures ∙ rw c.bits_of.ensures;
   values-are = c.block_size.ensures;
   list-is = c.block_size-2.ensures;
 } in

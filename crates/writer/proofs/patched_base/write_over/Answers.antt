@@ -21,13 +21,12 @@ returns-in-Header c =
     let low-is : c.to_u64-base_bits.result ≡ as_u64 c.args.base = rw (to_z-of_z {w = w64} c.ranges.base) at c.to_u64-base_bits.ensures in
     let header : (    let a = c.args in
     Headed c.to_u64-base_bits.result a.width (map as_u64 a.rows.now) c.header_of.new.vals c.header_of.new.list c.in-Header.h) = rw c.in-Header.is at c.header_of.ensures in
-    let s = ( c) in
-    let g = s.before.before.before.pre in
-    let a = s.before.before.before.args in
+    let g = c.requires in
+    let a = c.args in
     let e : header_holds (parts (as_u64 a.base) a.width (map as_u64 a.rows.now)) ≡ true = rw (low-is) at header.holds in
     let d : PatchedLaid (parts (as_u64 a.base) a.width (map as_u64 a.rows.now)) a.out.now c.lay.new.out c.lay.result =
     rw (header.same, low-is) at c.lay.ensures in
-    formed a.rows.now a.base a.width a.out.now c.lay.result g.0.0 g.0.1 _ g.1 e d
+    formed a.rows.now a.base a.width a.out.now c.lay.result g.in_bounds.0 g.in_bounds.1 _ g.width_value e d
 
 pub lay-requires : goal.lay-requires
 lay-requires c = 

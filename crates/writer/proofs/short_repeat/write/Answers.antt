@@ -40,5 +40,5 @@ write_head-requires c =
 pub write-requires : goal.write-requires
 write-requires c = 
     let known : Short c.args.rows.now c.args.signed c.args.width = short-known c.args.rows.now c.args.signed c.args.width (omega arith) (omega arith) (omega arith) (omega arith) in
-    let size_is : 1 ≤ c.size-bytes.result.bytes → c.size-bytes.result.bytes ≡ 1 + c.args.width = λ c. repeat-size (known) c.size-bytes.ensures c in
+    let size_is : 1 ≤ c.size-bytes.result.bytes → c.size-bytes.result.bytes ≡ 1 + c.args.width = λ h. repeat-size (known) c.size-bytes.ensures h in
     omega (arith, size_is (omega arith))
