@@ -10,7 +10,7 @@ write-requires c = within 1 512 (length c.args.rows.now)
     (sym c.between.ensures ∙ c.if-between.true)
 
 pub returns-then-between : goal.returns-then-between
-returns-then-between c =     rw (to_z-of_z {w = w64} c.ranges.base) at c.write.ensures
+returns-then-between c = rw (to_z-of_z {w = w64} c.ranges.base) at c.write.ensures
 
 pub returns-else-between : goal.returns-else-between
 returns-else-between c = let a = c.args in bad-count a.rows.now a.base a.width a.out.now c.refused.result

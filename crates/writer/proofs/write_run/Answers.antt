@@ -21,24 +21,24 @@ returns-then-not-width c =
     c.refused-then-not-width.ensures
 
 pub write-requires : goal.write-requires
-write-requires c = 
-    let passed : (let a = c.args in Allowed a.form (length a.rows.now) a.width) =  allowed c.count.ensures c.if-not-count.false c.width.ensures c.if-not-width.false in
-   short-allowed (passed) c.in-ShortRepeat.is
+write-requires c =
+    let passed : (let a = c.args in Allowed a.form (length a.rows.now) a.width) = allowed c.count.ensures c.if-not-count.false c.width.ensures c.if-not-width.false in
+    short-allowed (passed) c.in-ShortRepeat.is
 
 pub write-requires-in-Direct : goal.write-requires-in-Direct
-write-requires-in-Direct c = 
-    let passed : (let a = c.args in Allowed a.form (length a.rows.now) a.width) =  allowed c.count.ensures c.if-not-count.false c.width.ensures c.if-not-width.false in
+write-requires-in-Direct c =
+    let passed : (let a = c.args in Allowed a.form (length a.rows.now) a.width) = allowed c.count.ensures c.if-not-count.false c.width.ensures c.if-not-width.false in
     let p = direct-allowed (passed) c.in-Direct.is in
     record { in_bounds = p.0; code_value = p.1 }
 
 pub write_fixed-requires : goal.write_fixed-requires
-write_fixed-requires c = 
-    let passed : (let a = c.args in Allowed a.form (length a.rows.now) a.width) =  allowed c.count.ensures c.if-not-count.false c.width.ensures c.if-not-width.false in
-   fixed-allowed (passed) c.in-FixedDelta.is
+write_fixed-requires c =
+    let passed : (let a = c.args in Allowed a.form (length a.rows.now) a.width) = allowed c.count.ensures c.if-not-count.false c.width.ensures c.if-not-width.false in
+    fixed-allowed (passed) c.in-FixedDelta.is
 
 pub write_packed-requires : goal.write_packed-requires
-write_packed-requires c = 
-    let passed : (let a = c.args in Allowed a.form (length a.rows.now) a.width) =  allowed c.count.ensures c.if-not-count.false c.width.ensures c.if-not-width.false in
+write_packed-requires c =
+    let passed : (let a = c.args in Allowed a.form (length a.rows.now) a.width) = allowed c.count.ensures c.if-not-count.false c.width.ensures c.if-not-width.false in
     let p = packed-allowed (passed) c.in-PackedDelta.is in
     record { in_bounds = p.0; code_value = p.1 }
 

@@ -25,7 +25,7 @@ returns c =
     ∙ ap (λ (l : List ℕ). every (λ x. ltb x (2 ^ c.bits_of-bits.result)) l)
     (delta-steps c.args.rows.now c.args.signed (omega arith) _ c.base_delta-falling.ensures) in
     let wide : IsWidth c.bits_of-bits.result = width-known c.args.code c.bits_of-bits.ensures in
-    let few : c.start_size-start.result.bytes + c.block_size.result ≤ 4356 =     omega (arith, c.start_size-start.ensures.few, c.block_size.ensures, block-small (n - 2) c.bits_of-bits.result (omega arith) wide.le) in
+    let few : c.start_size-start.result.bytes + c.block_size.result ≤ 4356 = omega (arith, c.start_size-start.ensures.few, c.block_size.ensures, block-small (n - 2) c.bits_of-bits.result (omega arith) wide.le) in
     let a = c.args in
     let z = c.start_size-start.ensures in
     measured (known) _ (tested) c.if-not-all_steps_fit.false
@@ -33,10 +33,10 @@ returns c =
     c.block_size.ensures) (omega (arith, z.bytes)) (few)
 
 pub all_steps_fit-requires : goal.all_steps_fit-requires
-all_steps_fit-requires c =  (width-known c.args.code c.bits_of-bits.ensures).le
+all_steps_fit-requires c = (width-known c.args.code c.bits_of-bits.ensures).le
 
 pub returns-then-not-all_steps_fit : goal.returns-then-not-all_steps_fit
-returns-then-not-all_steps_fit c = 
+returns-then-not-all_steps_fit c =
     let rs : List ℕ = map as_u64 c.args.rows.now in
     let n : ℕ = length c.args.rows.now in
     let known : Packed c.args.rows.now c.args.signed PackedDelta kind.Delta c.args.code
@@ -45,16 +45,16 @@ returns-then-not-all_steps_fit c =
     let tested : c.all_steps_fit.result ≡ every (λ x. ltb x (2 ^ c.bits_of-bits.result)) (values_of c.args.signed PackedDelta (rs)) = (rw (rest-is c.args.rows.now 1) at c.all_steps_fit.ensures)
     ∙ ap (λ (l : List ℕ). every (λ x. ltb x (2 ^ c.bits_of-bits.result)) l)
     (delta-steps c.args.rows.now c.args.signed (omega arith) _ c.base_delta-falling.ensures) in
- too_wide (known) _ (tested) c.if-not-all_steps_fit.true
+    too_wide (known) _ (tested) c.if-not-all_steps_fit.true
 
 pub block_size-requires : goal.block_size-requires
-block_size-requires c = 
+block_size-requires c =
     let wide : IsWidth c.bits_of-bits.result = width-known c.args.code c.bits_of-bits.ensures in
-   (wide.le, omega arith)
+    (wide.le, omega arith)
 
 pub overflow_add-bytes : goal.overflow_add-bytes
-overflow_add-bytes c = 
+overflow_add-bytes c =
     let n : ℕ = length c.args.rows.now in
     let wide : IsWidth c.bits_of-bits.result = width-known c.args.code c.bits_of-bits.ensures in
-    let few : c.start_size-start.result.bytes + c.block_size.result ≤ 4356 =     omega (arith, c.start_size-start.ensures.few, c.block_size.ensures, block-small (n - 2) c.bits_of-bits.result (omega arith) wide.le) in
-   omega (arith, few)
+    let few : c.start_size-start.result.bytes + c.block_size.result ≤ 4356 = omega (arith, c.start_size-start.ensures.few, c.block_size.ensures, block-small (n - 2) c.bits_of-bits.result (omega arith) wide.le) in
+    omega (arith, few)

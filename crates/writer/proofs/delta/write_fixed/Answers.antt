@@ -35,7 +35,7 @@ returns c =
     (started 0 (length a.rows.now) c.first_of-first.ensures c.base_of-base.ensures c.write_start.ensures).places
 
 pub returns-then-size-eq0 : goal.returns-then-size-eq0
-returns-then-size-eq0 c = 
+returns-then-size-eq0 c =
     let known : Fixed c.args.rows.now c.args.signed c.args.code = fixed-known c.args.rows.now c.args.signed c.args.code (omega arith) (omega arith) (omega arith) in
- uneven-refused (known) c.size_fixed-bytes.ensures c.if-size-eq0.true c.args.out.now
+    uneven-refused (known) c.size_fixed-bytes.ensures c.if-size-eq0.true c.args.out.now
     c.refused.result c.refused.ensures

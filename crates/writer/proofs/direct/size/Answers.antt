@@ -15,7 +15,7 @@ returns-then-not-all_stored_fit c =
     let known : Packed c.args.rows.now c.args.signed Direct kind.Direct c.args.code
     (head 1 c.args.code (length c.args.rows.now)) (length c.args.rows.now) c.bits_of-bits.result = direct-packed c.args.rows.now c.args.signed c.args.code (omega arith) (omega arith) c.requires.code_value
     c.bits_of-bits.ensures in
- too_wide (known) _ c.all_stored_fit.ensures c.if-not-all_stored_fit.true
+    too_wide (known) _ c.all_stored_fit.ensures c.if-not-all_stored_fit.true
 
 pub overflow_add-bytes : goal.overflow_add-bytes
 overflow_add-bytes c =
@@ -44,4 +44,4 @@ pub all_stored_fit-requires : goal.all_stored_fit-requires
 all_stored_fit-requires c = (width-known c.args.code c.bits_of-bits.ensures).le
 
 pub block_size-bytes-requires : goal.block_size-bytes-requires
-block_size-bytes-requires c =  ((width-known c.args.code c.bits_of-bits.ensures).le, omega arith)
+block_size-bytes-requires c = ((width-known c.args.code c.bits_of-bits.ensures).le, omega arith)

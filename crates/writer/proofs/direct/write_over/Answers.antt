@@ -32,9 +32,9 @@ returns c r e =
     (sym c.bits_of-bits.ensures)) refl c.write.ensures c.pack.ensures
 
 pub write-requires : goal.write-requires
-write-requires c = 
+write-requires c =
     let known : Packed c.args.rows.now c.args.signed Direct kind.Direct c.args.code
     (head 1 c.args.code (length c.args.rows.now)) (length c.args.rows.now) c.bits_of-bits.result = direct-packed c.args.rows.now c.args.signed c.args.code (omega arith) (omega arith) c.requires.code_value
     c.bits_of-bits.ensures in
     let size_is : c.args.bytes.bytes ≡ 2 + bytes_for (length c.args.rows.now * c.bits_of-bits.result) = all-of-it (known) c.requires.sized (omega arith) in
-   omega (arith, size_is)
+    omega (arith, size_is)

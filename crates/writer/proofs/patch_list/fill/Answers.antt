@@ -1,4 +1,4 @@
-use Rattle.format.proofs.Common.{refl, sym, ◌∙◌, ◌+◌, ◌-◌, ◌^◌, ◌<◌, ◌≤◌, arith, length, get_or, take, length-set, get_or-take, pow_pos}
+use Rattle.format.proofs.Common.{refl, sym, ◌∙◌, ◌+◌, ◌^◌, ◌<◌, ◌≤◌, arith, length, get_or, take, length-set, get_or-take, pow_pos}
 use Rattle.format.proofs.Common.{shr_lt}
 use Rattle.format.proofs.Below.{below-getD}
 use Rattle.writer.proofs.PatchedFill.{filling, no-patch, put-skip, put-entry, too_long, filled-up}
@@ -6,8 +6,7 @@ use Rattle.writer.proofs.patch_list.fill.Goals as goal
 
 pub loop-i-preserved-then-from-i : goal.loop-i-preserved-then-from-i
 loop-i-preserved-then-from-i c =
-    let room : c.loop-i.k ≤ length c.loop-i.list = c.loop-i.invariant.1.room in
- (
+    let room : c.loop-i.k ≤ length c.loop-i.list = c.loop-i.invariant.1.room in (
       simp length-set c.loop-i.invariant.0,
       put-skip c.loop-i.invariant.1 (omega arith) (omega arith)
           (λ z. c.if-patch-eq0.false (c.above-patch.ensures ∙ z)) (omega (arith, room)) (omega arith) _ c.entry.ensures,
@@ -33,30 +32,30 @@ pub shape_of-list-then-k-list : goal.shape_of-list-then-k-list
 shape_of-list-then-k-list c = c.loop-i.invariant.0
 
 pub returns-then-k-list : goal.returns-then-k-list
-returns-then-k-list c =     too_long c.loop-i.invariant.1 (omega arith) (omega arith) (λ z. c.if-patch-eq0.false (c.above-patch.ensures ∙ z)) c.if-k-list.true
+returns-then-k-list c = too_long c.loop-i.invariant.1 (omega arith) (omega arith) (λ z. c.if-patch-eq0.false (c.above-patch.ensures ∙ z)) c.if-k-list.true
 
 pub entry-requires : goal.entry-requires
 entry-requires c = (omega arith, omega arith, pow_pos _)
 
 pub bounds-list-k : goal.bounds-list-k
-bounds-list-k c = 
+bounds-list-k c =
     let room : c.loop-i.k ≤ length c.loop-i.list = c.loop-i.invariant.1.room in
-   omega (arith, room)
+    omega (arith, room)
 
 pub entry-requires-else-from-i : goal.entry-requires-else-from-i
-entry-requires-else-from-i c = 
+entry-requires-else-from-i c =
     let patch-small : c.above-patch.result < 2 ^ c.args.pw = let l = c.loop-i in
     let a = c.args in
     let h : get_or a.vals.now l.i 0 < 2 ^ (a.pw + a.bits) =
     rw (get_or-take a.rows.rows a.vals.now l.i 0 (omega arith)) at
     (below-getD (2 ^ (a.pw + a.bits)) (take a.rows.rows a.vals.now) l.i 0 c.requires.all_below (pow_pos _)) in
     rw c.above-patch.ensures (shr_lt a.pw a.bits h) in
-   (omega arith, omega arith, patch-small)
+    (omega arith, omega arith, patch-small)
 
 pub bounds-list-k-else-from-i : goal.bounds-list-k-else-from-i
-bounds-list-k-else-from-i c = 
+bounds-list-k-else-from-i c =
     let room : c.loop-i.k ≤ length c.loop-i.list = c.loop-i.invariant.1.room in
-   omega (arith, room)
+    omega (arith, room)
 
 pub shape_of-list : goal.shape_of-list
 shape_of-list c = c.loop-i.invariant.0

@@ -93,14 +93,14 @@ pub returns-then-size-gt8 : goal.returns-then-size-gt8
 returns-then-size-gt8 c = no-base _ _ _ (omega (arith, c.base_size-size.ensures))
 
 pub above-requires : goal.above-requires
-above-requires c = 
+above-requires c =
     let bits : ℕ = c.args.bits in
     let is-code : code_for (bits) < 32 = omega (arith, c.table_code-code.ensures) in
     let bits-le : (bits) ≤ 64 = rw (code-width (bits) (is-code)) at (width-le (code_for (bits))) in
- bits-le
+    bits-le
 
 pub returns-then-pw-eq64 : goal.returns-then-pw-eq64
-returns-then-pw-eq64 c = 
+returns-then-pw-eq64 c =
     let rs : List ℕ = map as_u64 c.args.rows.now in
     let rows : List ℤ = c.args.rows.now in
     let ds : List ℕ = differences c.args.base (map as_u64 (rows)) in
@@ -108,10 +108,10 @@ returns-then-pw-eq64 c =
     let stand : take (length (rows)) c.differences.new.vals ≡ (ds) = ap (λ (l : List ℕ). take (length (rows)) l) c.differences.ensures ∙ take_at (ds) (drop (length (rows)) c.args.vals.now) (length (rows)) (length-ds) in
     let most : Largest (differences c.args.base (rs)) c.largest.result = rw (stand) at c.largest.ensures in
     let patch-is : c.narrowest_code-patch.result ≡ patch_code (patches_in c.args.base c.args.bits (rs)) = patch-code-is c.args.bits _ _ (differences c.args.base (rs)) (most) (rw c.above.ensures at c.narrowest_code-patch.ensures) in
-   no_gap _ _ _ (sym (c.bits_of-pw.ensures ∙ ap (λ (n : ℕ). width n) (patch-is)) ∙ c.if-pw-eq64.true)
+    no_gap _ _ _ (sym (c.bits_of-pw.ensures ∙ ap (λ (n : ℕ). width n) (patch-is)) ∙ c.if-pw-eq64.true)
 
 pub returns-then-list-entries : goal.returns-then-list-entries
-returns-then-list-entries c = 
+returns-then-list-entries c =
     let rows : List ℤ = c.args.rows.now in
     let ds : List ℕ = differences c.args.base (map as_u64 (rows)) in
     let length-ds : length (ds) ≡ length (rows) = length-map (map as_u64 (rows)) (λ r. minus r c.args.base) ∙ length-map (rows) as_u64 in
@@ -119,17 +119,17 @@ returns-then-list-entries c =
     let qs : List Patch = patches_in c.args.base c.args.bits (map as_u64 (rows)) in
     let listed : Listed c.bits_of-pw.result (entries_from 0 (qs)) c.fill-entries.new.list c.fill-entries.result = rw (stand) at c.fill-entries.ensures in
     let long-list : length c.fill-entries.new.list ≡ 31 = omega (arith, c.fill-entries.auto.list) in
-   no-list _ _ _ (omega (arith, listed.over c.if-list-entries.true, long-list))
+    no-list _ _ _ (omega (arith, listed.over c.if-list-entries.true, long-list))
 
 pub overflow_shr-largest : goal.overflow_shr-largest
-overflow_shr-largest c = 
+overflow_shr-largest c =
     let pw : ℕ = c.bits_of-pw.result in
     let pw-le : (pw) ≤ 56 = let e : (pw) ≡ width c.narrowest_code-patch.result = c.bits_of-pw.ensures in
     rw e (width-56 _ (omega (arith, width-le c.narrowest_code-patch.result, c.if-pw-eq64.false))) in
-   omega (arith, pw-le)
+    omega (arith, pw-le)
 
 pub gap_width-gap-requires : goal.gap_width-gap-requires
-gap_width-gap-requires c = 
+gap_width-gap-requires c =
     let rows : List ℤ = c.args.rows.now in
     let qs : List Patch = patches_in c.args.base c.args.bits (map as_u64 (rows)) in
     let pw₂ : ℕ = c.bits_of-pw.result in
@@ -147,10 +147,10 @@ gap_width-gap-requires c =
     let pw-is : (pw) ≡ width (patch_code (patches_in c.args.base c.args.bits (rs))) = c.bits_of-pw.ensures ∙ ap (λ (n : ℕ). width n) (patch-is) in
     let patches-fit : AllBelow (2 ^ (pw₂)) (map (λ e. e.patch) (entries_from 0 (qs))) = subst (λ (x : ℕ). AllBelow (2 ^ x) (map (λ e. e.patch) (entries_from 0 (qs)))) (sym (pw-is))
     (es-below c.args.base c.args.bits (map as_u64 c.args.rows.now)) in
-   gap-small (pw₂) c.largest-2.result (entries_from 0 (qs)) (patches-fit) (most-entry) (gaps-255 0 (qs))
+    gap-small (pw₂) c.largest-2.result (entries_from 0 (qs)) (patches-fit) (most-entry) (gaps-255 0 (qs))
 
 pub keep_low-requires : goal.keep_low-requires
-keep_low-requires c = 
+keep_low-requires c =
     let bits : ℕ = c.args.bits in
     let is-code : code_for (bits) < 32 = omega (arith, c.table_code-code.ensures) in
     let bits-le : (bits) ≤ 64 = rw (code-width (bits) (is-code)) at (width-le (code_for (bits))) in

@@ -32,24 +32,24 @@ overflow_add-end c =
 
 pub returns-then-out-end : goal.returns-then-out-end
 returns-then-out-end c =
-    let sized :     Sized c.args.h c.bits_of-bits.result
+    let sized : Sized c.args.h c.bits_of-bits.result
     c.entry_width-entry.result c.block_size.result c.block_size-2.result = record {
-  bits_is = c.bits_of-bits.ensures;
-  entry-is = c.entry_width-entry.ensures ∙ rw c.bits_of.ensures;
-  values-are = c.block_size.ensures;
-  list-is = c.block_size-2.ensures;
-} in
+      bits_is = c.bits_of-bits.ensures;
+      entry-is = c.entry_width-entry.ensures ∙ rw c.bits_of.ensures;
+      values-are = c.block_size.ensures;
+      list-is = c.block_size-2.ensures;
+    } in
     no_room c.requires (sized) c.args.out.now c.refused.result c.if-out-end.true c.refused.ensures
 
 pub pack-requires : goal.pack-requires
 pack-requires c =
-    let sized :     Sized c.args.h c.bits_of-bits.result
+    let sized : Sized c.args.h c.bits_of-bits.result
     c.entry_width-entry.result c.block_size.result c.block_size-2.result = record {
-  bits_is = c.bits_of-bits.ensures;
-  entry-is = c.entry_width-entry.ensures ∙ rw c.bits_of.ensures;
-  values-are = c.block_size.ensures;
-  list-is = c.block_size-2.ensures;
-} in
+      bits_is = c.bits_of-bits.ensures;
+      entry-is = c.entry_width-entry.ensures ∙ rw c.bits_of.ensures;
+      values-are = c.block_size.ensures;
+      list-is = c.block_size-2.ensures;
+    } in
     let w = width-known _ sized.bits_is in
     let room : 4 + c.args.h.base.bytes + bytes_for
     (c.args.h.rows.rows * c.bits_of-bits.result) ≤ length
@@ -65,13 +65,13 @@ pack-requires c =
 
 pub pack-requires-2 : goal.pack-requires-2
 pack-requires-2 c =
-    let sized :     Sized c.args.h c.bits_of-bits.result
+    let sized : Sized c.args.h c.bits_of-bits.result
     c.entry_width-entry.result c.block_size.result c.block_size-2.result = record {
-  bits_is = c.bits_of-bits.ensures;
-  entry-is = c.entry_width-entry.ensures ∙ rw c.bits_of.ensures;
-  values-are = c.block_size.ensures;
-  list-is = c.block_size-2.ensures;
-} in
+      bits_is = c.bits_of-bits.ensures;
+      entry-is = c.entry_width-entry.ensures ∙ rw c.bits_of.ensures;
+      values-are = c.block_size.ensures;
+      list-is = c.block_size-2.ensures;
+    } in
     let w : IsWidth c.entry_width-entry.result = rw c.entry_width-entry.ensures (least-is _) in
     let room : 4 + c.args.h.base.bytes + c.block_size.result + bytes_for
     (c.args.h.entries * c.entry_width-entry.result) ≤ length c.pack.new.out =
@@ -87,13 +87,13 @@ pack-requires-2 c =
 
 pub returns : goal.returns
 returns c =
-    let sized :     Sized c.args.h c.bits_of-bits.result
+    let sized : Sized c.args.h c.bits_of-bits.result
     c.entry_width-entry.result c.block_size.result c.block_size-2.result = record {
-  bits_is = c.bits_of-bits.ensures;
-  entry-is = c.entry_width-entry.ensures ∙ rw c.bits_of.ensures;
-  values-are = c.block_size.ensures;
-  list-is = c.block_size-2.ensures;
-} in
+      bits_is = c.bits_of-bits.ensures;
+      entry-is = c.entry_width-entry.ensures ∙ rw c.bits_of.ensures;
+      values-are = c.block_size.ensures;
+      list-is = c.block_size-2.ensures;
+    } in
     laid c.requires (sized) c.args.out.now c.write_head.new.out
     c.write.new.out c.pack.new.out
     c.pack-2.new.out c.run.result

@@ -12,17 +12,17 @@ returns-then-not-is_kept c =
     (sym c.is_kept.ensures ∙ c.if-not-is_kept.true) c.refused.ensures
 
 pub write_over-requires : goal.write_over-requires
-write_over-requires c = 
+write_over-requires c =
     let kept : is_kept_width c.args.width ≡ true = sym c.is_kept.ensures ∙ c.if-not-is_kept.false in
-   record { in_bounds = search rules; width_value = kept }
+    record { in_bounds = search rules; width_value = kept }
 
 pub returns-then-rows-le-FEW : goal.returns-then-rows-le-FEW
-returns-then-rows-le-FEW c =     rw (to_z-of_z {w = w64} c.ranges.base) at c.write_over.ensures
+returns-then-rows-le-FEW c = rw (to_z-of_z {w = w64} c.ranges.base) at c.write_over.ensures
 
 pub write_over-requires-2 : goal.write_over-requires-2
-write_over-requires-2 c = 
+write_over-requires-2 c =
     let kept : is_kept_width c.args.width ≡ true = sym c.is_kept.ensures ∙ c.if-not-is_kept.false in
-   record { in_bounds = search rules; width_value = kept }
+    record { in_bounds = search rules; width_value = kept }
 
 pub returns : goal.returns
-returns c =     rw (to_z-of_z {w = w64} c.ranges.base) at c.write_over-2.ensures
+returns c = rw (to_z-of_z {w = w64} c.ranges.base) at c.write_over-2.ensures

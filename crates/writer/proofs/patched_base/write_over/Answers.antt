@@ -19,7 +19,7 @@ returns-in-None c =
 pub returns-in-Header : goal.returns-in-Header
 returns-in-Header c =
     let low-is : c.to_u64-base_bits.result ≡ as_u64 c.args.base = rw (to_z-of_z {w = w64} c.ranges.base) at c.to_u64-base_bits.ensures in
-    let header : (    let a = c.args in
+    let header : (let a = c.args in
     Headed c.to_u64-base_bits.result a.width (map as_u64 a.rows.now) c.header_of.new.vals c.header_of.new.list c.in-Header.h) = rw c.in-Header.is at c.header_of.ensures in
     let g = c.requires in
     let a = c.args in
@@ -29,7 +29,7 @@ returns-in-Header c =
     formed a.rows.now a.base a.width a.out.now c.lay.result g.in_bounds.0 g.in_bounds.1 _ g.width_value e d
 
 pub lay-requires : goal.lay-requires
-lay-requires c = 
-    let header : (    let a = c.args in
+lay-requires c =
+    let header : (let a = c.args in
     Headed c.to_u64-base_bits.result a.width (map as_u64 a.rows.now) c.header_of.new.vals c.header_of.new.list c.in-Header.h) = rw c.in-Header.is at c.header_of.ensures in
-   header.ready
+    header.ready

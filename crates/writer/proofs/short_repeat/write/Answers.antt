@@ -22,23 +22,23 @@ returns c =
     c.run.ensures c.write_head.ensures (rw v at c.write.ensures)
 
 pub returns-then-total-eq0 : goal.returns-then-total-eq0
-returns-then-total-eq0 c = 
+returns-then-total-eq0 c =
     let known : Short c.args.rows.now c.args.signed c.args.width = short-known c.args.rows.now c.args.signed c.args.width (omega arith) (omega arith) (omega arith) (omega arith) in
     refused-form (known) _ c.are_same.ensures c.if-are_same.false c.args.out.now c.refused-then-total-eq0.result c.refused-then-total-eq0.ensures
 
 pub returns-then-out-total : goal.returns-then-out-total
-returns-then-out-total c = 
+returns-then-out-total c =
     let known : Short c.args.rows.now c.args.signed c.args.width = short-known c.args.rows.now c.args.signed c.args.width (omega arith) (omega arith) (omega arith) (omega arith) in
     too-little (known) c.size-bytes.ensures (omega arith) c.args.out.now c.refused-then-out-total.result c.if-out-total.true c.refused-then-out-total.ensures
 
 pub write_head-requires : goal.write_head-requires
-write_head-requires c = 
+write_head-requires c =
     let known : Short c.args.rows.now c.args.signed c.args.width = short-known c.args.rows.now c.args.signed c.args.width (omega arith) (omega arith) (omega arith) (omega arith) in
     let size_is : 1 ≤ c.size-bytes.result.bytes → c.size-bytes.result.bytes ≡ 1 + c.args.width = λ h. repeat-size (known) c.size-bytes.ensures h in
- omega (arith, size_is (omega arith))
+    omega (arith, size_is (omega arith))
 
 pub write-requires : goal.write-requires
-write-requires c = 
+write-requires c =
     let known : Short c.args.rows.now c.args.signed c.args.width = short-known c.args.rows.now c.args.signed c.args.width (omega arith) (omega arith) (omega arith) (omega arith) in
     let size_is : 1 ≤ c.size-bytes.result.bytes → c.size-bytes.result.bytes ≡ 1 + c.args.width = λ h. repeat-size (known) c.size-bytes.ensures h in
     omega (arith, size_is (omega arith))

@@ -1,4 +1,4 @@
-use Rattle.format.proofs.Common.{◌∙◌, ◌-◌, arith}
+use Rattle.format.proofs.Common.{◌∙◌, arith}
 use Rattle.format.specs.Writing.{minus}
 use Rattle.writer.proofs.Turns.{fill-first, store-next, store-end}
 use Rattle.writer.proofs.values.differences.Goals as goal
@@ -7,7 +7,7 @@ pub loop-i-init : goal.loop-i-init
 loop-i-init c = fill-first _ _ _
 
 pub loop-i-preserved : goal.loop-i-preserved
-loop-i-preserved c =  let a = c.args in
+loop-i-preserved c = let a = c.args in
     store-next (λ r. minus r a.base) a.rows.now c.loop-i.invariant (omega arith) (omega arith)
     (c.sub.ensures ∙ rw c.pattern_of.ensures)
 

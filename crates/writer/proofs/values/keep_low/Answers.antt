@@ -1,4 +1,4 @@
-use Rattle.format.proofs.Common.{◌≡◌, sym, ◌∙◌, List, ℕ, ◌-◌, ◌%◌, ◌^◌, div-one, arith, get_or, take, get_or-take, length-take-le}
+use Rattle.format.proofs.Common.{◌≡◌, sym, ◌∙◌, List, ℕ, ◌%◌, ◌^◌, div-one, arith, get_or, take, get_or-take, length-take-le}
 use Rattle.writer.proofs.Laws.{same_at}
 use Rattle.writer.proofs.Turns.{fill-first, fill-next, fill_end, map_next, map-end}
 use Rattle.writer.proofs.values.keep_low.Goals as goal
