@@ -1,4 +1,4 @@
-use Rattle.format.proofs.Common.{to_z, of_z, w64, ◌≡◌, refl, ◌-◌, arith, sfits_of, length, get_or, pos, to_z-of_z}
+use Rattle.format.proofs.Common.{to_z, of_z, w64, ◌≡◌, refl, arith, sfits_of, get_or, pos, to_z-of_z}
 use Rattle.text.specs.Decimal.{rows_text}
 use Rattle.text.proofs.Texts.{none_written, texts-join, row-length, rows_next}
 use Rattle.text.proofs.put_rows.Goals as goal

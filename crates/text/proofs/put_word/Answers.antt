@@ -1,4 +1,4 @@
-use Rattle.format.proofs.Common.{◌≡◌, refl, ◌-◌, arith, add-one, length, take, take-suc, take-length}
+use Rattle.format.proofs.Common.{◌≡◌, refl, arith, add-one, length, take-suc, take-length}
 use Rattle.text.proofs.Texts.{none_written, texts-join}
 use Rattle.text.proofs.put_word.Goals as goal
 

@@ -1,4 +1,4 @@
-use Rattle.format.proofs.Common.{refl, ◌-◌, arith}
+use Rattle.format.proofs.Common.{refl, arith}
 use Rattle.text.proofs.HexDigits.{ends-line, ends-high, ends_low, begun-next}
 use Rattle.text.proofs.hexadecimal.bytes.Goals as goal
 
