@@ -1,6 +1,6 @@
 use mathlib.Core.Path.{◌≡◌, refl, sym, ◌∙◌}
 use mathlib.Core.List.{List}
-use Prim.Native.Nat.{ℕ, ◌+◌, ◌-◌, min}
+use Prim.Native.Nat.{ℕ, ◌+◌, min}
 use native.Mathlib.Omega.{arith}
 use lib.ListN.{length, drop, length-drop}
 use Rattle.format.specs.Booleans.{ByteRun, run_bytes, bits}
@@ -65,26 +65,26 @@ pub run_at-requires : goal.run_at-requires
 run_at-requires c = tt
 
 pub shape_of-out-in_default : goal.shape_of-out-in_default
-shape_of-out-in_default c =  c.loop-done.invariant.2
+shape_of-out-in_default c = c.loop-done.invariant.2
 
 pub less-left-requires : goal.less-left-requires
 less-left-requires c = tt
 
 pub overflow_add-place : goal.overflow_add-place
-overflow_add-place c = 
+overflow_add-place c =
     let s : List ℕ = c.args.input.now in
     let run : code.ByteRun = c.in-Run.run' in
     let run-here : (d : ByteRun) × Here (s) c.loop-done.place (run) d = here (s) c.loop-done.place (run) (λ i. (c.shared_slice_known-1.given i).fits)
     (sym c.run_at.ensures ∙ c.in-Run.is) in
-   omega (arith, run-here.1.inside)
+    omega (arith, run-here.1.inside)
 
 pub loop-done-smaller : goal.loop-done-smaller
-loop-done-smaller c = 
+loop-done-smaller c =
     let s : List ℕ = c.args.input.now in
     let run : code.ByteRun = c.in-Run.run' in
     let run-here : (d : ByteRun) × Here (s) c.loop-done.place (run) d = here (s) c.loop-done.place (run) (λ i. (c.shared_slice_known-1.given i).fits)
     (sym c.run_at.ensures ∙ c.in-Run.is) in
-   let h = run-here.1 in omega (arith, h.inside, h.takes)
+    let h = run-here.1 in omega (arith, h.inside, h.takes)
 
 pub shape_of-out : goal.shape_of-out
 shape_of-out c = c.loop-done.invariant.2

@@ -42,49 +42,49 @@ returns c =
     (part.literal c.if-input-at-lt128.false).1 c.put_literals.ensures
 
 pub bounds-input-at : goal.bounds-input-at
-bounds-input-at c = 
+bounds-input-at c =
     let s : List ℕ = c.args.input.now in
     let part : PartAt (s) c.args.at c.args.first c.args.count (bytes_at (s) c.args.at) = let a = c.args in
     let (d, h) = here (s) a.at a.run (λ i. (c.shared_slice_known-1.given i).fits) c.requires.0 in
     rw (bytes-are (s) a.at a.run d h) (part_at (s) a.at a.run d h a.first a.count (omega arith) (omega arith)) in
-   part.there
+    part.there
 
 pub overflow_add-at : goal.overflow_add-at
-overflow_add-at c = 
+overflow_add-at c =
     let s : List ℕ = c.args.input.now in
     let part : PartAt (s) c.args.at c.args.first c.args.count (bytes_at (s) c.args.at) = let a = c.args in
     let (d, h) = here (s) a.at a.run (λ i. (c.shared_slice_known-1.given i).fits) c.requires.0 in
     rw (bytes-are (s) a.at a.run d h) (part_at (s) a.at a.run d h a.first a.count (omega arith) (omega arith)) in
-   omega (arith, part.there)
+    omega (arith, part.there)
 
 pub bounds-input-at-then-input-at-lt128 : goal.bounds-input-at-then-input-at-lt128
-bounds-input-at-then-input-at-lt128 c = 
+bounds-input-at-then-input-at-lt128 c =
     let s : List ℕ = c.args.input.now in
     let part : PartAt (s) c.args.at c.args.first c.args.count (bytes_at (s) c.args.at) = let a = c.args in
     let (d, h) = here (s) a.at a.run (λ i. (c.shared_slice_known-1.given i).fits) c.requires.0 in
     rw (bytes-are (s) a.at a.run d h) (part_at (s) a.at a.run d h a.first a.count (omega arith) (omega arith)) in
-   (part.copied c.if-input-at-lt128.true).0
+    (part.copied c.if-input-at-lt128.true).0
 
 pub overflow_add-at-2 : goal.overflow_add-at-2
-overflow_add-at-2 c = 
+overflow_add-at-2 c =
     let s : List ℕ = c.args.input.now in
     let part : PartAt (s) c.args.at c.args.first c.args.count (bytes_at (s) c.args.at) = let a = c.args in
     let (d, h) = here (s) a.at a.run (λ i. (c.shared_slice_known-1.given i).fits) c.requires.0 in
     rw (bytes-are (s) a.at a.run d h) (part_at (s) a.at a.run d h a.first a.count (omega arith) (omega arith)) in
-   omega (arith, part.there)
+    omega (arith, part.there)
 
 pub overflow_add-at-3 : goal.overflow_add-at-3
-overflow_add-at-3 c = 
+overflow_add-at-3 c =
     let s : List ℕ = c.args.input.now in
     let part : PartAt (s) c.args.at c.args.first c.args.count (bytes_at (s) c.args.at) = let a = c.args in
     let (d, h) = here (s) a.at a.run (λ i. (c.shared_slice_known-1.given i).fits) c.requires.0 in
     rw (bytes-are (s) a.at a.run d h) (part_at (s) a.at a.run d h a.first a.count (omega arith) (omega arith)) in
-   omega (arith, (part.literal c.if-input-at-lt128.false).0)
+    omega (arith, (part.literal c.if-input-at-lt128.false).0)
 
 pub put_literals-requires : goal.put_literals-requires
-put_literals-requires c = 
+put_literals-requires c =
     let s : List ℕ = c.args.input.now in
     let part : PartAt (s) c.args.at c.args.first c.args.count (bytes_at (s) c.args.at) = let a = c.args in
     let (d, h) = here (s) a.at a.run (λ i. (c.shared_slice_known-1.given i).fits) c.requires.0 in
     rw (bytes-are (s) a.at a.run d h) (part_at (s) a.at a.run d h a.first a.count (omega arith) (omega arith)) in
-   ((part.literal c.if-input-at-lt128.false).0, search rules)
+    ((part.literal c.if-input-at-lt128.false).0, search rules)

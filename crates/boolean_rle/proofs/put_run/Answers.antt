@@ -19,5 +19,8 @@ returns c =
     rw length-drop
     (omega (arith, length-bytes (length a.input.now) (byte_run (drop a.at a.input.now)) a.run c.requires.0)) in
     let byte-is : get_or all (a.skip + whole) 0 ≡ get_or bs whole 0 = sym (get_or-drop a.skip all whole 0) in
-    let up-to-n : a.k + 8 * whole + (a.n - a.k) % 8 ≡ a.n = omega arith in record { value = omega arith; wrote = rw up-to-n at (byte_more bs a.k whole ((a.n - a.k) % 8) a.out.now _ _ there c.put_bytes-2.ensures
-          (rw (c.run_byte.ensures, byte-is) at c.put_bits.ensures)) }
+    let up-to-n : a.k + 8 * whole + (a.n - a.k) % 8 ≡ a.n = omega arith in record {
+      value = omega arith;
+      wrote = rw up-to-n at (byte_more bs a.k whole ((a.n - a.k) % 8) a.out.now _ _ there c.put_bytes-2.ensures
+          (rw (c.run_byte.ensures, byte-is) at c.put_bits.ensures));
+    }

@@ -57,8 +57,8 @@ returns c =
     (byte-is.literal c.if-input-at-lt128.false).1
 
 pub bounds-input-at : goal.bounds-input-at
-bounds-input-at c = 
+bounds-input-at c =
     let byte-is : ByteAt c.args.input.now c.args.at c.args.i (run_bytes_in (byte_run (drop c.args.at c.args.input.now))) = let a = c.args in
     let (d, h) = here a.input.now a.at a.run (λ i. (c.shared_slice_known-1.given i).fits) c.requires.0 in
     rw (bytes-are a.input.now a.at a.run d h) (byte-at a.input.now a.at a.run d h a.i c.requires.1) in
-   byte-is.there
+    byte-is.there

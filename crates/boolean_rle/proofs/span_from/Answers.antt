@@ -21,13 +21,13 @@ loop-left-init c =
 
 pub loop-left-smaller : goal.loop-left-smaller
 loop-left-smaller c =
-    let run-here :     (d : ByteRun) × Here c.args.input.now c.loop-left.end c.in-Run.run' d =     here c.args.input.now c.loop-left.end c.in-Run.run' (λ i. (c.shared_slice_known-1.given i).fits)
+    let run-here : (d : ByteRun) × Here c.args.input.now c.loop-left.end c.in-Run.run' d = here c.args.input.now c.loop-left.end c.in-Run.run' (λ i. (c.shared_slice_known-1.given i).fits)
     (sym c.run_at.ensures ∙ c.in-Run.is) in
     omega (arith, run-here.1.some)
 
 pub loop-left-preserved : goal.loop-left-preserved
 loop-left-preserved c =
-    let run-here :     (d : ByteRun) × Here c.args.input.now c.loop-left.end c.in-Run.run' d =     here c.args.input.now c.loop-left.end c.in-Run.run' (λ i. (c.shared_slice_known-1.given i).fits)
+    let run-here : (d : ByteRun) × Here c.args.input.now c.loop-left.end c.in-Run.run' d = here c.args.input.now c.loop-left.end c.in-Run.run' (λ i. (c.shared_slice_known-1.given i).fits)
     (sym c.run_at.ensures ∙ c.in-Run.is) in
     let h = run-here in
     rw c.less-left.ensures
@@ -55,10 +55,10 @@ pub run_at-requires : goal.run_at-requires
 run_at-requires c = tt
 
 pub overflow_add-end : goal.overflow_add-end
-overflow_add-end c = 
-    let run-here :     (d : ByteRun) × Here c.args.input.now c.loop-left.end c.in-Run.run' d =     here c.args.input.now c.loop-left.end c.in-Run.run' (λ i. (c.shared_slice_known-1.given i).fits)
+overflow_add-end c =
+    let run-here : (d : ByteRun) × Here c.args.input.now c.loop-left.end c.in-Run.run' d = here c.args.input.now c.loop-left.end c.in-Run.run' (λ i. (c.shared_slice_known-1.given i).fits)
     (sym c.run_at.ensures ∙ c.in-Run.is) in
-   omega (arith, run-here.1.inside)
+    omega (arith, run-here.1.inside)
 
 pub less-left-requires : goal.less-left-requires
 less-left-requires c = tt

@@ -61,39 +61,39 @@ returns c =
     (rw (whole) at c.copy.ensures)
 
 pub bounds-input-at : goal.bounds-input-at
-bounds-input-at c = 
+bounds-input-at c =
     let s : List ℕ = c.args.input.now in
     let part : PartAt (s) c.args.at c.args.first c.args.count (bytes_at (s) c.args.at) = let a = c.args in
     let (d, h) = here (s) a.at a.run (λ i. (c.shared_slice_known-1.given i).fits) c.requires.0 in
     rw (bytes-are (s) a.at a.run d h) (part_at (s) a.at a.run d h a.first a.count (omega arith) (omega arith)) in
-   part.there
+    part.there
 
 pub overflow_add-at : goal.overflow_add-at
-overflow_add-at c = 
+overflow_add-at c =
     let s : List ℕ = c.args.input.now in
     let part : PartAt (s) c.args.at c.args.first c.args.count (bytes_at (s) c.args.at) = let a = c.args in
     let (d, h) = here (s) a.at a.run (λ i. (c.shared_slice_known-1.given i).fits) c.requires.0 in
     rw (bytes-are (s) a.at a.run d h) (part_at (s) a.at a.run d h a.first a.count (omega arith) (omega arith)) in
-   omega (arith, part.there)
+    omega (arith, part.there)
 
 pub bounds-input-at-then-input-at-lt128 : goal.bounds-input-at-then-input-at-lt128
-bounds-input-at-then-input-at-lt128 c = 
+bounds-input-at-then-input-at-lt128 c =
     let s : List ℕ = c.args.input.now in
     let part : PartAt (s) c.args.at c.args.first c.args.count (bytes_at (s) c.args.at) = let a = c.args in
     let (d, h) = here (s) a.at a.run (λ i. (c.shared_slice_known-1.given i).fits) c.requires.0 in
     rw (bytes-are (s) a.at a.run d h) (part_at (s) a.at a.run d h a.first a.count (omega arith) (omega arith)) in
-   (part.copied c.if-input-at-lt128.true).0
+    (part.copied c.if-input-at-lt128.true).0
 
 pub overflow_add-start : goal.overflow_add-start
-overflow_add-start c = 
+overflow_add-start c =
     let s : List ℕ = c.args.input.now in
     let part : PartAt (s) c.args.at c.args.first c.args.count (bytes_at (s) c.args.at) = let a = c.args in
     let (d, h) = here (s) a.at a.run (λ i. (c.shared_slice_known-1.given i).fits) c.requires.0 in
     rw (bytes-are (s) a.at a.run d h) (part_at (s) a.at a.run d h a.first a.count (omega arith) (omega arith)) in
-   omega (arith, part.there)
+    omega (arith, part.there)
 
 pub overflow_add-start-2 : goal.overflow_add-start-2
-overflow_add-start-2 c = 
+overflow_add-start-2 c =
     let s : List ℕ = c.args.input.now in
     let part : PartAt (s) c.args.at c.args.first c.args.count (bytes_at (s) c.args.at) = let a = c.args in
     let (d, h) = here (s) a.at a.run (λ i. (c.shared_slice_known-1.given i).fits) c.requires.0 in
@@ -103,10 +103,10 @@ overflow_add-start-2 c =
     let rest : List ℕ = drop (start) (s) in
     let literal : ((start) + c.args.count ≤ length (s))
     × (take c.args.count (wanted) ≡ take c.args.count (rest)) = part.literal c.if-input-at-lt128.false in
-   omega (arith, literal.0)
+    omega (arith, literal.0)
 
 pub slice_bounds-copy-count : goal.slice_bounds-copy-count
-slice_bounds-copy-count c = 
+slice_bounds-copy-count c =
     let s : List ℕ = c.args.input.now in
     let part : PartAt (s) c.args.at c.args.first c.args.count (bytes_at (s) c.args.at) = let a = c.args in
     let (d, h) = here (s) a.at a.run (λ i. (c.shared_slice_known-1.given i).fits) c.requires.0 in
@@ -116,10 +116,10 @@ slice_bounds-copy-count c =
     let rest : List ℕ = drop (start) (s) in
     let literal : ((start) + c.args.count ≤ length (s))
     × (take c.args.count (wanted) ≡ take c.args.count (rest)) = part.literal c.if-input-at-lt128.false in
-   omega (arith, literal.0)
+    omega (arith, literal.0)
 
 pub slice_bounds-copy-start : goal.slice_bounds-copy-start
-slice_bounds-copy-start c = 
+slice_bounds-copy-start c =
     let s : List ℕ = c.args.input.now in
     let part : PartAt (s) c.args.at c.args.first c.args.count (bytes_at (s) c.args.at) = let a = c.args in
     let (d, h) = here (s) a.at a.run (λ i. (c.shared_slice_known-1.given i).fits) c.requires.0 in
@@ -129,4 +129,4 @@ slice_bounds-copy-start c =
     let rest : List ℕ = drop (start) (s) in
     let literal : ((start) + c.args.count ≤ length (s))
     × (take c.args.count (wanted) ≡ take c.args.count (rest)) = part.literal c.if-input-at-lt128.false in
-   omega (arith, literal.0)
+    omega (arith, literal.0)

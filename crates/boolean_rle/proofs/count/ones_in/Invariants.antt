@@ -1,7 +1,6 @@
 -- `ones_in` meets its contract. Assumes nothing.
 use Prim.Native.Nat.{◌*◌, ◌-◌, ◌≤◌}
 use mathlib.Core.Path.{◌≡◌}
-use lib.Count.{ones}
 use Rattle.boolean_rle.specs.Ones.{ones_in}
 use Rattle.boolean_rle.proofs.count.ones_in.Given as goal
 

@@ -38,5 +38,8 @@ returns c =
     let a = c.args in
     let (d, h) = run-here in
     let byte-is = c.run_byte-byte.ensures
-    ∙ ap (λ (x : List ℕ). get_or x a.from.bytes.bytes 0) (bytes-are (s) a.from.run.bytes (run) d h) in record { value = c.lesser-count.ensures; wrote = first-wrote (s) a.from a.n c.requires.0 (run) d h c.lesser-count.result c.run_byte-byte.result
-          a.out.now _ byte-is c.put_bits.ensures }
+    ∙ ap (λ (x : List ℕ). get_or x a.from.bytes.bytes 0) (bytes-are (s) a.from.run.bytes (run) d h) in record {
+      value = c.lesser-count.ensures;
+      wrote = first-wrote (s) a.from a.n c.requires.0 (run) d h c.lesser-count.result c.run_byte-byte.result
+          a.out.now _ byte-is c.put_bits.ensures;
+    }

@@ -66,8 +66,7 @@ put_flags-requires c =
     ≡ flag_end (s) begin.run.bytes (skipped (begin) + x) = flags-on (s) (bytes) from.run.bytes (skipped (from)) (begin) (begins) in
     let n : ℕ = c.args.n.rows in
     let next : FlagPosition = c.in-At-flag_end.next in
-    let ends : flag_end (s) from.run.bytes (skipped (from) + (n)) ≡ end.At (next) = on (n) ∙ sym c.flag_end-2.ensures ∙ c.in-At-flag_end.is in
- (
+    let ends : flag_end (s) from.run.bytes (skipped (from) + (n)) ≡ end.At (next) = on (n) ∙ sym c.flag_end-2.ensures ∙ c.in-At-flag_end.is in (
       flags-ready (s) (bytes) from.run.bytes (skipped (from)) (begin) (begins) (n)
           (next) (sym (on (n)) ∙ ends),
       omega arith,

@@ -1,6 +1,6 @@
 use mathlib.Core.Path.{◌≡◌, refl, sym, ◌∙◌}
 use mathlib.Core.List.{List}
-use Prim.Native.Nat.{ℕ, ◌+◌, ◌-◌}
+use Prim.Native.Nat.{ℕ, ◌+◌}
 use native.Mathlib.Omega.{arith}
 use Rattle.format.specs.Booleans.{ByteRun}
 use Rattle.format.proofs.Below.{below_all}
@@ -64,28 +64,28 @@ pub less-unused-requires : goal.less-unused-requires
 less-unused-requires c = tt
 
 pub overflow_add-result : goal.overflow_add-result
-overflow_add-result c = 
+overflow_add-result c =
     let bytes-in : List ℕ = c.args.input.now in
     let run : code.ByteRun = c.in-Run.run' in
     let run-here : (d : ByteRun) × Here (bytes-in) c.loop-run.place (run) d = here (bytes-in) c.loop-run.place (run) (λ i. (c.shared_slice_known-1.given i).fits)
     (sym c.run_at.ensures ∙ c.in-Run.is) in
-   omega (arith, c.less-unused.ensures, run-here.1.few)
+    omega (arith, c.less-unused.ensures, run-here.1.few)
 
 pub less-left-requires : goal.less-left-requires
 less-left-requires c = tt
 
 pub overflow_add-place : goal.overflow_add-place
-overflow_add-place c = 
+overflow_add-place c =
     let bytes-in : List ℕ = c.args.input.now in
     let run : code.ByteRun = c.in-Run.run' in
     let run-here : (d : ByteRun) × Here (bytes-in) c.loop-run.place (run) d = here (bytes-in) c.loop-run.place (run) (λ i. (c.shared_slice_known-1.given i).fits)
     (sym c.run_at.ensures ∙ c.in-Run.is) in
- omega (arith, run-here.1.inside)
+    omega (arith, run-here.1.inside)
 
 pub loop-run-smaller : goal.loop-run-smaller
-loop-run-smaller c = 
+loop-run-smaller c =
     let bytes-in : List ℕ = c.args.input.now in
     let run : code.ByteRun = c.in-Run.run' in
     let run-here : (d : ByteRun) × Here (bytes-in) c.loop-run.place (run) d = here (bytes-in) c.loop-run.place (run) (λ i. (c.shared_slice_known-1.given i).fits)
     (sym c.run_at.ensures ∙ c.in-Run.is) in
- let h = run-here.1 in omega (arith, h.inside, h.takes)
+    let h = run-here.1 in omega (arith, h.inside, h.takes)
