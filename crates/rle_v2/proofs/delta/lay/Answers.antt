@@ -10,7 +10,7 @@ pub lay_packed-requires : goal.lay_packed-requires
 lay_packed-requires c =
     let behind : (let a = c.args in Behind a.input.now a.f) = c.requires.0 c.if-f-eq0.false in
     let b = behind in
- record { width = b.wide; rows_bound = (omega (arith, b.few), omega (arith, b.two, c.requires.1), rw (rest-is c.args.input.now c.args.f.next.bytes, length-drop) b.there) }
+    record { width = b.wide; rows_bound = (omega (arith, b.few), omega (arith, b.two, c.requires.1), rw (rest-is c.args.input.now c.args.f.next.bytes, length-drop) b.there) }
 
 pub returns-then-f-eq0 : goal.returns-then-f-eq0
 returns-then-f-eq0 c =
@@ -26,16 +26,16 @@ returns-else-f-eq0 c =
     behind.two (rw (rest-is a.input.now a.f.next.bytes) at c.lay_packed.ensures)
 
 pub overflow_sub-n : goal.overflow_sub-n
-overflow_sub-n c = 
+overflow_sub-n c =
     let behind : (let a = c.args in Behind a.input.now a.f) = c.requires.0 c.if-f-eq0.false in
-   behind.two
+    behind.two
 
 pub slice_bounds-lay_packed-count : goal.slice_bounds-lay_packed-count
-slice_bounds-lay_packed-count c = 
+slice_bounds-lay_packed-count c =
     let behind : (let a = c.args in Behind a.input.now a.f) = c.requires.0 c.if-f-eq0.false in
-   behind.within
+    behind.within
 
 pub slice_bounds-lay_packed-start : goal.slice_bounds-lay_packed-start
-slice_bounds-lay_packed-start c = 
+slice_bounds-lay_packed-start c =
     let behind : (let a = c.args in Behind a.input.now a.f) = c.requires.0 c.if-f-eq0.false in
-   behind.within
+    behind.within

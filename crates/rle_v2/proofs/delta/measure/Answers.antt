@@ -15,6 +15,6 @@ returns c =
     rw c.run.ensures (passed-answer a.input.now a.at.bytes _ _ (passed))
 
 pub overflow_sub-consumed : goal.overflow_sub-consumed
-overflow_sub-consumed c = 
+overflow_sub-consumed c =
     let passed : (let a = c.args in Passed a.input.now a.at.bytes (run a.input.now a.at.bytes) c.measured-f.result) = c.measured-f.ensures.passed c.if-f-ne0.false in
-   omega (arith, passed.from)
+    omega (arith, passed.from)

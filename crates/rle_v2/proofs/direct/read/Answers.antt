@@ -20,37 +20,40 @@ use Rattle.rle_v2.proofs.direct.read.Goals as goal
 pub returns-then-out-count : goal.returns-then-out-count
 returns-then-out-count c =
     let named : (let a = c.args in answer.Run c.in-Run.r ≡ answer_of a.at.bytes (length a.input.now - a.at.bytes) (run a.input.now a.at.bytes)) = sym c.in-Run.is ∙ c.measure-measured.ensures in
-    let measured-is : (let a = c.args in Measured a.input.now a.at.bytes c.in-Run.r) =  measured c.args.input.now c.args.at.bytes _ c.requires (named) in
+    let measured-is : (let a = c.args in Measured a.input.now a.at.bytes c.in-Run.r) = measured c.args.input.now c.args.at.bytes _ c.requires (named) in
     let a = c.args in
     rw c.refused.ensures (no_room a.input.now a.at.bytes a.signed a.out.now _ (named) (measured-is) c.if-out-count.true)
 
 pub slice_bounds-unpack-count : goal.slice_bounds-unpack-count
 slice_bounds-unpack-count c =
     let named : (let a = c.args in answer.Run c.in-Run.r ≡ answer_of a.at.bytes (length a.input.now - a.at.bytes) (run a.input.now a.at.bytes)) = sym c.in-Run.is ∙ c.measure-measured.ensures in
-    let measured-is : (let a = c.args in Measured a.input.now a.at.bytes c.in-Run.r) =  measured c.args.input.now c.args.at.bytes _ c.requires (named) in
+    let measured-is : (let a = c.args in Measured a.input.now a.at.bytes c.in-Run.r) = measured c.args.input.now c.args.at.bytes _ c.requires (named) in
     let m = measured-is in omega (arith, m.head)
 
 pub slice_bounds-unpack-start : goal.slice_bounds-unpack-start
 slice_bounds-unpack-start c =
     let named : (let a = c.args in answer.Run c.in-Run.r ≡ answer_of a.at.bytes (length a.input.now - a.at.bytes) (run a.input.now a.at.bytes)) = sym c.in-Run.is ∙ c.measure-measured.ensures in
-    let measured-is : (let a = c.args in Measured a.input.now a.at.bytes c.in-Run.r) =  measured c.args.input.now c.args.at.bytes _ c.requires (named) in
+    let measured-is : (let a = c.args in Measured a.input.now a.at.bytes c.in-Run.r) = measured c.args.input.now c.args.at.bytes _ c.requires (named) in
     let m = measured-is in omega (arith, m.head)
 
 pub unpack-requires : goal.unpack-requires
 unpack-requires c =
     let named : (let a = c.args in answer.Run c.in-Run.r ≡ answer_of a.at.bytes (length a.input.now - a.at.bytes) (run a.input.now a.at.bytes)) = sym c.in-Run.is ∙ c.measure-measured.ensures in
-    let measured-is : (let a = c.args in Measured a.input.now a.at.bytes c.in-Run.r) =  measured c.args.input.now c.args.at.bytes _ c.requires (named) in
+    let measured-is : (let a = c.args in Measured a.input.now a.at.bytes c.in-Run.r) = measured c.args.input.now c.args.at.bytes _ c.requires (named) in
     let m = measured-is in
-    let a = c.args in record { width = rw m.width_is (code-width _); n_bound = (
+    let a = c.args in record {
+      width = rw m.width_is (code-width _);
+      n_bound = (
         omega (arith, m.rows_are, c.shared_slice_known-1.given (a.at.bytes + 1)),
         c.if-out-count.false,
         rw (rest-is a.input.now (a.at.bytes + 2), length-drop) (rows-there a.input.now a.at.bytes _ m),
-      ) }
+      );
+    }
 
 pub returns-else-out-count : goal.returns-else-out-count
 returns-else-out-count c =
     let named : (let a = c.args in answer.Run c.in-Run.r ≡ answer_of a.at.bytes (length a.input.now - a.at.bytes) (run a.input.now a.at.bytes)) = sym c.in-Run.is ∙ c.measure-measured.ensures in
-    let measured-is : (let a = c.args in Measured a.input.now a.at.bytes c.in-Run.r) =  measured c.args.input.now c.args.at.bytes _ c.requires (named) in
+    let measured-is : (let a = c.args in Measured a.input.now a.at.bytes c.in-Run.r) = measured c.args.input.now c.args.at.bytes _ c.requires (named) in
     let a = c.args in
     let s = a.input.now in
     let body = a.at.bytes + 2 in

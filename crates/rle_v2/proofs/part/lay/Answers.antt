@@ -11,30 +11,33 @@ use Rattle.rle_v2.proofs.part.lay.Goals as goal
 
 pub lay_in_eight-requires : goal.lay_in_eight-requires
 lay_in_eight-requires c =
-    let y = c.requires in record { part_there = record {
+    let y = c.requires in record {
+      part_there = record {
         width = y.width;
         few = y.few;
         within = omega (arith, y.within, c.less-head.ensures);
         places = omega (arith, y.places, c.less-head.ensures);
         there = y.there;
-      }; n_bound = omega (arith, c.less-head.ensures) }
+      };
+      n_bound = omega (arith, c.less-head.ensures);
+    }
 
 pub overflow_mul-skip : goal.overflow_mul-skip
 overflow_mul-skip c =
     let bytes : AllBelow 256 c.args.s.now = below_all 256 c.args.s.now (λ i. (c.shared_slice_known-1.given i).fits) in
-    let before-next : ( let a = c.args in (a.skip + c.less-head.result) / 8 * a.w ≤ length a.s.now) =     next-before c.requires (bytes) c.less-head.result (omega (arith, c.if-head-n.true)) (omega (arith, c.if-head-n.true, c.less-head.ensures)) in
+    let before-next : (let a = c.args in (a.skip + c.less-head.result) / 8 * a.w ≤ length a.s.now) = next-before c.requires (bytes) c.less-head.result (omega (arith, c.if-head-n.true)) (omega (arith, c.if-head-n.true, c.less-head.ensures)) in
     omega (arith, before-next, c.well_formed)
 
 pub slice_bounds-unpack-count : goal.slice_bounds-unpack-count
 slice_bounds-unpack-count c =
     let bytes : AllBelow 256 c.args.s.now = below_all 256 c.args.s.now (λ i. (c.shared_slice_known-1.given i).fits) in
-    let before-next : ( let a = c.args in (a.skip + c.less-head.result) / 8 * a.w ≤ length a.s.now) =     next-before c.requires (bytes) c.less-head.result (omega (arith, c.if-head-n.true)) (omega (arith, c.if-head-n.true, c.less-head.ensures)) in
+    let before-next : (let a = c.args in (a.skip + c.less-head.result) / 8 * a.w ≤ length a.s.now) = next-before c.requires (bytes) c.less-head.result (omega (arith, c.if-head-n.true)) (omega (arith, c.if-head-n.true, c.less-head.ensures)) in
     before-next
 
 pub slice_bounds-unpack-start : goal.slice_bounds-unpack-start
 slice_bounds-unpack-start c =
     let bytes : AllBelow 256 c.args.s.now = below_all 256 c.args.s.now (λ i. (c.shared_slice_known-1.given i).fits) in
-    let before-next : ( let a = c.args in (a.skip + c.less-head.result) / 8 * a.w ≤ length a.s.now) =     next-before c.requires (bytes) c.less-head.result (omega (arith, c.if-head-n.true)) (omega (arith, c.if-head-n.true, c.less-head.ensures)) in
+    let before-next : (let a = c.args in (a.skip + c.less-head.result) / 8 * a.w ≤ length a.s.now) = next-before c.requires (bytes) c.less-head.result (omega (arith, c.if-head-n.true)) (omega (arith, c.if-head-n.true, c.less-head.ensures)) in
     before-next
 
 pub unpack-requires : goal.unpack-requires
@@ -43,12 +46,15 @@ unpack-requires c =
     let a = c.args in
     let y = c.requires in
     let head = c.less-head.result in
-    let one = c.lay_in_eight.new.out in record { width = y.width; n_bound = (
+    let one = c.lay_in_eight.new.out in record {
+      width = y.width;
+      n_bound = (
         omega (arith, y.few, y.within),
         rw (rest-is one head, length-drop) (omega (arith, y.places, c.lay_in_eight.auto.out)),
         rw (rest-is a.s.now ((a.skip + head) / 8 * a.w), length-drop)
             (next-after y (bytes) head (omega (arith, c.if-head-n.true)) (omega (arith, c.if-head-n.true, c.less-head.ensures))),
-      ) }
+      );
+    }
 
 pub returns-then-head-n : goal.returns-then-head-n
 returns-then-head-n c =

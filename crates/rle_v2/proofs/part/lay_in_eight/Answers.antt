@@ -1,7 +1,7 @@
 -- The eight is unpacked from its first byte on, so the fields copied out of it are those of the block. Assumes nothing.
 use Prim.Native.Nat.{◌*◌, ◌/◌}
 use native.Mathlib.Omega.{arith}
-use lib.ListN.{length, length-drop}
+use lib.ListN.{length-drop}
 use Rattle.format.specs.Digits.{AllBelow}
 use Rattle.format.proofs.Below.{below_all}
 use Rattle.util.proofs.Grow.{rest-is}
@@ -27,11 +27,14 @@ pub unpack-requires : goal.unpack-requires
 unpack-requires c =
     let bytes : AllBelow 256 c.args.s.now = below_all 256 c.args.s.now (λ i. (c.shared_slice_known-1.given i).fits) in
     let a = c.args in
-    let y = c.requires.part_there in record { width = y.width; n_bound = (
+    let y = c.requires.part_there in record {
+      width = y.width;
+      n_bound = (
         omega (arith, c.requires.n_bound),
         omega (arith, c.requires.n_bound, c.eight_places-eight.ensures),
         rw (rest-is a.s.now (a.skip / 8 * a.w), length-drop) (eight-after y (bytes)),
-      ) }
+      );
+    }
 
 pub returns : goal.returns
 returns c =

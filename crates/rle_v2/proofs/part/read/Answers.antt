@@ -29,7 +29,7 @@ pub returns-then-count-skip : goal.returns-then-count-skip
 returns-then-count-skip c =
     let named : (let a = c.args in
     answer.Run c.in-Run.r ≡ answer_of a.at.bytes (length a.input.now - a.at.bytes) (run a.input.now a.at.bytes)) = sym c.in-Run.is ∙ c.measure.ensures in
-    let measured-is : (let a = c.args in Measured a.input.now a.at.bytes c.in-Run.r) =     measured c.args.input.now c.args.at.bytes _ c.if-input-p.false (named) in
+    let measured-is : (let a = c.args in Measured a.input.now a.at.bytes c.in-Run.r) = measured c.args.input.now c.args.at.bytes _ c.if-input-p.false (named) in
     let a = c.args in
     rw (is-direct a.input.now a.at.bytes c.if-input-p.false c.if-input-p-ne1.false)
     (part_none a.input.now a.at.bytes a.skip.rows a.signed a.out.now _ (named) (measured-is) (omega (arith, c.if-count-skip.true)))
@@ -51,21 +51,21 @@ pub slice_bounds-lay-count : goal.slice_bounds-lay-count
 slice_bounds-lay-count c =
     let named : (let a = c.args in
     answer.Run c.in-Run.r ≡ answer_of a.at.bytes (length a.input.now - a.at.bytes) (run a.input.now a.at.bytes)) = sym c.in-Run.is ∙ c.measure.ensures in
-    let measured-is : (let a = c.args in Measured a.input.now a.at.bytes c.in-Run.r) =     measured c.args.input.now c.args.at.bytes _ c.if-input-p.false (named) in
+    let measured-is : (let a = c.args in Measured a.input.now a.at.bytes c.in-Run.r) = measured c.args.input.now c.args.at.bytes _ c.if-input-p.false (named) in
     let m = measured-is in omega (arith, m.head)
 
 pub slice_bounds-lay-start : goal.slice_bounds-lay-start
 slice_bounds-lay-start c =
     let named : (let a = c.args in
     answer.Run c.in-Run.r ≡ answer_of a.at.bytes (length a.input.now - a.at.bytes) (run a.input.now a.at.bytes)) = sym c.in-Run.is ∙ c.measure.ensures in
-    let measured-is : (let a = c.args in Measured a.input.now a.at.bytes c.in-Run.r) =     measured c.args.input.now c.args.at.bytes _ c.if-input-p.false (named) in
+    let measured-is : (let a = c.args in Measured a.input.now a.at.bytes c.in-Run.r) = measured c.args.input.now c.args.at.bytes _ c.if-input-p.false (named) in
     let m = measured-is in omega (arith, m.head)
 
 pub lay-requires : goal.lay-requires
 lay-requires c =
     let named : (let a = c.args in
     answer.Run c.in-Run.r ≡ answer_of a.at.bytes (length a.input.now - a.at.bytes) (run a.input.now a.at.bytes)) = sym c.in-Run.is ∙ c.measure.ensures in
-    let measured-is : (let a = c.args in Measured a.input.now a.at.bytes c.in-Run.r) =     measured c.args.input.now c.args.at.bytes _ c.if-input-p.false (named) in
+    let measured-is : (let a = c.args in Measured a.input.now a.at.bytes c.in-Run.r) = measured c.args.input.now c.args.at.bytes _ c.if-input-p.false (named) in
     let a = c.args in
     let m = measured-is in
     let s = a.input.now in
@@ -81,7 +81,7 @@ pub returns-else-count-skip : goal.returns-else-count-skip
 returns-else-count-skip c =
     let named : (let a = c.args in
     answer.Run c.in-Run.r ≡ answer_of a.at.bytes (length a.input.now - a.at.bytes) (run a.input.now a.at.bytes)) = sym c.in-Run.is ∙ c.measure.ensures in
-    let measured-is : (let a = c.args in Measured a.input.now a.at.bytes c.in-Run.r) =     measured c.args.input.now c.args.at.bytes _ c.if-input-p.false (named) in
+    let measured-is : (let a = c.args in Measured a.input.now a.at.bytes c.in-Run.r) = measured c.args.input.now c.args.at.bytes _ c.if-input-p.false (named) in
     let a = c.args in
     let s = a.input.now in
     rw (is-direct s a.at.bytes c.if-input-p.false c.if-input-p-ne1.false)

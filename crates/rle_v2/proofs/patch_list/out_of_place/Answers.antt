@@ -1,11 +1,10 @@
 use mathlib.Core.Path.{◌≡◌, refl, sym, ◌∙◌}
 use mathlib.Core.List.{◌∷◌}
-use Prim.Native.Nat.{◌+◌, ◌-◌}
+use Prim.Native.Nat.{◌+◌}
 use lib.ListN.{drop}
 use Rattle.format.proofs.Below.{below_all}
 use Rattle.util.specs.Packed.{fields, field_at}
 use Rattle.util.proofs.Window.{field-there, length_fields}
-use Rattle.rle_v2.specs.PatchList.{large}
 use Rattle.rle_v2.proofs.PatchWalk.{entry_next, large-next, large-here, large-none}
 use borrow.Author.Rules.{rules}
 use native.Mathlib.Omega.{arith}

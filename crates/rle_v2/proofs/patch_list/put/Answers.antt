@@ -1,7 +1,7 @@
 use mathlib.Core.Path.{◌≡◌, ◌∙◌}
 use mathlib.Core.Bool.{false}
 use mathlib.Core.List.{◌∷◌}
-use Prim.Native.Nat.{◌+◌, ◌-◌, ◌<◌}
+use Prim.Native.Nat.{◌+◌, ◌<◌}
 use native.Mathlib.Nat.{add-mod-mod}
 use lib.ListN.{length, drop}
 use mir.Facts.{to_z-of_z}
@@ -34,7 +34,7 @@ offset_bounds-out-row c =
     let named : c.entry_at-e.result.skip ≡ false → c.loop-k.row + c.entry_at-e.result.gap < c.args.count.rows = λ y. let l = c.loop-k in
     let a = c.args in
     put-inside a.width a.pw a.count.rows (fields a.bits a.n a.list.now) a.out.now l.out l.k l.row _ _ _ _ l.invariant.1 (next-is) c.entry_at-e.ensures y in
- omega (arith, named (not-true _ c.if-not-e.true), c.requires.width_bound.1)
+    omega (arith, named (not-true _ c.if-not-e.true), c.requires.width_bound.1)
 
 pub slice_copy_out-to_u64 : goal.slice_copy_out-to_u64
 slice_copy_out-to_u64 c =
@@ -46,7 +46,7 @@ slice_copy_out-to_u64 c =
     let a = c.args in
     put-inside a.width a.pw a.count.rows (fields a.bits a.n a.list.now) a.out.now l.out l.k l.row _ _ _ _ l.invariant.1 (next-is) c.entry_at-e.ensures y in
     let inside : c.entry_at-e.result.skip ≡ false → c.loop-k.row + c.entry_at-e.result.gap < length c.loop-k.out = λ y. omega (arith, named y, c.loop-k.invariant.1.long, c.requires.width_bound.2) in
- inside (not-true _ c.if-not-e.true)
+    inside (not-true _ c.if-not-e.true)
 
 pub offset_bounds-out-row-then-not-e : goal.offset_bounds-out-row-then-not-e
 offset_bounds-out-row-then-not-e c =
@@ -57,7 +57,7 @@ offset_bounds-out-row-then-not-e c =
     let named : c.entry_at-e.result.skip ≡ false → c.loop-k.row + c.entry_at-e.result.gap < c.args.count.rows = λ y. let l = c.loop-k in
     let a = c.args in
     put-inside a.width a.pw a.count.rows (fields a.bits a.n a.list.now) a.out.now l.out l.k l.row _ _ _ _ l.invariant.1 (next-is) c.entry_at-e.ensures y in
- omega (arith, named (not-true _ c.if-not-e.true), c.requires.width_bound.1)
+    omega (arith, named (not-true _ c.if-not-e.true), c.requires.width_bound.1)
 
 pub bounds-out-row : goal.bounds-out-row
 bounds-out-row c =
@@ -69,7 +69,7 @@ bounds-out-row c =
     let a = c.args in
     put-inside a.width a.pw a.count.rows (fields a.bits a.n a.list.now) a.out.now l.out l.k l.row _ _ _ _ l.invariant.1 (next-is) c.entry_at-e.ensures y in
     let inside : c.entry_at-e.result.skip ≡ false → c.loop-k.row + c.entry_at-e.result.gap < length c.loop-k.out = λ y. omega (arith, named y, c.loop-k.invariant.1.long, c.requires.width_bound.2) in
- inside (not-true _ c.if-not-e.true)
+    inside (not-true _ c.if-not-e.true)
 
 pub loop-k-preserved : goal.loop-k-preserved
 loop-k-preserved c =
@@ -82,13 +82,13 @@ loop-k-preserved c =
     let es = fields a.bits a.n a.list.now in (
       omega arith,
       elim c.if-not-e.branch [
-        then-not-e w ↦
-          rw w.out-is
-          (put-named a.width a.pw a.count.rows es a.out.now l.out l.k l.row _ _ _ _ l.invariant.1 (next-is) c.entry_at-e.ensures (not-true _ w.if-not-e.true) c.requires.width_bound.1 _
-          (to_z-of_z {w = w64} (sfits_of w.to_i64-r.type_inv) ∙ w.to_i64-r.ensures ∙ rw (w.add.ensures, w.to_u64.ensures, to_z-of_z {w = w64} (sfits_of w.to_u64-arg-1.given), w.raised-patch.ensures, add-mod-mod)))
+        | then-not-e w ↦
+            rw w.out-is
+            (put-named a.width a.pw a.count.rows es a.out.now l.out l.k l.row _ _ _ _ l.invariant.1 (next-is) c.entry_at-e.ensures (not-true _ w.if-not-e.true) c.requires.width_bound.1 _
+            (to_z-of_z {w = w64} (sfits_of w.to_i64-r.type_inv) ∙ w.to_i64-r.ensures ∙ rw (w.add.ensures, w.to_u64.ensures, to_z-of_z {w = w64} (sfits_of w.to_u64-arg-1.given), w.raised-patch.ensures, add-mod-mod)))
         | else-not-e w ↦
-          rw w.out-is
-          (put-skip a.width a.pw a.count.rows es a.out.now l.out l.k l.row _ _ _ _ l.invariant.1 (next-is) c.entry_at-e.ensures (not-false _ w.if-not-e.false))
+            rw w.out-is
+            (put-skip a.width a.pw a.count.rows es a.out.now l.out l.k l.row _ _ _ _ l.invariant.1 (next-is) c.entry_at-e.ensures (not-false _ w.if-not-e.false))
       ],
     )
 

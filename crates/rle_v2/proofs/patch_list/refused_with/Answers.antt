@@ -1,8 +1,8 @@
 use mathlib.Core.Path.{◌≡◌}
 use mathlib.Core.List.{◌∷◌}
-use Prim.Native.Nat.{◌+◌, ◌-◌, ◌<◌}
+use Prim.Native.Nat.{◌+◌, ◌<◌}
 use lib.ListN.{drop}
-use borrow.Author.Tests.{lt-ltb, le-leb, le-ltb, not-true, not-false}
+use borrow.Author.Tests.{lt-ltb, le-leb, le-ltb}
 use Rattle.format.specs.Fields.{pick}
 use Rattle.format.specs.Runs.{patch_limit}
 use Rattle.format.proofs.Below.{below_all}
@@ -64,19 +64,19 @@ loop-k-preserved c =
     drop l.k (fields a.bits a.n a.list.now) ≡ field_at a.bits l.k a.list.now ∷ drop (l.k + 1) (fields a.bits a.n a.list.now)) = let l = c.loop-k in
     let a = c.args in
     entry_next a.bits a.n l.k a.list.now (below_all 256 a.list.now (λ i. (c.shared_slice_known-1.given i).fits)) c.loop-k-test.true c.requires.listed.there in
-    let small :  c.entry_at-e.result.patch < patch_limit c.args.width = rw c.patch_limit-limit.ensures at c.if-limit-e.false in
+    let small : c.entry_at-e.result.patch < patch_limit c.args.width = rw c.patch_limit-limit.ensures at c.if-limit-e.false in
     let l = c.loop-k in
     let a = c.args in
     let es = fields a.bits a.n a.list.now in (
       omega arith,
       elim c.if-not-skip.branch [
-        then-not-skip+else-place-free+else-rows-place w ↦
-          rw w.free-is
-          (walk-named a.width a.pw a.count.rows es l.k l.place l.free _ _ _ l.skip _ l.invariant.1 (next-is) c.entry_at-e.ensures (small) w.if-not-skip.true w.if-place-free.false w.if-rows-place.false
-          c.requires.width_nonzero.2)
+        | then-not-skip+else-place-free+else-rows-place w ↦
+            rw w.free-is
+            (walk-named a.width a.pw a.count.rows es l.k l.place l.free _ _ _ l.skip _ l.invariant.1 (next-is) c.entry_at-e.ensures (small) w.if-not-skip.true w.if-place-free.false w.if-rows-place.false
+            c.requires.width_nonzero.2)
         | else-not-skip w ↦
-          rw w.free-is
-          (walk-skip a.width a.pw a.count.rows es l.k l.place l.free _ _ _ l.skip _ l.invariant.1 (next-is) c.entry_at-e.ensures (small) w.if-not-skip.false)
+            rw w.free-is
+            (walk-skip a.width a.pw a.count.rows es l.k l.place l.free _ _ _ l.skip _ l.invariant.1 (next-is) c.entry_at-e.ensures (small) w.if-not-skip.false)
       ],
     )
 
@@ -92,9 +92,9 @@ pub loop-k-init : goal.loop-k-init
 loop-k-init c = (search rules, walk_first _ _ _ _)
 
 pub returns-else-skip : goal.returns-else-skip
-returns-else-skip c = 
+returns-else-skip c =
     let ended : (let l = c.loop-k in let a = c.args in
     pick l.skip 7 0 ≡ list_number a.width a.pw a.count.rows (fields a.bits a.n a.list.now)) = let l = c.loop-k in
     let a = c.args in
     walk-last a.width a.pw a.count.rows (fields a.bits a.n a.list.now) l.k l.place l.free l.skip l.invariant.1 (rw length_fields c.loop-k-test.false) in
-   rw c.if-skip.false at (ended)
+    rw c.if-skip.false at (ended)

@@ -19,8 +19,7 @@ returns-then-patch-h-gt64 c =
 
 pub body-requires : goal.body-requires
 body-requires c =
-    let sum-2 : (let a = c.args in c.bits_of-patch.result + a.h.gap ≡ width a.h.patch + a.h.gap) = ap (λ (x : ℕ). x + c.args.h.gap) c.bits_of-patch.ensures in
- (
+    let sum-2 : (let a = c.args in c.bits_of-patch.result + a.h.gap ≡ width a.h.patch + a.h.gap) = ap (λ (x : ℕ). x + c.args.h.gap) c.bits_of-patch.ensures in (
       c.requires.0,
       c.requires.1,
       record { bits_is = c.bits_of-bits.ensures; patch-is = c.bits_of-patch.ensures; entry-is = c.entry_width-entry.ensures ∙ ap least_width (sum-2) },

@@ -23,7 +23,7 @@ refused_with-number-requires c =
 pub returns-then-number-ne0 : goal.returns-then-number-ne0
 returns-then-number-ne0 c =
     let heads : (let a = c.args in Heads a.input.now a.at.bytes (run a.input.now a.at.bytes) c.headed-f.result) = c.headed-f.ensures.heads c.if-f-ne0.false in
-    let number_is :     c.refused_with-number.result ≡ number_of c.args.input.now c.headed-f.result =  rw (rest-is c.args.input.now c.headed-f.result.list.bytes) at c.refused_with-number.ensures in
+    let number_is : c.refused_with-number.result ≡ number_of c.args.input.now c.headed-f.result = rw (rest-is c.args.input.now c.headed-f.result.list.bytes) at c.refused_with-number.ensures in
     let a = c.args in
     rw (c.refused.ensures, number_is) (found-3-7 a.input.now a.at.bytes _ _ (heads) (λ z. c.if-number-ne0.true (number_is ∙ z)))
 
@@ -35,20 +35,20 @@ overflow_sub-consumed c =
 pub returns : goal.returns
 returns c =
     let heads : (let a = c.args in Heads a.input.now a.at.bytes (run a.input.now a.at.bytes) c.headed-f.result) = c.headed-f.ensures.heads c.if-f-ne0.false in
-    let number_is :     c.refused_with-number.result ≡ number_of c.args.input.now c.headed-f.result =  rw (rest-is c.args.input.now c.headed-f.result.list.bytes) at c.refused_with-number.ensures in
+    let number_is : c.refused_with-number.result ≡ number_of c.args.input.now c.headed-f.result = rw (rest-is c.args.input.now c.headed-f.result.list.bytes) at c.refused_with-number.ensures in
     let a = c.args in
     c.run.ensures ∙ passed-answer a.input.now a.at.bytes _ _ _ _ (passes a.input.now a.at.bytes _ _ (heads) (sym (number_is) ∙ c.if-number-ne0.false))
 
 pub slice_bounds-refused_with-count : goal.slice_bounds-refused_with-count
-slice_bounds-refused_with-count c = 
+slice_bounds-refused_with-count c =
     let heads : (let a = c.args in Heads a.input.now a.at.bytes (run a.input.now a.at.bytes) c.headed-f.result) = c.headed-f.ensures.heads c.if-f-ne0.false in
     let list-in : c.headed-f.result.list.bytes ≤ length c.args.input.now = let a = c.args in
     omega (arith, found_in a.input.now a.at.bytes _ _ (heads), heads.headed.parts.list-is) in
-   omega (arith, list-in)
+    omega (arith, list-in)
 
 pub slice_bounds-refused_with-start : goal.slice_bounds-refused_with-start
-slice_bounds-refused_with-start c = 
+slice_bounds-refused_with-start c =
     let heads : (let a = c.args in Heads a.input.now a.at.bytes (run a.input.now a.at.bytes) c.headed-f.result) = c.headed-f.ensures.heads c.if-f-ne0.false in
     let list-in : c.headed-f.result.list.bytes ≤ length c.args.input.now = let a = c.args in
     omega (arith, found_in a.input.now a.at.bytes _ _ (heads), heads.headed.parts.list-is) in
-   omega (arith, list-in)
+    omega (arith, list-in)

@@ -29,7 +29,7 @@ refused_with-refusal-requires c =
 pub returns-then-refusal-ne0 : goal.returns-then-refusal-ne0
 returns-then-refusal-ne0 c =
     let heads : (let a = c.args in Heads a.input.now a.at.bytes (run a.input.now a.at.bytes) c.headed-f.result) = c.headed-f.ensures.heads c.if-f-ne0.false in
-    let number_is :     c.refused_with-refusal.result ≡ number_of c.args.input.now c.headed-f.result =  rw (rest-is c.args.input.now c.headed-f.result.list.bytes) at c.refused_with-refusal.ensures in
+    let number_is : c.refused_with-refusal.result ≡ number_of c.args.input.now c.headed-f.result = rw (rest-is c.args.input.now c.headed-f.result.list.bytes) at c.refused_with-refusal.ensures in
     let a = c.args in
     rw c.refused.ensures
     (gives_none a.at.bytes _ a.signed (run a.input.now a.at.bytes) a.out.now (answer.Refused _) tt
@@ -38,9 +38,9 @@ returns-then-refusal-ne0 c =
 pub returns-then-out-rows : goal.returns-then-out-rows
 returns-then-out-rows c =
     let heads : (let a = c.args in Heads a.input.now a.at.bytes (run a.input.now a.at.bytes) c.headed-f.result) = c.headed-f.ensures.heads c.if-f-ne0.false in
-    let number_is :     c.refused_with-refusal.result ≡ number_of c.args.input.now c.headed-f.result =  rw (rest-is c.args.input.now c.headed-f.result.list.bytes) at c.refused_with-refusal.ensures in
-    let passed : ( let a = c.args in let f = c.headed-f.result in
-    Passed a.input.now a.at.bytes (run a.input.now a.at.bytes) (head_of heads.code heads.patch heads.gap f) (widths_of f) (parts_of f)) =     let a = c.args in
+    let number_is : c.refused_with-refusal.result ≡ number_of c.args.input.now c.headed-f.result = rw (rest-is c.args.input.now c.headed-f.result.list.bytes) at c.refused_with-refusal.ensures in
+    let passed : (let a = c.args in let f = c.headed-f.result in
+    Passed a.input.now a.at.bytes (run a.input.now a.at.bytes) (head_of heads.code heads.patch heads.gap f) (widths_of f) (parts_of f)) = let a = c.args in
     passes a.input.now a.at.bytes _ _ (heads) (sym (number_is) ∙ c.if-refusal-ne0.false) in
     let a = c.args in
     rw c.refused-then-out-rows.ensures (passed-8 a.input.now a.at.bytes _ _ _ _ (passed) a.signed a.out.now c.if-out-rows.true)
@@ -48,7 +48,7 @@ returns-then-out-rows c =
 pub put-requires : goal.put-requires
 put-requires c =
     let heads : (let a = c.args in Heads a.input.now a.at.bytes (run a.input.now a.at.bytes) c.headed-f.result) = c.headed-f.ensures.heads c.if-f-ne0.false in
-    let number_is :     c.refused_with-refusal.result ≡ number_of c.args.input.now c.headed-f.result =  rw (rest-is c.args.input.now c.headed-f.result.list.bytes) at c.refused_with-refusal.ensures in
+    let number_is : c.refused_with-refusal.result ≡ number_of c.args.input.now c.headed-f.result = rw (rest-is c.args.input.now c.headed-f.result.list.bytes) at c.refused_with-refusal.ensures in
     let a = c.args in
     (ready a.input.now a.at.bytes _ _ (heads) (sym (number_is) ∙ c.if-refusal-ne0.false), c.if-out-rows.false)
 
@@ -60,24 +60,24 @@ overflow_sub-consumed c =
 pub returns : goal.returns
 returns c =
     let heads : (let a = c.args in Heads a.input.now a.at.bytes (run a.input.now a.at.bytes) c.headed-f.result) = c.headed-f.ensures.heads c.if-f-ne0.false in
-    let number_is :     c.refused_with-refusal.result ≡ number_of c.args.input.now c.headed-f.result =  rw (rest-is c.args.input.now c.headed-f.result.list.bytes) at c.refused_with-refusal.ensures in
-    let passed : ( let a = c.args in let f = c.headed-f.result in
-    Passed a.input.now a.at.bytes (run a.input.now a.at.bytes) (head_of heads.code heads.patch heads.gap f) (widths_of f) (parts_of f)) =     let a = c.args in
+    let number_is : c.refused_with-refusal.result ≡ number_of c.args.input.now c.headed-f.result = rw (rest-is c.args.input.now c.headed-f.result.list.bytes) at c.refused_with-refusal.ensures in
+    let passed : (let a = c.args in let f = c.headed-f.result in
+    Passed a.input.now a.at.bytes (run a.input.now a.at.bytes) (head_of heads.code heads.patch heads.gap f) (widths_of f) (parts_of f)) = let a = c.args in
     passes a.input.now a.at.bytes _ _ (heads) (sym (number_is) ∙ c.if-refusal-ne0.false) in
     let a = c.args in
     rw c.run.ensures
     (passed-read a.input.now a.at.bytes _ _ _ _ (passed) a.signed a.out.now _ _ c.if-out-rows.false refl c.put.ensures)
 
 pub slice_bounds-refused_with-count : goal.slice_bounds-refused_with-count
-slice_bounds-refused_with-count c = 
+slice_bounds-refused_with-count c =
     let heads : (let a = c.args in Heads a.input.now a.at.bytes (run a.input.now a.at.bytes) c.headed-f.result) = c.headed-f.ensures.heads c.if-f-ne0.false in
     let list-in : c.headed-f.result.list.bytes ≤ length c.args.input.now = let a = c.args in
     omega (arith, found_in a.input.now a.at.bytes _ _ (heads), heads.headed.parts.list-is) in
-   omega (arith, list-in)
+    omega (arith, list-in)
 
 pub slice_bounds-refused_with-start : goal.slice_bounds-refused_with-start
-slice_bounds-refused_with-start c = 
+slice_bounds-refused_with-start c =
     let heads : (let a = c.args in Heads a.input.now a.at.bytes (run a.input.now a.at.bytes) c.headed-f.result) = c.headed-f.ensures.heads c.if-f-ne0.false in
     let list-in : c.headed-f.result.list.bytes ≤ length c.args.input.now = let a = c.args in
     omega (arith, found_in a.input.now a.at.bytes _ _ (heads), heads.headed.parts.list-is) in
-   omega (arith, list-in)
+    omega (arith, list-in)

@@ -1,7 +1,6 @@
 use mir.Facts.{to_z-of_z}
 use mathlib.Core.Path.{refl, ◌∙◌}
 use lib.IntN.{pos}
-use Prim.Native.Nat.{◌-◌}
 use Rattle.rle_v2.proofs.Pass.{turn-first, turn-next, turn_last}
 use borrow.Author.Rules.{sfits_of}
 use native.Mathlib.Omega.{arith}

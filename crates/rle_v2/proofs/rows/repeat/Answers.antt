@@ -1,6 +1,6 @@
 use Rattle.rle_v2.proofs.Pass.{turn-first, turn-next, turn_last}
 use Rattle.format.specs.Rows.{plus, as_i64}
-use Prim.Native.Nat.{◌+◌, ◌-◌, ◌^◌, ◌<◌}
+use Prim.Native.Nat.{◌+◌, ◌^◌, ◌<◌}
 use native.Mathlib.Nat.{add-zero, mod-eq_of_lt}
 use lib.ListN.{length-set}
 use lib.IntN.{pos}

@@ -1,5 +1,4 @@
 use Rattle.rle_v2.proofs.Pass.{turn-first, turn-next, turn_last}
-use Prim.Native.Nat.{◌-◌}
 use lib.IntN.{pos}
 use mathlib.Core.Path.{◌∙◌}
 use mir.Facts.{to_z-of_z}
