@@ -16,6 +16,3 @@ put_word-end-requires-2 c = omega (arith, c.requires, ap (λ k. length (verdict 
 
 pub returns : goal.returns
 returns c = rw c.if-keep.false c.put_word-end-2.ensures
-
-pub shape_of-out-then-keep : goal.shape_of-out-then-keep
-shape_of-out-then-keep = put_word-end-requires
