@@ -1,6 +1,8 @@
 -- The code makes the definition's tests in the definition's order, and lays the three columns after all of them. Assumes nothing.
 use mathlib.Core.Path.{◌≡◌, sym, ap, ◌∙◌}
-use Prim.Native.Nat.{◌≤◌}
+use Prim.Native.Nat.{ℕ, ◌≤◌}
+use mathlib.Core.List.{List}
+use lib.IntN.{ℤ}
 use mathlib.Core.Bool.{true}
 use native.Mathlib.Omega.{arith}
 use lib.ListN.{length}
@@ -12,7 +14,6 @@ use Rattle.labels.proofs.ColumnOutcome.{too_few, enough-places, comes-18, comes-
 use Rattle.labels.proofs.ColumnWalk.{good-le}
 use Rattle.labels.proofs.ColumnOutcome.{leaves-row, lays_all}
 use Rattle.labels.proofs.label_column.Goals as goal
-use Rattle.labels.proofs.label_column.Tie as tie
 
 -- ---- 18, 19
 pub returns-then-not-add_up : goal.returns-then-not-add_up
@@ -34,24 +35,34 @@ returns-then-good-rows c =
     (c.refused_row.ensures ∙ ap (row_refused 19) c.good_rows-good.ensures)
 
 -- ---- 8: too few places, in any of the three
-few : (e : tie.Else2) (r : LabelColumn) → let s = entry (summed e) in let a = s.args in
-    (LabelRoom a.flags.now a.lengths.now (lent s) → ⊥) → r ≡ column_refused 8
-    → LabelledAll a.flags.now a.numbers.now a.lengths.now a.block.bytes (lent s) (lent s) r
-few e r n p =
-    let s = entry (summed e) in
-    let a = s.args in
-    leaves a.flags.now a.numbers.now a.lengths.now a.block.bytes (lent s) r 8
-    (comes-8 a.flags.now a.numbers.now a.lengths.now a.block.bytes (lent s) (adds e) (good e)
-    (too_few a.flags.now a.lengths.now (lent s) n)) p
+module _ (flags : List ℕ) (numbers lengths : List ℤ) (bytes : ℕ) (places : LabelPlaces) where
+  few : add_up_to lengths bytes ≡ true → length flags ≤ good_rows lengths flags numbers → (LabelRoom flags lengths places → ⊥) → (r : LabelColumn)
+      → r ≡ column_refused 8 → LabelledAll flags numbers lengths bytes places places r
+  few a g n r p = leaves flags numbers lengths bytes places r 8 (comes-8 flags numbers lengths bytes places a g (too_few flags lengths places n)) p
 
 pub returns-then-offsets-lengths : goal.returns-then-offsets-lengths
-returns-then-offsets-lengths c = few c _ (λ m. omega (arith, m.offsets, c.if-offsets-lengths.true)) c.refused-then-offsets-lengths.ensures
+returns-then-offsets-lengths c =
+    let a = c.args in
+    let places : LabelPlaces = record { offsets = a.offsets.now; starts = a.starts.now; sizes = a.sizes.now } in
+    few a.flags.now a.numbers.now a.lengths.now a.block.bytes places
+    (sym c.add_up.ensures ∙ c.if-not-add_up.false) (omega (arith, c.good_rows-good.ensures, c.if-good-rows.false))
+    (λ m. omega (arith, m.offsets, c.if-offsets-lengths.true)) _ c.refused-then-offsets-lengths.ensures
 
 pub returns-then-starts-rows : goal.returns-then-starts-rows
-returns-then-starts-rows c = few c _ (λ m. omega (arith, m.starts, c.if-starts-rows.true)) c.refused-then-starts-rows.ensures
+returns-then-starts-rows c =
+    let a = c.args in
+    let places : LabelPlaces = record { offsets = a.offsets.now; starts = a.starts.now; sizes = a.sizes.now } in
+    few a.flags.now a.numbers.now a.lengths.now a.block.bytes places
+    (sym c.add_up.ensures ∙ c.if-not-add_up.false) (omega (arith, c.good_rows-good.ensures, c.if-good-rows.false))
+    (λ m. omega (arith, m.starts, c.if-starts-rows.true)) _ c.refused-then-starts-rows.ensures
 
 pub returns-then-sizes-rows : goal.returns-then-sizes-rows
-returns-then-sizes-rows c = few c _ (λ m. omega (arith, m.sizes, c.if-sizes-rows.true)) c.refused-then-sizes-rows.ensures
+returns-then-sizes-rows c =
+    let a = c.args in
+    let places : LabelPlaces = record { offsets = a.offsets.now; starts = a.starts.now; sizes = a.sizes.now } in
+    few a.flags.now a.numbers.now a.lengths.now a.block.bytes places
+    (sym c.add_up.ensures ∙ c.if-not-add_up.false) (omega (arith, c.good_rows-good.ensures, c.if-good-rows.false))
+    (λ m. omega (arith, m.sizes, c.if-sizes-rows.true)) _ c.refused-then-sizes-rows.ensures
 
 -- ---- the columns
 pub put_offsets-requires : goal.put_offsets-requires

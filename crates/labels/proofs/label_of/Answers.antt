@@ -1,6 +1,5 @@
 -- The tests are the definition's, in its order: the row, the lengths, the flag, the entry. Assumes nothing.
-use mathlib.Core.Path.{sym, ap, ◌∙◌}
-use mathlib.Core.Bool.{not}
+use mathlib.Core.Path.{sym, ◌∙◌}
 use Rattle.labels.proofs.Columns.{no_row, not-added, without, with-name}
 use Rattle.labels.proofs.label_of.Goals as goal
 
@@ -9,11 +8,11 @@ returns-then-flags-i c = record { answer = c.refused.ensures ∙ sym (no_row _ _
 
 pub returns-then-not-add_up : goal.returns-then-not-add_up
 returns-then-not-add_up c =
-    record { answer = c.refused-then-not-add_up.ensures ∙ sym (not-added _ _ _ _ _ _ c.if-flags-i.false (ap not (sym c.add_up.ensures) ∙ c.if-not-add_up.true)) }
+    record { answer = c.refused-then-not-add_up.ensures ∙ sym (not-added _ _ _ _ _ _ c.if-flags-i.false (sym c.add_up.ensures ∙ c.if-not-add_up.true)) }
 
 pub returns-then-flags-i-eq0 : goal.returns-then-flags-i-eq0
 returns-then-flags-i-eq0 c =
-    record { answer = c.fallback.ensures ∙ sym (without _ _ _ _ _ _ c.if-flags-i.false (ap not (sym c.add_up.ensures) ∙ c.if-not-add_up.false) c.if-flags-i-eq0.true) }
+    record { answer = c.fallback.ensures ∙ sym (without _ _ _ _ _ _ c.if-flags-i.false (sym c.add_up.ensures ∙ c.if-not-add_up.false) c.if-flags-i-eq0.true) }
 
 pub named-requires : goal.named-requires
 named-requires c =
@@ -23,5 +22,5 @@ pub returns : goal.returns
 returns c =
     record {
       answer = c.named.ensures ∙ rw c.entry_of.ensures
-          (sym (with-name _ _ _ _ _ _ c.if-flags-i.false (ap not (sym c.add_up.ensures) ∙ c.if-not-add_up.false) c.if-flags-i-eq0.false));
+          (sym (with-name _ _ _ _ _ _ c.if-flags-i.false (sym c.add_up.ensures ∙ c.if-not-add_up.false) c.if-flags-i-eq0.false));
     }
