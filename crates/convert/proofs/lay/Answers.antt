@@ -1,4 +1,5 @@
 -- A run that has no room fills the output for good; any other stands after those that are laid. Assumes nothing.
+use Rattle.format.proofs.Common.{rules}
 use Rattle.convert.proofs.Lays.{lays-full, lays-over, lays_more}
 use Rattle.convert.proofs.lay.Goals as goal
 
@@ -16,4 +17,4 @@ pub returns : goal.returns
 returns c =
     let a = c.args in
     lays_more a.run.now a.n.bytes a.at a.room.bytes a.out.now c.requires.0 c.if-at.false c.if-all-filled.false c.requires.1 _ c.put.ensures
-    (shape_of-out c)
+    (search rules)
