@@ -30,6 +30,3 @@ pub returns : goal.returns
 returns c =
     let a = c.args in
     answered a.line.now a.out.now _ _ c.if-out-lt-ANSWER_ROOM.false (rw (text_of _ _ _ c.frame_of-size.ensures) at c.put_frame-written.ensures)
-
-pub shape_of-out : goal.shape_of-out
-shape_of-out = put_frame-written-requires

@@ -26,6 +26,3 @@ pub returns-in-Refused : goal.returns-in-Refused
 unfolding reply_text
 returns-in-Refused c =
     rw c.in-Refused.is (then-written (omega arith) c.put_word-at.ensures c.put_decimal-end.ensures)
-
-pub enum_known-answer-in-Refused-1 : goal.enum_known-answer-in-Refused-1
-enum_known-answer-in-Refused-1 = put_run-requires

@@ -68,6 +68,3 @@ returns c =
       c.put_decimal-at.auto.out,
     )) c.put-at.ensures c.put_decimal-at-2.ensures))
     c.put_rows-at.ensures
-
-pub shape_of-out : goal.shape_of-out
-shape_of-out = put_rows-at-requires
