@@ -13,8 +13,9 @@ copy-requires c =
     let part_bytes : AllBelow 256 c.args.part.now = below_all 256 c.args.part.now (λ i. (c.shared_slice_known-1.given i).fits) in
     let none-held : c.args.reader.held ≡ 0 = omega arith in
     let a = c.args in
-    kept-part a.reader (none-held) a.part.now a.buffer.now a.signed a.out.now _ _ _ (part_bytes) (omega arith) (omega arith)
-    c.read_first-a.ensures c.on_part-step.ensures
+    let kept = kept-part a.reader none-held a.part.now a.buffer.now a.signed a.out.now _ _ _ part_bytes (omega arith) (omega arith)
+        c.read_first-a.ensures c.on_part-step.ensures in
+    record { k_in_bounds = kept.0; k_in_bounds_2 = kept.1 }
 
 pub returns-then-h-eq0 : goal.returns-then-h-eq0
 returns-then-h-eq0 c =
@@ -32,8 +33,8 @@ returns c =
     let began : Begun a.reader a.part.now a.buffer.now c.least-h.result c.least-k.result
     = record {
       long = omega arith;
-      c = c.least-h.ensures;
-      c = omega arith;
+      held = c.least-h.ensures;
+      some = omega arith;
       seen = rw (← c.beyond-room.ensures) c.least-k.ensures;
     } in
     rw c.on_part.ensures

@@ -8,4 +8,4 @@ returns-in-None c = rw (c.new.ensures, c.in-None.is)
 
 pub returns-in-At : goal.returns-in-At
 unfolding field_from
-returns-in-At c = rw (c.cut.ensures, c.wrapping_add_usize-byte.ensures, c.in-At.is)
+returns-in-At c = rw (c.cut.ensures, c.wrapping_add_usize-byte.ensures.value, c.in-At.is)

@@ -2,4 +2,4 @@
 use Rattle.parts.proofs.steps.hand.Goals as goal
 
 pub returns : goal.returns
-returns c = rw c.wrapping_add_usize-next.ensures
+returns c = rw c.wrapping_add_usize-next.ensures.value
