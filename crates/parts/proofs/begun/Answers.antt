@@ -9,8 +9,8 @@ use Rattle.parts.proofs.begun.Goals as goal
 
 pub returns-then-is_cut : goal.returns-then-is_cut
 returns-then-is_cut c =
-    let part_bytes : AllBelow 256 c.args.part.now = below_all 256 c.args.part.now (λ i. (c.shared_slice_known-1.given i).fits) in
-    let buffer-bytes : AllBelow 256 c.args.buffer.now = below_all 256 c.args.buffer.now (λ i. (c.slice_known-1.given i).fits) in
+    let part_bytes : AllBelow 256 c.args.part.now = below_all 256 c.args.part.now (search rules) in
+    let buffer-bytes : AllBelow 256 c.args.buffer.now = below_all 256 c.args.buffer.now (search rules) in
     let it-began : Begun c.args.reader c.args.part.now c.args.buffer.now c.args.held.bytes c.args.more.bytes = search rules in
     let a = c.args in
     rw c.hold.ensures
@@ -20,8 +20,8 @@ returns-then-is_cut c =
 
 pub returns-then-buffer-ge3 : goal.returns-then-buffer-ge3
 returns-then-buffer-ge3 c =
-    let part_bytes : AllBelow 256 c.args.part.now = below_all 256 c.args.part.now (λ i. (c.shared_slice_known-1.given i).fits) in
-    let buffer-bytes : AllBelow 256 c.args.buffer.now = below_all 256 c.args.buffer.now (λ i. (c.slice_known-1.given i).fits) in
+    let part_bytes : AllBelow 256 c.args.part.now = below_all 256 c.args.part.now (search rules) in
+    let buffer-bytes : AllBelow 256 c.args.buffer.now = below_all 256 c.args.buffer.now (search rules) in
     let it-began : Begun c.args.reader c.args.part.now c.args.buffer.now c.args.held.bytes c.args.more.bytes = search rules in
     let a = c.args in
     let began = it-began in

@@ -1,5 +1,5 @@
 -- The closing call keeps its promise. Assumes nothing.
-use Rattle.std.proofs.Common.{arith, length-take}
+use Rattle.std.proofs.Common.{arith, length-take, rules}
 use Rattle.parts.proofs.Room.{no-places, no-lent, too-few-closes, closes-broken, closes-closed, closes-open}
 use Rattle.format.proofs.Below.{below_all}
 use Rattle.parts.proofs.close.Goals as goal
@@ -31,7 +31,7 @@ returns-in-Opened c =
     let a = c.args in
     rw c.on_close.ensures
     (closes-open a.reader a.buffer.now a.signed a.out.now (omega arith) (omega arith) _ _ _
-    (below_all 256 a.buffer.now (λ i. (c.shared_slice_known-1.given i).fits)) c.least-h.ensures c.in-Opened.is c.read_run-a.ensures)
+    (below_all 256 a.buffer.now (search rules)) c.least-h.ensures c.in-Opened.is c.read_run-a.ensures)
 
 pub slice_bounds-read_run-end : goal.slice_bounds-read_run-end
 slice_bounds-read_run-end c = rw length-take (omega arith)

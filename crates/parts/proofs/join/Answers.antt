@@ -8,8 +8,8 @@ use Rattle.parts.proofs.join.Goals as goal
 
 pub returns : goal.returns
 returns c =
-    let part_bytes : AllBelow 256 c.args.part.now = below_all 256 c.args.part.now (λ i. (c.shared_slice_known-1.given i).fits) in
-    let buffer-bytes : AllBelow 256 c.args.buffer.now = below_all 256 c.args.buffer.now (λ i. (c.slice_known-1.given i).fits) in
+    let part_bytes : AllBelow 256 c.args.part.now = below_all 256 c.args.part.now (search rules) in
+    let buffer-bytes : AllBelow 256 c.args.buffer.now = below_all 256 c.args.buffer.now (search rules) in
     let it-began : Begun c.args.reader c.args.part.now c.args.buffer.now c.args.held.bytes c.args.more.bytes = search rules in
     let a = c.args in
     rw c.on_part.ensures

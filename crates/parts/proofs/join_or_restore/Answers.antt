@@ -8,8 +8,8 @@ use Rattle.parts.proofs.join_or_restore.Goals as goal
 
 pub copy-requires-then-is_refused : goal.copy-requires-then-is_refused
 copy-requires-then-is_refused c =
-    let part_bytes : AllBelow 256 c.args.part.now = below_all 256 c.args.part.now (λ i. (c.shared_slice_known-1.given i).fits) in
-    let buffer-bytes : AllBelow 256 c.args.buffer.now = below_all 256 c.args.buffer.now (λ i. (c.slice_known-1.given i).fits) in
+    let part_bytes : AllBelow 256 c.args.part.now = below_all 256 c.args.part.now (search rules) in
+    let buffer-bytes : AllBelow 256 c.args.buffer.now = below_all 256 c.args.buffer.now (search rules) in
     let it-began : Begun c.args.reader c.args.part.now c.args.buffer.now c.args.held.bytes c.args.more.bytes = search rules in
     let a = c.args in record { k_in_bounds = omega arith; k_in_bounds_2 = joined-long a.reader a.part.now a.buffer.now _ a.held.bytes a.more.bytes (it-began) (buffer-bytes)
           (part_bytes) a.signed
@@ -17,8 +17,8 @@ copy-requires-then-is_refused c =
 
 pub returns-then-is_refused : goal.returns-then-is_refused
 returns-then-is_refused c =
-    let part_bytes : AllBelow 256 c.args.part.now = below_all 256 c.args.part.now (λ i. (c.shared_slice_known-1.given i).fits) in
-    let buffer-bytes : AllBelow 256 c.args.buffer.now = below_all 256 c.args.buffer.now (λ i. (c.slice_known-1.given i).fits) in
+    let part_bytes : AllBelow 256 c.args.part.now = below_all 256 c.args.part.now (search rules) in
+    let buffer-bytes : AllBelow 256 c.args.buffer.now = below_all 256 c.args.buffer.now (search rules) in
     let it-began : Begun c.args.reader c.args.part.now c.args.buffer.now c.args.held.bytes c.args.more.bytes = search rules in
     let a = c.args in
     put_back a.reader a.part.now a.buffer.now _ a.held.bytes a.more.bytes (it-began) (buffer-bytes)
@@ -28,8 +28,8 @@ returns-then-is_refused c =
 
 pub returns-else-is_refused : goal.returns-else-is_refused
 returns-else-is_refused c =
-    let part_bytes : AllBelow 256 c.args.part.now = below_all 256 c.args.part.now (λ i. (c.shared_slice_known-1.given i).fits) in
-    let buffer-bytes : AllBelow 256 c.args.buffer.now = below_all 256 c.args.buffer.now (λ i. (c.slice_known-1.given i).fits) in
+    let part_bytes : AllBelow 256 c.args.part.now = below_all 256 c.args.part.now (search rules) in
+    let buffer-bytes : AllBelow 256 c.args.buffer.now = below_all 256 c.args.buffer.now (search rules) in
     let it-began : Begun c.args.reader c.args.part.now c.args.buffer.now c.args.held.bytes c.args.more.bytes = search rules in
     let a = c.args in
     stays-unless a.reader a.part.now a.buffer.now _ a.held.bytes a.more.bytes (it-began) (buffer-bytes)

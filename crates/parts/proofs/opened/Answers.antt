@@ -1,5 +1,5 @@
 -- A call with a part of an open reader: the run is read from the part, or after the bytes held. Assumes nothing.
-use Rattle.std.proofs.Common.{◌≡◌, arith, length-take}
+use Rattle.std.proofs.Common.{◌≡◌, arith, length-take, rules}
 use Rattle.format.specs.Digits.{AllBelow}
 use Rattle.format.proofs.Below.{below_all}
 use Rattle.parts.specs.Steps.{Begun}
@@ -10,7 +10,7 @@ use Rattle.parts.proofs.opened.Goals as goal
 
 pub copy-requires : goal.copy-requires
 copy-requires c =
-    let part_bytes : AllBelow 256 c.args.part.now = below_all 256 c.args.part.now (λ i. (c.shared_slice_known-1.given i).fits) in
+    let part_bytes : AllBelow 256 c.args.part.now = below_all 256 c.args.part.now (search rules) in
     let none-held : c.args.reader.held ≡ 0 = omega arith in
     let a = c.args in
     let kept = kept-part a.reader none-held a.part.now a.buffer.now a.signed a.out.now _ _ _ part_bytes (omega arith) (omega arith)
@@ -19,7 +19,7 @@ copy-requires c =
 
 pub returns-then-h-eq0 : goal.returns-then-h-eq0
 returns-then-h-eq0 c =
-    let part_bytes : AllBelow 256 c.args.part.now = below_all 256 c.args.part.now (λ i. (c.shared_slice_known-1.given i).fits) in
+    let part_bytes : AllBelow 256 c.args.part.now = below_all 256 c.args.part.now (search rules) in
     let none-held : c.args.reader.held ≡ 0 = omega arith in
     let a = c.args in
     from-part a.reader (none-held) a.part.now a.buffer.now a.signed a.out.now _ _ _ (part_bytes) (omega arith) (omega arith)
@@ -27,8 +27,8 @@ returns-then-h-eq0 c =
 
 pub returns : goal.returns
 returns c =
-    let part_bytes : AllBelow 256 c.args.part.now = below_all 256 c.args.part.now (λ i. (c.shared_slice_known-1.given i).fits) in
-    let buffer-bytes : AllBelow 256 c.args.buffer.now = below_all 256 c.args.buffer.now (λ i. (c.slice_known-1.given i).fits) in
+    let part_bytes : AllBelow 256 c.args.part.now = below_all 256 c.args.part.now (search rules) in
+    let buffer-bytes : AllBelow 256 c.args.buffer.now = below_all 256 c.args.buffer.now (search rules) in
     let a = c.args in
     let began : Begun a.reader a.part.now a.buffer.now c.least-h.result c.least-k.result
     = record {
