@@ -35,10 +35,9 @@ walk-c-requires c =
 pub returns-else-is_longer : goal.returns-else-is_longer
 returns-else-is_longer c =
     let a = c.args in
-    let given = c.c-1.given in
     kept (proposes a.signed a.rows.now
     (proposal a.first.now a.counts.now a.forms.now a.widths.now a.bases.now) a.k c.requires
-    given.0.0 18446744073709551615 (sym given.1 ∙ c.walk-c.ensures) (sym c.is_longer.ensures ∙ c.if-is_longer.false))
+    c.in-Accepted.t 18446744073709551615 c.in-Accepted.ensures (sym c.is_longer.ensures ∙ c.if-is_longer.false))
 
 pub returns-then-is_longer : goal.returns-then-is_longer
 returns-then-is_longer c = dropped

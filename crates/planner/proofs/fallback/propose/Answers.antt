@@ -20,10 +20,10 @@ lay-requires c =
 pub returns : goal.returns
 returns c =
     let a = c.args in
-    let last = c.lay.new.1.1 in
-    let kept = c.lay.auto.1.1 in
+    let last = c.lay.new in
+    let kept = c.lay.auto in
     let c₀ = proposal a.first.now a.counts.now a.forms.now a.widths.now a.bases.now in
-    let c₁ = proposal last.0 last.1.0 last.1.1.0 last.1.1.1.0 last.1.1.1.1.0 in
+    let c₁ = proposal last.first last.counts last.forms last.widths last.bases in
     let p = all-places c.runs_of-runs.result c₀ (sym c.have_places.ensures ∙ c.if-not-have_places.false) in
-    let q = same-places c₀ c₁ c.runs_of-runs.result p kept.0 kept.1.0 kept.1.1.0 kept.1.1.1.0 kept.1.1.1.1.0 in
+    let q = same-places c₀ c₁ c.runs_of-runs.result p kept.first kept.counts kept.forms kept.widths kept.bases in
     λ signed. laid (direct-sound signed a.rows.now c₁ c.runs_of-runs.result c.know.ensures c.runs_of-runs.ensures q c.lay.ensures)
