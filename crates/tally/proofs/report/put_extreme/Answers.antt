@@ -23,7 +23,7 @@ pub returns-in-None : goal.returns-in-None
 unfolding extreme_line extreme_text
 returns-in-None c =
     let t = then-written (omega arith) (then-written (omega arith) c.put_word-place.ensures c.put_word-next.ensures) c.put.ensures in
-    rw c.in-None.is (t, omega (arith, t.next, extreme-length c.args.word.now None))
+    rw c.in-None.is (record { text_written = t; upper_bound = omega (arith, t.next, extreme-length c.args.word.now None) })
 
 pub returns-in-Row : goal.returns-in-Row
 unfolding extreme_line extreme_text
@@ -31,10 +31,4 @@ returns-in-Row c =
     let z : ℤ = c.in-Row.row in
     let f : SFits w64 z = sfits_of c.in-Row.known_told-1-own.given.0.1 in
     let t = then-written (omega arith) (then-written (omega arith) c.put_word-place.ensures (rw (to_z-of_z {w = w64} f) at c.put_rows-next.ensures)) c.put-in-Row.ensures in
-    rw c.in-Row.is (t, omega (arith, t.next, extreme-length c.args.word.now (Row z)))
-
-pub shape_of-out-in-None : goal.shape_of-out-in-None
-shape_of-out-in-None = put-requires-in-Row
-
-pub shape_of-out-in-Row : goal.shape_of-out-in-Row
-shape_of-out-in-Row = returns-in-None
+    rw c.in-Row.is (record { text_written = t; upper_bound = omega (arith, t.next, extreme-length c.args.word.now (Row z)) })

@@ -60,6 +60,3 @@ returns c =
     (then-written (omega arith) (then-written (omega arith) c.put_word-place.ensures c.put_decimal-place.ensures) c.put-place.ensures)
     c.put_decimal-place-2.ensures) c.put.ensures in
     record { text_written = w; upper_bound = omega (arith, w.next, refusal-length c.args.number c.args.count) }
-
-pub shape_of-out : goal.shape_of-out
-shape_of-out = put-requires

@@ -16,7 +16,7 @@ loop-i-preserved c =
 pub returns : goal.returns
 returns c =
     let l = c.loop-i in
-    l.invariant.1.sum_is_lem ∙ ap (λ s. wide_of (sum_of s)) (take_all l.i c.args.rows.now (omega arith))
+    l.invariant.1.sum_is ∙ ap (λ s. wide_of (sum_of s)) (take_all l.i c.args.rows.now (omega arith))
 
 pub loop-i-init : goal.loop-i-init
 loop-i-init c = (omega arith, summed-none _)

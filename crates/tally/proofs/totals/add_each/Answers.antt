@@ -14,7 +14,7 @@ by xs ys i h = go (dec_le (length xs) i)
 pub loop-i-preserved : goal.loop-i-preserved
 loop-i-preserved c =
     let l = c.loop-i in
-    (omega arith, simp length-set l.invariant.1, rw c.wrapping_add_u64.ensures (each_more l.counts _ l.i (omega arith) (omega arith) ∙ l.invariant.2))
+    (omega arith, simp length-set l.invariant.1, rw c.wrapping_add_u64.ensures.value (each_more l.counts _ l.i (omega arith) (omega arith) ∙ l.invariant.2))
 
 pub returns : goal.returns
 returns c =

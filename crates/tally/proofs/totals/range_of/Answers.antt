@@ -29,9 +29,8 @@ loop-i-preserved c =
     let rows = c.args.rows.now in
     let z : ℤ = get_or rows l.i (pos 0) in
     let f : SFits w64 z = sfits_of c.lower_row-arg-1.given in
-    let low : c.lower_row-smallest.result ≡ lower (to_z w64 l.smallest) z =
-    c.lower_row-smallest.ensures ∙ ap (lower (to_z w64 l.smallest)) (taken-row z f) in
-    let high : c.higher_row-largest.result ≡ higher (to_z w64 l.largest) z = c.higher_row-largest.ensures ∙ ap (higher (to_z w64 l.largest)) (taken-row z f) in
+    let low = c.lower_row-smallest.ensures ∙ ap (lower _) (taken-row z f) in
+    let high = c.higher_row-largest.ensures ∙ ap (higher _) (taken-row z f) in
     let h : l.i < length rows = omega arith in (
       omega arith,
       more-row _ lower lowers rows l.i _ h l.invariant.1 ∙ ap Row (sym (taken-row _ (sfits_of c.lower_row-smallest.type_inv) ∙ low)),
