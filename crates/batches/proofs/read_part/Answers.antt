@@ -15,7 +15,7 @@ returns-then-room-left c =
 
 pub overflow_add-end : goal.overflow_add-end
 overflow_add-end c =
-    omega (arith, end_fits c.requires c.read.ensures c.in-Read.is (omega (arith, c.good)))
+    omega (arith, end_fits c.requires c.read.ensures c.in-Read.is (omega arith))
 
 pub returns-else-room-left : goal.returns-else-room-left
 returns-else-room-left c =

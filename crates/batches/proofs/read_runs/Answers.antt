@@ -28,7 +28,7 @@ overflow_add-k c =
     RunRead a.input.now l.p a.signed (drop l.k l.out) c.read_run-a.new.out c.read_run-a.result) = let l = c.loop-k in rw (rest-is l.out l.k) at c.read_run-a.ensures in
     let there : TurnAt c.read_run-a.result = turn_is c.loop-k.invariant (given) (bytes) in
     let ran-is : TurnAt (answer.Run c.in-Run.r) = subst (TurnAt) c.in-Run.is (there) in
-    omega (arith, ran-is.ranges, ran-is.ran.rows_are, c.loop-k.invariant.few)
+    omega (arith, ran-is.fits, ran-is.ran.rows_are, c.loop-k.invariant.few)
 
 pub overflow_add-p : goal.overflow_add-p
 overflow_add-p c =
@@ -93,7 +93,7 @@ after-requires c =
     c.read_part-last.result) = let l = c.loop-k in
     rw (refused-same, rest-is l.out l.k) at c.read_part-last.ensures in
     let few = cut-few c.loop-k.invariant (refused-is.cut (omega arith)) (part-is) in
-    omega (arith, few, c.loop-k.invariant.long, c.good)
+    omega (arith, few, c.loop-k.invariant.long)
 
 pub shape_of-out-then-f-eq8 : goal.shape_of-out-then-f-eq8
 shape_of-out-then-f-eq8 c =

@@ -24,28 +24,27 @@ returns-then-n-out c =
 pub offset_bounds-out-n : goal.offset_bounds-out-n
 offset_bounds-out-n c =
     let bytes : AllBelow 256 c.args.input.now =     below_all 256 c.args.input.now (λ i. (c.shared_slice_known-1.given i).fits) in
-    let unfilled :  c.read_part-first.result.rows.rows ≢ length c.args.out.now =  λ e. omega (arith, e, c.read_part-first.kept.1.1.1.0) in
+    let unfilled :  c.read_part-first.result.rows.rows ≢ length c.args.out.now =  λ e. omega (arith, e, c.read_part-first.auto.out) in
     let some :  c.read_part-first.result.rows.rows ≤ length c.read_part-first.new.out =  some_left (bytes) c.requires c.read_part-first.ensures (unfilled) in
-    omega (arith, some, c.read_part-first.kept.1.1.1.0, c.good)
+    omega (arith, some, c.read_part-first.auto.out)
 
 pub after-requires : goal.after-requires
 after-requires c =
     let bytes : AllBelow 256 c.args.input.now =     below_all 256 c.args.input.now (λ i. (c.shared_slice_known-1.given i).fits) in
-    let unfilled :  c.read_part-first.result.rows.rows ≢ length c.args.out.now =  λ e. omega (arith, e, c.read_part-first.kept.1.1.1.0) in
+    let unfilled :  c.read_part-first.result.rows.rows ≢ length c.args.out.now =  λ e. omega (arith, e, c.read_part-first.auto.out) in
     let rest : ( let a = c.args in
     BatchFrom a.input.now (position c.read_part-first.result.next.run.bytes 0) a.signed
     (drop c.read_part-first.result.rows.rows c.read_part-first.new.out) c.read_runs-rest.new.out c.read_runs-rest.result) =     rw (rest-is c.read_part-first.new.out c.read_part-first.result.rows.rows) at c.read_runs-rest.ensures in
     omega (
       arith,
       rest-few (bytes) c.requires c.read_part-first.ensures (unfilled) (rest),
-      c.read_part-first.kept.1.1.1.0,
-      c.good,
+      c.read_part-first.auto.out,
     )
 
 pub returns : goal.returns
 returns c =
     let bytes : AllBelow 256 c.args.input.now =     below_all 256 c.args.input.now (λ i. (c.shared_slice_known-1.given i).fits) in
-    let unfilled :  c.read_part-first.result.rows.rows ≢ length c.args.out.now =  λ e. omega (arith, e, c.read_part-first.kept.1.1.1.0) in
+    let unfilled :  c.read_part-first.result.rows.rows ≢ length c.args.out.now =  λ e. omega (arith, e, c.read_part-first.auto.out) in
     let rest : ( let a = c.args in
     BatchFrom a.input.now (position c.read_part-first.result.next.run.bytes 0) a.signed
     (drop c.read_part-first.result.rows.rows c.read_part-first.new.out) c.read_runs-rest.new.out c.read_runs-rest.result) =     rw (rest-is c.read_part-first.new.out c.read_part-first.result.rows.rows) at c.read_runs-rest.ensures in
@@ -54,13 +53,13 @@ returns c =
 pub slice_bounds-read_runs-count : goal.slice_bounds-read_runs-count
 slice_bounds-read_runs-count c = 
     let bytes : AllBelow 256 c.args.input.now =     below_all 256 c.args.input.now (λ i. (c.shared_slice_known-1.given i).fits) in
-    let unfilled :  c.read_part-first.result.rows.rows ≢ length c.args.out.now =  λ e. omega (arith, e, c.read_part-first.kept.1.1.1.0) in
+    let unfilled :  c.read_part-first.result.rows.rows ≢ length c.args.out.now =  λ e. omega (arith, e, c.read_part-first.auto.out) in
     let some :  c.read_part-first.result.rows.rows ≤ length c.read_part-first.new.out =  some_left (bytes) c.requires c.read_part-first.ensures (unfilled) in
    omega (arith, some)
 
 pub slice_bounds-read_runs-start : goal.slice_bounds-read_runs-start
 slice_bounds-read_runs-start c = 
     let bytes : AllBelow 256 c.args.input.now =     below_all 256 c.args.input.now (λ i. (c.shared_slice_known-1.given i).fits) in
-    let unfilled :  c.read_part-first.result.rows.rows ≢ length c.args.out.now =  λ e. omega (arith, e, c.read_part-first.kept.1.1.1.0) in
+    let unfilled :  c.read_part-first.result.rows.rows ≢ length c.args.out.now =  λ e. omega (arith, e, c.read_part-first.auto.out) in
     let some :  c.read_part-first.result.rows.rows ≤ length c.read_part-first.new.out =  some_left (bytes) c.requires c.read_part-first.ensures (unfilled) in
    omega (arith, some)

@@ -62,7 +62,7 @@ returns-in-End c =
 -- ---- no row is left to skip
 pub returns : goal.returns
 returns c =
-    let e : c.loop-left-test.false ≡ 0 = omega arith in
+    let e : c.loop-left.left ≡ 0 = omega arith in
     rw e at c.loop-left.invariant
 
 pub loop-left-init : goal.loop-left-init
