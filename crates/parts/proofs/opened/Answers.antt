@@ -14,7 +14,7 @@ copy-requires c =
     let none-held : c.args.reader.held ≡ 0 = omega arith in
     let a = c.args in
     let kept = kept-part a.reader none-held a.part.now a.buffer.now a.signed a.out.now _ _ _ part_bytes (omega arith) (omega arith)
-        c.read_first-a.ensures c.on_part-step.ensures in
+    c.read_first-a.ensures c.on_part-step.ensures in
     record { k_in_bounds = kept.0; k_in_bounds_2 = kept.1 }
 
 pub returns-then-h-eq0 : goal.returns-then-h-eq0
