@@ -101,7 +101,9 @@ returns c =
     let to7 = then-written (omega arith) to6 c.put_refusal-place-7.ensures.text_written in
     let to8 = then-written (omega arith) to7 c.put_refusal-place-8.ensures.text_written in
     let to9 = then-written (omega arith) to8 c.put_refusal-place-9.ensures.text_written in
-    let to10 = then-written (omega arith) to9 c.put_refusal.ensures.text_written in record { text_written = to10; upper_bound = omega (
+    let to10 = then-written (omega arith) to9 c.put_refusal.ensures.text_written in record {
+      text_written = to10;
+      upper_bound = omega (
         arith,
         c.put_refusal-place.ensures.upper_bound,
         c.put_refusal-place.auto.out,
@@ -123,4 +125,5 @@ returns c =
         c.put_refusal-place-9.auto.out,
         c.put_refusal.ensures.upper_bound,
         c.put_refusal.auto.out,
-      ) }
+      );
+    }

@@ -7,6 +7,9 @@ use Rattle.tally.proofs.report.put_runs.Goals as goal
 pub returns : goal.returns
 unfolding runs_text
 returns c =
- record { text_written = then-written (omega arith) (then-written (omega arith)
+    record {
+      text_written = then-written (omega arith) (then-written (omega arith)
           (then-written (omega arith) (then-written (omega arith) c.put_count-place.ensures.text_written c.put_count-place-2.ensures.text_written) c.put_count-place-3.ensures.text_written)
-          c.put_count-place-4.ensures.text_written) c.put_count.ensures.text_written; upper_bound = omega arith }
+          c.put_count-place-4.ensures.text_written) c.put_count.ensures.text_written;
+      upper_bound = omega arith;
+    }

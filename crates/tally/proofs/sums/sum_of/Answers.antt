@@ -1,4 +1,4 @@
-use Rattle.std.proofs.Common.{◌-◌, get_or, ℤ, pos, ap, ◌∙◌, arith, take_all, w64, SFits}
+use Rattle.std.proofs.Common.{get_or, ℤ, pos, ap, ◌∙◌, arith, take_all, w64, SFits}
 use borrow.Author.Rules.{sfits_of}
 use Rattle.tally.specs.Wide.{wide_of}
 use Rattle.tally.specs.Totals.{sum_of}

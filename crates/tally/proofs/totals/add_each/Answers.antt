@@ -1,4 +1,4 @@
-use Rattle.std.proofs.Common.{◌≡◌, ℕ, ◌-◌, ◌≤◌, min, List, ◌++◌, length, take, drop, refl, ◌∙◌, arith, length-set}
+use Rattle.std.proofs.Common.{◌≡◌, ℕ, ◌≤◌, min, List, ◌++◌, length, take, drop, refl, ◌∙◌, arith, length-set}
 use native.Mathlib.Decide.{dec_le}
 use Rattle.tally.specs.Held.{each_plus}
 use Rattle.tally.proofs.Held.{each_more, each_all, each_left}

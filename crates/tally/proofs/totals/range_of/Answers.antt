@@ -1,4 +1,4 @@
-use Rattle.std.proofs.Common.{◌≡◌, ◌-◌, ◌<◌, List, [], ◌∷◌, length, get_or, ℤ, pos, sym, refl, ap, ◌∙◌, arith, take_all, w64, SFits, to_z}
+use Rattle.std.proofs.Common.{◌≡◌, ◌<◌, List, [], ◌∷◌, length, get_or, ℤ, pos, sym, refl, ap, ◌∙◌, arith, take_all, w64, SFits}
 use borrow.Author.Rules.{sfits_of}
 use Rattle.tally.specs.declared.totals.Extreme.TheVariants.{Row}
 use Rattle.tally.specs.Totals.{lower, higher, of_all}
