@@ -4,7 +4,7 @@
 
 pub mod reading;
 
-ghost use Rattle.std.specs.Prelude.{◌≡◌, ◌≢◌, ◌+◌, ◌≤◌, min, length, drop, replicate, None, IfSome, pos};
+ghost use Rattle.std.specs.Prelude.{◌≡◌, ◌≢◌, ◌+◌, ◌^◌, ◌<◌, ◌≤◌, min, length, drop, replicate, None, IfSome, IfOk, IfErr, OnErr, pos, negsuc};
 ghost use Rattle.std.specs.IoError.{error_kind, raw_os_error};
 ghost use Rattle.blocks.specs.Blocks.{line_length, part, Kept, came, Came, not_ready};
 
@@ -95,21 +95,32 @@ fn error_number(error: &io::Error) -> i32
     }
 }
 
+// What a read of std's answered, as the system says it.
+fn answer_to(asked: &io::Result<usize>) -> Answer
+    requires { IfOk asked.now (λ n. n < 2 ^ 63) }
+    ensures came { IfOk asked.now (λ n. (result.got ≡ pos n) × (result.error ≡ pos 0)) }
+    ensures failed { OnErr asked.now (result.got ≡ negsuc 0) }
+    ensures os { IfErr asked.now (λ e. IfSome (raw_os_error e) (λ n. result.error ≡ n)) }
+{
+    match asked {
+        Ok(n) => Answer {
+            got: *n as isize,
+            error: 0,
+        },
+        Err(e) => Answer {
+            got: -1,
+            error: error_number(e),
+        },
+    }
+}
+
 // One read into the places. The system never says that more came than there was room for.
 fn read_into(rt: &impl Input, places: &mut [u8]) -> Answer
     ensures { came result.got ≤ length places.new }
 {
     let mut reader = rt.reader();
-    match reader.read(places) {
-        Ok(n) => Answer {
-            got: n as isize,
-            error: 0,
-        },
-        Err(e) => Answer {
-            got: -1,
-            error: error_number(&e),
-        },
-    }
+    let asked = reader.read(places);
+    answer_to(&asked)
 }
 
 // How many of the places hold what came: none where reading failed, and never more than there are.

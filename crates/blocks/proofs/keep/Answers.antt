@@ -1,4 +1,4 @@
-use Rattle.std.proofs.Common.{◌≡◌, ◌+◌, ◌-◌, ◌<◌, length, refl, ◌∙◌, arith, length-set}
+use Rattle.std.proofs.Common.{◌≡◌, ◌+◌, ◌<◌, length, refl, ◌∙◌, arith, length-set}
 use Rattle.util.proofs.Grow.{kept as unmoved}
 use Rattle.blocks.proofs.Moves.{moved_front, kept-count, kept-front}
 use Rattle.blocks.proofs.keep.Goals as goal
