@@ -15,6 +15,9 @@ use util::number;
 // As many characters of a line as show that it is over 8,800.
 pub const MAX_HELD: usize = 8801;
 
+// Where a line ends.
+const NEWLINE: u8 = b'\n';
+
 // How much is read at once.
 const BLOCK: usize = 65536;
 
@@ -55,7 +58,7 @@ pub fn line_end(input: &[u8], at: usize) -> usize
 {
     let mut i = at;
     while i < input.len() {
-        if input[i] == b'\n' {
+        if input[i] == NEWLINE {
             return i;
         }
         i += 1;
@@ -83,7 +86,9 @@ fn error_number(error: &io::Error) -> i32
     ensures os { IfSome (raw_os_error error.now) (λ n. result ≡ n) }
     ensures broken_off { raw_os_error error.now ≡ None → error_kind error.now ≡ ErrorKind.Interrupted → result ≡ pos 4 }
     ensures nothing_ready { raw_os_error error.now ≡ None → error_kind error.now ≡ ErrorKind.WouldBlock → result ≡ pos 11 }
-    ensures failed { raw_os_error error.now ≡ None → error_kind error.now ≢ ErrorKind.Interrupted → error_kind error.now ≢ ErrorKind.WouldBlock → result ≡ pos 5 }
+    ensures failed { raw_os_error error.now ≡ None
+        → error_kind error.now ≢ ErrorKind.Interrupted → error_kind error.now ≢ ErrorKind.WouldBlock
+        → result ≡ pos 5 }
 {
     if let Some(number) = error.raw_os_error() {
         return number;

@@ -2,17 +2,17 @@ use Rattle.std.proofs.Common.{drop, refl, arith, length-drop}
 use Rattle.blocks.proofs.Lines.{line-le, newline-here, newline-later}
 use Rattle.blocks.proofs.line_end.Goals as goal
 
-pub returns-then-input-i-eq10 : goal.returns-then-input-i-eq10
-returns-then-input-i-eq10 c =
+pub returns-then-input-i-eq-NEWLINE : goal.returns-then-input-i-eq-NEWLINE
+returns-then-input-i-eq-NEWLINE c =
     let l = c.loop-i in
     let a = c.args in
-    omega (arith, l.invariant, newline-here a.input.now l.i (omega arith) c.if-input-i-eq10.true)
+    omega (arith, l.invariant, newline-here a.input.now l.i (omega arith) c.if-input-i-eq-NEWLINE.true)
 
 pub loop-i-preserved : goal.loop-i-preserved
 loop-i-preserved c =
     let l = c.loop-i in
     let a = c.args in
-    omega (arith, l.invariant, newline-later a.input.now l.i (omega arith) c.if-input-i-eq10.false)
+    omega (arith, l.invariant, newline-later a.input.now l.i (omega arith) c.if-input-i-eq-NEWLINE.false)
 
 pub returns : goal.returns
 returns c =
