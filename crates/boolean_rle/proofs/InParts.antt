@@ -55,7 +55,7 @@ however-cut {P = P} read parts p (n ∷ ns) = sym (parts p n (total ns) ∙ go (
     go (missing r) again = refl
 
 pub bytes-however-cut : (s : List ℕ) → AllBelow 256 s → HoweverCut λ p n. bytes_from p n s
-bytes-however-cut s b = however-cut _ (bytes-in-parts s b)
+bytes-however-cut s b = however-cut (λ p n. bytes_from p n s) (bytes-in-parts s b)
 
 pub flags-however-cut : (s : List ℕ) → AllBelow 256 s → HoweverCut λ p n. flags_from p n s
-flags-however-cut s b = however-cut _ (flags-in-parts s b)
+flags-however-cut s b = however-cut (λ p n. flags_from p n s) (flags-in-parts s b)

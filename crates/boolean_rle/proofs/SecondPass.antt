@@ -9,7 +9,7 @@ use lib.ListN.{length, take, drop, length-drop, length-append}
 use lib.Seq.{drop-drop, drop_at, drop-nil, take-append-le}
 use borrow.Author.Tests.{lt-ltb, le-ltb}
 use Rattle.format.specs.Fields.{bytes_for}
-use Rattle.format.specs.Parse.{Parsed, end, got, refused, cut}
+use Rattle.format.specs.Parse.{Parsed, end, got, refused, plain, cut}
 use Rattle.format.specs.Answers.{ran, refused_at, cut_at}
 use Rattle.format.specs.declared.Kind.TheVariants.{Booleans}
 use Rattle.format.specs.Booleans.{ByteRun, run_bytes, joined_runs, joined_bytes, bits, booleans_of, byte_run, booleans, booleans_into, BooleansRead}
@@ -115,7 +115,9 @@ module _ (input : List ℕ) (at n : ℕ) (out : List ℕ) where
     where
       go : (m : Parsed (List ByteRun)) → booleans n (drop at input) ≡ m → OnlyCut m → span_of (length input) m ≡ span.Cut r q
           → BooleansRead input at n out out (cut_at r at (max at q))
+      go end f o e = elim o [ ]
       go (got ds rest) f o e = never (cc)
+      go (refused (plain n)) f o e = elim o [ ]
       go (refused (cut k left)) f o e =
           let z : max at (length input - left) ≡ at + (length input - at - left) = omega arith in
           let i : k ≡ r = cc in

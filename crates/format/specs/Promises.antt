@@ -67,8 +67,8 @@ RunMeasured input at r = r ≡ answer_of at (length input - at) (parse (drop at 
 
 -- the last of some runs, or what is given if there are none
 abbrev pub last_or : LastRun → List Description → LastRun
-last_or none [] = none
-last_or none (d ∷ ds) = last_or (last.Run (run_of d)) ds
+last_or before [] = before
+last_or before (d ∷ ds) = last_or (last.Run (run_of d)) ds
 
 abbrev pub last_of : List Description → LastRun
 last_of ds = last_or last.None ds

@@ -53,7 +53,7 @@ total-cons d ds = refl
 pub entries-length : (f a : ℕ) (ds : List Description) → length (entries_from f a ds) ≡ length ds
 unfolding entries_from
 entries-length f a [] = refl
-entries-length f a (d ∷ ds) = ap suc (entries-length _ _ ds)
+entries-length f a (d ∷ ds) = ap suc (entries-length (f + row_count d) (a + length (layout d)) ds)
 
 pub entries-append : (f a : ℕ) (ds es : List Description)
     → entries_from f a (ds ++ es) ≡ entries_from f a ds ++ entries_from (f + total_rows ds) (a + length (joined ds)) es

@@ -18,8 +18,8 @@ use Rattle.index.specs.Entries.{Result, gives, refuses, Entry, entries_from, hol
 use Rattle.index.specs.Theorems.{Holds}
 use Rattle.format.proofs.Tests.{never, and-e, and_i}
 
-holds_row : (e : Entry) (r : ℕ) → Holds e r → T (holds_row e r)
-holds_row e r h = and_i (leb e.first r) (ltb r (e.first + e.rows)) (le→leb e.first r h.from) (lt→ltb r (e.first + e.rows) h.below)
+holds_row_lem : (e : Entry) (r : ℕ) → Holds e r → T (holds_row e r)
+holds_row_lem e r h = and_i (leb e.first r) (ltb r (e.first + e.rows)) (le→leb e.first r h.from) (lt→ltb r (e.first + e.rows) h.below)
 
 row-holds : (e : Entry) (r : ℕ) → T (holds_row e r) → Holds e r
 row-holds e r t =

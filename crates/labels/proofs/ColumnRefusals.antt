@@ -35,7 +35,7 @@ module _ (flags : List ℕ) (numbers lengths : List ℤ) (block : List ℕ) wher
   no-refusal false s z n k e = never (cc)
 
   pub every-18 : add_up lengths block ≡ false → (row : ℕ) → row < length flags → RowRefused flags numbers lengths block 18 row
-  every-18 a row h fall = not-added lengths numbers flags block fall row h (rw a)
+  every-18 a row h fall = not-added lengths numbers flags block fall row h a
 
   module _ (a : add_up lengths block ≡ true) where
     pub bad-19 : good_rows lengths flags numbers < length flags → RowRefused flags numbers lengths block 19 (good_rows lengths flags numbers)

@@ -139,11 +139,11 @@ module _ (lengths numbers : List ℤ) (flags block fall : List ℕ) (row : ℕ) 
   no_row h = rw (le-leb (length flags) row h)
 
   module _ (h : row < length flags) where
-    pub not-added : not (add_up lengths block) ≡ true → label lengths numbers flags block fall row ≡ refused_with 18
+    pub not-added : add_up lengths block ≡ false → label lengths numbers flags block fall row ≡ refused_with 18
     unfolding label
     not-added a = rw (lt-leb (length flags) row h, a)
 
-    module _ (a : not (add_up lengths block) ≡ false) where
+    module _ (a : add_up lengths block ≡ true) where
       pub without : get_or flags row 0 ≡ 0 → label lengths numbers flags block fall row ≡ fallback_of (length fall)
       unfolding label
       without n = rw (lt-leb (length flags) row h, a, eq-eqb (get_or flags row 0) 0 n)

@@ -30,7 +30,7 @@ use Rattle.rle_v2.specs.declared.patched_base.Parts.{Parts}
 use Rattle.rle_v2.specs.PatchedHead.{InRange, IsWidths, value_bytes, list_bytes, IsParts, cut_body, Passed, gone_by, IsFound, Heads, head_of, widths_of, parts_of, number_of, Ready}
 use Rattle.rle_v2.proofs.Blocks.{code-width, entry-width}
 use Rattle.rle_v2.proofs.PatchRefusals.{none-refused}
-use Rattle.rle_v2.proofs.PatchedRun.{entries, refused-list, run_is, refused-8, read_is}
+use Rattle.rle_v2.proofs.PatchedRun.{refused-list, run_is, refused-8, read_is}
 
 -- ---- a run that is refused
 

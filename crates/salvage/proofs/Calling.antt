@@ -30,7 +30,7 @@ module _ (signed : Bool) (fill : ℤ) (fits : SFits w64 fill) where
   length-starts : (s : ℕ) (gs : List Group) → length (starts_from s gs) ≡ length (counts gs)
   unfolding starts_from
   length-starts s [] = refl
-  length-starts s (g ∷ gs) = ap suc (length-starts _ gs)
+  length-starts s (g ∷ gs) = ap suc (length-starts (s + length g.bytes) gs)
 
   pub call-holds : (bs starts ns : List ℕ) (places lines : ℕ)
       → CallHolds signed fill bs starts ns places lines (salvaging signed fill bs starts ns places lines)
