@@ -1,8 +1,8 @@
 -- What a measured run says of the stream from its byte on: the stream begins with it (`RunAt` of format), or is refused there. Assumes nothing.
 use mathlib.Core.Path.{◌≡◌}
-use Prim.Native.Nat.{ℕ, ◌-◌}
+use Prim.Native.Nat.{ℕ}
 use mathlib.Core.List.{List, []}
-use lib.ListN.{length, drop}
+use lib.ListN.{drop}
 use Rattle.format.specs.Digits.{AllBelow}
 use Rattle.format.specs.Parse.{parse}
 use Rattle.format.specs.Streams.{broken, stream}

@@ -9,7 +9,6 @@ use lib.Seq.{take_at}
 use Rattle.format.specs.Digits.{AllBelow}
 use Rattle.format.specs.Runs.{Description, row_count}
 use Rattle.format.specs.Parse.{plain, cut}
-use Rattle.format.specs.Answers as answers
 use Rattle.format.proofs.Tests.{never}
 use Rattle.index.specs.Entries.{Result, gives, refuses, number_of, unless, Entry, entries, building, lookup}
 use Rattle.index.specs.Columns.{Columns, sums_before, byte_count, columns_at, alike, building_in, lookup_in}

@@ -11,7 +11,7 @@ use borrow.Author.Tests.{leb-true, ltb-true}
 use Rattle.format.specs.Digits.{AllBelow}
 use Rattle.format.specs.Fields.{two64}
 use Rattle.format.specs.Runs.{Description, layout, AllValid, joined}
-use Rattle.format.specs.Parse.{Reason, plain, cut, Parsed, end, got, refused, unless, parse, into}
+use Rattle.format.specs.Parse.{Reason, plain, cut, Parsed, refused, parse, into}
 use Rattle.format.specs.Streams.{Reading, whole, broken, stream, total_rows}
 use Rattle.format.proofs.Below.{behind-below}
 use Rattle.format.proofs.Rows.{row-bounds}

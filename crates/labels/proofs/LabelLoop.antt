@@ -9,7 +9,7 @@ use lib.IntN.{ℤ, pos}
 use Rattle.format.specs.Fields.{pick}
 use Rattle.present.specs.Present.{rows_for}
 use Rattle.present.proofs.SpreadLoop.{row_at, SpreadSoFar, so-far-none, so-far-next, so-far-all}
-use Rattle.labels.specs.Labels.{size, is_name}
+use Rattle.labels.specs.Labels.{is_name}
 use Rattle.labels.specs.RowPass.{name_in, RowsReady, RowsLaid}
 use Rattle.labels.specs.Column.{next_inside, has_number, good_rows, start_for, size_for}
 use Rattle.labels.proofs.ColumnWalk.{Inside, next-inside, mapped_at, good-next, good-bad}

@@ -35,9 +35,9 @@ module _ (buffer : List ℕ) (out : List ℤ) where
   no-lent h = rw (lt-ltb (length buffer) 4356 h) (omega arith)
 
 module _ (s : PartReader) (part buffer : List ℕ) (signed : Bool) (out : List ℤ) where
-  pub too_few : room buffer out < 512 → Takes s part buffer buffer signed out out (too_few s)
+  pub too-few-takes : room buffer out < 512 → Takes s part buffer buffer signed out out (too_few s)
   unfolding take_part in_places
-  too_few h =
+  too-few-takes h =
       let t : ltb (room buffer out) 512 ≡ true = lt-ltb (room buffer out) 512 h in
       record { step = rw t; lent = rw t; places = rw t }
 

@@ -69,8 +69,8 @@ module _ (s : List ℕ) (p skip : ℕ) where
     runs-are = ap runs_of t.onward ∙ runs_after d (stream (drop (p + length (layout d)) s))
 
     -- one that holds the row
-    pub plain_in : skip < row_count d → made_plain s (position p skip) ≡ at (position p skip)
-    plain_in h =
+    pub plain_in_lem : skip < row_count d → made_plain s (position p skip) ≡ at (position p skip)
+    plain_in_lem h =
         plain-if s (position p skip) (rw runs-are (omega (arith, total-cons d rest)))
         ∙ ap at (ap (position_of p skip) runs-are ∙ in-first p skip d rest h)
 
@@ -139,7 +139,7 @@ plain-twice bs p {q} h e =
 pub every-position : EveryPosition
 every-position bs b skip h = record {
   still = plain_still bs b h;
-  held = plain_in bs b skip;
+  held = plain_in_lem bs b skip;
   passed = plain-on bs b skip;
   unread = plain-none bs b skip;
   twice = λ q e. plain-twice bs (position b skip) h e;

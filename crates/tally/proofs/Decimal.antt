@@ -1,5 +1,5 @@
 -- The size of the whole number that two words stand for, and its last decimal digit. Assumes nothing.
-use Rattle.std.proofs.Common.{◌≡◌, ℕ, suc, ◌+◌, ◌-◌, ◌*◌, ◌/◌, ◌%◌, ◌^◌, ◌<◌, ◌≤◌, Bool, true, false, leb, pos, negsuc, nat_abs, sym, refl, ap, ◌∙◌, mod-lt, zero-lt-suc, div-add-mod', arith, le-ltb, lt-ltb, le-leb}
+use Rattle.std.proofs.Common.{◌≡◌, ℕ, suc, ◌+◌, ◌*◌, ◌/◌, ◌%◌, ◌^◌, ◌<◌, ◌≤◌, leb, pos, negsuc, nat_abs, sym, refl, ap, ◌∙◌, mod-lt, zero-lt-suc, div-add-mod', arith, le-ltb, lt-ltb, le-leb}
 use native.Mathlib.Decide.{dec_lt}
 use lib.Arith.{digits_div, digits_mod}
 use borrow.Author.Tests.{lt-leb}

@@ -1,5 +1,5 @@
 -- What the code holds is that of the lines that were taken: line by line, and combined. Assumes nothing.
-use Rattle.std.proofs.Common.{◌≡◌, ℕ, zero, suc, ◌+◌, ◌*◌, ◌^◌, ◌<◌, ◌≤◌, Bool, true, false, ◌||◌, ltb, List, [], ◌∷◌, ◌++◌, map, length, get_or, ℤ, nat_abs, sym, refl, ap, ◌∙◌, append-nil, mod-eq_of_lt, arith, length-append, ltb-false}
+use Rattle.std.proofs.Common.{◌≡◌, ℕ, zero, suc, ◌+◌, ◌^◌, ◌<◌, ◌≤◌, Bool, true, false, ◌||◌, ltb, List, [], ◌∷◌, ◌++◌, map, length, get_or, ℤ, nat_abs, sym, refl, ap, ◌∙◌, mod-eq_of_lt, arith, length-append, ltb-false}
 use lib.Seq.{append_snoc}
 use Rattle.format.specs.declared.Kind.{Kind}
 use Rattle.format.specs.declared.Kind.TheVariants.{ShortRepeat, Direct, PatchedBase, Delta, Booleans, ByteValues}
@@ -9,7 +9,7 @@ use Rattle.format.specs.Rows.{plus}
 use Rattle.format.specs.Writing.{AllI64}
 use Rattle.tally.specs.declared.totals.Totals.{Totals}
 use Rattle.tally.specs.declared.totals.Taken.{Taken}
-use Rattle.tally.specs.Totals.{Line, is_bad, is_end, is_refusal, is_run, counted, rows_over, sum_of, totals, empty, step, limit, too_many, passes, twenty}
+use Rattle.tally.specs.Totals.{Line, is_bad, is_end, is_refusal, is_run, counted, rows_over, sum_of, totals, step, limit, too_many, passes, twenty}
 use Rattle.tally.specs.Totals.{take_lines}
 use Rattle.tally.specs.Held.{numbers, kinds, held, each_plus, together, going, stopped, combined, take_line, unless_stopped, take_all, held_outcome}
 use Rattle.tally.specs.Laws.{Within, I64, CodeHolds, CodeTells}

@@ -1,5 +1,5 @@
 -- What the totals' definitions say. Assumes nothing.
-use Rattle.std.specs.Prelude.{◌≡◌, ℕ, ◌*◌, ◌^◌, ◌<◌, ◌≤◌, ◌↔◌, List, [], ◌∷◌, ◌++◌, map, length, take, ℤ, ◌+ℤ◌, ◌≤ℤ◌, ◌==◌, slice_index, unsigned_abs}
+use Rattle.std.specs.Prelude.{◌≡◌, ℕ, ◌^◌, ◌<◌, ◌≤◌, ◌↔◌, List, [], ◌∷◌, ◌++◌, map, length, take, ℤ, ◌+ℤ◌, ◌≤ℤ◌, ◌==◌, slice_index, unsigned_abs}
 use mathlib.Core.List.{Memᴰ}
 use Rattle.format.specs.Digits.{AllBelow}
 use Rattle.format.specs.Fields.{pick}

@@ -1,7 +1,7 @@
 -- Any two answers that a promise of `sums` or `totals` allows are equal: no
 -- function there lends a place. (Of `text`: `ShowDetermined` in specs/Text.antt.)
 -- Assumes nothing.
-use Rattle.std.specs.Prelude.{◌≡◌, ℕ, ◌<◌, Bool, List, ℤ, unsigned_abs}
+use Rattle.std.specs.Prelude.{◌≡◌, ◌<◌, Bool, List, ℤ, unsigned_abs}
 use Rattle.format.specs.declared.Answer.{Answer}
 use Rattle.format.specs.Fields.{two64}
 use Rattle.tally.specs.declared.sums.Wide.{Wide}

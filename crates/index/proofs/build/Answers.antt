@@ -15,10 +15,10 @@ returns-then-counts-places c =
 
 pub returns-then-places-runs : goal.returns-then-places-runs
 returns-then-places-runs c =
-    let found : (    let a = c.args in
-    Found a.input.now c.whole_of.result) =     let a = c.args in
+    let found : (let a = c.args in
+    Found a.input.now c.whole_of.result) = let a = c.args in
     what-found a.input.now _ (below_all 256 a.input.now (λ i. (c.shared_slice_known-1.given i).fits)) c.whole_of.ensures in
-    let whole : (    let a = c.args in
+    let whole : (let a = c.args in
     Whole a.input.now c.in-Whole.runs c.in-Whole.total) = rw c.in-Whole.is at (found) in
     let a = c.args in
     rw c.refused-then-places-runs.ensures (few-so a.input.now a.first.now a.at.now a.counts.now c.if-at-places.false c.if-counts-places.false _ _ (whole)
@@ -26,10 +26,10 @@ returns-then-places-runs c =
 
 pub fill-requires : goal.fill-requires
 fill-requires c =
-    let found : (    let a = c.args in
-    Found a.input.now c.whole_of.result) =     let a = c.args in
+    let found : (let a = c.args in
+    Found a.input.now c.whole_of.result) = let a = c.args in
     what-found a.input.now _ (below_all 256 a.input.now (λ i. (c.shared_slice_known-1.given i).fits)) c.whole_of.ensures in
-    let whole : (    let a = c.args in
+    let whole : (let a = c.args in
     Whole a.input.now c.in-Whole.runs c.in-Whole.total) = rw c.in-Whole.is at (found) in
     let a = c.args in
     roomy-so a.input.now a.first.now a.at.now a.counts.now c.if-at-places.false c.if-counts-places.false _ _ (whole) _ c.in-Rows.is
@@ -37,18 +37,18 @@ fill-requires c =
 
 pub returns-in-Refused : goal.returns-in-Refused
 returns-in-Refused c =
-    let found : (    let a = c.args in
-    Found a.input.now c.whole_of.result) =     let a = c.args in
+    let found : (let a = c.args in
+    Found a.input.now c.whole_of.result) = let a = c.args in
     what-found a.input.now _ (below_all 256 a.input.now (λ i. (c.shared_slice_known-1.given i).fits)) c.whole_of.ensures in
     let a = c.args in
     own-so a.input.now a.first.now a.at.now a.counts.now c.if-at-places.false c.if-counts-places.false _ (rw c.in-Refused.is at (found))
 
 pub returns-in-Past : goal.returns-in-Past
 returns-in-Past c =
-    let found : (    let a = c.args in
-    Found a.input.now c.whole_of.result) =     let a = c.args in
+    let found : (let a = c.args in
+    Found a.input.now c.whole_of.result) = let a = c.args in
     what-found a.input.now _ (below_all 256 a.input.now (λ i. (c.shared_slice_known-1.given i).fits)) c.whole_of.ensures in
-    let whole : (    let a = c.args in
+    let whole : (let a = c.args in
     Whole a.input.now c.in-Whole.runs c.in-Whole.total) = rw c.in-Whole.is at (found) in
     let a = c.args in
     rw c.refused-in-Past.ensures (past-so a.input.now a.first.now a.at.now a.counts.now c.if-at-places.false c.if-counts-places.false _ _ (whole)
@@ -56,10 +56,10 @@ returns-in-Past c =
 
 pub returns-else-places-runs : goal.returns-else-places-runs
 returns-else-places-runs c =
-    let found : (    let a = c.args in
-    Found a.input.now c.whole_of.result) =     let a = c.args in
+    let found : (let a = c.args in
+    Found a.input.now c.whole_of.result) = let a = c.args in
     what-found a.input.now _ (below_all 256 a.input.now (λ i. (c.shared_slice_known-1.given i).fits)) c.whole_of.ensures in
-    let whole : (    let a = c.args in
+    let whole : (let a = c.args in
     Whole a.input.now c.in-Whole.runs c.in-Whole.total) = rw c.in-Whole.is at (found) in
     let a = c.args in
     rw c.index.ensures

@@ -12,17 +12,17 @@ use Rattle.index.proofs.lay.Goals as goal
 
 pub overflow_sub-n : goal.overflow_sub-n
 overflow_sub-n c =
-    let rows :     c.in-Run.run'.rows.rows ≡ row_count c.requires.run =     let a = c.args in
+    let rows : c.in-Run.run'.rows.rows ≡ row_count c.requires.run = let a = c.args in
     rows_are a.input.now a.at.bytes a.skip.rows a.signed a.out.now c.requires _ _ _ c.scratch-held.ensures
     c.read_run-a.ensures _ c.in-Run.is in
     omega (arith, rows, c.requires.skips)
 
 pub copy-requires : goal.copy-requires
 copy-requires c =
-    let rows :     c.in-Run.run'.rows.rows ≡ row_count c.requires.run =     let a = c.args in
+    let rows : c.in-Run.run'.rows.rows ≡ row_count c.requires.run = let a = c.args in
     rows_are a.input.now a.at.bytes a.skip.rows a.signed a.out.now c.requires _ _ _ c.scratch-held.ensures
     c.read_run-a.ensures _ c.in-Run.is in
-    let held :     c.read_run-a.new.out ≡ i64_rows c.args.signed c.requires.run ++ drop (row_count c.requires.run) c.scratch-held.result =     let a = c.args in
+    let held : c.read_run-a.new.out ≡ i64_rows c.args.signed c.requires.run ++ drop (row_count c.requires.run) c.scratch-held.result = let a = c.args in
     held-is a.input.now a.at.bytes a.skip.rows a.signed a.out.now c.requires _ _ _ c.scratch-held.ensures
     c.read_run-a.ensures in
     let a = c.args in (
@@ -33,7 +33,7 @@ copy-requires c =
 
 pub overflow_add-next : goal.overflow_add-next
 overflow_add-next c =
-    let consumed :     c.in-Run.run'.consumed.bytes ≡ length (layout c.requires.run) =     let a = c.args in
+    let consumed : c.in-Run.run'.consumed.bytes ≡ length (layout c.requires.run) = let a = c.args in
     bytes-are a.input.now a.at.bytes a.skip.rows a.signed a.out.now c.requires _ _ _ c.scratch-held.ensures
     c.read_run-a.ensures _ c.in-Run.is in
     let a = c.args in
@@ -41,7 +41,7 @@ overflow_add-next c =
 
 pub offset_bounds-out-n : goal.offset_bounds-out-n
 offset_bounds-out-n c =
-    let rows :     c.in-Run.run'.rows.rows ≡ row_count c.requires.run =     let a = c.args in
+    let rows : c.in-Run.run'.rows.rows ≡ row_count c.requires.run = let a = c.args in
     rows_are a.input.now a.at.bytes a.skip.rows a.signed a.out.now c.requires _ _ _ c.scratch-held.ensures
     c.read_run-a.ensures _ c.in-Run.is in
     let a = c.args in
@@ -49,7 +49,7 @@ offset_bounds-out-n c =
 
 pub slice_bounds-read_stream-count : goal.slice_bounds-read_stream-count
 slice_bounds-read_stream-count c =
-    let rows :     c.in-Run.run'.rows.rows ≡ row_count c.requires.run =     let a = c.args in
+    let rows : c.in-Run.run'.rows.rows ≡ row_count c.requires.run = let a = c.args in
     rows_are a.input.now a.at.bytes a.skip.rows a.signed a.out.now c.requires _ _ _ c.scratch-held.ensures
     c.read_run-a.ensures _ c.in-Run.is in
     let a = c.args in
@@ -62,7 +62,7 @@ slice_bounds-read_stream-count c =
 
 pub slice_bounds-read_stream-start : goal.slice_bounds-read_stream-start
 slice_bounds-read_stream-start c =
-    let rows :     c.in-Run.run'.rows.rows ≡ row_count c.requires.run =     let a = c.args in
+    let rows : c.in-Run.run'.rows.rows ≡ row_count c.requires.run = let a = c.args in
     rows_are a.input.now a.at.bytes a.skip.rows a.signed a.out.now c.requires _ _ _ c.scratch-held.ensures
     c.read_run-a.ensures _ c.in-Run.is in
     let a = c.args in
@@ -75,13 +75,13 @@ slice_bounds-read_stream-start c =
 
 pub returns-in-Run : goal.returns-in-Run
 returns-in-Run c =
-    let rows :     c.in-Run.run'.rows.rows ≡ row_count c.requires.run =     let a = c.args in
+    let rows : c.in-Run.run'.rows.rows ≡ row_count c.requires.run = let a = c.args in
     rows_are a.input.now a.at.bytes a.skip.rows a.signed a.out.now c.requires _ _ _ c.scratch-held.ensures
     c.read_run-a.ensures _ c.in-Run.is in
-    let consumed :     c.in-Run.run'.consumed.bytes ≡ length (layout c.requires.run) =     let a = c.args in
+    let consumed : c.in-Run.run'.consumed.bytes ≡ length (layout c.requires.run) = let a = c.args in
     bytes-are a.input.now a.at.bytes a.skip.rows a.signed a.out.now c.requires _ _ _ c.scratch-held.ensures
     c.read_run-a.ensures _ c.in-Run.is in
-    let held :     c.read_run-a.new.out ≡ i64_rows c.args.signed c.requires.run ++ drop (row_count c.requires.run) c.scratch-held.result =     let a = c.args in
+    let held : c.read_run-a.new.out ≡ i64_rows c.args.signed c.requires.run ++ drop (row_count c.requires.run) c.scratch-held.result = let a = c.args in
     held-is a.input.now a.at.bytes a.skip.rows a.signed a.out.now c.requires _ _ _ c.scratch-held.ensures
     c.read_run-a.ensures in
     let a = c.args in

@@ -1,4 +1,3 @@
-use Prim.Native.Nat.{◌-◌}
 use native.Mathlib.Omega.{arith}
 use Rattle.index.proofs.Lists.{place-first, place_here, place-next, place_none}
 use Rattle.index.proofs.place_of.Goals as goal

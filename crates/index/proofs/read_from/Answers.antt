@@ -12,10 +12,10 @@ use Rattle.index.proofs.read_from.Goals as goal
 pub overflow_sub-last : goal.overflow_sub-last
 overflow_sub-last c =
     let after : (let a = c.args in
-    After a.input.now a.first.now a.at.now a.counts.now a.row.rows c.look_up.result) =     let a = c.args in
+    After a.input.now a.first.now a.at.now a.counts.now a.row.rows c.look_up.result) = let a = c.args in
     what-looked a.input.now a.first.now a.at.now a.counts.now a.row.rows _
     (below_all 256 a.input.now (λ i. (c.shared_slice_known-1.given i).fits)) c.look_up.ensures in
-    let through : (    let a = c.args in
+    let through : (let a = c.args in
     Through a.input.now a.first.now a.at.now a.counts.now a.row.rows c.in-Entry.e.first.rows c.in-Entry.e.at.bytes) = rw c.in-Entry.is at (after) in
     let a = c.args in
     some a.input.now a.first.now a.at.now a.counts.now a.row.rows c.in-Entry.e.first.rows
@@ -24,10 +24,10 @@ overflow_sub-last c =
 pub bounds-first-last : goal.bounds-first-last
 bounds-first-last c =
     let after : (let a = c.args in
-    After a.input.now a.first.now a.at.now a.counts.now a.row.rows c.look_up.result) =     let a = c.args in
+    After a.input.now a.first.now a.at.now a.counts.now a.row.rows c.look_up.result) = let a = c.args in
     what-looked a.input.now a.first.now a.at.now a.counts.now a.row.rows _
     (below_all 256 a.input.now (λ i. (c.shared_slice_known-1.given i).fits)) c.look_up.ensures in
-    let through : (    let a = c.args in
+    let through : (let a = c.args in
     Through a.input.now a.first.now a.at.now a.counts.now a.row.rows c.in-Entry.e.first.rows c.in-Entry.e.at.bytes) = rw c.in-Entry.is at (after) in
     let a = c.args in
     omega (
@@ -39,10 +39,10 @@ bounds-first-last c =
 pub bounds-counts-last : goal.bounds-counts-last
 bounds-counts-last c =
     let after : (let a = c.args in
-    After a.input.now a.first.now a.at.now a.counts.now a.row.rows c.look_up.result) =     let a = c.args in
+    After a.input.now a.first.now a.at.now a.counts.now a.row.rows c.look_up.result) = let a = c.args in
     what-looked a.input.now a.first.now a.at.now a.counts.now a.row.rows _
     (below_all 256 a.input.now (λ i. (c.shared_slice_known-1.given i).fits)) c.look_up.ensures in
-    let through : (    let a = c.args in
+    let through : (let a = c.args in
     Through a.input.now a.first.now a.at.now a.counts.now a.row.rows c.in-Entry.e.first.rows c.in-Entry.e.at.bytes) = rw c.in-Entry.is at (after) in
     let a = c.args in
     omega (
@@ -56,10 +56,10 @@ bounds-counts-last c =
 pub left_from-requires : goal.left_from-requires
 left_from-requires c =
     let after : (let a = c.args in
-    After a.input.now a.first.now a.at.now a.counts.now a.row.rows c.look_up.result) =     let a = c.args in
+    After a.input.now a.first.now a.at.now a.counts.now a.row.rows c.look_up.result) = let a = c.args in
     what-looked a.input.now a.first.now a.at.now a.counts.now a.row.rows _
     (below_all 256 a.input.now (λ i. (c.shared_slice_known-1.given i).fits)) c.look_up.ensures in
-    let through : (    let a = c.args in
+    let through : (let a = c.args in
     Through a.input.now a.first.now a.at.now a.counts.now a.row.rows c.in-Entry.e.first.rows c.in-Entry.e.at.bytes) = rw c.in-Entry.is at (after) in
     let a = c.args in
     row_below a.input.now a.first.now a.at.now a.counts.now a.row.rows c.in-Entry.e.first.rows
@@ -68,20 +68,20 @@ left_from-requires c =
 pub overflow_sub-skip : goal.overflow_sub-skip
 overflow_sub-skip c =
     let after : (let a = c.args in
-    After a.input.now a.first.now a.at.now a.counts.now a.row.rows c.look_up.result) =     let a = c.args in
+    After a.input.now a.first.now a.at.now a.counts.now a.row.rows c.look_up.result) = let a = c.args in
     what-looked a.input.now a.first.now a.at.now a.counts.now a.row.rows _
     (below_all 256 a.input.now (λ i. (c.shared_slice_known-1.given i).fits)) c.look_up.ensures in
-    let through : (    let a = c.args in
+    let through : (let a = c.args in
     Through a.input.now a.first.now a.at.now a.counts.now a.row.rows c.in-Entry.e.first.rows c.in-Entry.e.at.bytes) = rw c.in-Entry.is at (after) in
     through.from
 
 pub lay-requires : goal.lay-requires
 lay-requires c =
     let after : (let a = c.args in
-    After a.input.now a.first.now a.at.now a.counts.now a.row.rows c.look_up.result) =     let a = c.args in
+    After a.input.now a.first.now a.at.now a.counts.now a.row.rows c.look_up.result) = let a = c.args in
     what-looked a.input.now a.first.now a.at.now a.counts.now a.row.rows _
     (below_all 256 a.input.now (λ i. (c.shared_slice_known-1.given i).fits)) c.look_up.ensures in
-    let through : (    let a = c.args in
+    let through : (let a = c.args in
     Through a.input.now a.first.now a.at.now a.counts.now a.row.rows c.in-Entry.e.first.rows c.in-Entry.e.at.bytes) = rw c.in-Entry.is at (after) in
     let a = c.args in
     let (k, q) = left-rows (get_or a.first.now (length a.first.now - 1) 0) (get_or a.counts.now (length a.first.now - 1) 0) a.row.rows
@@ -99,7 +99,7 @@ lay-requires c =
 pub returns-in-Refused : goal.returns-in-Refused
 returns-in-Refused c =
     let after : (let a = c.args in
-    After a.input.now a.first.now a.at.now a.counts.now a.row.rows c.look_up.result) =     let a = c.args in
+    After a.input.now a.first.now a.at.now a.counts.now a.row.rows c.look_up.result) = let a = c.args in
     what-looked a.input.now a.first.now a.at.now a.counts.now a.row.rows _
     (below_all 256 a.input.now (λ i. (c.shared_slice_known-1.given i).fits)) c.look_up.ensures in
     let a = c.args in
@@ -110,10 +110,10 @@ returns-in-Refused c =
 pub returns-in-TooMany : goal.returns-in-TooMany
 returns-in-TooMany c =
     let after : (let a = c.args in
-    After a.input.now a.first.now a.at.now a.counts.now a.row.rows c.look_up.result) =     let a = c.args in
+    After a.input.now a.first.now a.at.now a.counts.now a.row.rows c.look_up.result) = let a = c.args in
     what-looked a.input.now a.first.now a.at.now a.counts.now a.row.rows _
     (below_all 256 a.input.now (λ i. (c.shared_slice_known-1.given i).fits)) c.look_up.ensures in
-    let through : (    let a = c.args in
+    let through : (let a = c.args in
     Through a.input.now a.first.now a.at.now a.counts.now a.row.rows c.in-Entry.e.first.rows c.in-Entry.e.at.bytes) = rw c.in-Entry.is at (after) in
     let a = c.args in
     let k = left-many (get_or a.first.now (length a.first.now - 1) 0) (get_or a.counts.now (length a.first.now - 1) 0) a.row.rows
@@ -130,10 +130,10 @@ returns-in-TooMany c =
 pub returns-in-Rows : goal.returns-in-Rows
 returns-in-Rows c =
     let after : (let a = c.args in
-    After a.input.now a.first.now a.at.now a.counts.now a.row.rows c.look_up.result) =     let a = c.args in
+    After a.input.now a.first.now a.at.now a.counts.now a.row.rows c.look_up.result) = let a = c.args in
     what-looked a.input.now a.first.now a.at.now a.counts.now a.row.rows _
     (below_all 256 a.input.now (λ i. (c.shared_slice_known-1.given i).fits)) c.look_up.ensures in
-    let through : (    let a = c.args in
+    let through : (let a = c.args in
     Through a.input.now a.first.now a.at.now a.counts.now a.row.rows c.in-Entry.e.first.rows c.in-Entry.e.at.bytes) = rw c.in-Entry.is at (after) in
     let a = c.args in
     let (k, q) = left-rows (get_or a.first.now (length a.first.now - 1) 0) (get_or a.counts.now (length a.first.now - 1) 0) a.row.rows

@@ -69,14 +69,14 @@ pub put_offsets-requires : goal.put_offsets-requires
 put_offsets-requires c =
     let adds : (let a = c.args in add_up_to a.lengths.now a.block.bytes ≡ true) = sym c.add_up.ensures ∙ c.if-not-add_up.false in
     let lent : LabelPlaces = record { offsets = c.args.offsets.now; starts = c.args.starts.now; sizes = c.args.sizes.now } in
-    let room :  LabelRoom c.args.flags.now c.args.lengths.now (lent) = record { offsets = c.if-offsets-lengths.false; starts = c.if-starts-rows.false; sizes = c.if-sizes-rows.false } in
+    let room : LabelRoom c.args.flags.now c.args.lengths.now (lent) = record { offsets = c.if-offsets-lengths.false; starts = c.if-starts-rows.false; sizes = c.if-sizes-rows.false } in
     (adds, room.offsets)
 
 pub put_labels-requires : goal.put_labels-requires
 put_labels-requires c =
     let good : (let a = c.args in length a.flags.now ≤ good_rows a.lengths.now a.flags.now a.numbers.now) = omega (arith, c.good_rows-good.ensures, c.if-good-rows.false) in
     let lent : LabelPlaces = record { offsets = c.args.offsets.now; starts = c.args.starts.now; sizes = c.args.sizes.now } in
-    let room :  LabelRoom c.args.flags.now c.args.lengths.now (lent) = record { offsets = c.if-offsets-lengths.false; starts = c.if-starts-rows.false; sizes = c.if-sizes-rows.false } in
+    let room : LabelRoom c.args.flags.now c.args.lengths.now (lent) = record { offsets = c.if-offsets-lengths.false; starts = c.if-starts-rows.false; sizes = c.if-sizes-rows.false } in
     let a = c.args in
     record {
       good = omega (arith, good, good-le a.lengths.now a.flags.now a.numbers.now);
@@ -90,7 +90,7 @@ returns c =
     let lent : LabelPlaces = record { offsets = c.args.offsets.now; starts = c.args.starts.now; sizes = c.args.sizes.now } in
     let adds : (let a = c.args in add_up_to a.lengths.now a.block.bytes ≡ true) = sym c.add_up.ensures ∙ c.if-not-add_up.false in
     let good : (let a = c.args in length a.flags.now ≤ good_rows a.lengths.now a.flags.now a.numbers.now) = omega (arith, c.good_rows-good.ensures, c.if-good-rows.false) in
-    let room :  LabelRoom c.args.flags.now c.args.lengths.now (lent) = record { offsets = c.if-offsets-lengths.false; starts = c.if-starts-rows.false; sizes = c.if-sizes-rows.false } in
+    let room : LabelRoom c.args.flags.now c.args.lengths.now (lent) = record { offsets = c.if-offsets-lengths.false; starts = c.if-starts-rows.false; sizes = c.if-sizes-rows.false } in
     let a = c.args in
     lays_all a.flags.now a.numbers.now a.lengths.now a.block.bytes (lent) _
     (comes-all a.flags.now a.numbers.now a.lengths.now a.block.bytes (lent) (adds) (good)

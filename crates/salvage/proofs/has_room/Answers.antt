@@ -1,4 +1,3 @@
-use Prim.Native.Nat.{◌-◌}
 use native.Mathlib.Omega.{arith}
 use lib.ListN.{length, get_or}
 use mir.Facts.{to_z-of_z}
@@ -25,7 +24,7 @@ overflow_sub-out c = c.loop-i.invariant.stream-fits
 
 pub returns-then-out-stream : goal.returns-then-out-stream
 returns-then-out-stream c =
-    let turn-of : (let l = c.loop-i in    let a = c.args in
+    let turn-of : (let l = c.loop-i in let a = c.args in
     Turn a.signed (to_z w64 (of_z w64 a.fill)) a.input.now a.starts.now a.counts.now l.i c.bytes_of-bytes.result.now
     (get_or a.counts.now l.i 0) c.is_kept-keep.result c.stored-first.result) = let l = c.loop-i in
     let a = c.args in
@@ -43,7 +42,7 @@ overflow_sub-report c =
 
 pub returns-then-report-lines : goal.returns-then-report-lines
 returns-then-report-lines c =
-    let turn-of : (let l = c.loop-i in    let a = c.args in
+    let turn-of : (let l = c.loop-i in let a = c.args in
     Turn a.signed (to_z w64 (of_z w64 a.fill)) a.input.now a.starts.now a.counts.now l.i c.bytes_of-bytes.result.now
     (get_or a.counts.now l.i 0) c.is_kept-keep.result c.stored-first.result) = let l = c.loop-i in
     let a = c.args in
@@ -65,7 +64,7 @@ overflow_add-lines c =
 
 pub loop-i-preserved : goal.loop-i-preserved
 loop-i-preserved c =
-    let turn-of : (let l = c.loop-i in    let a = c.args in
+    let turn-of : (let l = c.loop-i in let a = c.args in
     Turn a.signed (to_z w64 (of_z w64 a.fill)) a.input.now a.starts.now a.counts.now l.i c.bytes_of-bytes.result.now
     (get_or a.counts.now l.i 0) c.is_kept-keep.result c.stored-first.result) = let l = c.loop-i in
     let a = c.args in

@@ -23,7 +23,7 @@ returns-then-not-starts_right c =
 
 pub returns-then-not-has_room : goal.returns-then-not-has_room
 returns-then-not-has_room c =
-    let right : (    let a = c.args in
+    let right : (let a = c.args in
     RightStarts a.input.now a.starts.now a.counts.now) = record { lengths = omega arith; right = true-T _ (sym c.starts_right.ensures ∙ c.if-not-starts_right.false) } in
     let a = c.args in
     was-refused a.signed a.fill a.input.now a.starts.now a.counts.now 8
@@ -32,7 +32,7 @@ returns-then-not-has_room c =
 
 pub write_all-requires : goal.write_all-requires
 write_all-requires c =
-    let right : (    let a = c.args in
+    let right : (let a = c.args in
     RightStarts a.input.now a.starts.now a.counts.now) = record { lengths = omega arith; right = true-T _ (sym c.starts_right.ensures ∙ c.if-not-starts_right.false) } in
     (right, rw c.has_room.ensures at c.if-not-has_room.false)
 
@@ -41,7 +41,7 @@ returns c =
     rw (to_z-of_z {w = w64} c.ranges.fill) at c.write_all.ensures
 
 pub has_room-requires : goal.has_room-requires
-has_room-requires c = 
-    let right : (    let a = c.args in
+has_room-requires c =
+    let right : (let a = c.args in
     RightStarts a.input.now a.starts.now a.counts.now) = record { lengths = omega arith; right = true-T _ (sym c.starts_right.ensures ∙ c.if-not-starts_right.false) } in
-   right
+    right

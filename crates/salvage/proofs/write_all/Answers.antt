@@ -1,4 +1,3 @@
-use Prim.Native.Nat.{◌-◌}
 use native.Mathlib.Omega.{arith}
 use lib.ListN.{get_or}
 use mir.Facts.{to_z-of_z}
@@ -24,7 +23,7 @@ bytes_of-bytes-requires c =
 
 pub put_group-stream-requires : goal.put_group-stream-requires
 put_group-stream-requires c =
-    let turn-of : (let l = c.loop-i in    let a = c.args in
+    let turn-of : (let l = c.loop-i in let a = c.args in
     Turn a.signed (to_z w64 (of_z w64 a.fill)) a.input.now a.starts.now a.counts.now l.i c.bytes_of-bytes.result.now
     (get_or a.counts.now l.i 0) c.is_kept-keep.result c.stored-first.result) = let l = c.loop-i in
     let a = c.args in
@@ -37,7 +36,7 @@ put_group-stream-requires c =
 
 pub put_line-lines-requires : goal.put_line-lines-requires
 put_line-lines-requires c =
-    let turn-of : (let l = c.loop-i in    let a = c.args in
+    let turn-of : (let l = c.loop-i in let a = c.args in
     Turn a.signed (to_z w64 (of_z w64 a.fill)) a.input.now a.starts.now a.counts.now l.i c.bytes_of-bytes.result.now
     (get_or a.counts.now l.i 0) c.is_kept-keep.result c.stored-first.result) = let l = c.loop-i in
     let a = c.args in
@@ -50,7 +49,7 @@ put_line-lines-requires c =
 
 pub loop-i-preserved : goal.loop-i-preserved
 loop-i-preserved c =
-    let turn-of : (let l = c.loop-i in    let a = c.args in
+    let turn-of : (let l = c.loop-i in let a = c.args in
     Turn a.signed (to_z w64 (of_z w64 a.fill)) a.input.now a.starts.now a.counts.now l.i c.bytes_of-bytes.result.now
     (get_or a.counts.now l.i 0) c.is_kept-keep.result c.stored-first.result) = let l = c.loop-i in
     let a = c.args in

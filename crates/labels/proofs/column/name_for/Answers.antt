@@ -12,27 +12,27 @@ returns-then-flag-eq0 c = rw (eq-eqb _ _ c.if-flag-eq0.true)
 
 pub natural-k-requires : goal.natural-k-requires
 natural-k-requires c =
-    let inside : (let a = c.args in Inside a.lengths.now a.numbers.now a.at) =     let a = c.args in
+    let inside : (let a = c.args in Inside a.lengths.now a.numbers.now a.at) = let a = c.args in
     next-inside a.lengths.now a.numbers.now a.at (rw (ne_eqb a.flag 0 c.if-flag-eq0.false) at c.requires.0) in
     inside.here
 
 pub offset_bounds-offsets-k : goal.offset_bounds-offsets-k
 offset_bounds-offsets-k c =
-    let inside : (let a = c.args in Inside a.lengths.now a.numbers.now a.at) =     let a = c.args in
+    let inside : (let a = c.args in Inside a.lengths.now a.numbers.now a.at) = let a = c.args in
     next-inside a.lengths.now a.numbers.now a.at (rw (ne_eqb a.flag 0 c.if-flag-eq0.false) at c.requires.0) in
     let in-offsets : c.natural-k.result < length c.args.offsets.now = omega (arith, c.natural-k.ensures, inside.small, c.requires.1) in
     omega (arith, in-offsets)
 
 pub bounds-offsets-k : goal.bounds-offsets-k
 bounds-offsets-k c =
-    let inside : (let a = c.args in Inside a.lengths.now a.numbers.now a.at) =     let a = c.args in
+    let inside : (let a = c.args in Inside a.lengths.now a.numbers.now a.at) = let a = c.args in
     next-inside a.lengths.now a.numbers.now a.at (rw (ne_eqb a.flag 0 c.if-flag-eq0.false) at c.requires.0) in
     let in-offsets : c.natural-k.result < length c.args.offsets.now = omega (arith, c.natural-k.ensures, inside.small, c.requires.1) in
     in-offsets
 
 pub natural-requires : goal.natural-requires
 natural-requires c =
-    let inside : (let a = c.args in Inside a.lengths.now a.numbers.now a.at) =     let a = c.args in
+    let inside : (let a = c.args in Inside a.lengths.now a.numbers.now a.at) = let a = c.args in
     next-inside a.lengths.now a.numbers.now a.at (rw (ne_eqb a.flag 0 c.if-flag-eq0.false) at c.requires.0) in
     omega (arith, c.natural-k.ensures, inside.small)
 

@@ -1,4 +1,3 @@
-use Prim.Native.Nat.{◌-◌}
 use native.Mathlib.Omega.{arith}
 use Rattle.present.proofs.SpreadLoop.{count-le, count_next}
 use Rattle.labels.proofs.LabelLoop.{labels-none, offsets-there, number-there, labels_next, labels-all}

@@ -1,4 +1,4 @@
-use Prim.Native.Nat.{◌+◌, ◌-◌}
+use Prim.Native.Nat.{◌+◌}
 use native.Mathlib.Omega.{arith}
 use Rattle.labels.proofs.Columns.{adds-start}
 use Rattle.labels.proofs.OffsetLoop.{offsets-none, next-sum, offsets-next, offsets-all}

@@ -1,7 +1,6 @@
 use mathlib.Core.Path.{◌≡◌, sym, ◌∙◌}
-use Prim.Native.Nat.{suc, ◌+◌, ◌-◌}
+use Prim.Native.Nat.{suc, ◌+◌}
 use native.Mathlib.Omega.{arith}
-use Rattle.salvage.specs.Salvage.{rising}
 use Rattle.salvage.proofs.Walking.{right-none, right-late, right-first, rising-on, rising-stops, rising-end}
 use Rattle.salvage.proofs.groups.starts_right.Goals as goal
 

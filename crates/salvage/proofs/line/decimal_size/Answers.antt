@@ -1,7 +1,6 @@
 use mathlib.Core.Path.{ap}
 use native.Mathlib.Omega.{arith}
 use lib.ListN.{length}
-use Rattle.text.specs.Decimal.{decimal}
 use Rattle.text.proofs.Texts.{decimal-one, decimal-longer, decimal-length}
 use Rattle.salvage.proofs.line.decimal_size.Goals as goal
 
