@@ -1,6 +1,6 @@
 -- An input in blocks, cut anywhere, has the lines that the whole input has, to whatever takes every line over 8,800 characters alike: though no more is
 -- held than 8,801 characters of a line. Assumes nothing.
-use Rattle.std.proofs.Common.{◌≡◌, ℕ, ◌+◌, ◌<◌, Bool, true, false, eqb, List, [], ◌∷◌, ◌++◌, map, length, sym, refl, ap, ◌∙◌, append_assoc, arith, length-append, length-take, take_all, ne_eqb}
+use Rattle.std.proofs.Common.{◌≡◌, ℕ, ◌<◌, Bool, true, false, eqb, List, [], ◌∷◌, ◌++◌, map, length, sym, refl, ap, ◌∙◌, append_assoc, arith, length-append, length-take, take_all, ne_eqb}
 use Prim.Native.Char.{code}
 use native.Mathlib.Decide.{dec_lt}
 use mathlib.Core.List.{map-append}

@@ -1,11 +1,9 @@
 -- What stands in the input after a read, and what is left of it. Assumes nothing.
-use Rattle.std.proofs.Common.{◌≡◌, ℕ, zero, suc, ◌+◌, ◌-◌, ◌≤◌, true, false, List, [], ◌++◌, length, take, drop, ℤ, pos, negsuc, sym, refl, ap, ◌∙◌, arith, length-drop, take-append-drop, length-take, length-take-le, take_all, take-take, w64, SFits, of_z, lt-ltb}
+use Rattle.std.proofs.Common.{◌≡◌, ℕ, zero, suc, ◌+◌, ◌-◌, ◌≤◌, min, true, false, List, [], ◌++◌, length, take, drop, ℤ, pos, negsuc, sym, refl, ap, ◌∙◌, arith, length-drop, take-append-drop, length-take, length-take-le, take_all, take-take, w64, SFits, of_z, lt-ltb}
 use lib.Signed.{lt_z}
 use borrow.Rule.Slice.PartMut.{put_mid, same_len_mid, take_put}
 use Rattle.format.proofs.Tests.{never}
 use Rattle.util.proofs.Grow.{rest-is}
-use Rattle.io.specs.Counts.{clamp_len}
-use Rattle.libc.specs.Io.{Moved}
 use Rattle.blocks.specs.Blocks.{begun_from, NoNewline, kept, part, came, Kept, Came, Carried}
 use Rattle.blocks.proofs.Begun.{begun-append, begun-open, no-take}
 
@@ -38,9 +36,8 @@ pub held_all : (s : List ℕ) (n : ℕ) (z : ℤ) → length s ≡ n + came z �
 held_all s n z l h k = (omega (arith, l, none_came z h), rw (take_all n s (omega (arith, l, none_came z h))) at k)
 
 -- the system never says that more came than there was room for
-pub came-is : (z : ℤ) (n : ℕ) → Moved n z → clamp_len z n ≡ came z
-came-is (pos k) n h = omega arith
-came-is (negsuc k) n h = refl
+pub came-is : (z : ℤ) (n : ℕ) → came z ≤ n → min (came z) n ≡ came z
+came-is z n h = omega arith
 
 -- what is kept of a part of the input has room in it
 pub kept-le : (line x₀ x : List ℕ) (n : ℕ) → Kept line x₀ x n → length line ≤ length x₀ → length x ≡ length x₀ → n ≤ length x

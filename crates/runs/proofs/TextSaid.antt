@@ -1,10 +1,10 @@
 -- What is handed over, piece by piece, is what comes next of the program's text for what was read. Assumes nothing.
-use Rattle.std.proofs.Common.{◌≡◌, ℕ, zero, suc, ◌+◌, ◌<◌, true, false, List, [], ◌∷◌, ◌++◌, length, take, drop, ℤ, pos, negsuc, sym, refl, ap, ◌∙◌, append_assoc, append-nil, arith, length-append, take-append-drop, take_at}
+use Rattle.std.proofs.Common.{◌≡◌, ℕ, zero, suc, ◌<◌, false, List, [], ◌∷◌, ◌++◌, length, take, drop, ℤ, pos, negsuc, sym, refl, ap, ◌∙◌, append_assoc, append-nil, arith, length-append, take-append-drop, take_at}
 use Rattle.blocks.specs.Blocks.{lines_from, begun_from, last_line, lines_in, NoNewline, kept, part, came, joined_blocks, block_lines}
 use Rattle.blocks.specs.Reading.{no_reads, ReadOnce, Brought, BroughtAll}
 use Rattle.blocks.specs.declared.reading.Reads.{Reads}
 use Rattle.blocks.specs.declared.reading.Read.{Read}
-use Rattle.blocks.proofs.Begun.{begun-append, begun-open, no-take}
+use Rattle.blocks.proofs.Begun.{begun-append, no-take}
 use Rattle.blocks.proofs.Turns.{block-long, input-whole, only-held}
 use Rattle.blocks.proofs.Brought.{none-brought, unread-only, brought-on}
 use Rattle.runs.specs.Program.{answers_to, answers_from, last_answer, program_text, block_text, nothing_said, SaidOn, SaidAs, Due, in_block, at-end, SaidAll, Reached, Pending, Last, ReadGave, Begins, Pieces, FinalSays, NoneUnread}

@@ -1,6 +1,6 @@
 -- A turn, and all turns: what stands in the input after a read, and that all that is handed over is what the program writes for the whole input.
 -- Assumes nothing.
-use Rattle.std.proofs.Common.{◌≡◌, ℕ, zero, suc, ◌<◌, Bool, true, false, not, List, [], ◌++◌, length, take, drop, ℤ, pos, negsuc, sym, refl, ap, ◌∙◌, append-nil, arith, length-take-le}
+use Rattle.std.proofs.Common.{◌≡◌, ℕ, zero, suc, ◌<◌, Bool, true, false, List, [], ◌++◌, length, take, ℤ, pos, negsuc, sym, refl, ap, ◌∙◌, append-nil, arith, length-take-le}
 use Rattle.format.specs.Fields.{pick}
 use Rattle.format.proofs.Tests.{never}
 use Rattle.blocks.specs.Blocks.{block_lines, begun_from, NoNewline, kept, part, came, not_ready, Carried, joined_blocks}

@@ -1,6 +1,6 @@
 -- All turns: that what is taken is what the whole input's lines give. Assumes nothing.
 use mathlib.Core.Path.{◌≡◌, refl, sym, ap, ◌∙◌}
-use Prim.Native.Nat.{ℕ, zero, suc, ◌+◌}
+use Prim.Native.Nat.{ℕ}
 use native.Mathlib.Omega.{arith}
 use mathlib.Core.Bool.{Bool, true, false}
 use mathlib.Core.List.{List, [], ◌∷◌, ◌++◌, map-append, append-nil}
@@ -14,7 +14,7 @@ use Rattle.blocks.proofs.Brought.{unread-only}
 use Rattle.tally.specs.declared.totals.Totals.{Totals}
 use Rattle.tally.specs.declared.totals.Taken.{Taken}
 use Rattle.tally.specs.Totals.{Line, empty, take_lines}
-use Rattle.tally.specs.Held.{held, going, stopped, take_all, held_outcome}
+use Rattle.tally.specs.Held.{held, stopped, take_all, held_outcome}
 use Rattle.tally.proofs.Taking.{code_holds}
 use Rattle.totals.specs.Program.{answer_to, answers_to, is_stopped, written_for, taken_text, program_text, Takes, over, at-end, in_block, of-input, whatever-comes, FinalSays, NoneUnread}
 use Rattle.totals.specs.Program.Takes.{ends, stops, turns}

@@ -1,8 +1,7 @@
 -- Both numbers that are looked for are small, so the bits of a negative error are neither. Assumes nothing.
 use Rattle.std.proofs.Common.{◌≡◌, eqb, ℤ, pos, negsuc, arith, w32, SFits, of_z, eq-eqb, ne_eqb}
 use Rattle.blocks.specs.Blocks.{not_ready}
-use Rattle.blocks.proofs.is_not_ready.Statement.{statement}
-use Rattle.blocks.proofs.is_not_ready.Tie as tie
+use Rattle.blocks.proofs.is_not_ready.Goals as goal
 
 broken-off : (z : ℤ) → SFits w32 z → of_z w32 z ≡ 4 → eqb (of_z w32 z) 4 ≡ not_ready z
 unfolding not_ready
@@ -14,11 +13,8 @@ unfolding not_ready
 nothing-there (pos n) f h = rw (ne_eqb n 4 h)
 nothing-there (negsuc n) f h = ne_eqb (of_z w32 (negsuc n)) 11 (λ e. omega (arith, f.sfits, e))
 
-returns : tie.Need-returns
-returns c = let s = c.before in broken-off s.args.error s.ranges.error c.if1.true
+pub returns-then-error-eq-EINTR : goal.returns-then-error-eq-EINTR
+returns-then-error-eq-EINTR c = broken-off c.args.error c.ranges.error c.if-error-eq-EINTR.true
 
-returns-2 : tie.Need-returns-2
-returns-2 c = let s = c.before in nothing-there s.args.error s.ranges.error c.if1.false
-
-pub is-not-ready-spec : {M : Type 1} → statement M
-is-not-ready-spec = tie.close (tie.spec returns returns-2)
+pub returns-else-error-eq-EINTR : goal.returns-else-error-eq-EINTR
+returns-else-error-eq-EINTR c = nothing-there c.args.error c.ranges.error c.if-error-eq-EINTR.false
