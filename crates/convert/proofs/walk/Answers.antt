@@ -1,4 +1,4 @@
-use Rattle.format.proofs.Common.{◌-◌, arith, drop_of_length-le}
+use Rattle.format.proofs.Common.{◌-◌, arith, drop_of_length-le, rules}
 use Rattle.format.proofs.Below.{below_all}
 use Rattle.format.proofs.Runs.{layout-pos}
 use Rattle.convert.specs.Turn.{Turned}
@@ -56,7 +56,7 @@ returns-in-Refused c =
     let l = c.loop-p in
     let a = c.args in
     along-refused a.signed a.input.now a.room.bytes a.out.now l.out l.p l.altered l.at l.invariant _
-    (below_all 256 a.input.now (λ i. (c.shared_slice_known-1.given i).fits))
+    (below_all 256 a.input.now (search rules))
     (rw c.in-Refused.is at c.convert_run-step.ensures)
 
 pub shape_of-out-in-End : goal.shape_of-out-in-End

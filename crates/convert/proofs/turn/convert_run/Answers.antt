@@ -11,7 +11,7 @@ pub bounds-input-p : goal.bounds-input-p
 bounds-input-p c =
     let says :     Found c.args.signed c.args.input.now c.args.at.bytes c.read_run-a.new.out c.read_run-a.result =     let a = c.args in
     found a.signed a.input.now a.at.bytes _ _ c.read_run-a.result
-    (below_all 256 a.input.now (λ k. (c.shared_slice_known-1.given k).fits)) (search rules)
+    (below_all 256 a.input.now (search rules)) (search rules)
     c.read_run-a.ensures in
     let ran-is :     One c.args.signed c.args.input.now c.args.at.bytes c.read_run-a.new.out c.in-Run.r = rw c.in-Run.is at (says) in
     let o = ran-is in omega (arith, o.at.within, o.at.some_bytes)
@@ -20,7 +20,7 @@ pub rewrite-w-requires : goal.rewrite-w-requires
 rewrite-w-requires c =
     let says :     Found c.args.signed c.args.input.now c.args.at.bytes c.read_run-a.new.out c.read_run-a.result =     let a = c.args in
     found a.signed a.input.now a.at.bytes _ _ c.read_run-a.result
-    (below_all 256 a.input.now (λ k. (c.shared_slice_known-1.given k).fits)) (search rules)
+    (below_all 256 a.input.now (search rules)) (search rules)
     c.read_run-a.ensures in
     let ran-is :     One c.args.signed c.args.input.now c.args.at.bytes c.read_run-a.new.out c.in-Run.r = rw c.in-Run.is at (says) in
     omega (arith, ran-is.at.few)
@@ -29,7 +29,7 @@ pub returns-then-is_odd : goal.returns-then-is_odd
 returns-then-is_odd c =
     let says :     Found c.args.signed c.args.input.now c.args.at.bytes c.read_run-a.new.out c.read_run-a.result =     let a = c.args in
     found a.signed a.input.now a.at.bytes _ _ c.read_run-a.result
-    (below_all 256 a.input.now (λ k. (c.shared_slice_known-1.given k).fits)) (search rules)
+    (below_all 256 a.input.now (search rules)) (search rules)
     c.read_run-a.ensures in
     let ran-is :     One c.args.signed c.args.input.now c.args.at.bytes c.read_run-a.new.out c.in-Run.r = rw c.in-Run.is at (says) in
     turned-odd (ran-is) c.consumed-given.ensures c.requires (sym c.is_odd.ensures ∙ c.if-is_odd.true) c.rewrite-w.ensures
@@ -38,7 +38,7 @@ pub slice_bounds-copy-count : goal.slice_bounds-copy-count
 slice_bounds-copy-count c =
     let says :     Found c.args.signed c.args.input.now c.args.at.bytes c.read_run-a.new.out c.read_run-a.result =     let a = c.args in
     found a.signed a.input.now a.at.bytes _ _ c.read_run-a.result
-    (below_all 256 a.input.now (λ k. (c.shared_slice_known-1.given k).fits)) (search rules)
+    (below_all 256 a.input.now (search rules)) (search rules)
     c.read_run-a.ensures in
     let ran-is :     One c.args.signed c.args.input.now c.args.at.bytes c.read_run-a.new.out c.in-Run.r = rw c.in-Run.is at (says) in
     omega (arith, ran-is.at.within)
@@ -47,7 +47,7 @@ pub slice_bounds-copy-start : goal.slice_bounds-copy-start
 slice_bounds-copy-start c =
     let says :     Found c.args.signed c.args.input.now c.args.at.bytes c.read_run-a.new.out c.read_run-a.result =     let a = c.args in
     found a.signed a.input.now a.at.bytes _ _ c.read_run-a.result
-    (below_all 256 a.input.now (λ k. (c.shared_slice_known-1.given k).fits)) (search rules)
+    (below_all 256 a.input.now (search rules)) (search rules)
     c.read_run-a.ensures in
     let ran-is :     One c.args.signed c.args.input.now c.args.at.bytes c.read_run-a.new.out c.in-Run.r = rw c.in-Run.is at (says) in
     omega (arith, ran-is.at.within)
@@ -56,7 +56,7 @@ pub copy-requires : goal.copy-requires
 copy-requires c =
     let says :     Found c.args.signed c.args.input.now c.args.at.bytes c.read_run-a.new.out c.read_run-a.result =     let a = c.args in
     found a.signed a.input.now a.at.bytes _ _ c.read_run-a.result
-    (below_all 256 a.input.now (λ k. (c.shared_slice_known-1.given k).fits)) (search rules)
+    (below_all 256 a.input.now (search rules)) (search rules)
     c.read_run-a.ensures in
     let ran-is :     One c.args.signed c.args.input.now c.args.at.bytes c.read_run-a.new.out c.in-Run.r = rw c.in-Run.is at (says) in
     let input = c.args.input.now in
@@ -66,7 +66,7 @@ pub returns-else-is_odd : goal.returns-else-is_odd
 returns-else-is_odd c =
     let says :     Found c.args.signed c.args.input.now c.args.at.bytes c.read_run-a.new.out c.read_run-a.result =     let a = c.args in
     found a.signed a.input.now a.at.bytes _ _ c.read_run-a.result
-    (below_all 256 a.input.now (λ k. (c.shared_slice_known-1.given k).fits)) (search rules)
+    (below_all 256 a.input.now (search rules)) (search rules)
     c.read_run-a.ensures in
     let ran-is :     One c.args.signed c.args.input.now c.args.at.bytes c.read_run-a.new.out c.in-Run.r = rw c.in-Run.is at (says) in
     turned-even (ran-is) c.args.run.now (sym c.is_odd.ensures ∙ c.if-is_odd.false)
@@ -76,7 +76,7 @@ pub returns-in-Refused : goal.returns-in-Refused
 returns-in-Refused c =
     let says :     Found c.args.signed c.args.input.now c.args.at.bytes c.read_run-a.new.out c.read_run-a.result =     let a = c.args in
     found a.signed a.input.now a.at.bytes _ _ c.read_run-a.result
-    (below_all 256 a.input.now (λ k. (c.shared_slice_known-1.given k).fits)) (search rules)
+    (below_all 256 a.input.now (search rules)) (search rules)
     c.read_run-a.ensures in
     rw c.in-Refused.is at (says)
 
@@ -84,6 +84,6 @@ pub returns-in-End : goal.returns-in-End
 returns-in-End c =
     let says :     Found c.args.signed c.args.input.now c.args.at.bytes c.read_run-a.new.out c.read_run-a.result =     let a = c.args in
     found a.signed a.input.now a.at.bytes _ _ c.read_run-a.result
-    (below_all 256 a.input.now (λ k. (c.shared_slice_known-1.given k).fits)) (search rules)
+    (below_all 256 a.input.now (search rules)) (search rules)
     c.read_run-a.ensures in
     rw c.in-End.is at (says)
