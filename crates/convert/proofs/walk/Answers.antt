@@ -1,4 +1,4 @@
-use Rattle.format.proofs.Common.{◌-◌, arith, drop_of_length-le}
+use Rattle.format.proofs.Common.{arith, drop_of_length-le, rules}
 use Rattle.format.proofs.Below.{below_all}
 use Rattle.format.proofs.Runs.{layout-pos}
 use Rattle.convert.specs.Turn.{Turned}
@@ -7,9 +7,8 @@ use Rattle.convert.proofs.walk.Goals as goal
 
 pub lay-at-requires : goal.lay-at-requires
 lay-at-requires c =
-    let turned : (    let l = c.loop-p in let a = c.args in
-    Turned a.signed a.input.now l.p c.convert_run-step.new.run c.in-Run.t) = rw c.in-Run.is at c.convert_run-step.ensures in
- (
+    let turned : (let l = c.loop-p in let a = c.args in
+    Turned a.signed a.input.now l.p c.convert_run-step.new.run c.in-Run.t) = rw c.in-Run.is at c.convert_run-step.ensures in (
       omega (arith, turned.small),
       c.loop-p.invariant.fill.end-in,
     )
@@ -26,20 +25,20 @@ overflow_add-altered c =
 
 pub overflow_add-p : goal.overflow_add-p
 overflow_add-p c =
-    let turned : (    let l = c.loop-p in let a = c.args in
+    let turned : (let l = c.loop-p in let a = c.args in
     Turned a.signed a.input.now l.p c.convert_run-step.new.run c.in-Run.t) = rw c.in-Run.is at c.convert_run-step.ensures in
     omega (arith, turned.within)
 
 pub loop-p-smaller : goal.loop-p-smaller
 loop-p-smaller c =
-    let turned : (    let l = c.loop-p in let a = c.args in
+    let turned : (let l = c.loop-p in let a = c.args in
     Turned a.signed a.input.now l.p c.convert_run-step.new.run c.in-Run.t) = rw c.in-Run.is at c.convert_run-step.ensures in
     let u = turned in
     omega (arith, u.within, u.taken_is, layout-pos u.which, c.loop-p-test.true)
 
 pub loop-p-preserved : goal.loop-p-preserved
 loop-p-preserved c =
-    let turned : (    let l = c.loop-p in let a = c.args in
+    let turned : (let l = c.loop-p in let a = c.args in
     Turned a.signed a.input.now l.p c.convert_run-step.new.run c.in-Run.t) = rw c.in-Run.is at c.convert_run-step.ensures in
     let l = c.loop-p in
     let a = c.args in
@@ -56,7 +55,7 @@ returns-in-Refused c =
     let l = c.loop-p in
     let a = c.args in
     along-refused a.signed a.input.now a.room.bytes a.out.now l.out l.p l.altered l.at l.invariant _
-    (below_all 256 a.input.now (λ i. (c.shared_slice_known-1.given i).fits))
+    (below_all 256 a.input.now (search rules))
     (rw c.in-Refused.is at c.convert_run-step.ensures)
 
 pub shape_of-out-in-End : goal.shape_of-out-in-End
