@@ -35,24 +35,23 @@ put_decimal-at-requires-2 c =
     )
 
 pub put_rows-at-requires : goal.put_rows-at-requires
-put_rows-at-requires c =
- (
-      c.requires.1,
-      omega (
-        arith,
-        c.requires,
-        c.put_word-at.ensures.next,
-        c.put_word-at.auto.out,
-        decimal-length c.args.rows.rows,
-        c.put_decimal-at.ensures.next,
-        c.put_decimal-at.auto.out,
-        c.put-at.ensures.next,
-        c.put-at.auto.out,
-        decimal-length c.args.consumed.bytes,
-        c.put_decimal-at-2.ensures.next,
-        c.put_decimal-at-2.auto.out,
-      ),
-    )
+put_rows-at-requires c = (
+  c.requires.1,
+  omega (
+    arith,
+    c.requires,
+    c.put_word-at.ensures.next,
+    c.put_word-at.auto.out,
+    decimal-length c.args.rows.rows,
+    c.put_decimal-at.ensures.next,
+    c.put_decimal-at.auto.out,
+    c.put-at.ensures.next,
+    c.put-at.auto.out,
+    decimal-length c.args.consumed.bytes,
+    c.put_decimal-at-2.ensures.next,
+    c.put_decimal-at-2.auto.out,
+  ),
+)
 
 pub returns : goal.returns
 returns c =
