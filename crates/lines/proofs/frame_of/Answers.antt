@@ -31,11 +31,11 @@ returns-then-frame-gt1 c =
     let a = c.args in
     let t = c.if-not-bytes.false in
     bad-flag a.line.now _ c.if-len-eq0.false c.if-len-eq1.false c.if-len-gt-MAX_LINE.false (sym c.bytes.ensures.answer ∙ t)
-    (all-written c.bytes.ensures t) (omega (arith, c.bytes.auto.frame)) c.if-frame-gt1.true
+    (all-written c.bytes.ensures t) (omega (arith, c.bytes.auto.frame)) (omega arith)
 
 pub returns : goal.returns
 returns c =
     let a = c.args in
     let t = c.if-not-bytes.false in
     framed a.line.now _ c.if-len-eq0.false c.if-len-eq1.false c.if-len-gt-MAX_LINE.false (sym c.bytes.ensures.answer ∙ t)
-    (all-written c.bytes.ensures t) (omega (arith, c.bytes.auto.frame)) c.if-frame-gt1.false
+    (all-written c.bytes.ensures t) (omega (arith, c.bytes.auto.frame)) (omega arith)
