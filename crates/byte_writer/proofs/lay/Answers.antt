@@ -1,4 +1,4 @@
-use Rattle.format.proofs.Common.{List, ℕ, ◌-◌, arith, length, length-drop}
+use Rattle.format.proofs.Common.{List, ℕ, arith, length-drop}
 use Rattle.byte_writer.specs.Flags.{source}
 use Rattle.byte_writer.proofs.Packing.{source-le}
 use Rattle.byte_writer.proofs.Walking.{Step, step, laying-begins, laying-goes-on, laying-ends}

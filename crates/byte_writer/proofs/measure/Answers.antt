@@ -1,4 +1,4 @@
-use Rattle.format.proofs.Common.{◌≡◌, ap, ◌∙◌, List, [], ℕ, ◌-◌, arith, length, drop, drop_of_length-le}
+use Rattle.format.proofs.Common.{◌≡◌, ap, ◌∙◌, List, [], ℕ, arith, length, drop, drop_of_length-le}
 use Rattle.byte_writer.specs.Choice.{written}
 use Rattle.byte_writer.specs.Flags.{source}
 use Rattle.byte_writer.proofs.Choosing.{written_none}

@@ -1,4 +1,4 @@
-use Rattle.format.proofs.Common.{◌≡◌, sym, ◌∙◌, List, ℕ, ◌+◌, ◌-◌, arith, add-zero, drop, length-drop}
+use Rattle.format.proofs.Common.{◌≡◌, sym, ◌∙◌, List, ℕ, ◌+◌, arith, add-zero, drop, length-drop}
 use Rattle.byte_writer.specs.Choice.{repeats}
 use Rattle.byte_writer.specs.Flags.{source}
 use Rattle.byte_writer.proofs.Stretches.{unlike-more, unlike-stop, unlike-done, three-equal, before_last}

@@ -1,4 +1,4 @@
-use Rattle.format.proofs.Common.{◌≡◌, refl, ◌∙◌, ◌+◌, ◌-◌, arith, add-one, length, drop, length-set, length-drop, paste}
+use Rattle.format.proofs.Common.{◌≡◌, refl, ◌∙◌, ◌+◌, arith, add-one, drop, length-set, length-drop}
 use Rattle.format.proofs.Common.{paste-zero, paste-suc, get_or-drop, length-take-le}
 use Rattle.byte_writer.specs.Flags.{source}
 use Rattle.byte_writer.proofs.Packing.{source-le}

@@ -1,5 +1,4 @@
-use Rattle.format.proofs.Common.{◌≡◌, sym, ◌∙◌, List, ℕ, ◌+◌, ◌-◌, arith, drop, get_or, length-drop}
-use Rattle.byte_writer.specs.Choice.{stretch}
+use Rattle.format.proofs.Common.{◌≡◌, sym, ◌∙◌, List, ℕ, ◌+◌, arith, drop, get_or, length-drop}
 use Rattle.byte_writer.specs.Flags.{source}
 use Rattle.byte_writer.proofs.Stretches.{stretch-le, stretch-here, equal-more, equal-stop}
 use Rattle.byte_writer.proofs.Packing.{source-le}

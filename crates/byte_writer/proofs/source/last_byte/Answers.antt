@@ -10,8 +10,8 @@ loop-i-init c =
 
 pub overflow_add-byte : goal.overflow_add-byte
 overflow_add-byte c =
-    let flag : (    let a = c.args in
-    get_or a.flags.now c.loop-i.i 0 ≡ get_or (drop a.at a.flags.now) (c.loop-i.i - a.at) 0) =     let a = c.args in
+    let flag : (let a = c.args in
+    get_or a.flags.now c.loop-i.i 0 ≡ get_or (drop a.at a.flags.now) (c.loop-i.i - a.at) 0) = let a = c.args in
     let z : a.at + (c.loop-i.i - a.at) ≡ c.loop-i.i = omega arith in
     sym (rw z at (get_or-drop a.at a.flags.now (c.loop-i.i - a.at) 0)) in
     let a = c.args in
@@ -21,8 +21,8 @@ overflow_add-byte c =
 
 pub loop-i-preserved : goal.loop-i-preserved
 loop-i-preserved c =
-    let flag : (    let a = c.args in
-    get_or a.flags.now c.loop-i.i 0 ≡ get_or (drop a.at a.flags.now) (c.loop-i.i - a.at) 0) =     let a = c.args in
+    let flag : (let a = c.args in
+    get_or a.flags.now c.loop-i.i 0 ≡ get_or (drop a.at a.flags.now) (c.loop-i.i - a.at) 0) = let a = c.args in
     let z : a.at + (c.loop-i.i - a.at) ≡ c.loop-i.i = omega arith in
     sym (rw z at (get_or-drop a.at a.flags.now (c.loop-i.i - a.at) 0)) in
     let a = c.args in
