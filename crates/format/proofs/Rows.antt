@@ -6,7 +6,6 @@ use Rattle.format.proofs.Common.{length, length-map, length-replicate, replicate
 use native.Mathlib.Numerals.{add-two}
 use Rattle.format.specs.Digits.{AllBelow}
 use Rattle.format.specs.Fields.{pick, negative, width, block_bytes, bytes_for, row, two64}
-use Rattle.format.specs.Runs
 use Rattle.format.specs.Runs.{Description, short, direct, fixed, delta, patched, row_count, Valid, layout, Patch, entry_width}
 use Rattle.format.specs.Rows
 use Rattle.format.specs.Rows.{rows_of, as_i64, i64_rows}

@@ -1,4 +1,4 @@
-use Prim.Native.Nat.{◌-◌, ◌<◌}
+use Prim.Native.Nat.{◌<◌}
 use mathlib.Core.Path.{◌≡◌, refl, ap, ◌∙◌}
 use native.Mathlib.Omega.{arith}
 use lib.ListN.{length, get_or, length-set}
@@ -20,7 +20,7 @@ overflow_add-next c =
 
 pub loop-next-preserved : goal.loop-next-preserved
 loop-next-preserved c =
-    let has-flag :     c.loop-next.i < length c.args.flags.now =     let a = c.args in
+    let has-flag : c.loop-next.i < length c.args.flags.now = let a = c.args in
     flag-left _ a.flags.now a.rows.now a.out.now c.loop-next.invariant (omega (arith, c.requires.0)) in
     let a = c.args in
     let l = c.loop-next in
@@ -57,46 +57,46 @@ pub loop-next-init : goal.loop-next-init
 loop-next-init c = so-far-none _ _ _ _
 
 pub bounds-flags-i : goal.bounds-flags-i
-bounds-flags-i c = 
-    let has-flag :     c.loop-next.i < length c.args.flags.now =     let a = c.args in
+bounds-flags-i c =
+    let has-flag : c.loop-next.i < length c.args.flags.now = let a = c.args in
     flag-left _ a.flags.now a.rows.now a.out.now c.loop-next.invariant (omega (arith, c.requires.0)) in
-   has-flag
+    has-flag
 
 pub offset_bounds-out-i : goal.offset_bounds-out-i
-offset_bounds-out-i c = 
-    let has-flag :     c.loop-next.i < length c.args.flags.now =     let a = c.args in
+offset_bounds-out-i c =
+    let has-flag : c.loop-next.i < length c.args.flags.now = let a = c.args in
     flag-left _ a.flags.now a.rows.now a.out.now c.loop-next.invariant (omega (arith, c.requires.0)) in
-    let has-place : c.loop-next.i < length c.loop-next.out =     omega (arith, has-flag, c.loop-next.invariant.long, c.requires.1) in
-   omega (arith, has-place)
+    let has-place : c.loop-next.i < length c.loop-next.out = omega (arith, has-flag, c.loop-next.invariant.long, c.requires.1) in
+    omega (arith, has-place)
 
 pub bounds-out-i : goal.bounds-out-i
-bounds-out-i c = 
-    let has-flag :     c.loop-next.i < length c.args.flags.now =     let a = c.args in
+bounds-out-i c =
+    let has-flag : c.loop-next.i < length c.args.flags.now = let a = c.args in
     flag-left _ a.flags.now a.rows.now a.out.now c.loop-next.invariant (omega (arith, c.requires.0)) in
-    let has-place : c.loop-next.i < length c.loop-next.out =     omega (arith, has-flag, c.loop-next.invariant.long, c.requires.1) in
-   has-place
+    let has-place : c.loop-next.i < length c.loop-next.out = omega (arith, has-flag, c.loop-next.invariant.long, c.requires.1) in
+    has-place
 
 pub overflow_add-i : goal.overflow_add-i
-overflow_add-i c = 
-    let has-flag :     c.loop-next.i < length c.args.flags.now =     let a = c.args in
+overflow_add-i c =
+    let has-flag : c.loop-next.i < length c.args.flags.now = let a = c.args in
     flag-left _ a.flags.now a.rows.now a.out.now c.loop-next.invariant (omega (arith, c.requires.0)) in
-   omega (arith, has-flag)
+    omega (arith, has-flag)
 
 pub loop-next-smaller : goal.loop-next-smaller
-loop-next-smaller c = 
-    let has-flag :     c.loop-next.i < length c.args.flags.now =     let a = c.args in
+loop-next-smaller c =
+    let has-flag : c.loop-next.i < length c.args.flags.now = let a = c.args in
     flag-left _ a.flags.now a.rows.now a.out.now c.loop-next.invariant (omega (arith, c.requires.0)) in
-   omega (arith, has-flag)
+    omega (arith, has-flag)
 
 pub loop-i-init : goal.loop-i-init
 loop-i-init c = (refl, λ entry l w. w)
 
 pub offset_bounds-out-i-in-loop-i : goal.offset_bounds-out-i-in-loop-i
-offset_bounds-out-i-in-loop-i c = 
-    let has-place-2 : c.loop-i.i < length c.loop-i.out =     omega (arith, c.loop-i.invariant.0, c.loop-next.invariant.long, c.requires.1) in
-   omega (arith, has-place-2)
+offset_bounds-out-i-in-loop-i c =
+    let has-place-2 : c.loop-i.i < length c.loop-i.out = omega (arith, c.loop-i.invariant.0, c.loop-next.invariant.long, c.requires.1) in
+    omega (arith, has-place-2)
 
 pub bounds-out-i-in-loop-i : goal.bounds-out-i-in-loop-i
 bounds-out-i-in-loop-i c =
-    let has-place-2 : c.loop-i.i < length c.loop-i.out =     omega (arith, c.loop-i.invariant.0, c.loop-next.invariant.long, c.requires.1) in
+    let has-place-2 : c.loop-i.i < length c.loop-i.out = omega (arith, c.loop-i.invariant.0, c.loop-next.invariant.long, c.requires.1) in
     has-place-2
