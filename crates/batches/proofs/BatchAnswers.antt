@@ -12,7 +12,7 @@ use Rattle.format.specs.Streams.{Reading, whole, stream, runs_of, total_rows}
 use Rattle.format.specs.declared.ByteOffset.{ByteOffset}
 use Rattle.format.specs.declared.Refusal.{Refusal}
 use Rattle.format.specs.declared.Run.{Run}
-use Rattle.batches.specs.Batches.{Position, BatchOutcome, gives, ended, refuses, rows_left, first_rows, batch_of, batch}
+use Rattle.batches.specs.Batches.{BatchOutcome, gives, ended, refuses, rows_left, first_rows, batch_of, batch}
 use Rattle.batches.specs.BatchPromise.{position_in, batch_answer, laid_over, places_after, RowsRead}
 use Rattle.batches.specs.BatchSteps.{RunHolds, SameRow, BatchFrom}
 use Rattle.batches.specs.declared.RowPosition.{RowPosition}

@@ -18,7 +18,7 @@ use Rattle.format.proofs.Rows.{joined-count}
 use Rattle.batches.specs.Batches.{Position, position_of, rows_left, count_left, empty_of, reading_at}
 use Rattle.batches.specs.BatchTheorems.{Plain}
 use Rattle.index.proofs.Entries.{total-cons}
-use Rattle.batches.proofs.RowPositions.{position, in-first, past_first, no_run}
+use Rattle.batches.proofs.RowPositions.{in-first, past_first, no_run}
 use Rattle.batches.proofs.BatchRuns.{rows-skip}
 use Rattle.batches.proofs.RunAtByte.{read-on}
 

@@ -1,10 +1,10 @@
 -- A part of a direct run, read into its places: the run that is named is the one that stands there, so its rows are the batch of that run alone.
 -- Assumes nothing.
-use mathlib.Core.Path.{◌≡◌, refl, sym, ap, ◌∙◌}
+use mathlib.Core.Path.{◌≡◌, sym, ap, ◌∙◌}
 use Prim.Native.Nat.{ℕ, ◌+◌, ◌-◌, ◌<◌, ◌≤◌}
 use native.Mathlib.Omega.{arith}
 use mathlib.Core.Bool.{Bool}
-use mathlib.Core.List.{List, [], ◌∷◌, ◌++◌}
+use mathlib.Core.List.{List, [], ◌++◌}
 use lib.ListN.{length, take, drop, drop_of_length-le}
 use lib.Seq.{take-nil, take_all, length-take-le}
 use lib.IntN.{ℤ}

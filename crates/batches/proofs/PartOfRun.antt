@@ -4,7 +4,7 @@ use mathlib.Core.Path.{◌≡◌, refl, sym, ap, ◌∙◌}
 use Prim.Native.Nat.{ℕ, ◌+◌, ◌-◌, ◌<◌, ◌≤◌}
 use native.Mathlib.Omega.{arith}
 use mathlib.Core.Bool.{Bool, true, false}
-use mathlib.Core.List.{List, [], ◌∷◌, ◌++◌}
+use mathlib.Core.List.{List, [], ◌++◌}
 use lib.ListN.{length, take, drop, length-append, take-append-drop}
 use lib.Seq.{drop-append-le, take-append-le, take_all, take_at, length-take-le}
 use lib.Dec.{ltb}
@@ -25,9 +25,8 @@ use Rattle.format.proofs.Rows.{i64-count}
 use Rattle.format.proofs.Runs.{got-inj}
 use Rattle.format.proofs.Streams.{into-got}
 use Rattle.format.proofs.Tests.{never}
-use Rattle.batches.specs.Batches.{first_rows}
-use Rattle.batches.specs.BatchPromise.{position_in, batch_read_as}
-use Rattle.batches.specs.BatchSteps.{Stands, RunHolds, HeldRun, PartLaid, RunPart, Reads}
+use Rattle.batches.specs.BatchPromise.{batch_read_as}
+use Rattle.batches.specs.BatchSteps.{Stands, RunHolds, HeldRun, PartLaid, RunPart}
 use Rattle.batches.specs.declared.RowPosition.{RowPosition}
 use Rattle.batches.specs.declared.BatchRead.{BatchRead}
 use Rattle.batches.proofs.RowPositions.{rest-long}

@@ -8,7 +8,7 @@ use lib.ListN.{length, take, drop, length-drop}
 use lib.Seq.{drop-append-add, take-append-add}
 use lib.IntN.{ℤ}
 use borrow.Author.Tests.{le-ltb, lt-ltb}
-use Rattle.format.specs.Runs.{Description, row_count, layout, joined}
+use Rattle.format.specs.Runs.{Description, row_count, layout}
 use Rattle.format.specs.Rows.{i64_rows}
 use Rattle.format.specs.Streams.{Reading, whole, broken, after, runs_of, joined_rows}
 use Rattle.format.proofs.Rows.{i64-count}

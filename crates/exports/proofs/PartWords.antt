@@ -10,7 +10,7 @@ use Rattle.exports.specs.RowBytes.{is_signed}
 use Rattle.answer_words.specs.Words.{too_few_words}
 use Rattle.answer_words.specs.Parts.{reader_of, enough, PartPut, StepTold}
 use Rattle.answer_words.proofs.PartWords.{step-put}
-use Rattle.exports.specs.Parts.{Untouched, Taken, ClosedBy, PartTold, CloseTold, SameLent, StartToldDetermined, PartToldDetermined, CloseToldDetermined}
+use Rattle.exports.specs.Parts.{Untouched, PartTold, CloseTold, SameLent, StartToldDetermined, PartToldDetermined, CloseToldDetermined}
 
 module _ {state held words : List ℕ} {rows : List ℤ} where
   untouched : Untouched state state held held rows rows words words too_few_words

@@ -1,5 +1,5 @@
 -- A short repeat as `orc_read_run`'s number and bytes, by what its measure named. Assumes nothing.
-use mathlib.Core.Path.{◌≡◌, refl, sym, ap, ◌∙◌}
+use mathlib.Core.Path.{◌≡◌, refl, ap, ◌∙◌}
 use Prim.Native.Nat.{ℕ, ◌+◌, ◌*◌, ◌/◌, ◌%◌, ◌-◌, ◌<◌, ◌≤◌}
 use native.Mathlib.Nat.{sub-zero}
 use native.Mathlib.Omega.{arith}
@@ -14,13 +14,13 @@ use Rattle.format.specs.Rows.{as_i64, rows_of, i64_rows}
 use Rattle.format.specs.Parse.{Parsed, end, got, refused, plain, parse, into}
 use Rattle.format.specs.Promises.{answer_of, RunMeasured}
 use Rattle.format.specs.Answers.{answer_rows, answer_bytes, answer_packed}
-use Rattle.exports.specs.RowBytes.{row_bytes, bytes_of, places_in, LoadedAs}
+use Rattle.exports.specs.RowBytes.{row_bytes, places_in, LoadedAs}
 use Rattle.format.specs.declared.Answer.{Answer}
 use Rattle.format.specs.declared.Answer.TheVariants as answer
 use Rattle.format.specs.declared.Run.{Run}
 use Rattle.format.proofs.Streams.{into-end, into-got, into-refused}
 use Rattle.rle_v2.proofs.ByKind.{is-short}
-use Rattle.rle_v2.proofs.ShortRun.{run, is-run, Measured, measured}
+use Rattle.rle_v2.proofs.ShortRun.{is-run, Measured, measured}
 
 pub run-not-end : (r : Run) → answer.Run r ≡ answer.End → ⊥
 run-not-end r e = let z : ◌≡◌ {A = ℕ} 0 1 = cc in omega arith

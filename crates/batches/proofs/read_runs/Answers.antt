@@ -87,7 +87,7 @@ after-requires c =
     let Unchanged : Type 0 = back c.read_run-a.new.out ≡ c.loop-k.out in
     let unchanged : NoRun c.read_run-a.result → Unchanged = λ u. same-places c.loop-k.invariant (given) u in
     let refused-same : Unchanged = unchanged (rw c.in-Refused.is tt) in
-    let part-is : ( let l = c.loop-k in
+    let part-is : (let l = c.loop-k in
     let a = c.args in
     RunPart a.input.now (row_position l.p 0) a.signed (drop l.k l.out) c.read_part-last.new.out
     c.read_part-last.result) = let l = c.loop-k in
@@ -107,15 +107,15 @@ shape_of-out-then-f-eq8 c =
     let bytes : AllBelow 256 c.args.input.now = below_all 256 c.args.input.now (λ i. (c.shared_slice_known-1.given i).fits) in
     let there : TurnAt c.read_run-a.result = turn_is c.loop-k.invariant (given) (bytes) in
     let refused-is : TurnAt (answer.Refused c.in-Refused.f) = subst (TurnAt) c.in-Refused.is (there) in
-    let part-is : ( let l = c.loop-k in
+    let part-is : (let l = c.loop-k in
     let a = c.args in
     RunPart a.input.now (row_position l.p 0) a.signed (drop l.k l.out) c.read_part-last.new.out
     c.read_part-last.result) = let l = c.loop-k in
     rw (refused-same, rest-is l.out l.k) at c.read_part-last.ensures in
-    let laid : ( let a = c.args in
+    let laid : (let a = c.args in
     BatchFrom a.input.now (position a.at.bytes 0) a.signed a.out.now (back c.read_part-last.new.out)
-    (more c.loop-k.k c.read_part-last.result)) =     walked-cut c.loop-k.invariant (refused-is.cut (omega arith)) (part-is) in
- rw (refused-same) (batch-long (laid))
+    (more c.loop-k.k c.read_part-last.result)) = walked-cut c.loop-k.invariant (refused-is.cut (omega arith)) (part-is) in
+    rw (refused-same) (batch-long (laid))
 
 pub returns-then-f-eq8 : goal.returns-then-f-eq8
 returns-then-f-eq8 c =
@@ -129,15 +129,15 @@ returns-then-f-eq8 c =
     let bytes : AllBelow 256 c.args.input.now = below_all 256 c.args.input.now (λ i. (c.shared_slice_known-1.given i).fits) in
     let there : TurnAt c.read_run-a.result = turn_is c.loop-k.invariant (given) (bytes) in
     let refused-is : TurnAt (answer.Refused c.in-Refused.f) = subst (TurnAt) c.in-Refused.is (there) in
-    let part-is : ( let l = c.loop-k in
+    let part-is : (let l = c.loop-k in
     let a = c.args in
     RunPart a.input.now (row_position l.p 0) a.signed (drop l.k l.out) c.read_part-last.new.out
     c.read_part-last.result) = let l = c.loop-k in
     rw (refused-same, rest-is l.out l.k) at c.read_part-last.ensures in
-    let laid : ( let a = c.args in
+    let laid : (let a = c.args in
     BatchFrom a.input.now (position a.at.bytes 0) a.signed a.out.now (back c.read_part-last.new.out)
-    (more c.loop-k.k c.read_part-last.result)) =     walked-cut c.loop-k.invariant (refused-is.cut (omega arith)) (part-is) in
- rw (c.after.ensures, refused-same) (laid)
+    (more c.loop-k.k c.read_part-last.result)) = walked-cut c.loop-k.invariant (refused-is.cut (omega arith)) (part-is) in
+    rw (c.after.ensures, refused-same) (laid)
 
 -- ---- the batch ends: at a refused run, at the end, or because every place is filled
 pub returns-in-Refused : goal.returns-in-Refused
@@ -178,29 +178,29 @@ pub loop-k-init : goal.loop-k-init
 loop-k-init c = walked-first _ _ _ _
 
 pub slice_bounds-read_part-count : goal.slice_bounds-read_part-count
-slice_bounds-read_part-count c = 
+slice_bounds-read_part-count c =
     let given : (let l = c.loop-k in let a = c.args in
     RunRead a.input.now l.p a.signed (drop l.k l.out) c.read_run-a.new.out c.read_run-a.result) = let l = c.loop-k in rw (rest-is l.out l.k) at c.read_run-a.ensures in
     let back : List ℤ → List ℤ = λ part. let l = c.loop-k in take l.k l.out ++ (part ++ drop (length l.out - l.k) (drop l.k l.out)) in
     let Unchanged : Type 0 = back c.read_run-a.new.out ≡ c.loop-k.out in
     let unchanged : NoRun c.read_run-a.result → Unchanged = λ u. same-places c.loop-k.invariant (given) u in
     let refused-same : Unchanged = unchanged (rw c.in-Refused.is tt) in
-    let within :     c.loop-k.k ≤ length (back c.read_run-a.new.out) = let w = c.loop-k.invariant in omega (arith, ap length (refused-same), w.few, w.long) in
-   within
+    let within : c.loop-k.k ≤ length (back c.read_run-a.new.out) = let w = c.loop-k.invariant in omega (arith, ap length (refused-same), w.few, w.long) in
+    within
 
 pub slice_bounds-read_part-start : goal.slice_bounds-read_part-start
-slice_bounds-read_part-start c = 
+slice_bounds-read_part-start c =
     let given : (let l = c.loop-k in let a = c.args in
     RunRead a.input.now l.p a.signed (drop l.k l.out) c.read_run-a.new.out c.read_run-a.result) = let l = c.loop-k in rw (rest-is l.out l.k) at c.read_run-a.ensures in
     let back : List ℤ → List ℤ = λ part. let l = c.loop-k in take l.k l.out ++ (part ++ drop (length l.out - l.k) (drop l.k l.out)) in
     let Unchanged : Type 0 = back c.read_run-a.new.out ≡ c.loop-k.out in
     let unchanged : NoRun c.read_run-a.result → Unchanged = λ u. same-places c.loop-k.invariant (given) u in
     let refused-same : Unchanged = unchanged (rw c.in-Refused.is tt) in
-    let within :     c.loop-k.k ≤ length (back c.read_run-a.new.out) = let w = c.loop-k.invariant in omega (arith, ap length (refused-same), w.few, w.long) in
-   within
+    let within : c.loop-k.k ≤ length (back c.read_run-a.new.out) = let w = c.loop-k.invariant in omega (arith, ap length (refused-same), w.few, w.long) in
+    within
 
 pub shape_of-out-in-Refused : goal.shape_of-out-in-Refused
-shape_of-out-in-Refused c = 
+shape_of-out-in-Refused c =
     let given : (let l = c.loop-k in let a = c.args in
     RunRead a.input.now l.p a.signed (drop l.k l.out) c.read_run-a.new.out c.read_run-a.result) = let l = c.loop-k in rw (rest-is l.out l.k) at c.read_run-a.ensures in
     let back : List ℤ → List ℤ = λ part. let l = c.loop-k in take l.k l.out ++ (part ++ drop (length l.out - l.k) (drop l.k l.out)) in
@@ -210,14 +210,14 @@ shape_of-out-in-Refused c =
     ap length (refused-same) ∙ c.loop-k.invariant.long
 
 pub shape_of-out-in-End : goal.shape_of-out-in-End
-shape_of-out-in-End c = 
+shape_of-out-in-End c =
     let given : (let l = c.loop-k in let a = c.args in
     RunRead a.input.now l.p a.signed (drop l.k l.out) c.read_run-a.new.out c.read_run-a.result) = let l = c.loop-k in rw (rest-is l.out l.k) at c.read_run-a.ensures in
     let back : List ℤ → List ℤ = λ part. let l = c.loop-k in take l.k l.out ++ (part ++ drop (length l.out - l.k) (drop l.k l.out)) in
     let Unchanged : Type 0 = back c.read_run-a.new.out ≡ c.loop-k.out in
     let unchanged : NoRun c.read_run-a.result → Unchanged = λ u. same-places c.loop-k.invariant (given) u in
     let ended_same : Unchanged = unchanged (rw c.in-End.is tt) in
-   ap length (ended_same) ∙ c.loop-k.invariant.long
+    ap length (ended_same) ∙ c.loop-k.invariant.long
 
 pub shape_of-out : goal.shape_of-out
 shape_of-out c = c.loop-k.invariant.long

@@ -18,23 +18,23 @@ returns-then-out-eq0 c =
 
 pub returns-then-n-out : goal.returns-then-n-out
 returns-then-n-out c =
-    let bytes : AllBelow 256 c.args.input.now =     below_all 256 c.args.input.now (λ i. (c.shared_slice_known-1.given i).fits) in
+    let bytes : AllBelow 256 c.args.input.now = below_all 256 c.args.input.now (λ i. (c.shared_slice_known-1.given i).fits) in
     all-filled (bytes) c.requires c.read_part-first.ensures (omega (arith, c.read_part-first.auto.out))
 
 pub offset_bounds-out-n : goal.offset_bounds-out-n
 offset_bounds-out-n c =
-    let bytes : AllBelow 256 c.args.input.now =     below_all 256 c.args.input.now (λ i. (c.shared_slice_known-1.given i).fits) in
-    let unfilled :  c.read_part-first.result.rows.rows ≢ length c.args.out.now =  λ e. omega (arith, e, c.read_part-first.auto.out) in
-    let some :  c.read_part-first.result.rows.rows ≤ length c.read_part-first.new.out =  some_left (bytes) c.requires c.read_part-first.ensures (unfilled) in
+    let bytes : AllBelow 256 c.args.input.now = below_all 256 c.args.input.now (λ i. (c.shared_slice_known-1.given i).fits) in
+    let unfilled : c.read_part-first.result.rows.rows ≢ length c.args.out.now = λ e. omega (arith, e, c.read_part-first.auto.out) in
+    let some : c.read_part-first.result.rows.rows ≤ length c.read_part-first.new.out = some_left (bytes) c.requires c.read_part-first.ensures (unfilled) in
     omega (arith, some, c.read_part-first.auto.out)
 
 pub after-requires : goal.after-requires
 after-requires c =
-    let bytes : AllBelow 256 c.args.input.now =     below_all 256 c.args.input.now (λ i. (c.shared_slice_known-1.given i).fits) in
-    let unfilled :  c.read_part-first.result.rows.rows ≢ length c.args.out.now =  λ e. omega (arith, e, c.read_part-first.auto.out) in
-    let rest : ( let a = c.args in
+    let bytes : AllBelow 256 c.args.input.now = below_all 256 c.args.input.now (λ i. (c.shared_slice_known-1.given i).fits) in
+    let unfilled : c.read_part-first.result.rows.rows ≢ length c.args.out.now = λ e. omega (arith, e, c.read_part-first.auto.out) in
+    let rest : (let a = c.args in
     BatchFrom a.input.now (position c.read_part-first.result.next.run.bytes 0) a.signed
-    (drop c.read_part-first.result.rows.rows c.read_part-first.new.out) c.read_runs-rest.new.out c.read_runs-rest.result) =     rw (rest-is c.read_part-first.new.out c.read_part-first.result.rows.rows) at c.read_runs-rest.ensures in
+    (drop c.read_part-first.result.rows.rows c.read_part-first.new.out) c.read_runs-rest.new.out c.read_runs-rest.result) = rw (rest-is c.read_part-first.new.out c.read_part-first.result.rows.rows) at c.read_runs-rest.ensures in
     omega (
       arith,
       rest-few (bytes) c.requires c.read_part-first.ensures (unfilled) (rest),
@@ -43,23 +43,23 @@ after-requires c =
 
 pub returns : goal.returns
 returns c =
-    let bytes : AllBelow 256 c.args.input.now =     below_all 256 c.args.input.now (λ i. (c.shared_slice_known-1.given i).fits) in
-    let unfilled :  c.read_part-first.result.rows.rows ≢ length c.args.out.now =  λ e. omega (arith, e, c.read_part-first.auto.out) in
-    let rest : ( let a = c.args in
+    let bytes : AllBelow 256 c.args.input.now = below_all 256 c.args.input.now (λ i. (c.shared_slice_known-1.given i).fits) in
+    let unfilled : c.read_part-first.result.rows.rows ≢ length c.args.out.now = λ e. omega (arith, e, c.read_part-first.auto.out) in
+    let rest : (let a = c.args in
     BatchFrom a.input.now (position c.read_part-first.result.next.run.bytes 0) a.signed
-    (drop c.read_part-first.result.rows.rows c.read_part-first.new.out) c.read_runs-rest.new.out c.read_runs-rest.result) =     rw (rest-is c.read_part-first.new.out c.read_part-first.result.rows.rows) at c.read_runs-rest.ensures in
+    (drop c.read_part-first.result.rows.rows c.read_part-first.new.out) c.read_runs-rest.new.out c.read_runs-rest.result) = rw (rest-is c.read_part-first.new.out c.read_part-first.result.rows.rows) at c.read_runs-rest.ensures in
     rw c.after.ensures (rest_read (bytes) c.requires c.read_part-first.ensures (unfilled) (rest))
 
 pub slice_bounds-read_runs-count : goal.slice_bounds-read_runs-count
-slice_bounds-read_runs-count c = 
-    let bytes : AllBelow 256 c.args.input.now =     below_all 256 c.args.input.now (λ i. (c.shared_slice_known-1.given i).fits) in
-    let unfilled :  c.read_part-first.result.rows.rows ≢ length c.args.out.now =  λ e. omega (arith, e, c.read_part-first.auto.out) in
-    let some :  c.read_part-first.result.rows.rows ≤ length c.read_part-first.new.out =  some_left (bytes) c.requires c.read_part-first.ensures (unfilled) in
-   omega (arith, some)
+slice_bounds-read_runs-count c =
+    let bytes : AllBelow 256 c.args.input.now = below_all 256 c.args.input.now (λ i. (c.shared_slice_known-1.given i).fits) in
+    let unfilled : c.read_part-first.result.rows.rows ≢ length c.args.out.now = λ e. omega (arith, e, c.read_part-first.auto.out) in
+    let some : c.read_part-first.result.rows.rows ≤ length c.read_part-first.new.out = some_left (bytes) c.requires c.read_part-first.ensures (unfilled) in
+    omega (arith, some)
 
 pub slice_bounds-read_runs-start : goal.slice_bounds-read_runs-start
-slice_bounds-read_runs-start c = 
-    let bytes : AllBelow 256 c.args.input.now =     below_all 256 c.args.input.now (λ i. (c.shared_slice_known-1.given i).fits) in
-    let unfilled :  c.read_part-first.result.rows.rows ≢ length c.args.out.now =  λ e. omega (arith, e, c.read_part-first.auto.out) in
-    let some :  c.read_part-first.result.rows.rows ≤ length c.read_part-first.new.out =  some_left (bytes) c.requires c.read_part-first.ensures (unfilled) in
-   omega (arith, some)
+slice_bounds-read_runs-start c =
+    let bytes : AllBelow 256 c.args.input.now = below_all 256 c.args.input.now (λ i. (c.shared_slice_known-1.given i).fits) in
+    let unfilled : c.read_part-first.result.rows.rows ≢ length c.args.out.now = λ e. omega (arith, e, c.read_part-first.auto.out) in
+    let some : c.read_part-first.result.rows.rows ≤ length c.read_part-first.new.out = some_left (bytes) c.requires c.read_part-first.ensures (unfilled) in
+    omega (arith, some)

@@ -11,7 +11,7 @@ use Rattle.batches.proofs.seek.Goals as goal
 pub returns-then-left-rows : goal.returns-then-left-rows
 returns-then-left-rows c =
     let StepAt : Answer → Type 0 = Step c.args.input.now c.loop-left.place in
-    let there : StepAt c.measure-a.result =     step c.args.input.now c.loop-left.place _
+    let there : StepAt c.measure-a.result = step c.args.input.now c.loop-left.place _
     (below_all 256 c.args.input.now (λ i. (c.shared_slice_known-1.given i).fits)) c.measure-a.ensures in
     let ran-is : StepAt (answer.Run c.in-Run.r) = subst (StepAt) c.in-Run.is (there) in
     let o = ran-is in
@@ -20,7 +20,7 @@ returns-then-left-rows c =
 pub overflow_add-place : goal.overflow_add-place
 overflow_add-place c =
     let StepAt : Answer → Type 0 = Step c.args.input.now c.loop-left.place in
-    let there : StepAt c.measure-a.result =     step c.args.input.now c.loop-left.place _
+    let there : StepAt c.measure-a.result = step c.args.input.now c.loop-left.place _
     (below_all 256 c.args.input.now (λ i. (c.shared_slice_known-1.given i).fits)) c.measure-a.ensures in
     let ran-is : StepAt (answer.Run c.in-Run.r) = subst (StepAt) c.in-Run.is (there) in
     let o = ran-is in
@@ -29,7 +29,7 @@ overflow_add-place c =
 pub loop-left-smaller : goal.loop-left-smaller
 loop-left-smaller c =
     let StepAt : Answer → Type 0 = Step c.args.input.now c.loop-left.place in
-    let there : StepAt c.measure-a.result =     step c.args.input.now c.loop-left.place _
+    let there : StepAt c.measure-a.result = step c.args.input.now c.loop-left.place _
     (below_all 256 c.args.input.now (λ i. (c.shared_slice_known-1.given i).fits)) c.measure-a.ensures in
     let ran-is : StepAt (answer.Run c.in-Run.r) = subst (StepAt) c.in-Run.is (there) in
     let o = ran-is in
@@ -38,7 +38,7 @@ loop-left-smaller c =
 pub loop-left-preserved : goal.loop-left-preserved
 loop-left-preserved c =
     let StepAt : Answer → Type 0 = Step c.args.input.now c.loop-left.place in
-    let there : StepAt c.measure-a.result =     step c.args.input.now c.loop-left.place _
+    let there : StepAt c.measure-a.result = step c.args.input.now c.loop-left.place _
     (below_all 256 c.args.input.now (λ i. (c.shared_slice_known-1.given i).fits)) c.measure-a.ensures in
     let ran-is : StepAt (answer.Run c.in-Run.r) = subst (StepAt) c.in-Run.is (there) in
     passed c.loop-left.invariant (ran-is) (omega arith)
@@ -46,15 +46,15 @@ loop-left-preserved c =
 pub returns-in-Refused : goal.returns-in-Refused
 returns-in-Refused c =
     let StepAt : Answer → Type 0 = Step c.args.input.now c.loop-left.place in
-    let there : StepAt c.measure-a.result =     step c.args.input.now c.loop-left.place _
+    let there : StepAt c.measure-a.result = step c.args.input.now c.loop-left.place _
     (below_all 256 c.args.input.now (λ i. (c.shared_slice_known-1.given i).fits)) c.measure-a.ensures in
     let refused-is : StepAt (answer.Refused c.in-Refused.f) = subst (StepAt) c.in-Refused.is (there) in
- refused-there c.loop-left.invariant (refused-is)
+    refused-there c.loop-left.invariant (refused-is)
 
 pub returns-in-End : goal.returns-in-End
 returns-in-End c =
     let StepAt : Answer → Type 0 = Step c.args.input.now c.loop-left.place in
-    let there : StepAt c.measure-a.result =     step c.args.input.now c.loop-left.place _
+    let there : StepAt c.measure-a.result = step c.args.input.now c.loop-left.place _
     (below_all 256 c.args.input.now (λ i. (c.shared_slice_known-1.given i).fits)) c.measure-a.ensures in
     let ended_is : StepAt answer.End = subst (StepAt) c.in-End.is (there) in
     rw c.new.ensures (no-such-row c.loop-left.invariant (ended_is) c.loop-left-test.true)

@@ -1,3 +1,4 @@
+-- Each turn converts one run more, or ends with what the definition says of the rest. Assumes nothing.
 use Rattle.format.proofs.Common.{arith, drop_of_length-le, rules}
 use Rattle.format.proofs.Below.{below_all}
 use Rattle.format.proofs.Runs.{layout-pos}
@@ -7,11 +8,10 @@ use Rattle.convert.proofs.walk.Goals as goal
 
 pub lay-at-requires : goal.lay-at-requires
 lay-at-requires c =
-    let turned : (let l = c.loop-p in let a = c.args in
-    Turned a.signed a.input.now l.p c.convert_run-step.new.run c.in-Run.t) = rw c.in-Run.is at c.convert_run-step.ensures in (
-      omega (arith, turned.small),
-      c.loop-p.invariant.fill.end-in,
-    )
+    let a = c.args in
+    let l = c.loop-p in
+    let turned : Turned a.signed a.input.now l.p c.convert_run-step.new.run c.in-Run.t = rw c.in-Run.is at c.convert_run-step.ensures in
+    (omega (arith, turned.small), l.invariant.fill.end-in)
 
 pub overflow_add-altered : goal.overflow_add-altered
 overflow_add-altered c =
@@ -25,26 +25,25 @@ overflow_add-altered c =
 
 pub overflow_add-p : goal.overflow_add-p
 overflow_add-p c =
-    let turned : (let l = c.loop-p in let a = c.args in
-    Turned a.signed a.input.now l.p c.convert_run-step.new.run c.in-Run.t) = rw c.in-Run.is at c.convert_run-step.ensures in
+    let a = c.args in
+    let l = c.loop-p in
+    let turned : Turned a.signed a.input.now l.p c.convert_run-step.new.run c.in-Run.t = rw c.in-Run.is at c.convert_run-step.ensures in
     omega (arith, turned.within)
 
 pub loop-p-smaller : goal.loop-p-smaller
 loop-p-smaller c =
-    let turned : (let l = c.loop-p in let a = c.args in
-    Turned a.signed a.input.now l.p c.convert_run-step.new.run c.in-Run.t) = rw c.in-Run.is at c.convert_run-step.ensures in
-    let u = turned in
-    omega (arith, u.within, u.taken_is, layout-pos u.which, c.loop-p-test.true)
+    let a = c.args in
+    let l = c.loop-p in
+    let turned : Turned a.signed a.input.now l.p c.convert_run-step.new.run c.in-Run.t = rw c.in-Run.is at c.convert_run-step.ensures in
+    omega (arith, turned.within, turned.taken_is, layout-pos turned.which, c.loop-p-test.true)
 
 pub loop-p-preserved : goal.loop-p-preserved
 loop-p-preserved c =
-    let turned : (let l = c.loop-p in let a = c.args in
-    Turned a.signed a.input.now l.p c.convert_run-step.new.run c.in-Run.t) = rw c.in-Run.is at c.convert_run-step.ensures in
-    let l = c.loop-p in
     let a = c.args in
+    let l = c.loop-p in
+    let turned : Turned a.signed a.input.now l.p c.convert_run-step.new.run c.in-Run.t = rw c.in-Run.is at c.convert_run-step.ensures in
     rw c.count-altered.ensures
-    (along-next a.signed a.input.now a.room.bytes a.out.now l.out l.p l.altered l.at l.invariant _ _ _ _ (turned)
-    c.lay-at.ensures)
+    (along-next a.signed a.input.now a.room.bytes a.out.now l.out l.p l.altered l.at l.invariant _ _ _ _ turned c.lay-at.ensures)
 
 pub shape_of-out-in-Refused : goal.shape_of-out-in-Refused
 shape_of-out-in-Refused c =

@@ -18,7 +18,7 @@ read_by-requires c =
 
 pub read_by-requires-2 : goal.read_by-requires-2
 read_by-requires-2 c =
-    let s = ( c) in
+    let s = (c) in
     let a = s.before.args in
     let l : length c.all_rows-rows.result ≡ 512 = search rules in
     rw l (enough-all a.input.now (below_all 256 a.input.now (λ i. (s.shared_slice_known-1.given i).fits)))

@@ -14,8 +14,8 @@ returns-then-is_cut c =
     let it-began : Begun c.args.reader c.args.part.now c.args.buffer.now c.args.held.bytes c.args.more.bytes = search rules in
     let a = c.args in
     rw c.hold.ensures
-    (waiting a.reader a.part.now a.buffer.now a.held.bytes a.more.bytes (it-began) (buffer-bytes)
-    (part_bytes) a.signed
+    (waiting a.reader a.part.now a.buffer.now a.held.bytes a.more.bytes it-began buffer-bytes
+    part_bytes a.signed
     a.out.now _ (omega arith) c.measure-a.ensures (sym c.is_cut.ensures ∙ c.if-is_cut.true) _ c.copy.ensures)
 
 pub returns-then-buffer-ge3 : goal.returns-then-buffer-ge3
@@ -25,10 +25,10 @@ returns-then-buffer-ge3 c =
     let it-began : Begun c.args.reader c.args.part.now c.args.buffer.now c.args.held.bytes c.args.more.bytes = search rules in
     let a = c.args in
     let began = it-began in
-    stays a.reader a.part.now a.buffer.now _ a.held.bytes a.more.bytes began (buffer-bytes) (part_bytes)
+    stays a.reader a.part.now a.buffer.now _ a.held.bytes a.more.bytes began buffer-bytes part_bytes
     a.signed a.out.now _ _
     c.join.ensures
-    (not-by-front a.reader a.part.now a.buffer.now a.held.bytes a.more.bytes began (buffer-bytes) (part_bytes) _
+    (not-by-front a.reader a.part.now a.buffer.now a.held.bytes a.more.bytes began buffer-bytes part_bytes _
     (omega arith) c.if-buffer-ge3.true
     c.measure-a.ensures (sym c.is_whole.ensures ∙ c.if-is_whole.true))
 

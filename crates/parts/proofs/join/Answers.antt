@@ -13,8 +13,8 @@ returns c =
     let it-began : Begun c.args.reader c.args.part.now c.args.buffer.now c.args.held.bytes c.args.more.bytes = search rules in
     let a = c.args in
     rw c.on_part.ensures
-    (crossing a.reader a.part.now a.buffer.now a.held.bytes a.more.bytes (it-began) (buffer-bytes)
-    (part_bytes) a.signed
+    (crossing a.reader a.part.now a.buffer.now a.held.bytes a.more.bytes it-began buffer-bytes
+    part_bytes a.signed
     a.out.now _ _ (omega arith) _ c.copy.ensures c.read_run-a.ensures)
 
 pub slice_bounds-read_run-end-2 : goal.slice_bounds-read_run-end-2

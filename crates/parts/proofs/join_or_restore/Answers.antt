@@ -11,11 +11,13 @@ copy-requires-then-is_refused c =
     let part_bytes : AllBelow 256 c.args.part.now = below_all 256 c.args.part.now (search rules) in
     let buffer-bytes : AllBelow 256 c.args.buffer.now = below_all 256 c.args.buffer.now (search rules) in
     let it-began : Begun c.args.reader c.args.part.now c.args.buffer.now c.args.held.bytes c.args.more.bytes = search rules in
-    let a = c.args in record {
+    let a = c.args in
+    record {
       k_in_bounds = omega arith;
-      k_in_bounds_2 = joined-long a.reader a.part.now a.buffer.now _ a.held.bytes a.more.bytes (it-began) (buffer-bytes)
-          (part_bytes) a.signed
-          a.out.now _ _ c.join-step.ensures;
+      k_in_bounds_2 = omega (
+        arith,
+        joined-long a.reader a.part.now a.buffer.now _ a.held.bytes a.more.bytes it-began buffer-bytes part_bytes a.signed a.out.now _ _ c.join-step.ensures,
+      );
     }
 
 pub returns-then-is_refused : goal.returns-then-is_refused
@@ -24,8 +26,8 @@ returns-then-is_refused c =
     let buffer-bytes : AllBelow 256 c.args.buffer.now = below_all 256 c.args.buffer.now (search rules) in
     let it-began : Begun c.args.reader c.args.part.now c.args.buffer.now c.args.held.bytes c.args.more.bytes = search rules in
     let a = c.args in
-    put_back a.reader a.part.now a.buffer.now _ a.held.bytes a.more.bytes (it-began) (buffer-bytes)
-    (part_bytes) a.signed
+    put_back a.reader a.part.now a.buffer.now _ a.held.bytes a.more.bytes it-began buffer-bytes
+    part_bytes a.signed
     a.out.now _ _ c.join-step.ensures a.saved.now _ _ (omega arith) c.copy.ensures c.copy-then-is_refused.ensures
     (sym c.is_refused.ensures ∙ c.if-is_refused.true)
 
@@ -35,6 +37,6 @@ returns-else-is_refused c =
     let buffer-bytes : AllBelow 256 c.args.buffer.now = below_all 256 c.args.buffer.now (search rules) in
     let it-began : Begun c.args.reader c.args.part.now c.args.buffer.now c.args.held.bytes c.args.more.bytes = search rules in
     let a = c.args in
-    stays-unless a.reader a.part.now a.buffer.now _ a.held.bytes a.more.bytes (it-began) (buffer-bytes)
-    (part_bytes) a.signed
+    stays-unless a.reader a.part.now a.buffer.now _ a.held.bytes a.more.bytes it-began buffer-bytes
+    part_bytes a.signed
     a.out.now _ _ c.join-step.ensures (sym c.is_refused.ensures ∙ c.if-is_refused.false)

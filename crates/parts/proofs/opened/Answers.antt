@@ -22,7 +22,7 @@ returns-then-h-eq0 c =
     let part_bytes : AllBelow 256 c.args.part.now = below_all 256 c.args.part.now (search rules) in
     let none-held : c.args.reader.held ≡ 0 = omega arith in
     let a = c.args in
-    from-part a.reader (none-held) a.part.now a.buffer.now a.signed a.out.now _ _ _ (part_bytes) (omega arith) (omega arith)
+    from-part a.reader none-held a.part.now a.buffer.now a.signed a.out.now _ _ _ part_bytes (omega arith) (omega arith)
     c.read_first-a.ensures c.on_part-step.ensures _ c.copy.ensures
 
 pub returns : goal.returns
@@ -38,11 +38,11 @@ returns c =
       seen = rw (← c.beyond-room.ensures) c.least-k.ensures;
     } in
     rw c.on_part.ensures
-    (stays a.reader a.part.now a.buffer.now _ _ _ began (buffer-bytes) (part_bytes) a.signed a.out.now _ _
-    (crossing a.reader a.part.now a.buffer.now _ _ began (buffer-bytes) (part_bytes) a.signed a.out.now _ _
+    (stays a.reader a.part.now a.buffer.now _ _ _ began buffer-bytes part_bytes a.signed a.out.now _ _
+    (crossing a.reader a.part.now a.buffer.now _ _ began buffer-bytes part_bytes a.signed a.out.now _ _
     (omega arith) _
     c.copy-2.ensures c.read_gathered-a.ensures)
-    (not-refused a.reader a.part.now a.buffer.now _ _ began (buffer-bytes) (part_bytes) (omega arith)))
+    (not-refused a.reader a.part.now a.buffer.now _ _ began buffer-bytes part_bytes (omega arith)))
 
 pub slice_bounds-read_gathered-end-2 : goal.slice_bounds-read_gathered-end-2
 slice_bounds-read_gathered-end-2 c = rw length-take (omega arith)

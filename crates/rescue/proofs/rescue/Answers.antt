@@ -24,14 +24,14 @@ returns-then-not-in_order c =
 pub returns-then-too_many : goal.returns-then-too_many
 returns-then-too_many c =
     let ordered : (let a = c.args in
-    in_order (length a.input.now) (positions a.runs.now a.skips.now) ≡ true) =  sym c.in_order.ensures ∙ c.if-not-in_order.false in
+    in_order (length a.input.now) (positions a.runs.now a.skips.now) ≡ true) = sym c.in_order.ensures ∙ c.if-not-in_order.false in
     was-refused (few-rows _ _ _ _ _ _ _ _ (omega arith) (omega arith) (ordered) (sym c.too_many.ensures ∙ c.if-too_many.true))
     c.refused-then-too_many.ensures
 
 pub returns-then-verdicts-counts : goal.returns-then-verdicts-counts
 returns-then-verdicts-counts c =
     let ordered : (let a = c.args in
-    in_order (length a.input.now) (positions a.runs.now a.skips.now) ≡ true) =  sym c.in_order.ensures ∙ c.if-not-in_order.false in
+    in_order (length a.input.now) (positions a.runs.now a.skips.now) ≡ true) = sym c.in_order.ensures ∙ c.if-not-in_order.false in
     was-refused (few-marks _ _ _ _ _ _ _ _ (omega arith) (omega arith) (ordered) (sym c.too_many.ensures ∙ c.if-too_many.false)
     (omega arith))
     c.refused-then-verdicts-counts.ensures
@@ -48,7 +48,7 @@ rescue_all-requires c =
 pub returns : goal.returns
 returns c =
     let ordered : (let a = c.args in
-    in_order (length a.input.now) (positions a.runs.now a.skips.now) ≡ true) =  sym c.in_order.ensures ∙ c.if-not-in_order.false in
+    in_order (length a.input.now) (positions a.runs.now a.skips.now) ≡ true) = sym c.in_order.ensures ∙ c.if-not-in_order.false in
     was-written
     (all_said _ _ _ _ _ _ _ _ (omega arith) (omega arith) (ordered) (sym c.too_many.ensures ∙ c.if-too_many.false) (omega arith))
     (rw (to_z-of_z {w = w64} c.ranges.fill) at c.rescue_all.ensures)

@@ -1,8 +1,7 @@
-use Prim.Native.Nat.{◌+◌, ◌-◌, ◌<◌, ◌≤◌}
+use Prim.Native.Nat.{◌+◌, ◌<◌, ◌≤◌}
 use native.Mathlib.Omega.{arith}
 use lib.ListN.{length, get_or}
 use mir.Syntax.{w64}
-use mir.Val.{to_z}
 use mir.Facts.{to_z-of_z}
 use Rattle.rescue.proofs.GroupsWalk.{few-verdict, begun, end_fits, mark-fits, onward, done}
 use Rattle.rescue.proofs.rescue_all.Goals as goal
@@ -19,7 +18,7 @@ pub overflow_add-to : goal.overflow_add-to
 overflow_add-to c =
     let ends : (let l = c.loop-i in let ns = c.args.counts.now in
     l.i < length ns → l.at + get_or ns l.i 0 ≤ length l.rows) = λ h. end_fits _ _ _ _ _ _ _ _ c.requires _ _ _ _ _ _ c.loop-i.invariant h in
- omega (arith, ends (omega arith), c.loop-i.invariant.rows_long, c.well_formed)
+    omega (arith, ends (omega arith), c.loop-i.invariant.rows_long, c.well_formed)
 
 pub position_at-requires-in-loop-i : goal.position_at-requires-in-loop-i
 position_at-requires-in-loop-i c = c.requires.skips-long
@@ -28,19 +27,19 @@ pub offset_bounds-rows-at : goal.offset_bounds-rows-at
 offset_bounds-rows-at c =
     let ends : (let l = c.loop-i in let ns = c.args.counts.now in
     l.i < length ns → l.at + get_or ns l.i 0 ≤ length l.rows) = λ h. end_fits _ _ _ _ _ _ _ _ c.requires _ _ _ _ _ _ c.loop-i.invariant h in
- omega (arith, ends (omega arith), c.loop-i.invariant.rows_long)
+    omega (arith, ends (omega arith), c.loop-i.invariant.rows_long)
 
 pub slice_bounds-rescue-start : goal.slice_bounds-rescue-start
 slice_bounds-rescue-start c =
     let ends : (let l = c.loop-i in let ns = c.args.counts.now in
     l.i < length ns → l.at + get_or ns l.i 0 ≤ length l.rows) = λ h. end_fits _ _ _ _ _ _ _ _ c.requires _ _ _ _ _ _ c.loop-i.invariant h in
- omega (arith, ends (omega arith), c.loop-i.invariant.rows_long)
+    omega (arith, ends (omega arith), c.loop-i.invariant.rows_long)
 
 pub slice_bounds-rescue-end : goal.slice_bounds-rescue-end
 slice_bounds-rescue-end c =
     let ends : (let l = c.loop-i in let ns = c.args.counts.now in
     l.i < length ns → l.at + get_or ns l.i 0 ≤ length l.rows) = λ h. end_fits _ _ _ _ _ _ _ _ c.requires _ _ _ _ _ _ c.loop-i.invariant h in
- omega (arith, ends (omega arith), c.loop-i.invariant.rows_long)
+    omega (arith, ends (omega arith), c.loop-i.invariant.rows_long)
 
 pub bounds-verdicts-i : goal.bounds-verdicts-i
 bounds-verdicts-i c =
@@ -48,8 +47,8 @@ bounds-verdicts-i c =
 
 pub overflow_add-kept : goal.overflow_add-kept
 overflow_add-kept c =
-    let small : c.verdict-mark.result ≤ 1 =  omega (arith, c.verdict-mark.ensures, few-verdict c.rescue-keep.result) in
- omega (arith, small, c.loop-i.invariant.few)
+    let small : c.verdict-mark.result ≤ 1 = omega (arith, c.verdict-mark.ensures, few-verdict c.rescue-keep.result) in
+    omega (arith, small, c.loop-i.invariant.few)
 
 pub loop-i-preserved : goal.loop-i-preserved
 loop-i-preserved c =
@@ -63,9 +62,10 @@ returns c =
     (rw (to_z-of_z {w = w64} c.ranges.fill) at (done _ _ _ _ _ _ _ _ c.requires _ _ _ _ _ _ c.loop-i.invariant (omega arith)))
 
 pub overflow_cast-kept : goal.overflow_cast-kept
-overflow_cast-kept c = 
-    let small : c.verdict-mark.result ≤ 1 =  omega (arith, c.verdict-mark.ensures, few-verdict c.rescue-keep.result) in
-   omega (arith, small)
+overflow_cast-kept c =
+    let small : c.verdict-mark.result ≤ 1 = omega (arith, c.verdict-mark.ensures, few-verdict c.rescue-keep.result) in
+    omega (arith, small)
+
 pub shape_of-rows : goal.shape_of-rows
 shape_of-rows c = c.loop-i.invariant.rows_long
 

@@ -1,8 +1,8 @@
 use mathlib.Core.Path.{◌≡◌, refl}
-use Prim.Native.Nat.{◌-◌, ◌+◌, ◌%◌}
+use Prim.Native.Nat.{◌+◌, ◌%◌}
 use native.Mathlib.Nat.{add-zero, add_assoc}
 use native.Mathlib.Omega.{arith}
-use lib.ListN.{length, length-set}
+use lib.ListN.{length-set}
 use Rattle.format.specs.Digits.{lowest_first}
 use Rattle.util.proofs.Grow.{grow, kept, filled}
 use Rattle.exports.proofs.RowBytes.{byte_more}

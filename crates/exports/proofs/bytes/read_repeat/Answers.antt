@@ -16,24 +16,24 @@ returns-then-out-count c =
 pub read-requires : goal.read-requires
 read-requires c =
     let run-told : (let a = c.args in RunMeasured a.input.now 0 (answer.Run c.in-Run.r)) = sym c.in-Run.is ∙ c.measure-measured.ensures in
-    let told : (let a = c.args in Measured a.input.now 0 c.in-Run.r) =     named c.args.input.now c.args.signed c.args.out.now c.requires.0 c.requires.1 _ (run-told) in
-    let m = told in omega (arith, m.size_is, m.there, ( c.requires.1))
+    let told : (let a = c.args in Measured a.input.now 0 c.in-Run.r) = named c.args.input.now c.args.signed c.args.out.now c.requires.0 c.requires.1 _ (run-told) in
+    let m = told in omega (arith, m.size_is, m.there, (c.requires.1))
 
 pub packed-requires : goal.packed-requires
 packed-requires c =
     let run-told : (let a = c.args in RunMeasured a.input.now 0 (answer.Run c.in-Run.r)) = sym c.in-Run.is ∙ c.measure-measured.ensures in
-    let told : (let a = c.args in Measured a.input.now 0 c.in-Run.r) =     named c.args.input.now c.args.signed c.args.out.now c.requires.0 c.requires.1 _ (run-told) in
+    let told : (let a = c.args in Measured a.input.now 0 c.in-Run.r) = named c.args.input.now c.args.signed c.args.out.now c.requires.0 c.requires.1 _ (run-told) in
     let m = told in (omega (arith, m.rows_are), omega (arith, m.bytes-are, m.there))
 
 pub packed-requires-in-Refused : goal.packed-requires-in-Refused
 packed-requires-in-Refused c =
-    let refused-told : (let a = c.args in Nothing a.input.now a.signed a.out.now c.measure-measured.result) =     let a = c.args in
+    let refused-told : (let a = c.args in Nothing a.input.now a.signed a.out.now c.measure-measured.result) = let a = c.args in
     nothing a.input.now a.signed a.out.now _ (λ r e. run-not-refused r _ (sym e ∙ c.in-Refused.is)) c.measure-measured.ensures in
     let n = refused-told in (rw n.rows (omega arith), rw n.bytes (omega arith))
 
 pub packed-requires-in-End : goal.packed-requires-in-End
 packed-requires-in-End c =
-    let end-told : (let a = c.args in Nothing a.input.now a.signed a.out.now c.measure-measured.result) =     let a = c.args in
+    let end-told : (let a = c.args in Nothing a.input.now a.signed a.out.now c.measure-measured.result) = let a = c.args in
     nothing a.input.now a.signed a.out.now _ (λ r e. run-not-end r (sym e ∙ c.in-End.is)) c.measure-measured.ensures in
     let n = end-told in (rw n.rows (omega arith), rw n.bytes (omega arith))
 
@@ -46,12 +46,12 @@ returns-else-out-count c =
 
 pub returns-in-Refused : goal.returns-in-Refused
 returns-in-Refused c =
-    let refused-told : (let a = c.args in Nothing a.input.now a.signed a.out.now c.measure-measured.result) =     let a = c.args in
+    let refused-told : (let a = c.args in Nothing a.input.now a.signed a.out.now c.measure-measured.result) = let a = c.args in
     nothing a.input.now a.signed a.out.now _ (λ r e. run-not-refused r _ (sym e ∙ c.in-Refused.is)) c.measure-measured.ensures in
     rw c.packed-in-Refused.ensures refused-told.loaded
 
 pub returns-in-End : goal.returns-in-End
 returns-in-End c =
-    let end-told : (let a = c.args in Nothing a.input.now a.signed a.out.now c.measure-measured.result) =     let a = c.args in
+    let end-told : (let a = c.args in Nothing a.input.now a.signed a.out.now c.measure-measured.result) = let a = c.args in
     nothing a.input.now a.signed a.out.now _ (λ r e. run-not-end r (sym e ∙ c.in-End.is)) c.measure-measured.ensures in
     rw c.packed-in-End.ensures end-told.loaded

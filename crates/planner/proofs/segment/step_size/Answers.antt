@@ -21,31 +21,31 @@ returns c =
     rw (step-here a.signed a.rows.now a.at.rows a.s any_run _ c.is_in_place.ensures c.if-not-is_in_place.false) (rw k at c.size.ensures)
 
 pub overflow_add-row : goal.overflow_add-row
-overflow_add-row c = 
-    let within : (let a = c.args in a.s.count ≤ length a.rows.now - a.at.rows) =     let a = c.args in
+overflow_add-row c =
+    let within : (let a = c.args in a.s.count ≤ length a.rows.now - a.at.rows) = let a = c.args in
     within-is a.at.rows (length a.rows.now) a.s _ c.is_in_place.ensures c.if-not-is_in_place.false in
-   omega (arith, within)
+    omega (arith, within)
 
 pub offset_bounds-rows-row : goal.offset_bounds-rows-row
-offset_bounds-rows-row c = 
-    let within : (let a = c.args in a.s.count ≤ length a.rows.now - a.at.rows) =     let a = c.args in
+offset_bounds-rows-row c =
+    let within : (let a = c.args in a.s.count ≤ length a.rows.now - a.at.rows) = let a = c.args in
     within-is a.at.rows (length a.rows.now) a.s _ c.is_in_place.ensures c.if-not-is_in_place.false in
-   omega (arith, within)
+    omega (arith, within)
 
 pub slice_bounds-size-count : goal.slice_bounds-size-count
-slice_bounds-size-count c = 
-    let within : (let a = c.args in a.s.count ≤ length a.rows.now - a.at.rows) =     let a = c.args in
+slice_bounds-size-count c =
+    let within : (let a = c.args in a.s.count ≤ length a.rows.now - a.at.rows) = let a = c.args in
     within-is a.at.rows (length a.rows.now) a.s _ c.is_in_place.ensures c.if-not-is_in_place.false in
-   omega (arith, within)
+    omega (arith, within)
 
 pub slice_bounds-size-start : goal.slice_bounds-size-start
-slice_bounds-size-start c = 
-    let within : (let a = c.args in a.s.count ≤ length a.rows.now - a.at.rows) =     let a = c.args in
+slice_bounds-size-start c =
+    let within : (let a = c.args in a.s.count ≤ length a.rows.now - a.at.rows) = let a = c.args in
     within-is a.at.rows (length a.rows.now) a.s _ c.is_in_place.ensures c.if-not-is_in_place.false in
-   omega (arith, within)
+    omega (arith, within)
 
 pub slice_bounds-size-end : goal.slice_bounds-size-end
-slice_bounds-size-end c = 
-    let within : (let a = c.args in a.s.count ≤ length a.rows.now - a.at.rows) =     let a = c.args in
+slice_bounds-size-end c =
+    let within : (let a = c.args in a.s.count ≤ length a.rows.now - a.at.rows) = let a = c.args in
     within-is a.at.rows (length a.rows.now) a.s _ c.is_in_place.ensures c.if-not-is_in_place.false in
-   omega (arith, within)
+    omega (arith, within)

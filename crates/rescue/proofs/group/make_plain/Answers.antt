@@ -14,8 +14,8 @@ use Rattle.rescue.proofs.group.make_plain.Goals as goal
 pub returns-then-left-rows : goal.returns-then-left-rows
 returns-then-left-rows c =
     let StepAt : Answer → Type 0 = Step c.args.input.now c.loop-left.place in
-    let bytes : AllBelow 256 c.args.input.now =     below_all 256 c.args.input.now (λ i. (c.shared_slice_known-1.given i).fits) in
-    let there : StepAt c.measure-a.result =  step c.args.input.now c.loop-left.place _ (bytes) c.measure-a.ensures in
+    let bytes : AllBelow 256 c.args.input.now = below_all 256 c.args.input.now (λ i. (c.shared_slice_known-1.given i).fits) in
+    let there : StepAt c.measure-a.result = step c.args.input.now c.loop-left.place _ (bytes) c.measure-a.ensures in
     let ran-is : StepAt (answer.Run c.in-Run.r) = subst (StepAt) c.in-Run.is (there) in
     let l = c.loop-left in
     let o = ran-is in
@@ -25,8 +25,8 @@ returns-then-left-rows c =
 pub overflow_add-place : goal.overflow_add-place
 overflow_add-place c =
     let StepAt : Answer → Type 0 = Step c.args.input.now c.loop-left.place in
-    let bytes : AllBelow 256 c.args.input.now =     below_all 256 c.args.input.now (λ i. (c.shared_slice_known-1.given i).fits) in
-    let there : StepAt c.measure-a.result =  step c.args.input.now c.loop-left.place _ (bytes) c.measure-a.ensures in
+    let bytes : AllBelow 256 c.args.input.now = below_all 256 c.args.input.now (λ i. (c.shared_slice_known-1.given i).fits) in
+    let there : StepAt c.measure-a.result = step c.args.input.now c.loop-left.place _ (bytes) c.measure-a.ensures in
     let ran-is : StepAt (answer.Run c.in-Run.r) = subst (StepAt) c.in-Run.is (there) in
     let o = ran-is in
     omega (arith, o.bytes-are, o.stands.within)
@@ -34,8 +34,8 @@ overflow_add-place c =
 pub loop-left-smaller : goal.loop-left-smaller
 loop-left-smaller c =
     let StepAt : Answer → Type 0 = Step c.args.input.now c.loop-left.place in
-    let bytes : AllBelow 256 c.args.input.now =     below_all 256 c.args.input.now (λ i. (c.shared_slice_known-1.given i).fits) in
-    let there : StepAt c.measure-a.result =  step c.args.input.now c.loop-left.place _ (bytes) c.measure-a.ensures in
+    let bytes : AllBelow 256 c.args.input.now = below_all 256 c.args.input.now (λ i. (c.shared_slice_known-1.given i).fits) in
+    let there : StepAt c.measure-a.result = step c.args.input.now c.loop-left.place _ (bytes) c.measure-a.ensures in
     let ran-is : StepAt (answer.Run c.in-Run.r) = subst (StepAt) c.in-Run.is (there) in
     let o = ran-is in
     omega (arith, o.rows_are, o.stands.some)
@@ -43,8 +43,8 @@ loop-left-smaller c =
 pub loop-left-preserved : goal.loop-left-preserved
 loop-left-preserved c =
     let StepAt : Answer → Type 0 = Step c.args.input.now c.loop-left.place in
-    let bytes : AllBelow 256 c.args.input.now =     below_all 256 c.args.input.now (λ i. (c.shared_slice_known-1.given i).fits) in
-    let there : StepAt c.measure-a.result =  step c.args.input.now c.loop-left.place _ (bytes) c.measure-a.ensures in
+    let bytes : AllBelow 256 c.args.input.now = below_all 256 c.args.input.now (λ i. (c.shared_slice_known-1.given i).fits) in
+    let there : StepAt c.measure-a.result = step c.args.input.now c.loop-left.place _ (bytes) c.measure-a.ensures in
     let ran-is : StepAt (answer.Run c.in-Run.r) = subst (StepAt) c.in-Run.is (there) in
     let l = c.loop-left in
     l.invariant ∙ plain-passed _ l.place l.left _ (ran-is) (omega arith)
@@ -52,8 +52,8 @@ loop-left-preserved c =
 pub returns-in-Refused : goal.returns-in-Refused
 returns-in-Refused c =
     let StepAt : Answer → Type 0 = Step c.args.input.now c.loop-left.place in
-    let bytes : AllBelow 256 c.args.input.now =     below_all 256 c.args.input.now (λ i. (c.shared_slice_known-1.given i).fits) in
-    let there : StepAt c.measure-a.result =  step c.args.input.now c.loop-left.place _ (bytes) c.measure-a.ensures in
+    let bytes : AllBelow 256 c.args.input.now = below_all 256 c.args.input.now (λ i. (c.shared_slice_known-1.given i).fits) in
+    let there : StepAt c.measure-a.result = step c.args.input.now c.loop-left.place _ (bytes) c.measure-a.ensures in
     let refused-is : StepAt (answer.Refused c.in-Refused.field-0) = subst (StepAt) c.in-Refused.is (there) in
     let l = c.loop-left in
     sym (ap plain_in (l.invariant ∙ plain-none _ l.place l.left (ap runs_of refused-is.read) (omega arith)))
@@ -61,8 +61,8 @@ returns-in-Refused c =
 pub returns-in-End : goal.returns-in-End
 returns-in-End c =
     let StepAt : Answer → Type 0 = Step c.args.input.now c.loop-left.place in
-    let bytes : AllBelow 256 c.args.input.now =     below_all 256 c.args.input.now (λ i. (c.shared_slice_known-1.given i).fits) in
-    let there : StepAt c.measure-a.result =  step c.args.input.now c.loop-left.place _ (bytes) c.measure-a.ensures in
+    let bytes : AllBelow 256 c.args.input.now = below_all 256 c.args.input.now (λ i. (c.shared_slice_known-1.given i).fits) in
+    let there : StepAt c.measure-a.result = step c.args.input.now c.loop-left.place _ (bytes) c.measure-a.ensures in
     let ended_is : StepAt answer.End = subst (StepAt) c.in-End.is (there) in
     let l = c.loop-left in
     sym (ap plain_in (l.invariant ∙ plain-none _ l.place l.left (ap runs_of (ended_is)) (omega arith)))
@@ -70,7 +70,7 @@ returns-in-End c =
 -- ---- no row is left to skip
 pub returns : goal.returns
 returns c =
-    let bytes : AllBelow 256 c.args.input.now =     below_all 256 c.args.input.now (λ i. (c.shared_slice_known-1.given i).fits) in
+    let bytes : AllBelow 256 c.args.input.now = below_all 256 c.args.input.now (λ i. (c.shared_slice_known-1.given i).fits) in
     let l = c.loop-left in
     let z : l.left ≡ 0 = omega arith in
     rw c.row_position-2.ensures (sym (ap plain_in (rw z at l.invariant ∙ plain_still c.args.input.now l.place (bytes))))

@@ -20,7 +20,7 @@ returns-then-out-eq0 c =
 -- ---- fewer rows, all rows, or none
 pub returns-then-rows-out : goal.returns-then-rows-out
 returns-then-rows-out c =
-    let bytes : AllBelow 256 c.args.input.now =     below_all 256 c.args.input.now (λ i. (c.shared_slice_known-1.given i).fits) in
+    let bytes : AllBelow 256 c.args.input.now = below_all 256 c.args.input.now (λ i. (c.shared_slice_known-1.given i).fits) in
     let a = c.args in
     let b = c.in-Rows.b in
     read_some a.input.now a.from a.to a.signed a.out.now (bytes) (omega arith)
@@ -28,7 +28,7 @@ returns-then-rows-out c =
 
 pub returns-else-rows-out : goal.returns-else-rows-out
 returns-else-rows-out c =
-    let bytes : AllBelow 256 c.args.input.now =     below_all 256 c.args.input.now (λ i. (c.shared_slice_known-1.given i).fits) in
+    let bytes : AllBelow 256 c.args.input.now = below_all 256 c.args.input.now (λ i. (c.shared_slice_known-1.given i).fits) in
     let a = c.args in
     let b = c.in-Rows.b in
     read_some a.input.now a.from a.to a.signed a.out.now (bytes) (omega arith)
@@ -37,14 +37,14 @@ returns-else-rows-out c =
 
 pub returns-in-End : goal.returns-in-End
 returns-in-End c =
-    let bytes : AllBelow 256 c.args.input.now =     below_all 256 c.args.input.now (λ i. (c.shared_slice_known-1.given i).fits) in
+    let bytes : AllBelow 256 c.args.input.now = below_all 256 c.args.input.now (λ i. (c.shared_slice_known-1.given i).fits) in
     let a = c.args in
     read_some a.input.now a.from a.to a.signed a.out.now (bytes) (omega arith)
     c.read_rows-answer.ensures answer.End c.in-End.is _ refl
 
 pub returns-in-Refused : goal.returns-in-Refused
 returns-in-Refused c =
-    let bytes : AllBelow 256 c.args.input.now =     below_all 256 c.args.input.now (λ i. (c.shared_slice_known-1.given i).fits) in
+    let bytes : AllBelow 256 c.args.input.now = below_all 256 c.args.input.now (λ i. (c.shared_slice_known-1.given i).fits) in
     let a = c.args in
     read_some a.input.now a.from a.to a.signed a.out.now (bytes) (omega arith)
     c.read_rows-answer.ensures (answer.Refused c.in-Refused.field-0) c.in-Refused.is _ refl

@@ -1,5 +1,5 @@
 use mathlib.Core.Path.{◌≡◌, sym, ap, ◌∙◌}
-use Prim.Native.Nat.{suc, ◌+◌, ◌-◌, ◌<◌}
+use Prim.Native.Nat.{suc, ◌+◌, ◌<◌}
 use native.Mathlib.Omega.{arith}
 use mathlib.Core.Bool.{◌&&◌}
 use lib.ListN.{length, drop, get_or}
@@ -47,10 +47,10 @@ loop-i-init c =
 
 pub returns-then-not-not_after : goal.returns-then-not-not_after
 returns-then-not-not_after c =
-    let one-turn : ( let l = c.loop-i in let a = c.args in
+    let one-turn : (let l = c.loop-i in let a = c.args in
     let ps = positions a.runs.now a.skips.now in let next = position_in c.position_at-next.result in
     l.i < length a.runs.now → in_order a.end.bytes ps
-    ≡ (not_after (position_in l.last) next && rising a.end.bytes next (drop (suc l.i) ps))) = λ h.    let l = c.loop-i in
+    ≡ (not_after (position_in l.last) next && rising a.end.bytes next (drop (suc l.i) ps))) = λ h. let l = c.loop-i in
     let a = c.args in
     let rest = drop (suc l.i) (positions a.runs.now a.skips.now) in
     l.invariant.1 ∙ rising_step a.end.bytes a.runs.now a.skips.now c.requires (position_in l.last) l.i h
@@ -60,10 +60,10 @@ returns-then-not-not_after c =
 
 pub loop-i-preserved : goal.loop-i-preserved
 loop-i-preserved c =
-    let one-turn : ( let l = c.loop-i in let a = c.args in
+    let one-turn : (let l = c.loop-i in let a = c.args in
     let ps = positions a.runs.now a.skips.now in let next = position_in c.position_at-next.result in
     l.i < length a.runs.now → in_order a.end.bytes ps
-    ≡ (not_after (position_in l.last) next && rising a.end.bytes next (drop (suc l.i) ps))) = λ h.    let l = c.loop-i in
+    ≡ (not_after (position_in l.last) next && rising a.end.bytes next (drop (suc l.i) ps))) = λ h. let l = c.loop-i in
     let a = c.args in
     let rest = drop (suc l.i) (positions a.runs.now a.skips.now) in
     l.invariant.1 ∙ rising_step a.end.bytes a.runs.now a.skips.now c.requires (position_in l.last) l.i h
