@@ -155,8 +155,8 @@ fn rt(folder: &Path, words: &[&str]) -> bool {
 /// The library that the checkout's crates make, with as much proved anew as has to be. Cargo shows that it is.
 fn proved_and_built(root: &Path, out: &Path) -> PathBuf {
     println!(
-        "cargo:warning=proves exports and what has changed below it: a minute where `rt` has kept the rest, and up to an \
-         hour where it has kept nothing"
+        "cargo:warning=proves exports and what has changed below it, which takes a minute or two if `rt` has kept the \
+         rest, and far longer if it has kept nothing"
     );
     let (copy, library) = (out.join("repository"), out.join(BUILT));
     let began = Instant::now();
