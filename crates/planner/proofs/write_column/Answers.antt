@@ -32,7 +32,7 @@ returns-in-Accepted c =
 
 pub returns-else-not-wide_fits : goal.returns-else-not-wide_fits
 returns-else-not-wide_fits c =
-    let fits : (    let a = c.args in leb (length (joined (wide a.signed a.rows.now))) (length a.out.now) ≡ true) =     let a = c.args in
+    let fits : (let a = c.args in leb (length (joined (wide a.signed a.rows.now))) (length a.out.now) ≡ true) = let a = c.args in
     sym (wide_test a.signed a.rows.now
     (proposal a.first.now a.counts.now a.forms.now a.widths.now a.bases.now) (length a.out.now) _
     c.wide_fits.ensures) ∙ c.if-not-wide_fits.false in
@@ -41,9 +41,9 @@ returns-else-not-wide_fits c =
     a.bases.now) a.out.now _ (sym c.in-Rejected.is ∙ c.check-c.ensures) (fits) _ c.wide.ensures
 
 pub wide-requires : goal.wide-requires
-wide-requires c = 
-    let fits : (    let a = c.args in leb (length (joined (wide a.signed a.rows.now))) (length a.out.now) ≡ true) =     let a = c.args in
+wide-requires c =
+    let fits : (let a = c.args in leb (length (joined (wide a.signed a.rows.now))) (length a.out.now) ≡ true) = let a = c.args in
     sym (wide_test a.signed a.rows.now
     (proposal a.first.now a.counts.now a.forms.now a.widths.now a.bases.now) (length a.out.now) _
     c.wide_fits.ensures) ∙ c.if-not-wide_fits.false in
-   leb-true _ _ (fits)
+    leb-true _ _ (fits)

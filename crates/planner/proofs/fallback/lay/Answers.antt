@@ -1,5 +1,5 @@
 use mathlib.Core.Path.{refl}
-use Prim.Native.Nat.{◌-◌, ◌*◌}
+use Prim.Native.Nat.{◌*◌}
 use mir.Syntax.{w64}
 use mir.Val.{Fits}
 use native.Mathlib.Omega.{arith}
@@ -67,27 +67,27 @@ loop-k-init c = laying-first _ _ _
 
 pub offset_bounds-first-k : goal.offset_bounds-first-k
 offset_bounds-first-k c =
-    let offset : Fits w64 (c.loop-k.k * 8) =     omega (arith, c.loop-k-test.true, c.requires.0, c.well_formed) in
+    let offset : Fits w64 (c.loop-k.k * 8) = omega (arith, c.loop-k-test.true, c.requires.0, c.well_formed) in
     offset
 
 pub offset_bounds-counts-k : goal.offset_bounds-counts-k
 offset_bounds-counts-k c =
-    let offset : Fits w64 (c.loop-k.k * 8) =     omega (arith, c.loop-k-test.true, c.requires.0, c.well_formed) in
+    let offset : Fits w64 (c.loop-k.k * 8) = omega (arith, c.loop-k-test.true, c.requires.0, c.well_formed) in
     offset
 
 pub offset_bounds-forms-k : goal.offset_bounds-forms-k
 offset_bounds-forms-k c =
-    let offset : Fits w64 (c.loop-k.k * 8) =     omega (arith, c.loop-k-test.true, c.requires.0, c.well_formed) in
+    let offset : Fits w64 (c.loop-k.k * 8) = omega (arith, c.loop-k-test.true, c.requires.0, c.well_formed) in
     offset
 
 pub offset_bounds-widths-k : goal.offset_bounds-widths-k
 offset_bounds-widths-k c =
-    let offset : Fits w64 (c.loop-k.k * 8) =     omega (arith, c.loop-k-test.true, c.requires.0, c.well_formed) in
+    let offset : Fits w64 (c.loop-k.k * 8) = omega (arith, c.loop-k-test.true, c.requires.0, c.well_formed) in
     offset
 
 pub offset_bounds-bases-k : goal.offset_bounds-bases-k
 offset_bounds-bases-k c =
-    let offset : Fits w64 (c.loop-k.k * 8) =     omega (arith, c.loop-k-test.true, c.requires.0, c.well_formed) in
+    let offset : Fits w64 (c.loop-k.k * 8) = omega (arith, c.loop-k-test.true, c.requires.0, c.well_formed) in
     offset
 
 pub shape_of-counts : goal.shape_of-counts

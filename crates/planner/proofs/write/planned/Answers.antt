@@ -37,11 +37,11 @@ overflow_add-row c =
 
 pub overflow_add-bytes : goal.overflow_add-bytes
 overflow_add-bytes c =
-    let turn : (    let l = c.loop-k in let a = c.args in
+    let turn : (let l = c.loop-k in let a = c.args in
     Plan a.signed a.rows.now (proposal a.first.now a.counts.now a.forms.now a.widths.now a.bases.now)
     a.out.now (take l.bytes l.out
     ++ (c.step-n.new.out ++ drop (length l.out - l.bytes) (drop l.bytes l.out))) (l.k + 1)
-    (l.row + c.at-s.result.count) (l.bytes + c.step-n.result.bytes)) =     let l = c.loop-k in
+    (l.row + c.at-s.result.count) (l.bytes + c.step-n.result.bytes)) = let l = c.loop-k in
     plan-next _ _ _ _ l.out l.k l.row l.bytes l.invariant c.loop-k-test.true c.at-s.result
     c.at-s.ensures _ _ c.step-n.ensures in
     omega (arith, turn.grown.inside, turn.grown.long, c.well_formed)
@@ -50,15 +50,15 @@ pub returns : goal.returns
 returns c = let l = c.loop-k in plan-end _ _ _ _ l.out l.k l.row l.bytes l.invariant c.loop-k-test.false
 
 pub loop-k-preserved : goal.loop-k-preserved
-loop-k-preserved c = 
-    let turn : (    let l = c.loop-k in let a = c.args in
+loop-k-preserved c =
+    let turn : (let l = c.loop-k in let a = c.args in
     Plan a.signed a.rows.now (proposal a.first.now a.counts.now a.forms.now a.widths.now a.bases.now)
     a.out.now (take l.bytes l.out
     ++ (c.step-n.new.out ++ drop (length l.out - l.bytes) (drop l.bytes l.out))) (l.k + 1)
-    (l.row + c.at-s.result.count) (l.bytes + c.step-n.result.bytes)) =     let l = c.loop-k in
+    (l.row + c.at-s.result.count) (l.bytes + c.step-n.result.bytes)) = let l = c.loop-k in
     plan-next _ _ _ _ l.out l.k l.row l.bytes l.invariant c.loop-k-test.true c.at-s.result
     c.at-s.ensures _ _ c.step-n.ensures in
-   turn
+    turn
 
 pub shape_of-out : goal.shape_of-out
 shape_of-out c = c.loop-k.invariant.grown.long
