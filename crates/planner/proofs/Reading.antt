@@ -17,7 +17,7 @@ use Rattle.format.proofs.Rows.{joined-count}
 use Rattle.format.proofs.Streams.{stream-whole}
 use Rattle.planner.specs.declared.segment.Segment.{Segment}
 use Rattle.planner.specs.declared.ColumnAnswer.{ColumnAnswer}
-use Rattle.planner.specs.Check.{Columns, segments_from, segments, any_run, Column, planned, direct, eight, column, column_bytes, told_as}
+use Rattle.planner.specs.Check.{Columns, segments_from, any_run, Column, planned, direct, eight, column, column_bytes, told_as}
 use Rattle.planner.specs.Laws.{sum_rows, Accept, none, more, Accepted, Answers, as-planned, as-direct, Reads, WhateverProposed}
 use Rattle.planner.specs.Laws.{when-planned, when-direct, when-eight, Whatever, CheckDetermined, ColumnDetermined}
 use Rattle.planner.proofs.Accepting.{check-exactly}

@@ -7,7 +7,7 @@ use mathlib.Core.List.{List, [], map}
 use lib.ListN.{length, take, drop}
 use lib.Dec.{leb, eqb, leb→le}
 use lib.IntN.{ℤ}
-use borrow.Author.Tests.{lt-leb, ne_eqb, le-leb, eqb-true, not-true, not-false}
+use borrow.Author.Tests.{lt-leb, ne_eqb, le-leb, eqb-true}
 use Rattle.format.specs.declared.Form.{Form}
 use Rattle.format.specs.declared.Form.TheVariants.{ShortRepeat, Direct, FixedDelta, PackedDelta}
 use Rattle.format.specs.declared.Answer.{Answer}

@@ -1,6 +1,6 @@
 -- A segment that is not in place writes nothing; one in place writes its rows, which the slice holds. Assumes nothing.
 use mathlib.Core.Path.{◌≡◌}
-use Prim.Native.Nat.{◌+◌, ◌-◌, ◌≤◌}
+use Prim.Native.Nat.{◌+◌, ◌-◌}
 use native.Mathlib.Omega.{arith}
 use lib.ListN.{length}
 use Rattle.planner.proofs.Steps.{ran-none, step-elsewhere, within-is, step-here}
@@ -21,30 +21,25 @@ returns c =
 
 pub overflow_add-row : goal.overflow_add-row
 overflow_add-row c =
-    let within : (let a = c.args in a.s.count ≤ length a.rows.now - a.at.rows) = let a = c.args in
-    within-is a.at.rows (length a.rows.now) a.s _ c.is_in_place.ensures c.if-not-is_in_place.false in
-    omega (arith, within)
+    let a = c.args in
+    omega (arith, within-is a.at.rows (length a.rows.now) a.s _ c.is_in_place.ensures c.if-not-is_in_place.false)
 
 pub offset_bounds-rows-row : goal.offset_bounds-rows-row
 offset_bounds-rows-row c =
-    let within : (let a = c.args in a.s.count ≤ length a.rows.now - a.at.rows) = let a = c.args in
-    within-is a.at.rows (length a.rows.now) a.s _ c.is_in_place.ensures c.if-not-is_in_place.false in
-    omega (arith, within)
+    let a = c.args in
+    omega (arith, within-is a.at.rows (length a.rows.now) a.s _ c.is_in_place.ensures c.if-not-is_in_place.false)
 
 pub slice_bounds-write-count : goal.slice_bounds-write-count
 slice_bounds-write-count c =
-    let within : (let a = c.args in a.s.count ≤ length a.rows.now - a.at.rows) = let a = c.args in
-    within-is a.at.rows (length a.rows.now) a.s _ c.is_in_place.ensures c.if-not-is_in_place.false in
-    omega (arith, within)
+    let a = c.args in
+    omega (arith, within-is a.at.rows (length a.rows.now) a.s _ c.is_in_place.ensures c.if-not-is_in_place.false)
 
 pub slice_bounds-write-start : goal.slice_bounds-write-start
 slice_bounds-write-start c =
-    let within : (let a = c.args in a.s.count ≤ length a.rows.now - a.at.rows) = let a = c.args in
-    within-is a.at.rows (length a.rows.now) a.s _ c.is_in_place.ensures c.if-not-is_in_place.false in
-    omega (arith, within)
+    let a = c.args in
+    omega (arith, within-is a.at.rows (length a.rows.now) a.s _ c.is_in_place.ensures c.if-not-is_in_place.false)
 
 pub slice_bounds-write-end : goal.slice_bounds-write-end
 slice_bounds-write-end c =
-    let within : (let a = c.args in a.s.count ≤ length a.rows.now - a.at.rows) = let a = c.args in
-    within-is a.at.rows (length a.rows.now) a.s _ c.is_in_place.ensures c.if-not-is_in_place.false in
-    omega (arith, within)
+    let a = c.args in
+    omega (arith, within-is a.at.rows (length a.rows.now) a.s _ c.is_in_place.ensures c.if-not-is_in_place.false)

@@ -1,6 +1,6 @@
 -- A segment that is not in place has no size; one in place has that of its rows, which the slice holds. Assumes nothing.
 use mathlib.Core.Path.{◌≡◌}
-use Prim.Native.Nat.{◌+◌, ◌-◌, ◌≤◌}
+use Prim.Native.Nat.{◌+◌, ◌-◌}
 use native.Mathlib.Omega.{arith}
 use lib.ListN.{length}
 use Rattle.planner.specs.Check.{any_run}
@@ -22,30 +22,25 @@ returns c =
 
 pub overflow_add-row : goal.overflow_add-row
 overflow_add-row c =
-    let within : (let a = c.args in a.s.count ≤ length a.rows.now - a.at.rows) = let a = c.args in
-    within-is a.at.rows (length a.rows.now) a.s _ c.is_in_place.ensures c.if-not-is_in_place.false in
-    omega (arith, within)
+    let a = c.args in
+    omega (arith, within-is a.at.rows (length a.rows.now) a.s _ c.is_in_place.ensures c.if-not-is_in_place.false)
 
 pub offset_bounds-rows-row : goal.offset_bounds-rows-row
 offset_bounds-rows-row c =
-    let within : (let a = c.args in a.s.count ≤ length a.rows.now - a.at.rows) = let a = c.args in
-    within-is a.at.rows (length a.rows.now) a.s _ c.is_in_place.ensures c.if-not-is_in_place.false in
-    omega (arith, within)
+    let a = c.args in
+    omega (arith, within-is a.at.rows (length a.rows.now) a.s _ c.is_in_place.ensures c.if-not-is_in_place.false)
 
 pub slice_bounds-size-count : goal.slice_bounds-size-count
 slice_bounds-size-count c =
-    let within : (let a = c.args in a.s.count ≤ length a.rows.now - a.at.rows) = let a = c.args in
-    within-is a.at.rows (length a.rows.now) a.s _ c.is_in_place.ensures c.if-not-is_in_place.false in
-    omega (arith, within)
+    let a = c.args in
+    omega (arith, within-is a.at.rows (length a.rows.now) a.s _ c.is_in_place.ensures c.if-not-is_in_place.false)
 
 pub slice_bounds-size-start : goal.slice_bounds-size-start
 slice_bounds-size-start c =
-    let within : (let a = c.args in a.s.count ≤ length a.rows.now - a.at.rows) = let a = c.args in
-    within-is a.at.rows (length a.rows.now) a.s _ c.is_in_place.ensures c.if-not-is_in_place.false in
-    omega (arith, within)
+    let a = c.args in
+    omega (arith, within-is a.at.rows (length a.rows.now) a.s _ c.is_in_place.ensures c.if-not-is_in_place.false)
 
 pub slice_bounds-size-end : goal.slice_bounds-size-end
 slice_bounds-size-end c =
-    let within : (let a = c.args in a.s.count ≤ length a.rows.now - a.at.rows) = let a = c.args in
-    within-is a.at.rows (length a.rows.now) a.s _ c.is_in_place.ensures c.if-not-is_in_place.false in
-    omega (arith, within)
+    let a = c.args in
+    omega (arith, within-is a.at.rows (length a.rows.now) a.s _ c.is_in_place.ensures c.if-not-is_in_place.false)

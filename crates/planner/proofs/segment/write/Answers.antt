@@ -2,7 +2,7 @@
 use native.Mathlib.Omega.{arith}
 use lib.ListN.{length}
 use mir.Facts.{to_z-of_z}
-use borrow.Author.Rules.{sfits_of}
+use borrow.Author.Rules.{sfits_of, rules}
 use Rattle.planner.proofs.Steps.{ran-none, none-wide, no-form, ran-form, ran-patched}
 use Rattle.format.proofs.Common.{w64}
 use Rattle.planner.proofs.segment.write.Goals as goal
@@ -23,7 +23,7 @@ returns-then-s-eq4 c =
     let v = rw (to_z-of_z {w = w64} (sfits_of c.to_i64-base.type_inv), c.to_i64-base.ensures) at c.write_patched-a.ensures in
     rw c.consumed.ensures
     (ran-patched a.signed a.s.form a.s.width a.s.base a.part.now a.out.now _ _ c.if-s-eq4.true
-    (omega (arith, c.struct_known-4-1.given.1.1.1.1.0)) v)
+    (search rules) v)
 
 pub returns : goal.returns
 returns c =

@@ -1,15 +1,14 @@
-use Prim.Native.Nat.{◌-◌}
 use native.Mathlib.Omega.{arith}
 use native.Mathlib.Numerals.{add-one}
 use lib.Seq.{take_all}
-use borrow.Author.Rules.{sfits_of}
+use borrow.Author.Rules.{rules}
 use Rattle.planner.proofs.Direct.{fit-more}
 use Rattle.planner.proofs.write.know.Goals as goal
 
 pub loop-i-preserved : goal.loop-i-preserved
 loop-i-preserved c =
     let l = c.loop-i in
-    (omega arith, rw add-one (fit-more _ l.i c.loop-i-test.true (sfits_of c.z-1.given) l.invariant.1))
+    (omega arith, rw add-one (fit-more _ l.i c.loop-i-test.true (search rules) l.invariant.1))
 
 pub returns : goal.returns
 returns c = let l = c.loop-i in rw (take_all l.i c.args.rows.now c.loop-i-test.false) at l.invariant.1
