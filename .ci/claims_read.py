@@ -115,7 +115,7 @@ def stands(file, name):
 
 def names_in(text):
     """The names in a text of definitions, contracts or proofs, each as often as it stands there."""
-    return collections.Counter(re.findall(r"[\w′]+(?:-[\w′]+)*", text))
+    return collections.Counter(re.findall(r"\w[\w']*(?:-\w[\w']*)*", text))
 
 
 def statement(file, theorem):
@@ -129,7 +129,8 @@ def statement(file, theorem):
 
 
 def rooms():
-    return [line.partition(":")[0].strip() for line in read("crates.txt").splitlines() if ":" in line.partition("#")[0]]
+    """The first word of each line of crates.txt: `staticlib` may stand between it and the colon."""
+    return [line.split()[0].rstrip(":") for line in read("crates.txt").splitlines() if ":" in line.partition("#")[0]]
 
 
 def is_program(room):
@@ -150,7 +151,7 @@ def parsed(path):
     text, contracts = read(path), {}
     for match in re.finditer(r"//[^\n]*|^\s*ghost [^\n]*", text, re.M):
         text = blank(text, *match.span())
-    for match in re.finditer(r"\b(requires|ensures)\s*\{", text):
+    for match in re.finditer(r"\b(requires|ensures)\*?(?:\s+\w+)?\s*\{", text):
         end, depth = match.end(), 1
         while depth:
             depth += {"{": 1, "}": -1}.get(text[end], 0)
@@ -185,16 +186,16 @@ def public():
 
 
 def is_equation(f):
-    """Whether the contract says what the answer is (of a unit, what its one field is), and nothing is lent to be changed; or, with no answer, what
-    the one lent slice is."""
-    match = re.fullmatch(r"λ (\w+)\. ⌜ (.+?) ≡ (.+) ⌝", f.ensures, re.S)
-    if not match or ".exit" in match[3] or match[1] in names_in(match[3]):
+    """Whether the contract, one clause alone, says what the answer is (of a unit, what its one field is), and nothing is lent to be changed; or, with
+    no answer, what the one lent slice is."""
+    match = re.fullmatch(r"(.+?) ≡ (.+)", f.ensures, re.S)
+    if not match or " & " in f.ensures or re.search(r"\.\s*new\b", match[2]) or names_in(match[2])["result"]:
         return False
     if "->" in f.head:
         unit = re.search(r"-> (ByteOffset|RowNumber)\b", f.head)
-        field = {None: "", "ByteOffset": " .bytes", "RowNumber": " .rows"}[unit and unit[1]]
-        return match[2] in (match[1], match[1] + field) and not re.search(r"&\s*('\w+ )?mut\b", f.head)
-    return [match[2]] == [f"now ({lent} .exit)" for lent in re.findall(r"(\w+): &(?:'\w+ )?mut ", f.head)]
+        field = {None: "", "ByteOffset": ".bytes", "RowNumber": ".rows"}[unit and unit[1]]
+        return match[1] in ("result", "result" + field) and not re.search(r"&\s*('\w+ )?mut\b", f.head)
+    return [match[1]] == [f"{lent}.new" for lent in re.findall(r"(\w+): &(?:'\w+ )?mut ", f.head)]
 
 
 def forget(pages_alone=False):

@@ -1,6 +1,6 @@
 #!/usr/bin/env python3
 """Brings the repository's own names of definitions and lemmas to the spelling of today's Rattle: snake case for all but types and modules, so
-`rowsLess` becomes `rows_less`. It goes over definitions, proofs, sources, edits and pages, and stops if two names would fall together.
+`rowsLess` becomes `rows_less`. It goes over definitions, proofs, sources, edits and pages, and prints those that would fall together.
 Run once, at the top, after the kit's own port.py: python3 tools/respell.py"""
 import glob, re, sys
 

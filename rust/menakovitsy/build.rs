@@ -1,27 +1,24 @@
 //! Finds the static library of the proved crate `exports`, or builds it, and says where it is. The first of:
 //!
 //! 1. what the folder holds that `MENAKOVITSY_LIB_DIR` names: a release's libraries, one of which is for this build's
-//!    processor (see [`processors`]); one library, `libmenakovitsy.a`; or the `libexports.a` that
-//!    `rt staticlib exports` leaves in `target/staticlib`;
+//!    processor (see [`processors`]); one library, `libmenakovitsy.a`; or the `libexports.a` that `rt lib` leaves in
+//!    `crates/exports/out`;
 //! 2. the same two folders above this crate, which then stands in a release's folder;
-//! 3. of the checkout that this crate stands in, what `rt staticlib exports` left in its `target/staticlib`, if
-//!    nothing that it is made of has changed since: see [`built_before`];
-//! 4. what `rt staticlib exports` makes of that checkout. The repository's crates are copied into this script's own
-//!    output folder for it, with what the checkout's `target` has proved of them, and it runs there. `rt` compares
-//!    every proof with the sources by their contents, and proves what has changed.
+//! 3. what `rt lib` makes of the checkout that this crate stands in. The repository's crates are copied into this
+//!    script's own output folder for it, and it runs there. It begins with what `rt` has kept of the checkouts on this
+//!    machine, and compares that with the sources by their contents, so it proves what has changed.
 //!
-//! 3 and 4 are for x86-64, whatever more the processor has: for another, `.ci/libraries FOLDER` makes what 1 takes.
+//! 3 is for x86-64, whatever more the processor has: for another, `.ci/libraries FOLDER` makes what 1 takes.
 //!
-//! 3 and 4 trust the checkout's `target` as they trust the checkout. `rt` refuses an rlib whose files do not match the
-//! sum beside them, as after a copy that broke off; but whoever can write there can forge the sum too, or put another
-//! library there. (`rt ci` trusts nothing of `target`.)
+//! A `libexports.a` in the checkout is linked only where 1 names its folder: nothing beside it says of which sources
+//! `rt lib` made it. What `rt` has kept on this machine is trusted as the checkout is. (`rt ci` trusts none of it.)
 //!
-//! Nothing is written but in the output folder. From there the library is linked, under one name wherever it came
-//! from.
+//! Nothing is written but in the output folder, and what `rt` keeps beside itself. From there the library is linked,
+//! under one name wherever it came from.
 use std::io::{self, ErrorKind};
 use std::path::{Path, PathBuf};
 use std::process::{self, Command};
-use std::time::{Duration, Instant, SystemTime};
+use std::time::Instant;
 use std::{env, fs};
 
 /// The folders of a release, each with a library for a processor.
@@ -113,7 +110,7 @@ fn named(folder: &Path, target: &str) -> PathBuf {
     held(folder, target).unwrap_or_else(|| {
         fail(&format!(
             "MENAKOVITSY_LIB_DIR names {}, which holds neither {LIBRARY} nor {BUILT}, nor a folder for each processor: \
-             name a release's folder, or target/staticlib of a checkout after `rt staticlib exports`, or unset it",
+             name a release's folder, or crates/exports/out of a checkout after `rt lib` in crates/exports, or unset it",
             folder.display()
         ))
     })
@@ -138,13 +135,9 @@ fn found_or_built(root: &Path, out: &Path, target: &str) -> PathBuf {
         };
         fail(&format!("a checkout is built for x86-64, and this build is for {target}: {way}"));
     }
-    let out = out.join("repository");
-    if let Err(error) = copied(root, &out) {
-        fail(&format!("{} cannot be copied to {}: {error}", root.join("crates").display(), out.display()));
-    }
-    // Before much is copied: whether it is there, and which.
-    rt(&out, &["version"]);
-    built_before(root, &out).unwrap_or_else(|| proved_and_built(root, &out))
+    // Before anything is copied: whether it is there, and which.
+    rt(out, &["version"]);
+    proved_and_built(root, out)
 }
 
 /// Runs `rt` with some words in a folder: whether it succeeded.
@@ -159,152 +152,42 @@ fn rt(folder: &Path, words: &[&str]) -> bool {
     }
 }
 
-/// The library that the copied crates make, with as much proved anew as has to be. Cargo shows that it is.
+/// The library that the checkout's crates make, with as much proved anew as has to be. Cargo shows that it is.
 fn proved_and_built(root: &Path, out: &Path) -> PathBuf {
-    let rooms = rooms(root);
-    let taken = rooms.iter().filter(|room| take_proof(root, out, room).unwrap_or(false)).count();
-    let (what, time) = match rooms.len() - taken {
-        0 => (String::from("exports, over proofs of the checkout"), "about two minutes"),
-        left => (format!("exports and up to {left} crates below it"), "up to ten minutes"),
-    };
-    let hint = "after `rt staticlib exports` in the checkout it takes seconds";
-    println!("cargo:warning=proves {what}, which takes {time} on two processors ({hint})");
+    println!(
+        "cargo:warning=proves exports and what has changed below it, which takes a minute or two if `rt` has kept the \
+         rest, and far longer if it has kept nothing"
+    );
+    let (copy, library) = (out.join("repository"), out.join(BUILT));
     let began = Instant::now();
-    if !rt(out, &["staticlib", "exports"]) {
-        fail(&format!(
-            "`rt staticlib exports` in {} failed: see above what it said; if an rlib is not as it was written, remove \
-             target/ in the checkout and that folder, and call cargo again",
-            out.display()
-        ));
+    let made = made(root, &copy, &library);
+    // Below the top of a checkout, where the output folder may be, `rt ci` refuses a second copy of a source.
+    let removed = fs::remove_dir_all(&copy);
+    match made.and_then(|proved| removed.map(|()| proved)) {
+        Ok(true) => println!("cargo:warning=proved and built the library in {} s", began.elapsed().as_secs()),
+        Ok(false) => fail(&format!(
+            "`rt lib` failed in a copy of the crates: see above what it said, and run it in {}",
+            root.join("crates/exports").display()
+        )),
+        Err(error) => fail(&format!(
+            "{} cannot be copied to {} and removed again: {error}",
+            root.join("crates").display(),
+            copy.display()
+        )),
     }
-    println!("cargo:warning=proved and built the library in {} s", began.elapsed().as_secs());
-    out.join("target/staticlib").join(BUILT)
+    library
 }
 
-/// Takes one room's proof over from the checkout, unless the one from an earlier run of this script is younger.
-/// Whether there is one: `rt` sees whether it is of the room's sources.
-fn take_proof(root: &Path, out: &Path, room: &str) -> io::Result<bool> {
-    let [from, to] = [root, out].map(|folder| folder.join("target/rlib").join(format!("{room}.rlib")));
-    let [stamp, copy] = [root, out].map(|folder| folder.join("target/stamp").join(room));
-    let held = to.is_dir() && copy.is_file();
-    if !from.is_dir() || !stamp.is_file() || held && modified(&copy)? >= modified(&stamp)? {
-        return Ok(held);
+/// Copies the crates, and has `rt` make their library: whether it could.
+fn made(root: &Path, copy: &Path, library: &Path) -> io::Result<bool> {
+    copied(root, copy)?;
+    let exports = copy.join("crates/exports");
+    // The default is x86-64-v2, which not every x86-64 processor has.
+    let proved = rt(&exports, &["lib", "--cpu", "x86-64"]);
+    if proved {
+        fs::copy(exports.join("out").join(BUILT), library)?;
     }
-    let before = fs::read(&stamp)?;
-    for path in [&copy, &to] {
-        let _ = if path.is_dir() { fs::remove_dir_all(path) } else { fs::remove_file(path) };
-    }
-    copy_folder(&from, &to)?;
-    // `rt` removes a stamp before it writes the proof anew: if it is the same, what was copied is of one piece.
-    let same = fs::read(&stamp)? == before;
-    if same {
-        fs::create_dir_all(out.join("target/stamp"))?;
-        fs::write(&copy, before)?;
-    }
-    Ok(same)
-}
-
-/// The rooms that `exports` is made of, itself not among them, by `crates.txt`.
-fn rooms(root: &Path) -> Vec<String> {
-    let list = fs::read_to_string(root.join("crates.txt")).unwrap_or_default();
-    let lines = || list.lines().filter_map(|line| line.split('#').next()?.split_once(':'));
-    let mut rooms = vec![String::from("exports")];
-    let mut next = 0;
-    while let Some(room) = rooms.get(next) {
-        let knows = lines().find(|(name, _)| name.trim() == room);
-        for known in knows.map_or("", |(_, knows)| knows).split_whitespace() {
-            if !rooms.iter().any(|room| room == known) {
-                rooms.push(known.into());
-            }
-        }
-        next += 1;
-    }
-    rooms.split_off(1)
-}
-
-/// How much older than the run of `rt` that made the library its sources have to be.
-const MARGIN: Duration = Duration::from_secs(2);
-
-/// The library that `rt staticlib exports` left in the checkout, if it is of these sources:
-///
-/// - the log of `exports` is that of a static library, proved in this folder, so `rt` has built `exports` no other
-///   way since; the log would name another folder if `target` were copied from there;
-/// - `rt` has not run on a room below it since;
-/// - no source has changed since `rt` began: by the change time, which nothing sets back as a file's time can be;
-/// - the stamps of the rooms below it are those of their contents, as `rt` reckons them.
-///
-/// Where one of these does not hold, it is built anew.
-fn built_before(root: &Path, out: &Path) -> Option<PathBuf> {
-    let target = root.join("target");
-    let library = target.join("staticlib").join(BUILT);
-    let said = fs::read_to_string(target.join("log/exports.say")).ok()?;
-    let verdict = said.lines().last()?;
-    let here = said.contains(&format!("{}/", root.join("crates/exports").display()));
-    let rooms = rooms(root);
-    let results = rooms.iter().map(|room| modified(&target.join("log").join(format!("{room}.res"))));
-    let results: Vec<SystemTime> = results.collect::<io::Result<_>>().ok()?;
-    let (began, ended) = (results.iter().min()?, modified(&library).ok()?);
-    let unchanged = changed(root).ok()? + MARGIN < *began && results.iter().all(|result| *result <= ended);
-    let proved = verdict.starts_with("logic=proved ") && verdict.contains(" target=");
-    (proved && here && unchanged && accepted(&target, out, &rooms)).then_some(library)
-}
-
-/// Whether `rt` accepts the stamps of these rooms for the copied crates. Only stamps are looked at, and none is left.
-fn accepted(target: &Path, out: &Path, rooms: &[String]) -> bool {
-    let copies = out.join("target");
-    let _ = fs::remove_dir_all(&copies);
-    let stamps = [target, &copies].map(|folder| folder.join("stamp"));
-    let read = |stamps: &Path| rooms.iter().map(|room| fs::read(stamps.join(room)).ok()).collect::<Vec<_>>();
-    let before = read(&stamps[0]);
-    if before.contains(&None) || copy_folder(&stamps[0], &stamps[1]).is_err() {
-        return false;
-    }
-    let words: Vec<&str> = ["check"].into_iter().chain(rooms.iter().map(String::as_str)).collect();
-    // A room that has changed is proved, if it can be without those below it, and has another stamp then.
-    let same = rt(out, &words) && read(&stamps[1]) == before;
-    fs::remove_dir_all(&copies).is_ok() && same
-}
-
-/// When something was last written.
-fn modified(path: &Path) -> io::Result<SystemTime> {
-    fs::metadata(path)?.modified()
-}
-
-/// When the crates were last changed: a source, or what a folder holds.
-fn changed(root: &Path) -> io::Result<SystemTime> {
-    let mut last = change_time(&root.join("crates.txt"))?.max(change_time(&root.join("crates"))?);
-    for entry in fs::read_dir(root.join("crates"))? {
-        let room = entry?.path();
-        last = last.max(change_time(&room)?);
-        for part in PARTS.map(|part| room.join(part)).iter().filter(|part| part.is_dir()) {
-            last = last.max(changed_below(part)?);
-        }
-    }
-    Ok(last)
-}
-
-fn changed_below(folder: &Path) -> io::Result<SystemTime> {
-    let mut last = change_time(folder)?;
-    for entry in fs::read_dir(folder)? {
-        let path = entry?.path();
-        last = last.max(if path.is_dir() { changed_below(&path)? } else { change_time(&path)? });
-    }
-    Ok(last)
-}
-
-/// When a file or a folder was last changed in any way, by the system's clock.
-#[cfg(unix)]
-fn change_time(path: &Path) -> io::Result<SystemTime> {
-    use std::os::unix::fs::MetadataExt;
-    let metadata = fs::metadata(path)?;
-    let seconds = Duration::from_secs(metadata.ctime().unsigned_abs());
-    Ok(SystemTime::UNIX_EPOCH + seconds + Duration::from_nanos(metadata.ctime_nsec().unsigned_abs()))
-}
-
-/// Another system keeps no such time.
-#[cfg(not(unix))]
-fn change_time(_: &Path) -> io::Result<SystemTime> {
-    Err(ErrorKind::Unsupported.into())
+    Ok(proved)
 }
 
 /// Copies the library into a folder, under its one name.
@@ -316,13 +199,12 @@ fn taken(library: &Path, folder: &Path) -> io::Result<()> {
     fs::copy(library, folder.join(LIBRARY)).map(|_| ())
 }
 
-/// Copies what a proof reads: the list of crates, and each crate's sources, specifications and
-/// proofs. What was proved before stands beside them, in `target`, and is kept.
+/// Copies what a proof reads: the list of crates, and each crate's sources, specifications and proofs.
 fn copied(root: &Path, out: &Path) -> io::Result<()> {
-    let crates = out.join("crates");
-    if crates.exists() {
-        fs::remove_dir_all(&crates)?;
+    if out.exists() {
+        fs::remove_dir_all(out)?;
     }
+    let crates = out.join("crates");
     fs::create_dir_all(&crates)?;
     println!("cargo:rerun-if-changed={}", root.join("crates.txt").display());
     fs::copy(root.join("crates.txt"), out.join("crates.txt"))?;

@@ -3,7 +3,7 @@
  *
  * Linking. Link libmenakovitsy.a: a release has one for each processor, in the folders x86-64, x86-64-v3 and
  * aarch64 beside this header (little endian, 64-bit size_t). In a checkout `.ci/release` makes a release, and
- * `rt staticlib exports` the x86-64 library alone, as target/staticlib/libexports.a. The header compiles
+ * `rt lib --cpu x86-64` in crates/exports the x86-64 library alone, as out/libexports.a there. The header compiles
  * without a warning as C99, C11 and C++17.
  *
  * Slices. A slice is a pointer, and after it the length in elements (bytes, int64_t or uint64_t). If the

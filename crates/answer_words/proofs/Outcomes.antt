@@ -1,7 +1,8 @@
 -- Each promise is an equation for the number and for every lent word, so any two outcomes are equal. Assumes nothing.
-use Rattle.format.proofs.Common.{sym, ◌∙◌, ℕ, List}
-use Rattle.answer_words.specs.Outcomes.{ToldDetermined, AnswerPutDetermined, StreamPutDetermined, ReaderPutDetermined, StepToldDetermined}
-use Rattle.answer_words.specs.Outcomes.{LayDetermined, ReaderOfDetermined, CutCaseDetermined, CutByteDetermined}
+use mathlib.Core.Path.{sym, ◌∙◌}
+use Prim.Native.Nat.{ℕ}
+use mathlib.Core.List.{List}
+use Rattle.answer_words.specs.Outcomes.{ToldDetermined, AnswerPutDetermined, StreamPutDetermined, ReaderPutDetermined, StepToldDetermined, LayDetermined, ReaderOfDetermined, CutCaseDetermined, CutByteDetermined}
 
 pub told-determined : (B : Type 0) (words_of : B → List ℕ) (number_of : B → ℕ) → ToldDetermined B words_of number_of
 told-determined B words_of number_of b words words' words'' r r' p q = (p.words_are ∙ sym q.words_are, p.number_is ∙ sym q.number_is)

@@ -1,5 +1,12 @@
 -- The reader in parts over words: what a state's words stand for, and what is left in the words lent. Assumes nothing.
-use Rattle.format.proofs.Common.{◌≡◌, refl, ◌≢◌, ℕ, zero, suc, ◌<◌, ◌≤◌, ◌%◌, arith, true, false, List, ◌++◌, length, le-leb, lt-leb}
+use mathlib.Core.Path.{◌≡◌, refl}
+use mathlib.Core.Logic.{◌≢◌}
+use Prim.Native.Nat.{ℕ, zero, suc, ◌<◌, ◌≤◌, ◌%◌}
+use native.Mathlib.Omega.{arith}
+use mathlib.Core.Bool.{true, false}
+use mathlib.Core.List.{List, ◌++◌}
+use lib.ListN.{length}
+use borrow.Author.Tests.{le-leb, lt-leb}
 use Rattle.format.specs.declared.CutField.{CutField}
 use Rattle.format.specs.declared.CutField.TheVariants as field
 use Rattle.format.specs.declared.Refusal.{Refusal}
@@ -9,8 +16,7 @@ use Rattle.format.specs.declared.PartReader.{PartReader}
 use Rattle.format.specs.declared.PartStep.{PartStep}
 use Rattle.format.specs.Answers.{answer_number}
 use Rattle.answer_words.specs.Words.{too_few_words}
-use Rattle.answer_words.specs.Parts.{repeated, standing_of, cut_of, state_words, state_word_count, reader_of, StateKept}
-use Rattle.answer_words.specs.Parts.{part_words, part_word_count, enough, PartPut, StepTold}
+use Rattle.answer_words.specs.Parts.{repeated, standing_of, cut_of, state_words, state_word_count, reader_of, StateKept, part_words, part_word_count, enough, PartPut, StepTold}
 
 pub state-long : (s : PartReader) → length (state_words s) ≡ state_word_count
 unfolding state_words
@@ -60,10 +66,7 @@ module _ {step : PartStep} {state words : List ℕ} where
 
     -- as the promises of the exported functions have it
     pub step-put : StepTold step state state' words words' r → PartPut step state state' words words' r
-    step-put t = record {
-      told = record { number_is = rw e at t.number_is; words_are = rw (part-long step) (rw e at t.words_are) };
-      left = rw e at t.state-is;
-    }
+    step-put t = record { told = record { number_is = rw e at t.number_is; words_are = rw (part-long step) (rw e at t.words_are) }; left = rw e at t.state-is }
 
 pub stored : {step : PartStep} {state state' words words' : List ℕ} {r : ℕ} → state_word_count ≤ length state → part_word_count ≤ length words
     → PartPut step state state' words words' r → StepTold step state state' words words' r

@@ -1,5 +1,9 @@
 -- An answer put into words, and what a call with lent words promises by it. Assumes nothing.
-use Rattle.format.proofs.Common.{◌≡◌, refl, ℕ, ◌<◌, ◌≤◌, List, length, le-leb, lt-leb}
+use mathlib.Core.Path.{◌≡◌, refl}
+use Prim.Native.Nat.{ℕ, ◌<◌, ◌≤◌}
+use mathlib.Core.List.{List}
+use lib.ListN.{length}
+use borrow.Author.Tests.{le-leb, lt-leb}
 use Rattle.format.specs.declared.Answer.{Answer}
 use Rattle.format.specs.declared.Stream.{Stream}
 use Rattle.answer_words.specs.Words.{answer_words, stream_words, word_count, stream_word_count, too_few_words, Put, Told}

@@ -1,11 +1,13 @@
 -- Any two outcomes that a promise of this room allows are equal: the number or the reader that comes back, and every lent word at exit.
 -- Assumes nothing.
-use Rattle.std.specs.Prelude.{◌≡◌, ℕ, List}
+use Rattle.std.specs.Prelude.{◌≡◌, ℕ, List, ◌++◌, length, drop, leb}
 use Rattle.format.specs.declared.CutField.{CutField}
 use Rattle.format.specs.declared.PartReader.{PartReader}
 use Rattle.format.specs.declared.PartStep.{PartStep}
-use Rattle.format.specs.Answers.{answer_number, stream_number}
-use Rattle.answer_words.specs.Words.{answer_words, stream_words, cut_case, cut_byte, laid, Told}
+use Rattle.format.specs.Fields.{pick}
+use Rattle.format.specs.Answers.{answer_number}
+use Rattle.format.specs.Answers.{stream_number}
+use Rattle.answer_words.specs.Words.{answer_words, stream_words, cut_case, cut_byte, Told}
 use Rattle.answer_words.specs.Parts.{state_words, reader_of, StepTold}
 
 -- of any kind of answer that is told in words, with words enough or too few
@@ -33,7 +35,10 @@ StepToldDetermined =
 
 -- ---- the promises that are equations
 
--- `lay`
+-- `lay`: what is left in the words that are lent
+abbrev pub laid : List ℕ → List ℕ → List ℕ
+laid said words = pick (leb (length said) (length words)) (said ++ drop (length said) words) words
+
 abbrev pub LayDetermined : Type 0
 LayDetermined = (said words words' words'' : List ℕ) → words' ≡ laid said words → words'' ≡ laid said words → words' ≡ words''
 

@@ -65,7 +65,7 @@ refusal_of ws = record { number = get_or ws 3 0 % 256; place = record { bytes = 
 abbrev pub reader_of : List ℕ → PartReader
 reader_of ws = record { held = get_or ws 1 0; at = record { bytes = get_or ws 2 0 }; standing = standing_of (get_or ws 0 0) (refusal_of ws) }
 
--- what a call leaves is what the next one reads, whatever words follow: a refusal's number is a byte
+-- what a call leaves is what the next one reads, whatever stands behind it: a refusal's number is a byte
 abbrev pub StateKept : Type 0
 StateKept = (s : PartReader) (ws : List ℕ) → answer_number (repeated s.standing) < 256 → reader_of (state_words s ++ ws) ≡ s
 
@@ -112,10 +112,6 @@ part_words s =
     -- 10: how many of the part's bytes were taken
     ∷ s.taken.bytes
     ∷ []
-
--- the words of a call that refuses nothing
-abbrev pub plain_words : ℕ → ℕ → ℕ → ℕ → ℕ → ℕ → ℕ → List ℕ
-plain_words case kind rows bytes width start taken = case ∷ 0 ∷ 0 ∷ kind ∷ rows ∷ bytes ∷ 0 ∷ 0 ∷ width ∷ start ∷ taken ∷ []
 
 abbrev pub part_word_count : ℕ
 part_word_count = 11

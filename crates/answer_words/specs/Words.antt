@@ -1,5 +1,5 @@
--- Answers as words: what each word of an answer says, and what a call leaves in the words that the caller lends it (FORMAT.md,
--- "Exported functions"). Assumes nothing.
+-- Answers as words, and words lent: what each word of an answer says, and what a call leaves in the words that it is lent (FORMAT.md, "Exported functions").
+-- Assumes nothing.
 use Rattle.std.specs.Prelude.{◌≡◌, ℕ, ◌-◌, List, [], ◌∷◌, ◌++◌, length, drop, leb}
 use Rattle.format.specs.declared.CutField.{CutField}
 use Rattle.format.specs.declared.CutField.TheVariants as field
@@ -10,8 +10,7 @@ use Rattle.format.specs.declared.Answer.TheVariants.{End, Run, Refused}
 use Rattle.format.specs.declared.Stream as stream
 use Rattle.format.specs.declared.Stream.{Stream}
 use Rattle.format.specs.Fields.{pick, two64}
-use Rattle.format.specs.Answers.{kind_number, answer_number, answer_place, answer_cut, answer_width, answer_rows, answer_bytes}
-use Rattle.format.specs.Answers.{stream_number, stream_place, stream_cut, stream_rows, stream_bytes, stream_last}
+use Rattle.format.specs.Answers.{kind_number, answer_number, answer_place, answer_cut, answer_width, answer_rows, answer_bytes, stream_number, stream_place, stream_cut, stream_rows, stream_bytes, stream_last}
 
 -- ---- AN ANSWER AS WORDS: a word's meaning never changes, and what is added later stands after the last
 
@@ -87,7 +86,7 @@ stream_words s =
     ∷ cut_byte (stream_cut s)
     -- 8: nor of one width
     ∷ 0
-    -- 9: 1 if a run was read, else 0; the words after it are the last run's, 0 if there is none
+    -- 9: 1 where a run was read, else 0; the words behind it are the last one's, 0 where there is none
     ∷ answer_case (last_answer (stream_last s))
     -- 10: its kind
     ∷ answer_kind (last_answer (stream_last s))
@@ -111,10 +110,6 @@ abbrev pub too_few_words : ℕ
 too_few_words = two64 - 1
 
 -- ---- WORDS LENT, of any kind of answer: its words are told by one function, and its number by another
-
--- words in the first of the words lent, if there is a word for each; else none is touched
-abbrev pub laid : List ℕ → List ℕ → List ℕ
-laid said words = pick (leb (length said) (length words)) (said ++ drop (length said) words) words
 
 module _ {B : Type 0} (words_of : B → List ℕ) (number_of : B → ℕ) where
   -- the answer's words in the first of the words lent, what stood in the others, and its number

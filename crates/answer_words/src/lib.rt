@@ -1,9 +1,11 @@
-// An answer in words that the caller lends: the case, the refusal's number and place, the kind, rows and bytes, the field that was
-// cut, and the width; of a stream also its last run. If the words lent are too few, none is touched, and the number says so.
-ghost use Rattle.std.specs.Prelude.{◌≡◌, ◌≤◌, length};
+// An answer as words that the caller lends: the case, the refusal's number and place, the kind, rows and bytes, the field that was cut, and the
+// width; of a stream also its last run. Where the words lent are too few, none is touched, and the number says so.
+#![tactic(auto)]
+
+ghost use Rattle.std.specs.Prelude.{◌≡◌, ◌++◌, ◌≤◌, length, drop, leb};
+ghost use Rattle.format.specs.Fields.{pick};
 ghost use Rattle.format.specs.Answers.{stream_number, stream_place, stream_cut, stream_rows, stream_bytes, stream_last};
-ghost use Rattle.answer_words.specs.Words.{answer_case, answer_kind, answer_words, cut_case, cut_byte, word_count};
-ghost use Rattle.answer_words.specs.Words.{stream_case, last_answer, stream_words, stream_word_count, laid, Put, Told};
+ghost use Rattle.answer_words.specs.Words.{answer_case, answer_kind, answer_words, cut_case, cut_byte, stream_case, last_answer, stream_words, word_count, stream_word_count, Put, Told};
 ghost use Rattle.format.specs.Answers.{answer_number};
 
 use format::{ALL_BITS, Answer, ByteOffset, CutField, LastRun, RowNumber, Stream};
@@ -41,7 +43,7 @@ pub(crate) fn kind(answer: Answer) -> u8
     }
 }
 
-// Whether a field was cut, and the byte where it begins: 0 if none was.
+// Whether a field was cut, and the byte where it begins: 0 where none was.
 pub fn cut_case(field: CutField) -> u64
     ensures { result ≡ cut_case field }
 {
@@ -60,9 +62,9 @@ pub fn cut_byte(field: CutField) -> ByteOffset
     }
 }
 
-// Stores the words in the first of the words lent, if there is one for each.
+// Words in the first of the words lent, where there is one for each.
 pub fn lay(said: &[u64], words: &mut [u64])
-    ensures { words.new ≡ laid said.now words.old }
+    ensures { words.new ≡ pick (leb (length said.now) (length words.old)) (said.now ++ drop (length said.now) words.old) words.old }
 {
     if words.len() < said.len() {
         return;
@@ -164,7 +166,7 @@ fn stream_last(stream: Stream) -> LastRun
     }
 }
 
-// The last run as the answer that it would have by itself: end if there is none.
+// The last run as the answer that it would have by itself: end where there is none.
 fn last_answer(last: LastRun) -> Answer
     ensures { result ≡ last_answer last }
 {
@@ -196,8 +198,8 @@ fn store_stream(stream: Stream, words: &mut [u64]) -> u64
     stream_number(stream) as u64
 }
 
-// The words of a stream's answer. A stream has no one kind or width. The counts of the runs that were read, and the last of them, stand
-// there also if a run is refused.
+// The words of a stream's answer: of no one kind and width, with the counts of the runs that were read and the last of them, also where a
+// run is refused.
 pub fn put_stream(stream: Stream, words: &mut [u64]) -> u64
     ensures { Told stream_words stream_number stream words.old words.new result }
 {

@@ -1,9 +1,7 @@
 // The reader in parts as words: its state, read from the words that the caller keeps and left there, and what a call does.
-ghost use Rattle.std.specs.Prelude.{◌≡◌, ◌++◌, ◌≤◌, length, drop, get_or};
+ghost use Rattle.std.specs.Prelude.{◌≡◌, [], ◌∷◌, ◌++◌, ◌≤◌, length, drop, get_or};
 ghost use Rattle.answer_words.specs.Words.{Put, Told};
-ghost use Rattle.answer_words.specs.Parts.{repeated, standing_case, standing_of, cut_of, state_words, state_word_count};
-ghost use Rattle.answer_words.specs.Parts.{plain_answer, part_case, part_start, part_number, part_words, part_word_count, plain_words};
-ghost use Rattle.answer_words.specs.Parts.{refusal_of, reader_of, PartPut, StepTold};
+ghost use Rattle.answer_words.specs.Parts.{repeated, standing_case, standing_of, cut_of, state_words, state_word_count, refusal_of, reader_of, plain_answer, part_case, part_start, part_number, part_words, part_word_count, PartPut, StepTold};
 
 use crate::{TOO_FEW, cut_byte, cut_case, kind};
 use format::{
@@ -54,7 +52,7 @@ fn standing_of(state: &[u64]) -> Standing
     Standing::Closed
 }
 
-// The reader of words that are all there. Every call with a part comes through here.
+// The reader of words that are all there: what is on the way of every part.
 fn reader_in(state: &[u64]) -> PartReader
     requires { state_word_count ≤ length state.now }
     ensures { result ≡ reader_of state.now }
@@ -70,7 +68,7 @@ fn reader_in(state: &[u64]) -> PartReader
     }
 }
 
-// The word at i, or 0 if there is none.
+// The word at i, 0 where there is none.
 fn word(state: &[u64], i: usize) -> u64
     ensures { result ≡ get_or state.now i 0 }
 {
@@ -239,8 +237,7 @@ fn lay(
     words: &mut [u64],
 )
     requires { part_word_count ≤ length words.old }
-    ensures { words.new ≡ plain_words case kind rows.rows bytes.bytes width start.bytes taken.bytes
-        ++ drop part_word_count words.old }
+    ensures { words.new ≡ (case ∷ 0 ∷ 0 ∷ kind ∷ rows.rows ∷ bytes.bytes ∷ 0 ∷ 0 ∷ width ∷ start.bytes ∷ taken.bytes ∷ []) ++ drop part_word_count words.old }
 {
     words[0] = case;
     words[1] = 0;
@@ -299,7 +296,7 @@ fn store_taken(step: PartStep, state: &mut [u64], words: &mut [u64]) -> u64
     }
 }
 
-// The same as `put_step`, for the most frequent call: the words of a run or of a held part are computed before the first store.
+// The same as `put_step`, for the call that is made most: what a run or a held part is told by is known before a word is stored.
 pub fn put_taken(step: PartStep, state: &mut [u64], words: &mut [u64]) -> u64
     ensures { StepTold step state.old state.new words.old words.new result }
 {

@@ -1,12 +1,18 @@
 -- The call's answer and places, by what its steps found: each case is one outcome of `batch`. Assumes nothing.
-use Rattle.format.proofs.Common.{◌≡◌, refl, sym, ap, ◌∙◌, ℕ, ◌+◌, ◌<◌, arith, Bool, List, [], ◌∷◌, length, take, drop, length-take, ℤ}
-use Rattle.format.proofs.Common.{lt-leb}
+use mathlib.Core.Path.{◌≡◌, refl, sym, ap, ◌∙◌}
+use Prim.Native.Nat.{ℕ, ◌+◌, ◌<◌}
+use native.Mathlib.Omega.{arith}
+use mathlib.Core.Bool.{Bool}
+use mathlib.Core.List.{List, [], ◌∷◌}
+use lib.ListN.{length, take, drop, length-take}
+use lib.IntN.{ℤ}
+use borrow.Author.Tests.{lt-leb}
 use Rattle.format.specs.Runs.{layout}
 use Rattle.format.specs.Streams.{Reading, whole, stream, runs_of, total_rows}
 use Rattle.format.specs.declared.ByteOffset.{ByteOffset}
 use Rattle.format.specs.declared.Refusal.{Refusal}
 use Rattle.format.specs.declared.Run.{Run}
-use Rattle.batches.specs.Batches.{Position, BatchOutcome, gives, ended, refuses, rows_left, first_rows, batch_of, batch}
+use Rattle.batches.specs.Batches.{BatchOutcome, gives, ended, refuses, rows_left, first_rows, batch_of, batch}
 use Rattle.batches.specs.BatchPromise.{position_in, batch_answer, laid_over, places_after, RowsRead}
 use Rattle.batches.specs.BatchSteps.{RunHolds, SameRow, BatchFrom}
 use Rattle.batches.specs.declared.RowPosition.{RowPosition}
@@ -17,7 +23,7 @@ use Rattle.batches.proofs.RowPositions.{position}
 use Rattle.batches.proofs.BatchRuns.{held-some}
 use Rattle.batches.proofs.RunAtByte.{Ran, Broke}
 use Rattle.batches.proofs.BatchCalls.{from-long}
-use Rattle.batches.proofs.SeekWalk.{refuses-there}
+use Rattle.batches.proofs.SeekWalk.{refused-there}
 
 -- a run that holds the row gives a batch
 pub some-given : {s : List ℕ} {q : RowPosition} (signed : Bool) (n : ℕ) → RunHolds s q
@@ -98,7 +104,7 @@ module _ {s : List ℕ} {at : ByteOffset} {signed : Bool} {out out' : List ℤ} 
     pub begun-refused : {f : Refusal} → Broke s at.bytes f → RowsRead s here signed out out' (answer.Refused f)
     begun-refused {f} q =
         rw (← unlaid) (answered-refused s here signed out f
-        (refuses-there (record { same = λ b n. refl; enough = refl; place = refl }) q signed (length out)))
+        (refused-there (record { same = λ b n. refl }) q signed (length out)))
 
     pub begun-ended : reading ≡ whole [] → RowsRead s here signed out out' answer.End
     unfolding batch total_rows

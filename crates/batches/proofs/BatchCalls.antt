@@ -1,8 +1,15 @@
 -- What is read from the position that a batch leaves is what is left, so a second call goes on where the first ended, and both are one call
 -- with the places of both. Assumes nothing.
-use Rattle.format.proofs.Common.{◌≡◌, refl, sym, ap, ◌∙◌, ℕ, ◌+◌, ◌-◌, ◌<◌, ◌≤◌, min, arith, add-zero, Bool, true, false, List, []}
-use Rattle.format.proofs.Common.{append-nil, length, length-take, length-drop, drop_of_length-le, take-add, take-nil, leb, ltb, leb-true}
-use Rattle.format.proofs.Common.{leb-false}
+use mathlib.Core.Path.{◌≡◌, refl, sym, ap, ◌∙◌}
+use Prim.Native.Nat.{ℕ, ◌+◌, ◌-◌, ◌<◌, ◌≤◌, min}
+use native.Mathlib.Omega.{arith}
+use native.Mathlib.Nat.{add-zero}
+use mathlib.Core.Bool.{Bool, true, false}
+use mathlib.Core.List.{List, [], append-nil}
+use lib.ListN.{length, length-take, length-drop, drop_of_length-le}
+use lib.Seq.{take-add, take-nil}
+use lib.Dec.{leb, ltb}
+use borrow.Author.Tests.{leb-true, leb-false}
 use Rattle.format.specs.Answers.{refusing}
 use Rattle.format.specs.Digits.{AllBelow}
 use Rattle.format.specs.Fields.{pick}

@@ -1,6 +1,10 @@
 -- Calls by computation: a stream of two runs of three rows, at bytes 0 and 2, and the same with a run after them that is cut.
 -- Assumes nothing.
-use Rattle.format.proofs.Common.{◌≡◌, refl, ℕ, false, List, [], ◌∷◌, ◌++◌, pos}
+use mathlib.Core.Path.{◌≡◌, refl}
+use Prim.Native.Nat.{ℕ}
+use mathlib.Core.Bool.{false}
+use mathlib.Core.List.{List, [], ◌∷◌, ◌++◌}
+use lib.IntN.{pos}
 use Rattle.format.proofs.Examples.{told}
 use Rattle.format.specs.Answers.{refusing, cutting}
 use Rattle.format.specs.Streams as Streams
@@ -8,11 +12,11 @@ use Rattle.batches.specs.Batches.{BatchOutcome, gives, ended, refuses, position_
 use Rattle.batches.proofs.RowPositions.{position}
 
 -- three rows 5, and three rows 7
-abbrev pub two : List ℕ
+abbrev two : List ℕ
 two = 0x00 ∷ 0x05 ∷ 0x00 ∷ 0x07 ∷ []
 
 -- .. and a short repeat of two bytes, of which one is there
-abbrev pub hurt : List ℕ
+abbrev hurt : List ℕ
 hurt = two ++ (0x08 ∷ 0x01 ∷ [])
 
 unfoldable said : ℕ → List ℕ → ℕ → ℕ → BatchOutcome

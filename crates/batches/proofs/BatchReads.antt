@@ -1,6 +1,12 @@
 -- A batch as it is read: the rows laid so far and the batch of the places that are left make the whole batch. Assumes nothing.
-use Rattle.format.proofs.Common.{◌≡◌, sym, ap, ◌∙◌, ℕ, ◌+◌, ◌-◌, ◌≤◌, arith, Bool, List, ◌++◌, append-nil, length, take, drop}
-use Rattle.format.proofs.Common.{length-append, length-take, length-drop, take-append-drop, drop-drop, length-take-le, ℤ}
+use mathlib.Core.Path.{◌≡◌, sym, ap, ◌∙◌}
+use Prim.Native.Nat.{ℕ, ◌+◌, ◌-◌, ◌≤◌}
+use native.Mathlib.Omega.{arith}
+use mathlib.Core.Bool.{Bool}
+use mathlib.Core.List.{List, ◌++◌, append-nil}
+use lib.ListN.{length, take, drop, length-append, length-take, length-drop, take-append-drop}
+use lib.Seq.{drop-drop, length-take-le}
+use lib.IntN.{ℤ}
 use Rattle.format.specs.Digits.{AllBelow}
 use Rattle.format.specs.Runs.{Description, layout}
 use Rattle.format.specs.Parse.{Parsed}

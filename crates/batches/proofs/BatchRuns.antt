@@ -1,8 +1,16 @@
 -- A batch by the run that the stream begins with: a run that is skipped changes none of it, and of one that holds the row it takes a part,
 -- or all and then the batch of the stream after it. Assumes nothing.
-use Rattle.format.proofs.Common.{◌≡◌, ap, ◌∙◌, ℕ, ◌+◌, ◌-◌, ◌<◌, ◌≤◌, min, arith, dec_le, min-eq_left, sub-zero, zero-add, Bool, false, List}
-use Rattle.format.proofs.Common.{[], ◌∷◌, ◌++◌, append-nil, length, take, drop, length-append, drop-append-le, take-append-le, take-nil}
-use Rattle.format.proofs.Common.{leb, ltb, le-leb, lt-leb, le-ltb, lt-ltb}
+use mathlib.Core.Path.{◌≡◌, ap, ◌∙◌}
+use Prim.Native.Nat.{ℕ, ◌+◌, ◌-◌, ◌<◌, ◌≤◌, min}
+use native.Mathlib.Omega.{arith}
+use native.Mathlib.Decide.{dec_le}
+use native.Mathlib.Nat.{min-eq_left, sub-zero, zero-add}
+use mathlib.Core.Bool.{Bool, false}
+use mathlib.Core.List.{List, [], ◌∷◌, ◌++◌, append-nil}
+use lib.ListN.{length, take, drop, length-append}
+use lib.Seq.{drop-append-le, take-append-le, take-nil}
+use lib.Dec.{leb, ltb}
+use borrow.Author.Tests.{le-leb, lt-leb, le-ltb, lt-ltb}
 use Rattle.format.specs.Fields.{pick}
 use Rattle.format.specs.Runs.{Description, row_count, layout, joined}
 use Rattle.format.specs.Rows.{i64_rows}

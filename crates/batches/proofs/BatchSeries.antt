@@ -1,7 +1,16 @@
 -- A call leaves the rest of the rows to the calls after it: so by induction over the sizes their rows joined are the stream's, and the
 -- first call without rows gives its answer. Assumes nothing.
-use Rattle.format.proofs.Common.{◌≡◌, refl, sym, ap, ◌∙◌, ◌↔◌, ℕ, ◌+◌, ◌<◌, ◌≤◌, arith, Bool, true, false, List, [], ◌∷◌, ◌++◌, length}
-use Rattle.format.proofs.Common.{take-append-drop, take-add, take-nil, ltb, ℤ, ltb-false, le-ltb, lt-ltb}
+use mathlib.Core.Path.{◌≡◌, refl, sym, ap, ◌∙◌}
+use mathlib.Core.Logic.{◌↔◌}
+use Prim.Native.Nat.{ℕ, ◌+◌, ◌<◌, ◌≤◌}
+use native.Mathlib.Omega.{arith}
+use mathlib.Core.Bool.{Bool, true, false}
+use mathlib.Core.List.{List, [], ◌∷◌, ◌++◌}
+use lib.ListN.{length, take-append-drop}
+use lib.Seq.{take-add, take-nil}
+use lib.Dec.{ltb}
+use lib.IntN.{ℤ}
+use borrow.Author.Tests.{ltb-false, le-ltb, lt-ltb}
 use Rattle.format.specs.declared.LastRun.{LastRun}
 use Rattle.format.specs.declared.Refusal.{Refusal}
 use Rattle.format.specs.Answers.{refusing, broke_at}

@@ -1,6 +1,11 @@
 -- The runs before an entry's are skipped as a whole, which changes no batch: so the entry that holds a row gives the row's position.
 -- Assumes nothing.
-use Rattle.format.proofs.Common.{◌≡◌, refl, sym, ap, ◌∙◌, ℕ, ◌+◌, ◌-◌, arith, Bool, List, [], ◌∷◌, ◌++◌, List-as-Memᴰ, length, drop}
+use mathlib.Core.Path.{◌≡◌, refl, sym, ap, ◌∙◌}
+use Prim.Native.Nat.{ℕ, ◌+◌, ◌-◌}
+use native.Mathlib.Omega.{arith}
+use mathlib.Core.Bool.{Bool}
+use mathlib.Core.List.{List, [], ◌∷◌, ◌++◌, Memᴰ}
+use lib.ListN.{length, drop}
 use Rattle.format.specs.Digits.{AllBelow}
 use Rattle.format.specs.Runs.{Description, row_count, layout, joined}
 use Rattle.format.specs.Streams.{Reading, whole, after, stream, runs_of, total_rows, joined_rows}
@@ -8,7 +13,7 @@ use Rattle.format.proofs.StreamRoom.{stream-is}
 use Rattle.format.proofs.Tests.{never}
 use Rattle.index.specs.Entries.{Result, gives, Entry}
 use Rattle.index.specs.Theorems.{IsIndex, Holds}
-use Rattle.index.proofs.HoldingEntry.{Held, held, unheld, what-held, holder-of}
+use Rattle.index.proofs.Held.{Held, held, unheld, what-held, holder-of}
 use Rattle.index.proofs.Index.{lookup-holds, index-proved}
 use Rattle.batches.specs.Batches.{batch}
 use Rattle.batches.specs.BatchTheorems.{EntryHolds, ThroughIndex}
@@ -39,7 +44,7 @@ module _ (bs : List ℕ) (h : AllBelow 256 bs) (signed : Bool) (n : ℕ) where
 -- ---- THROUGH AN INDEX
 
 module _ (signed : Bool) (bs : List ℕ) (h : AllBelow 256 bs) (es : List Entry) (e : Entry) (r : ℕ) (i : IsIndex bs es)
-    (m : List-as-Memᴰ e es) (k : Holds e r) where
+    (m : Memᴰ e es) (k : Holds e r) where
   is_held : Held r 0 0 i.runs (gives e)
   is_held = rw (holder-of r 0 0 i.runs e (rw i.are at m) k) at (what-held r 0 0 i.runs (omega arith))
 

@@ -1,7 +1,16 @@
 -- By induction over the runs, a row's position begins the runs that are left: so what is read from the position that a batch leaves is what
 -- the batch left. Assumes nothing.
-use Rattle.format.proofs.Common.{◌≡◌, refl, sym, ap, ◌∙◌, ℕ, ◌+◌, ◌-◌, ◌<◌, ◌≤◌, min, arith, dec_lt, dec_le, min-eq_left, Bool, List, [], ◌∷◌}
-use Rattle.format.proofs.Common.{length, drop, length-append, drop_of_length-le, drop-nil, drop-drop, ℤ, le-ltb}
+use mathlib.Core.Path.{◌≡◌, refl, sym, ap, ◌∙◌}
+use Prim.Native.Nat.{ℕ, ◌+◌, ◌-◌, ◌<◌, ◌≤◌, min}
+use native.Mathlib.Omega.{arith}
+use native.Mathlib.Decide.{dec_lt, dec_le}
+use native.Mathlib.Nat.{min-eq_left}
+use mathlib.Core.Bool.{Bool}
+use mathlib.Core.List.{List, [], ◌∷◌}
+use lib.ListN.{length, drop, length-append, drop_of_length-le}
+use lib.Seq.{drop-nil, drop-drop}
+use lib.IntN.{ℤ}
+use borrow.Author.Tests.{le-ltb}
 use Rattle.format.specs.Digits.{AllBelow}
 use Rattle.format.specs.Runs.{Description, row_count, layout, joined}
 use Rattle.format.specs.Streams.{Reading, whole, broken, after, stream, runs_of, total_rows, joined_rows}
@@ -9,7 +18,7 @@ use Rattle.format.proofs.Rows.{joined-count}
 use Rattle.batches.specs.Batches.{Position, position_of, rows_left, count_left, empty_of, reading_at}
 use Rattle.batches.specs.BatchTheorems.{Plain}
 use Rattle.index.proofs.Entries.{total-cons}
-use Rattle.batches.proofs.RowPositions.{position, in-first, past_first, no_run}
+use Rattle.batches.proofs.RowPositions.{in-first, past_first, no_run}
 use Rattle.batches.proofs.BatchRuns.{rows-skip}
 use Rattle.batches.proofs.RunAtByte.{read-on}
 

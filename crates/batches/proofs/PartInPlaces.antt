@@ -1,7 +1,14 @@
 -- A part of a direct run, read into its places: the run that is named is the one that stands there, so its rows are the batch of that run alone.
 -- Assumes nothing.
-use Rattle.format.proofs.Common.{◌≡◌, refl, sym, ap, ◌∙◌, ℕ, ◌+◌, ◌-◌, ◌<◌, ◌≤◌, arith, Bool, List, [], ◌∷◌, ◌++◌, length, take, drop}
-use Rattle.format.proofs.Common.{drop_of_length-le, take-nil, take_all, length-take-le, ℤ, lt-ltb}
+use mathlib.Core.Path.{◌≡◌, sym, ap, ◌∙◌}
+use Prim.Native.Nat.{ℕ, ◌+◌, ◌-◌, ◌<◌, ◌≤◌}
+use native.Mathlib.Omega.{arith}
+use mathlib.Core.Bool.{Bool}
+use mathlib.Core.List.{List, [], ◌++◌}
+use lib.ListN.{length, take, drop, drop_of_length-le}
+use lib.Seq.{take-nil, take_all, length-take-le}
+use lib.IntN.{ℤ}
+use borrow.Author.Tests.{lt-ltb}
 use Rattle.format.specs.Fields.{two64}
 use Rattle.format.specs.Runs.{Description, short, direct, fixed, delta, patched, row_count, layout}
 use Rattle.format.specs.Rows.{i64_rows}

@@ -1,8 +1,15 @@
 -- One run read aside: the places hold its rows, so what is copied of them is the batch of that run alone.
 -- Assumes nothing.
-use Rattle.format.proofs.Common.{◌≡◌, refl, sym, ap, ◌∙◌, ℕ, ◌+◌, ◌-◌, ◌<◌, ◌≤◌, arith, Bool, true, false, List, [], ◌∷◌, ◌++◌, length}
-use Rattle.format.proofs.Common.{take, drop, length-append, take-append-drop, drop-append-le, take-append-le, take_all, take_at}
-use Rattle.format.proofs.Common.{length-take-le, ltb, ℤ, ltb-false}
+use mathlib.Core.Path.{◌≡◌, refl, sym, ap, ◌∙◌}
+use Prim.Native.Nat.{ℕ, ◌+◌, ◌-◌, ◌<◌, ◌≤◌}
+use native.Mathlib.Omega.{arith}
+use mathlib.Core.Bool.{Bool, true, false}
+use mathlib.Core.List.{List, [], ◌++◌}
+use lib.ListN.{length, take, drop, length-append, take-append-drop}
+use lib.Seq.{drop-append-le, take-append-le, take_all, take_at, length-take-le}
+use lib.Dec.{ltb}
+use lib.IntN.{ℤ}
+use borrow.Author.Tests.{ltb-false}
 use Rattle.format.specs.Fields.{two64}
 use Rattle.format.specs.Runs.{Description, row_count, layout}
 use Rattle.format.specs.Rows.{i64_rows}
@@ -18,9 +25,8 @@ use Rattle.format.proofs.Rows.{i64-count}
 use Rattle.format.proofs.Runs.{got-inj}
 use Rattle.format.proofs.Streams.{into-got}
 use Rattle.format.proofs.Tests.{never}
-use Rattle.batches.specs.Batches.{first_rows}
-use Rattle.batches.specs.BatchPromise.{position_in, batch_read_as}
-use Rattle.batches.specs.BatchSteps.{Stands, RunHolds, HeldRun, PartLaid, RunPart, Reads}
+use Rattle.batches.specs.BatchPromise.{batch_read_as}
+use Rattle.batches.specs.BatchSteps.{Stands, RunHolds, HeldRun, PartLaid, RunPart}
 use Rattle.batches.specs.declared.RowPosition.{RowPosition}
 use Rattle.batches.specs.declared.BatchRead.{BatchRead}
 use Rattle.batches.proofs.RowPositions.{rest-long}

@@ -1,7 +1,14 @@
 -- The position of a row is in the first run or in those after it; so are the parts of its rows. Assumes nothing.
-use Rattle.format.proofs.Common.{◌≡◌, refl, ap, ◌∙◌, ℕ, ◌+◌, ◌-◌, ◌<◌, ◌≤◌, arith, Bool, List, [], ◌∷◌, ◌++◌, length, take, drop}
-use Rattle.format.proofs.Common.{length-drop, drop-append-add, take-append-add, ℤ, le-ltb, lt-ltb}
-use Rattle.format.specs.Runs.{Description, row_count, layout, joined}
+use mathlib.Core.Path.{◌≡◌, refl, ap, ◌∙◌}
+use Prim.Native.Nat.{ℕ, ◌+◌, ◌-◌, ◌<◌, ◌≤◌}
+use native.Mathlib.Omega.{arith}
+use mathlib.Core.Bool.{Bool}
+use mathlib.Core.List.{List, [], ◌∷◌, ◌++◌}
+use lib.ListN.{length, take, drop, length-drop}
+use lib.Seq.{drop-append-add, take-append-add}
+use lib.IntN.{ℤ}
+use borrow.Author.Tests.{le-ltb, lt-ltb}
+use Rattle.format.specs.Runs.{Description, row_count, layout}
 use Rattle.format.specs.Rows.{i64_rows}
 use Rattle.format.specs.Streams.{Reading, whole, broken, after, runs_of, joined_rows}
 use Rattle.format.proofs.Rows.{i64-count}

@@ -1,7 +1,16 @@
 -- A batch that begins within a run: if the places end in that run, its own batch is all; or else the batch of the runs after it follows.
 -- Assumes nothing.
-use Rattle.format.proofs.Common.{◌≡◌, refl, sym, ap, ◌∙◌, subst, ◌≢◌, ℕ, ◌+◌, ◌-◌, ◌<◌, ◌≤◌, arith, dec_lt, add-zero, Bool, List, [], ◌∷◌}
-use Rattle.format.proofs.Common.{◌++◌, append-nil, length, take, drop, length-append, length-drop, take_at, drop_at, length-take-le, ℤ}
+use mathlib.Core.Path.{◌≡◌, refl, sym, ap, ◌∙◌, subst}
+use mathlib.Core.Logic.{◌≢◌}
+use Prim.Native.Nat.{ℕ, ◌+◌, ◌-◌, ◌<◌, ◌≤◌}
+use native.Mathlib.Omega.{arith}
+use native.Mathlib.Decide.{dec_lt}
+use native.Mathlib.Nat.{add-zero}
+use mathlib.Core.Bool.{Bool}
+use mathlib.Core.List.{List, [], ◌∷◌, ◌++◌, append-nil}
+use lib.ListN.{length, take, drop, length-append, length-drop}
+use lib.Seq.{take_at, drop_at, length-take-le}
+use lib.IntN.{ℤ}
 use Rattle.format.specs.Digits.{AllBelow}
 use Rattle.format.specs.Runs.{Description, row_count, layout}
 use Rattle.format.specs.Rows.{i64_rows}

@@ -1,14 +1,13 @@
 -- For the functions of the code: the run that begins at a byte, what seeking a position finds, and what a part of the work gives.
 -- Assumes nothing.
-use Rattle.std.specs.Prelude.{◌≡◌, ℕ, ◌+◌, ◌<◌, ◌≤◌, Bool, List, [], ◌∷◌, length, take, drop, leb, ℤ}
-use Rattle.format.specs.declared.Refusal.{Refusal}
+use Rattle.std.specs.Prelude.{◌≡◌, ℕ, ◌+◌, ◌<◌, ◌≤◌, Bool, List, [], ◌∷◌, length, take, drop, ℤ}
 use Rattle.format.specs.declared.Run.{Run}
 use Rattle.format.specs.Fields.{two64}
 use Rattle.format.specs.Rows.{i64_rows}
 use Rattle.format.specs.Runs.{Description, row_count, layout}
 use Rattle.format.specs.Parse.{got, parse}
-use Rattle.format.specs.Streams.{whole, after, stream, runs_of, total_rows}
-use Rattle.batches.specs.Batches.{Position, RowBatch, refuses, position_of, first_rows, reading_at, batch}
+use Rattle.format.specs.Streams.{whole, after, stream}
+use Rattle.batches.specs.Batches.{Position, RowBatch, refuses, first_rows, batch}
 use Rattle.batches.specs.BatchPromise.{position_in, batch_read_as, batch_read_of, laid_over}
 use Rattle.batches.specs.declared.RowPosition.{RowPosition}
 use Rattle.batches.specs.declared.BatchRead.{BatchRead}
@@ -30,23 +29,15 @@ pub record RunHolds (s : List ℕ) (p : RowPosition) : Type 0 where
   pub stands : Stands s p.run.bytes run
   pub skips : p.skip.rows < row_count run
 
--- two positions of the same row: they have the same batches, and of both there are as many rows as are to be skipped, or of neither; and
--- made plain they are equal
+-- two positions of the same row have the same batches
 pub record SameRow (s : List ℕ) (p q : Position) : Type 0 where
   pub same : (signed : Bool) (n : ℕ) → batch signed n s p ≡ batch signed n s q
-  pub enough : leb p.skip (total_rows (runs_of (reading_at s p))) ≡ leb q.skip (total_rows (runs_of (reading_at s q)))
-  pub place : position_of p.run p.skip (runs_of (reading_at s p)) ≡ position_of q.run q.skip (runs_of (reading_at s q))
 
--- a row that is not reached: more rows are to be skipped than there are, and every batch from there is refused
-pub record NotReached (s : List ℕ) (p : Position) (f : Refusal) : Type 0 where
-  pub refused : (signed : Bool) (n : ℕ) → batch signed n s p ≡ refuses f
-  pub few : total_rows (runs_of (reading_at s p)) < p.skip
-
--- Seeking a position finds its row at a byte, where a run begins or none does; or within a run, after its first row; or it is not reached.
+-- Seeking a position finds its row at a byte, where a run begins or none does; or within a run; or else the call is refused.
 abbrev pub Finds : List ℕ → RowPosition → Sought → Type 0
 Finds s p (sought.Begins at) = SameRow s (position_in p) (record { run = at.bytes; skip = 0 })
-Finds s p (sought.Within q) = RunHolds s q × (0 < q.skip.rows) × SameRow s (position_in p) (position_in q)
-Finds s p (sought.Refused f) = NotReached s (position_in p) f
+Finds s p (sought.Within q) = RunHolds s q × SameRow s (position_in p) (position_in q)
+Finds s p (sought.Refused f) = (signed : Bool) (n : ℕ) → batch signed n s (position_in p) ≡ refuses f
 
 -- rows that stand before those of a batch
 abbrev pub more : ℕ → BatchRead → BatchRead

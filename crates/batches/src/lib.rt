@@ -1,5 +1,7 @@
 // Rows in batches (FORMAT.md, "Rows in batches"): as many rows of an integer stream as there are places, from a position on that ORC's row
 // index names.
+#![tactic(auto)]
+
 ghost use Rattle.std.specs.Prelude.{◌≡◌, ◌+◌, ◌≤◌, ◌<◌, length, take, drop, ◌++◌};
 ghost use Rattle.format.specs.Fields.{two64};
 ghost use Rattle.batches.specs.BatchPromise.{position_in, batch_read_as, RowsRead};
@@ -11,21 +13,21 @@ use rle_v2::part::DirectPart;
 use util::rows;
 
 // Where a row stands: the byte where a run begins, and how many rows to skip from there.
-#[derive(Drop)]
+#[derive(Clone, Copy)]
 pub struct RowPosition {
     pub run: ByteOffset,
     pub skip: RowNumber,
 }
 
 // A batch: how many rows it has, and the position of the row after them.
-#[derive(Drop)]
+#[derive(Clone, Copy)]
 pub struct BatchRead {
     pub rows: RowNumber,
     pub next: RowPosition,
 }
 
 // What a call answers.
-#[derive(Drop)]
+#[derive(Clone, Copy)]
 pub enum Batch {
     Rows(BatchRead),
     End,
@@ -33,8 +35,8 @@ pub enum Batch {
 }
 
 // Where a position's row is: at a byte, which is not looked at yet; or within a run. Refused: it is not reached.
-#[derive(Drop)]
-pub enum Sought {
+#[derive(Clone, Copy)]
+enum Sought {
     Begins(ByteOffset),
     Within(RowPosition),
     Refused(Refusal),
@@ -72,7 +74,7 @@ impl BatchRead {
 }
 
 // Finds a position's row. Runs that are skipped as a whole are measured and not decoded; with no row to skip nothing is looked at.
-pub fn seek(input: &[u8], from: RowPosition) -> Sought
+fn seek(input: &[u8], from: RowPosition) -> Sought
     ensures { Finds input.now from result }
 {
     let at = from.run;

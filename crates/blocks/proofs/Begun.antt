@@ -1,6 +1,5 @@
 -- What a line has begun as, over two parts of an input, and where no newline stands. Assumes nothing.
-use Rattle.format.proofs.Common.{◌≡◌, refl, sym, ◌∙◌, ℕ, zero, suc, ◌+◌, Bool, true, false, List, [], ◌∷◌, ◌++◌, append_assoc, append-nil}
-use Rattle.format.proofs.Common.{take, drop, take-add, eqb}
+use Rattle.std.proofs.Common.{◌≡◌, ℕ, zero, suc, ◌+◌, Bool, true, false, eqb, List, [], ◌∷◌, ◌++◌, take, drop, sym, refl, ◌∙◌, append_assoc, append-nil, take-add}
 use Prim.Native.Char.{code}
 use Rattle.format.specs.Fields.{pick}
 use Rattle.blocks.specs.Blocks.{begun_from, NoNewline}

@@ -1,7 +1,7 @@
 -- What reads brought. Assumes nothing.
-use Rattle.format.proofs.Common.{◌≡◌, refl, sym, ap, ◌∙◌, ℕ, ◌+◌, ◌-◌, ◌<◌, arith, List, [], ◌∷◌, ◌++◌, length, length-append}
+use Rattle.std.proofs.Common.{◌≡◌, ℕ, ◌+◌, ◌<◌, List, [], ◌∷◌, ◌++◌, length, refl, arith, length-append}
 use Rattle.blocks.specs.Blocks.{came, joined_blocks}
-use Rattle.blocks.specs.Reading.{no_reads, in_word, one_more, ReadOnce, Brought}
+use Rattle.blocks.specs.Reading.{no_reads, ReadOnce, Brought}
 use Rattle.blocks.specs.declared.reading.Reads.{Reads}
 use Rattle.blocks.specs.declared.reading.Read.{Read}
 

@@ -1,8 +1,9 @@
 -- An input in blocks, cut anywhere, has the lines that the whole input has, to whatever takes every line over 8,800 characters alike: though no more is
 -- held than 8,801 characters of a line. Assumes nothing.
-use Rattle.format.proofs.Common.{◌≡◌, refl, sym, ap, ◌∙◌, ℕ, ◌+◌, ◌<◌, arith, dec_lt, Bool, true, false, List, [], ◌∷◌, ◌++◌, map}
-use Rattle.format.proofs.Common.{append_assoc, map-append, length, length-append, length-take, take_all, eqb, ne_eqb}
+use Rattle.std.proofs.Common.{◌≡◌, ℕ, ◌<◌, Bool, true, false, eqb, List, [], ◌∷◌, ◌++◌, map, length, sym, refl, ap, ◌∙◌, append_assoc, arith, length-append, length-take, take_all, ne_eqb}
 use Prim.Native.Char.{code}
+use native.Mathlib.Decide.{dec_lt}
+use mathlib.Core.List.{map-append}
 use Rattle.format.specs.Fields.{pick}
 use Rattle.blocks.specs.Blocks.{lines_from, begun_from, last_line, lines_in, NoNewline, kept, block_lines, joined_blocks}
 use Rattle.blocks.proofs.Begun.{begun-append, begun-open, no-take, no-begun}

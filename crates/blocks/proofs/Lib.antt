@@ -2,8 +2,7 @@
 pub mod Begun
 pub mod Lines
 pub mod Moves
-pub mod BlockReads
+pub mod Turns
 pub mod Joined
 pub mod Outcomes
 pub mod Brought
-pub mod Turning

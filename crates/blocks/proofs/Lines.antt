@@ -1,6 +1,5 @@
 -- Lines of an input, one by one: where they end, and which they are. Assumes nothing.
-use Rattle.format.proofs.Common.{◌≡◌, refl, ◌∙◌, ℕ, suc, ◌+◌, ◌-◌, ◌<◌, ◌≤◌, arith, Bool, true, false, List, [], ◌∷◌, ◌++◌, append_assoc}
-use Rattle.format.proofs.Common.{append-nil, length, take, drop, get_or, length-drop, take-add, eq-eqb, ne_eqb, eqb}
+use Rattle.std.proofs.Common.{◌≡◌, ℕ, suc, ◌+◌, ◌-◌, ◌<◌, ◌≤◌, Bool, true, false, eqb, List, [], ◌∷◌, ◌++◌, length, get_or, take, drop, refl, ◌∙◌, append_assoc, append-nil, arith, length-drop, take-add, eq-eqb, ne_eqb}
 use Rattle.format.proofs.Reading.{byte-here}
 use Rattle.format.specs.Fields.{pick}
 use Rattle.blocks.specs.Blocks.{lines_from, begun_from, line_length, NoNewline}

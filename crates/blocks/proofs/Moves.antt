@@ -1,7 +1,6 @@
 -- A line's beginning moved to the front of the input. Assumes nothing.
-use Rattle.format.proofs.Common.{◌≡◌, sym, ap, ◌∙◌, ℕ, ◌+◌, ◌-◌, ◌<◌, ◌≤◌, min, arith, dec_lt, List, [], ◌∷◌, ◌++◌, length, take, drop, get_or}
-use Rattle.format.proofs.Common.{set, length-take, length-drop, drop_of_length-le, get_or-drop, take_all, take-suc, take-suc-set, take-take}
-use Rattle.format.proofs.Common.{take-add, drop_at, length-take-le, add-one}
+use Rattle.std.proofs.Common.{◌≡◌, ℕ, ◌+◌, ◌-◌, ◌<◌, ◌≤◌, min, List, [], ◌∷◌, ◌++◌, length, get_or, take, drop, set, sym, ap, ◌∙◌, add-one, arith, length-drop, drop_of_length-le, length-take, length-take-le, get_or-drop, take_all, take-suc, take-take, take-suc-set, take-add, drop_at}
+use native.Mathlib.Decide.{dec_lt}
 use Rattle.format.proofs.Parts.{take_min}
 use Rattle.blocks.specs.Blocks.{too_long, kept, part, Kept}
 

@@ -64,14 +64,14 @@ not_ready (pos n) = n == 4 || n == 11
 not_ready (negsuc n) = false
 
 -- AFTER A READ that a line's beginning was left for: what is kept of it
--- stands at the front of the input, and what came after it, up to `stop`
+-- stands at the front of the input, and what came behind it, up to `stop`
 pub record Came (line input : List ℕ) (held stop : ℕ) (got : ℤ) : Type 0 where
   pub count : held ≡ length (kept line)
   pub front : take held input ≡ kept line
   pub stop_is : stop ≡ held + came got
   pub within : stop ≤ length input
 
--- WHAT IS LEFT OF A TURN that a line's beginning was left for: what is kept of it stands at the front of the input; what came stands after
+-- WHAT IS LEFT OF A TURN that a line's beginning was left for: what is kept of it stands at the front of the input; what came stands behind
 -- it, up to `end`; the whole lines of both are taken, and the beginning of a line is left
 pub record Carried (line input : List ℕ) (from end : ℕ) : Type 0 where
   pub front : take (length (kept line)) input ≡ kept line

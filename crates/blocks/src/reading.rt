@@ -7,7 +7,7 @@ use crate::read_on;
 
 // How often was read and how many bytes came by it, what the system answered last, and its error then, which says something only of a read
 // that failed.
-#[derive(Drop)]
+#[derive(Clone, Copy)]
 pub struct Reads {
     count: u64,
     bytes: u64,
@@ -16,7 +16,7 @@ pub struct Reads {
 }
 
 // A read: what was held before what came, where that ends, what the system answered, and the reads with this one.
-#[derive(Drop)]
+#[derive(Clone, Copy)]
 pub struct Read {
     pub held: usize,
     pub stop: usize,
@@ -45,11 +45,11 @@ fn count_on(count: u64) -> u64
 }
 
 // One read more.
-pub fn one_more(reads: Reads, input: &mut [u8], from: usize, end: usize) -> Read
+pub fn one_more(rt: &impl Input, reads: Reads, input: &mut [u8], from: usize, end: usize) -> Read
     ensures { ReadOnce reads (part from end input.old) input.new result }
 {
-    let block = read_on(input, from, end);
-    let error = os::errno();
+    let block = read_on(rt, input, from, end);
+    let error = block.error;
     let came = block.stop - block.held;
     let bytes = std::num::wrapping_add_u64(reads.bytes, came as u64);
     let count = count_on(reads.count);

@@ -1,7 +1,15 @@
 -- The flag reader and the boolean reader read the same runs, so they refuse alike, and the flags are the last of the booleans. Assumes
 -- nothing.
-use Rattle.format.proofs.Common.{◌≡◌, refl, sym, ◌∙◌, ℕ, ◌+◌, ◌-◌, ◌≤◌, arith, zero-add, le_refl, List, Bool, true, false, length, take}
-use Rattle.format.proofs.Common.{drop, length-drop, ltb, take_at, length-take-le, le-ltb}
+use mathlib.Core.Path.{◌≡◌, refl, sym, ◌∙◌}
+use Prim.Native.Nat.{ℕ, ◌+◌, ◌-◌, ◌≤◌}
+use native.Mathlib.Omega.{arith}
+use native.Mathlib.Nat.{zero-add, le_refl}
+use mathlib.Core.List.{List}
+use mathlib.Core.Bool.{Bool, true, false}
+use lib.ListN.{length, take, drop, length-drop}
+use lib.Dec.{ltb}
+use lib.Seq.{take_at, length-take-le}
+use borrow.Author.Tests.{le-ltb}
 use Rattle.format.specs.Fields.{bytes_for}
 use Rattle.format.specs.Parse.{Parsed, got, then, unless}
 use Rattle.format.specs.Booleans.{ByteRun, joined_runs, joined_bytes, bits, booleans_of, booleans, booleans_into, booleans_answer, booleans_places}

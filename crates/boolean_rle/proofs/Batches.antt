@@ -1,11 +1,18 @@
 -- Batches by the column: what a batch takes stands in the column after what is skipped. Assumes nothing.
-use Rattle.format.proofs.Common.{◌≡◌, refl, sym, ap, ◌∙◌, ℕ, zero, suc, ◌+◌, ◌-◌, ◌/◌, ◌<◌, ◌≤◌, arith, dec_lt, le_refl, List, [], ◌∷◌, ◌++◌}
-use Rattle.format.proofs.Common.{length, take, drop, length-append, length-drop, ltb, leb, drop-drop, drop_at, drop-append-le, take-add}
-use Rattle.format.proofs.Common.{take-append-le, length-take-le, lt-ltb, le-leb, lt-leb}
+use mathlib.Core.Path.{◌≡◌, refl, sym, ap, ◌∙◌}
+use Prim.Native.Nat.{ℕ, zero, suc, ◌+◌, ◌-◌, ◌/◌, ◌<◌, ◌≤◌}
+use native.Mathlib.Omega.{arith}
+use native.Mathlib.Decide.{dec_lt}
+use native.Mathlib.Nat.{le_refl}
+use mathlib.Core.List.{List, [], ◌∷◌, ◌++◌}
+use lib.ListN.{length, take, drop, length-append, length-drop}
+use lib.Dec.{ltb, leb}
+use lib.Seq.{drop-drop, drop_at, drop-append-le, take-add, take-append-le, length-take-le}
+use borrow.Author.Tests.{lt-ltb, le-leb, lt-leb}
 use Rattle.format.specs.Digits.{AllBelow}
 use Rattle.format.specs.Fields.{pick, bytes_for}
 use Rattle.format.specs.Parse.{Reason, Parsed}
-use Rattle.format.specs.Booleans.{ByteRun, ValidRun, AllValidRuns, run_bytes, byte_count, joined_bytes, bits, booleans_of, byte_run, booleans}
+use Rattle.format.specs.Booleans.{ByteRun, ValidRun, AllValidRuns, run_layout, run_bytes, byte_count, joined_bytes, bits, booleans_of, byte_run, booleans}
 use Rattle.format.proofs.Digits.{spread-append}
 use Rattle.format.proofs.Posts.{Post, at-got, at-refused, Took}
 use Rattle.format.proofs.Below.{below-drop}
@@ -51,7 +58,7 @@ past-append at m [] [] v h = refl
 past-append at m [] (e ∷ es) v h = rw (lt-ltb m (byte_count e) (omega (arith, layout-pos e v.0)))
 past-append at m (d ∷ ds) es v h =
     ap (λ (x : BytePosition). pick (ltb m (byte_count d)) (byte_at at m) x)
-    (past-append _ (m - byte_count d) ds es v (omega (arith, length-append (run_bytes d) (joined_bytes ds), length_run d)))
+    (past-append (at + length (run_layout d)) (m - byte_count d) ds es v (omega (arith, length-append (run_bytes d) (joined_bytes ds), length_run d)))
 
 -- ---- n values after k of them, of those that there are; the position after them, and why there are no more
 

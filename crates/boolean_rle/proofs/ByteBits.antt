@@ -1,7 +1,12 @@
 -- A byte's bits, spread over the bytes of a number: for each of the 256 bytes, by computation. Assumes nothing.
-use Rattle.format.proofs.Common.{◌≡◌, refl, ap, ◌∙◌, sym, ℕ, zero, suc, ◌+◌, ◌-◌, ◌*◌, ◌/◌, ◌%◌, ◌^◌, ◌<◌, arith, add-one, List, [], ◌∷◌}
-use Rattle.format.proofs.Common.{get_or, drop, drop-cons}
+use mathlib.Core.Path.{◌≡◌, refl, ap, ◌∙◌, sym}
+use Prim.Native.Nat.{ℕ, zero, suc, ◌+◌, ◌-◌, ◌*◌, ◌/◌, ◌%◌, ◌^◌, ◌<◌}
+use native.Mathlib.Omega.{arith}
+use native.Mathlib.Numerals.{add-one}
+use mathlib.Core.List.{List, [], ◌∷◌}
 use lib.Bits.{bit_and}
+use lib.ListN.{get_or, drop}
+use lib.Seq.{drop-cons}
 use Rattle.format.specs.Digits.{digits, lowest_first}
 use Rattle.format.proofs.Digits.{length_digits}
 

@@ -1,30 +1,35 @@
 -- What the byte reader gives, by the positions that it finds: from a later position on, all is as from the call's. Assumes nothing.
-use Rattle.format.proofs.Common.{◌≡◌, sym, ap, ◌∙◌, ℕ, ◌+◌, ◌-◌, ◌≤◌, arith, List, length, drop, length-drop}
+use mathlib.Core.Path.{◌≡◌, sym, ap, ◌∙◌}
+use Prim.Native.Nat.{ℕ, ◌+◌, ◌-◌, ◌<◌, ◌≤◌, max}
+use native.Mathlib.Omega.{arith}
+use mathlib.Core.List.{List}
+use lib.ListN.{length, drop, length-drop}
 use Rattle.format.specs.Digits.{AllBelow}
+use Rattle.format.specs.Answers.{cutting, refusing}
 use Rattle.format.specs.Booleans.{joined_bytes}
 use Rattle.boolean_rle.specs.declared.positions.BytePosition.{BytePosition}
 use Rattle.boolean_rle.specs.declared.positions.ByteEnd.TheVariants as end
+use Rattle.boolean_rle.specs.declared.bytes.ByteBatch.TheVariants as byte
 use Rattle.boolean_rle.specs.Column.{runs_at, column}
 use Rattle.boolean_rle.specs.Positions.{past}
-use Rattle.boolean_rle.specs.Batches.{bytes_from}
-use Rattle.boolean_rle.specs.Found.{bytes_ahead, byte_end}
+use Rattle.boolean_rle.specs.Batches.{read_bytes, BytesGiven}
+use Rattle.boolean_rle.specs.Found.{bytes_ahead, Wrote, byte_end}
 use Rattle.boolean_rle.proofs.Onward.{OnwardIn, onward}
 use Rattle.boolean_rle.proofs.FlagsOnward.{plain-le}
 use Rattle.boolean_rle.proofs.Batches.{bytes-seen}
 use Rattle.boolean_rle.proofs.Ends.{byte_cut, byte-at}
-use Rattle.boolean_rle.proofs.Placed.{leb-shift}
-use Rattle.boolean_rle.proofs.BatchReader.{Reader}
+use Rattle.boolean_rle.proofs.Placed.{scan-cut, cut-is, placed-short, placed-8, placed-all, laid, leb-shift}
 
 -- from a position q that was found, k bytes after the byte `at`
 module _ (s : List ℕ) (b : AllBelow 256 s) (at k : ℕ) (q : BytePosition) (e : byte_end s at k ≡ end.At q) where
   on : OnwardIn s at k q
   on = let (h, y) = byte-at s at k q e in rw y at (onward s b at k h)
 
-  bytes_same : drop k (column (drop at s)) ≡ bytes_ahead s q
+  pub bytes_same : drop k (column (drop at s)) ≡ bytes_ahead s q
   unfolding column
   bytes_same = on.0.same_bytes
 
-  bytes_on : (x : ℕ) → byte_end s at (k + x) ≡ byte_end s q.run.bytes (q.bytes.bytes + x)
+  pub bytes_on : (x : ℕ) → byte_end s at (k + x) ≡ byte_end s q.run.bytes (q.bytes.bytes + x)
   unfolding column
   bytes_on x =
       let js = joined_bytes (runs_at s at).runs in
@@ -34,18 +39,38 @@ module _ (s : List ℕ) (b : AllBelow 256 s) (at k : ℕ) (q : BytePosition) (e 
       let inside = plain-le q.bytes.bytes (runs_at s q.run.bytes).runs on.0.inside in
       rw (leb-shift k (length js) q.bytes.bytes (length js') x (byte-at s at k q e).0 inside left, on.0.past-on x, on.1)
 
-abbrev pub ByteReader : List ℕ → Type 0
-ByteReader s =
-    Reader {P = BytePosition} (λ p. p.run.bytes) (λ p. p.bytes.bytes) (byte_end s) end.At end.Cut s (λ at. column (drop at s))
-    (λ p n. bytes_from p n s)
+module _ (s : List ℕ) (b : AllBelow 256 s) (p : BytePosition) (n : ℕ) (out : List ℕ) where
+  pub bytes_cut : (k r f : ℕ) → k ≤ p.bytes.bytes + n → byte_end s p.run.bytes k ≡ end.Cut r f
+      → BytesGiven s p n out out (byte.Refused (cutting r p.run.bytes (max p.run.bytes f)))
+  unfolding column
+  bytes_cut k r f l e =
+      let at = p.run.bytes in
+      let (h, y, z) = byte_cut s at k r f e in
+      let next = past at (p.bytes.bytes + n) (runs_at s at).runs in
+      let g = placed-short p.bytes.bytes n (length out) (column (drop at s)) next (runs_at s at).why (omega arith) in
+      let c = cut-is (length s) at r f (runs_at s at).why (scan-cut (length (drop at s)) (drop at s)) y z in
+      record { answer = rw (bytes-seen s b p n, g, c); places = rw (bytes-seen s b p n, g) }
 
-pub bytes-reader : (s : List ℕ) → AllBelow 256 s → ByteReader s
-unfolding column
-bytes-reader s b = record {
-  past = λ at m. past at m (runs_at s at).runs;
-  of_cut = byte_cut s;
-  of_at = byte-at s;
-  on = λ p q. bytes_on s b p.run.bytes p.bytes.bytes q;
-  same = λ p q. bytes_same s b p.run.bytes p.bytes.bytes q;
-  is_seen = bytes-seen s b;
-}
+  module _ (q : BytePosition) (e : byte_end s p.run.bytes (p.bytes.bytes + n) ≡ end.At q) where
+    pub bytes_8 : length out < n → BytesGiven s p n out out (byte.Refused (refusing 8 p.run.bytes))
+    unfolding column
+    bytes_8 l =
+        let at = p.run.bytes in
+        let (h, y) = byte-at s at (p.bytes.bytes + n) q e in
+        let next = past at (p.bytes.bytes + n) (runs_at s at).runs in
+        let g = placed-8 p.bytes.bytes n (length out) (column (drop at s)) next (runs_at s at).why h l in
+        record { answer = rw (bytes-seen s b p n, g); places = rw (bytes-seen s b p n, g) }
+
+    pub bytes-room : n ≤ length (bytes_ahead s p)
+    unfolding column
+    bytes-room = rw (length-drop p.bytes.bytes) (omega (arith, (byte-at s p.run.bytes (p.bytes.bytes + n) q e).0))
+
+    pub bytes-all : (out' : List ℕ) → n ≤ length out → Wrote 0 n (bytes_ahead s p) out out'
+        → BytesGiven s p n out out' (read_bytes n q)
+    unfolding column
+    bytes-all out' l w =
+        let at = p.run.bytes in
+        let (h, y) = byte-at s at (p.bytes.bytes + n) q e in
+        let next = past at (p.bytes.bytes + n) (runs_at s at).runs in
+        let g = placed-all p.bytes.bytes n (length out) (column (drop at s)) next (runs_at s at).why h l in
+        record { answer = rw (bytes-seen s b p n, g, y); places = rw (bytes-seen s b p n, g) (laid n _ out out' w) }

@@ -1,7 +1,14 @@
 -- The runs of a column from a place on, and what reads them: `byte_runs` takes as many as some bytes need, or says why there are no more.
 -- Assumes nothing.
-use Rattle.format.proofs.Common.{◌≡◌, refl, ap, ◌∙◌, ℕ, zero, suc, ◌+◌, ◌-◌, ◌<◌, ◌≤◌, arith, le_refl, Bool, true, false, not, List, []}
-use Rattle.format.proofs.Common.{◌∷◌, ◌++◌, append_assoc, length, take, drop, length-append, length-drop, T, ltb, leb, eqb, eqb→eq, eqb_no}
+use mathlib.Core.Path.{◌≡◌, refl, ap, ◌∙◌}
+use Prim.Native.Nat.{ℕ, zero, suc, ◌+◌, ◌-◌, ◌<◌, ◌≤◌}
+use native.Mathlib.Omega.{arith}
+use native.Mathlib.Nat.{le_refl}
+use mathlib.Core.Bool.{Bool, true, false, not}
+use mathlib.Core.List.{List, [], ◌∷◌, ◌++◌, append_assoc}
+use lib.ListN.{length, take, drop, length-append, length-drop}
+use lib.Dec.{T, ltb, leb, eqb, eqb→eq}
+use mir.Facts.{eqb_no}
 use Rattle.format.specs.Fields.{pick}
 use Rattle.format.specs.Parse.{Reason, cut_in, Parsed, got, refused, then, bytes}
 use Rattle.format.specs.Booleans.{ByteRun, repeat, literals, run_bytes, byte_count, joined_bytes, repeat_run, byte_run, byte_runs}
@@ -14,7 +21,7 @@ use Rattle.boolean_rle.specs.declared.Found.TheVariants as found
 
 -- ---- every run takes a byte at least, so the length is fuel enough
 
-abbrev pub Shorter : List ℕ → ByteRun → List ℕ → Type 0
+abbrev Shorter : List ℕ → ByteRun → List ℕ → Type 0
 Shorter bs d s = length s < length bs
 
 repeat-shorter : (c : ℕ) (bs : List ℕ) → Post (Shorter (c ∷ bs)) (repeat_run c bs)

@@ -1,8 +1,14 @@
 -- The position after some bytes is in the run at hand, or as far after the next; so the tests of the walk over the controls find it.
 -- Assumes nothing.
-use Rattle.format.proofs.Common.{◌≡◌, refl, sym, ap, ◌∙◌, ℕ, ◌+◌, ◌-◌, ◌*◌, ◌/◌, ◌%◌, ◌<◌, ◌≤◌, arith, dec_lt, Bool, true, false, List, []}
-use Rattle.format.proofs.Common.{◌∷◌, ◌++◌, length, drop, length-append, length-drop, leb, lt-ltb, le-ltb, le-leb, lt-leb, leb-true}
-use Rattle.format.proofs.Common.{leb-false}
+use mathlib.Core.Path.{◌≡◌, refl, sym, ap, ◌∙◌}
+use Prim.Native.Nat.{ℕ, ◌+◌, ◌-◌, ◌*◌, ◌/◌, ◌%◌, ◌<◌, ◌≤◌}
+use native.Mathlib.Omega.{arith}
+use native.Mathlib.Decide.{dec_lt}
+use mathlib.Core.Bool.{Bool, true, false}
+use mathlib.Core.List.{List, [], ◌∷◌, ◌++◌}
+use lib.ListN.{length, drop, length-append, length-drop}
+use lib.Dec.{leb}
+use borrow.Author.Tests.{lt-ltb, le-ltb, le-leb, lt-leb, leb-true, leb-false}
 use Rattle.format.specs.Digits.{AllBelow}
 use Rattle.format.specs.Fields.{pick}
 use Rattle.format.specs.Booleans.{ByteRun, AllValidRuns, run_bytes, byte_count, joined_bytes, byte_run}

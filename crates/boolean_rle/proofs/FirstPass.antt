@@ -1,7 +1,12 @@
 -- A byte run at a place of the input, and the first pass: how many bytes the runs take. Assumes nothing.
-use Rattle.format.proofs.Common.{◌≡◌, refl, sym, ap, ◌∙◌, ℕ, zero, suc, ◌+◌, ◌-◌, ◌<◌, ◌≤◌, arith, add_assoc, List, [], ◌∷◌, ◌++◌, length}
-use Rattle.format.proofs.Common.{get_or, take, drop, length-append, length-drop, drop_of_length-le, drop-drop, drop_at, lt-ltb, le-ltb}
-use Rattle.format.proofs.Common.{ne_eqb}
+use mathlib.Core.Path.{◌≡◌, refl, sym, ap, ◌∙◌}
+use Prim.Native.Nat.{ℕ, zero, suc, ◌+◌, ◌-◌, ◌<◌, ◌≤◌}
+use native.Mathlib.Omega.{arith}
+use native.Mathlib.Nat.{add_assoc}
+use mathlib.Core.List.{List, [], ◌∷◌, ◌++◌}
+use lib.ListN.{length, get_or, take, drop, length-append, length-drop, drop_of_length-le}
+use lib.Seq.{drop-drop, drop_at}
+use borrow.Author.Tests.{lt-ltb, le-ltb, ne_eqb}
 use Rattle.format.specs.Parse.{Parsed, end, got, refused, cut_in, then}
 use Rattle.format.specs.Booleans.{ByteRun, repeat, literals, ValidRun, run_layout, byte_count, joined_runs, repeat_run, byte_run, byte_runs}
 use Rattle.format.proofs.Posts.{Post, at-got, at-refused, Took}
@@ -76,18 +81,15 @@ unfolding byte_count
 count-le (repeat count byte) v = v.many
 count-le (literals bs) v = omega (arith, v)
 
-pub here : (s : List ℕ) (p : ℕ) (e : code.ByteRun) → ((i : ℕ) → get_or s i 0 < 256) → found_in (length s) (byte_run (drop p s)) ≡ found.Run e
-    → (d : ByteRun) × Here s p e d
+pub here : (s : List ℕ) (p : ℕ) (e : code.ByteRun) → ((i : ℕ) → get_or s i 0 < 256) → found_in (length s) (byte_run (drop p s)) ≡ found.Run e → (d : ByteRun) × Here s p e d
 unfolding size_in count_in
 here s p e b f = go (byte_run (drop p s)) refl (run_sound (drop p s) (below-drop 256 p s (below_all 256 s b))) f
   where
-    go : (m : Parsed ByteRun) → byte_run (drop p s) ≡ m → Post (Took (drop p s) run_layout ValidRun) m → found_in (length s) m ≡ found.Run e
-        → (d : ByteRun) × Here s p e d
+    go : (m : Parsed ByteRun) → byte_run (drop p s) ≡ m → Post (Took (drop p s) run_layout ValidRun) m → found_in (length s) m ≡ found.Run e → (d : ByteRun) × Here s p e d
     go m g (at-got {a = d} {s = rest} t) f =
         let z : length (run_layout d) ≡ e.size = ap size_in f in
         let n : byte_count d ≡ e.count = ap count_in f in
-        let q : drop (p + e.size) s ≡ rest = sym (drop-drop e.size p s) ∙ ap (λ (x : List ℕ). drop e.size x) t.split
-        ∙ drop_at (run_layout d) rest e.size z in
+        let q : drop (p + e.size) s ≡ rest = sym (drop-drop e.size p s) ∙ ap (λ (x : List ℕ). drop e.size x) t.split ∙ drop_at (run_layout d) rest e.size z in
         let k = layout-pos d t.ok in (
           d,
           record {
@@ -119,15 +121,13 @@ further-zero n (span.Whole k) = ap span.Whole (omega arith)
 further-zero n (span.Cut r f) = refl
 
 -- where a run is cut, so are the runs, in the same field
-pub span-cut : (total g m : ℕ) (bs : List ℕ) (r q : ℕ) → 0 < m → length bs ≤ g → found_in total (byte_run bs) ≡ found.Cut r q
-    → span_of total (byte_runs g m bs) ≡ span.Cut r q
+pub span-cut : (total g m : ℕ) (bs : List ℕ) (r q : ℕ) → 0 < m → length bs ≤ g → found_in total (byte_run bs) ≡ found.Cut r q → span_of total (byte_runs g m bs) ≡ span.Cut r q
 unfolding byte_runs byte_run
 span-cut total zero m [] r q h l f = rw (ne_eqb m 0 (omega arith)) cc
 span-cut total zero m (x ∷ bs) r q h l f = absurd (omega arith)
 span-cut total (suc g) m bs r q h l f = rw (ne_eqb m 0 (omega arith)) (go (byte_run bs) f)
   where
-    go : (p : Parsed ByteRun) → found_in total p ≡ found.Cut r q
-        → span_of total (then p λ d s. then (byte_runs g (m - byte_count d) s) λ ds rest. got (d ∷ ds) rest) ≡ span.Cut r q
+    go : (p : Parsed ByteRun) → found_in total p ≡ found.Cut r q → span_of total (then p λ d s. then (byte_runs g (m - byte_count d) s) λ ds rest. got (d ∷ ds) rest) ≡ span.Cut r q
     go end f = cc
     go (got d rest) f = never (cc)
     go (refused n) f = cc

@@ -1,19 +1,24 @@
 -- What the flag reader gives, by the positions that it finds: from a later position on, all is as from the call's. Assumes nothing.
-use Rattle.format.proofs.Common.{◌≡◌, sym, ap, ◌∙◌, ℕ, ◌+◌, ◌-◌, ◌*◌, ◌≤◌, arith, List, length, drop, length-drop}
+use mathlib.Core.Path.{◌≡◌, sym, ap, ◌∙◌}
+use Prim.Native.Nat.{ℕ, ◌+◌, ◌-◌, ◌*◌, ◌<◌, ◌≤◌, max}
+use native.Mathlib.Omega.{arith}
+use mathlib.Core.List.{List}
+use lib.ListN.{length, drop, length-drop}
 use Rattle.format.specs.Digits.{AllBelow}
+use Rattle.format.specs.Answers.{cutting, refusing}
 use Rattle.format.specs.Booleans.{joined_bytes, bits}
 use Rattle.format.proofs.Booleans.{length-bits}
 use Rattle.boolean_rle.specs.declared.positions.FlagPosition.{FlagPosition}
 use Rattle.boolean_rle.specs.declared.positions.FlagEnd.TheVariants as end
+use Rattle.boolean_rle.specs.declared.flags.FlagBatch.TheVariants as flag
 use Rattle.boolean_rle.specs.Column.{runs_at, column}
 use Rattle.boolean_rle.specs.Positions.{skipped, past_flags}
-use Rattle.boolean_rle.specs.Batches.{flags_from}
-use Rattle.boolean_rle.specs.Found.{flags_ahead, flag_end, Ready}
+use Rattle.boolean_rle.specs.Batches.{read_flags, FlagsGiven}
+use Rattle.boolean_rle.specs.Found.{flags_ahead, Wrote, flag_end, Ready}
 use Rattle.boolean_rle.proofs.FlagsOnward.{FlagsOnward, flags-onward}
 use Rattle.boolean_rle.proofs.Batches.{flags-seen}
 use Rattle.boolean_rle.proofs.Ends.{flag-cut, flag_at_lem}
-use Rattle.boolean_rle.proofs.Placed.{leb-shift}
-use Rattle.boolean_rle.proofs.BatchReader.{Reader}
+use Rattle.boolean_rle.proofs.Placed.{scan-cut, cut-is, placed-short, placed-8, placed-all, laid, leb-shift}
 
 -- from a position q that was found, k flags after the byte `at`
 module _ (s : List ℕ) (b : AllBelow 256 s) (at k : ℕ) (q : FlagPosition) (e : flag_end s at k ≡ end.At q) where
@@ -21,7 +26,7 @@ module _ (s : List ℕ) (b : AllBelow 256 s) (at k : ℕ) (q : FlagPosition) (e 
   unfolding column
   onward = let (h, y) = flag_at_lem s at k q e in rw y at (flags-onward s b at k h)
 
-  flags-on : (x : ℕ) → flag_end s at (k + x) ≡ flag_end s q.run.bytes (skipped q + x)
+  pub flags-on : (x : ℕ) → flag_end s at (k + x) ≡ flag_end s q.run.bytes (skipped q + x)
   unfolding column
   flags-on x =
       let l = 8 * length (joined_bytes (runs_at s at).runs) in
@@ -34,7 +39,7 @@ module _ (s : List ℕ) (b : AllBelow 256 s) (at k : ℕ) (q : FlagPosition) (e 
       let g : skipped q ≤ l' = rw length-bits at onward.there in
       rw (leb-shift k l (skipped q) l' x (flag_at_lem s at k q e).0 g f, onward.past-on x, onward.same-why)
 
-  flags-same : drop k (bits (column (drop at s))) ≡ flags_ahead s q
+  pub flags-same : drop k (bits (column (drop at s))) ≡ flags_ahead s q
   flags-same = onward.same_flags
 
   pub flags-ready : (n : ℕ) (q' : FlagPosition) → flag_end s q.run.bytes (skipped q + n) ≡ end.At q' → Ready s q n
@@ -42,18 +47,37 @@ module _ (s : List ℕ) (b : AllBelow 256 s) (at k : ℕ) (q : FlagPosition) (e 
   flags-ready n q' g =
       record { in_byte = onward.in-byte; in_run = onward.in-run; there = (flag_at_lem s q.run.bytes (skipped q + n) q' g).0 }
 
-abbrev pub FlagReader : List ℕ → Type 0
-FlagReader s =
-    Reader {P = FlagPosition} (λ p. p.run.bytes) skipped (flag_end s) end.At end.Cut s (λ at. bits (column (drop at s)))
-    (λ p n. flags_from p n s)
+module _ (s : List ℕ) (b : AllBelow 256 s) (p : FlagPosition) (n : ℕ) (out : List ℕ) where
+  pub flags-cut : (k r f : ℕ) → k ≤ skipped p + n → flag_end s p.run.bytes k ≡ end.Cut r f
+      → FlagsGiven s p n out out (flag.Refused (cutting r p.run.bytes (max p.run.bytes f)))
+  unfolding column
+  flags-cut k r f l e =
+      let at = p.run.bytes in
+      let (h, y, z) = flag-cut s at k r f e in
+      let vs = bits (column (drop at s)) in
+      let g = placed-short (skipped p) n (length out) vs (past_flags at (skipped p + n) (runs_at s at).runs) (runs_at s at).why
+      (rw length-bits (omega arith)) in
+      let c = cut-is (length s) at r f (runs_at s at).why (scan-cut (length (drop at s)) (drop at s)) y z in
+      record { answer = rw (flags-seen s b p n, g, c); places = rw (flags-seen s b p n, g) }
 
-pub flags-reader : (s : List ℕ) → AllBelow 256 s → FlagReader s
-unfolding column
-flags-reader s b = record {
-  past = λ at m. past_flags at m (runs_at s at).runs;
-  of_cut = λ at m r f e. rw length-bits (flag-cut s at m r f e);
-  of_at = λ at m q e. rw length-bits (flag_at_lem s at m q e);
-  on = λ p q. flags-on s b p.run.bytes (skipped p) q;
-  same = λ p q. flags-same s b p.run.bytes (skipped p) q;
-  is_seen = flags-seen s b;
-}
+  module _ (q : FlagPosition) (e : flag_end s p.run.bytes (skipped p + n) ≡ end.At q) where
+    pub flags-8 : length out < n → FlagsGiven s p n out out (flag.Refused (refusing 8 p.run.bytes))
+    unfolding column
+    flags-8 l =
+        let at = p.run.bytes in
+        let (h, y) = flag_at_lem s at (skipped p + n) q e in
+        let vs = bits (column (drop at s)) in
+        let g = placed-8 (skipped p) n (length out) vs (past_flags at (skipped p + n) (runs_at s at).runs) (runs_at s at).why
+        (rw length-bits h) l in
+        record { answer = rw (flags-seen s b p n, g); places = rw (flags-seen s b p n, g) }
+
+    pub flags-all : (out' : List ℕ) → n ≤ length out → Wrote 0 n (flags_ahead s p) out out'
+        → FlagsGiven s p n out out' (read_flags n q)
+    unfolding column
+    flags-all out' l w =
+        let at = p.run.bytes in
+        let (h, y) = flag_at_lem s at (skipped p + n) q e in
+        let vs = bits (column (drop at s)) in
+        let g = placed-all (skipped p) n (length out) vs (past_flags at (skipped p + n) (runs_at s at).runs) (runs_at s at).why
+        (rw length-bits h) l in
+        record { answer = rw (flags-seen s b p n, g, y); places = rw (flags-seen s b p n, g) (laid n _ out out' w) }

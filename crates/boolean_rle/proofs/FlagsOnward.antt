@@ -1,6 +1,10 @@
 -- From one position of flags to a later one: the flags after the skipped ones are the same, and the positions after those. Assumes nothing.
-use Rattle.format.proofs.Common.{◌≡◌, refl, sym, ap, ◌∙◌, ℕ, zero, suc, ◌+◌, ◌-◌, ◌*◌, ◌/◌, ◌%◌, ◌<◌, ◌≤◌, arith, List, [], ◌∷◌, length}
-use Rattle.format.proofs.Common.{drop, length-append, length-drop, drop-drop, drop-append-add, drop-nil}
+use mathlib.Core.Path.{◌≡◌, refl, sym, ap, ◌∙◌}
+use Prim.Native.Nat.{ℕ, zero, suc, ◌+◌, ◌-◌, ◌*◌, ◌/◌, ◌%◌, ◌<◌, ◌≤◌}
+use native.Mathlib.Omega.{arith}
+use mathlib.Core.List.{List, [], ◌∷◌}
+use lib.ListN.{length, drop, length-append, length-drop}
+use lib.Seq.{drop-drop, drop-append-add, drop-nil}
 use Rattle.format.specs.Digits.{AllBelow, digits}
 use Rattle.format.specs.Booleans.{ByteRun, run_bytes, joined_bytes, bits}
 use Rattle.format.proofs.Digits.{length_digits}

@@ -1,5 +1,9 @@
 -- THE LAW OF BATCHES: n values and then m at the position after them are n + m at once, and so for any batches. Assumes nothing.
-use Rattle.format.proofs.Common.{◌≡◌, refl, sym, ◌∙◌, ℕ, ◌+◌, arith, List, [], ◌∷◌, drop}
+use mathlib.Core.Path.{◌≡◌, refl, sym, ◌∙◌}
+use Prim.Native.Nat.{ℕ, ◌+◌}
+use native.Mathlib.Omega.{arith}
+use mathlib.Core.List.{List, [], ◌∷◌}
+use lib.ListN.{drop}
 use Rattle.format.specs.Digits.{AllBelow}
 use Rattle.format.specs.Booleans.{bits}
 use Rattle.format.proofs.Booleans.{length-bits}
@@ -51,7 +55,7 @@ however-cut {P = P} read parts p (n ∷ ns) = sym (parts p n (total ns) ∙ go (
     go (missing r) again = refl
 
 pub bytes-however-cut : (s : List ℕ) → AllBelow 256 s → HoweverCut λ p n. bytes_from p n s
-bytes-however-cut s b = however-cut _ (bytes-in-parts s b)
+bytes-however-cut s b = however-cut (λ p n. bytes_from p n s) (bytes-in-parts s b)
 
 pub flags-however-cut : (s : List ℕ) → AllBelow 256 s → HoweverCut λ p n. flags_from p n s
-flags-however-cut s b = however-cut _ (flags-in-parts s b)
+flags-however-cut s b = however-cut (λ p n. flags_from p n s) (flags-in-parts s b)

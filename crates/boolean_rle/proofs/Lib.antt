@@ -13,7 +13,6 @@ pub mod InParts
 pub mod Ends
 pub mod FirstByte
 pub mod Placed
-pub mod BatchReader
 pub mod ByteReader
 pub mod FlagReader
 pub mod Outcomes

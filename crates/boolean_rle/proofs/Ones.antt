@@ -1,10 +1,18 @@
 -- The count of ones is the number of true booleans. Assumes nothing.
-use Rattle.format.proofs.Common.{◌≡◌, refl, sym, ap, ◌∙◌, ℕ, zero, suc, ◌+◌, ◌-◌, ◌*◌, ◌/◌, ◌%◌, ◌^◌, ◌<◌, ◌≤◌, arith, dec_le, dec_lt, mod-lt}
-use Rattle.format.proofs.Common.{zero-lt-suc, pow-suc, Bool, true, false, List, [], ◌∷◌, ◌++◌, length, take, get_or, replicate}
-use Rattle.format.proofs.Common.{take-append-le, take-append-add, take_at, take-nil, leb, ltb, eqb, shr_lt, le-leb, lt-leb, le-ltb, lt-ltb}
-use Rattle.format.proofs.Common.{ltb-true}
+use mathlib.Core.Path.{◌≡◌, refl, sym, ap, ◌∙◌}
+use Prim.Native.Nat.{ℕ, zero, suc, ◌+◌, ◌-◌, ◌*◌, ◌/◌, ◌%◌, ◌^◌, ◌<◌, ◌≤◌}
+use native.Mathlib.Omega.{arith}
+use native.Mathlib.Decide.{dec_le, dec_lt}
+use native.Mathlib.Nat.{mod-lt, zero-lt-suc, pow-suc}
+use mathlib.Core.Bool.{Bool, true, false}
+use mathlib.Core.List.{List, [], ◌∷◌, ◌++◌}
+use lib.ListN.{length, take, get_or, replicate}
+use lib.Seq.{take-append-le, take-append-add, take_at, take-nil}
+use lib.Dec.{leb, ltb, eqb}
 use lib.Count as n
 use lib.Count.{ones, ones_step, ones-le}
+use lib.Pow.{shr_lt}
+use borrow.Author.Tests.{le-leb, lt-leb, le-ltb, lt-ltb, ltb-true}
 use Rattle.format.specs.Digits.{AllBelow, digits}
 use Rattle.format.specs.Fields.{pick, bytes_for}
 use Rattle.format.specs.Answers.{cutting}
@@ -62,8 +70,7 @@ ones-trues n (b ∷ bs) h = by (dec_le 8 n) (λ m. ones-trues m bs h.1)
         let e : n + (8 - n) ≡ 8 = omega arith in
         let s : b < 2 ^ (n + (8 - n)) = rw e h.0 in
         rw (lt-leb 8 n (omega arith))
-        (ap trues (take-append-le n (digits 2 8 b) (bits bs) (omega (arith, len)) ∙ first-bits n b (omega arith))
-        ∙ trues-digits n (b / 2 ^ (8 - n)) (shr_lt n (8 - n) s))
+        (ap trues (take-append-le n (digits 2 8 b) (bits bs) (omega (arith, len)) ∙ first-bits n b (omega arith)) ∙ trues-digits n (b / 2 ^ (8 - n)) (shr_lt n (8 - n) s))
 
 pub ones-hold : OnesHold
 unfolding count_true
@@ -72,16 +79,14 @@ ones-hold n bytes h = record {
   six = (λ e. short (ltb (8 * length bytes) n) refl e, λ l. rw (lt-ltb (8 * length bytes) n l));
 }
   where
-    short : (t : Bool) → ltb (8 * length bytes) n ≡ t → pick t (Refused (cutting 6 0 0)) (True (ones_in n bytes)) ≡ Refused (cutting 6 0 0)
-        → 8 * length bytes < n
+    short : (t : Bool) → ltb (8 * length bytes) n ≡ t → pick t (Refused (cutting 6 0 0)) (True (ones_in n bytes)) ≡ Refused (cutting 6 0 0) → 8 * length bytes < n
     short true f e = ltb-true (8 * length bytes) n f
     short false f e = never (cc)
 
 runs-below : (ds : List ByteRun) → AllValidRuns ds → AllBelow 256 (joined_bytes ds)
 unfolding joined_bytes run_bytes
 runs-below [] v = tt
-runs-below (repeat count byte ∷ ds) v = below-append 256 (replicate count byte) (joined_bytes ds) (below-replicate 256 count byte v.0.fits)
-    (runs-below ds v.1)
+runs-below (repeat count byte ∷ ds) v = below-append 256 (replicate count byte) (joined_bytes ds) (below-replicate 256 count byte v.0.fits) (runs-below ds v.1)
 runs-below (literals bs ∷ ds) v = below-append 256 bs (joined_bytes ds) v.0.fits (runs-below ds v.1)
 
 pub booleans-counted : BooleansCounted
@@ -102,8 +107,7 @@ no_ones (b ∷ bs) h =
     rw e
 
 -- k more bits, of the byte after i whole ones
-pub ones-more : (i k : ℕ) (bs : List ℕ) → i < length bs → 1 ≤ k → k ≤ 8 → Bytes bs
-    → ones_in (8 * i + k) bs ≡ ones_in (8 * i) bs + ones (get_or bs i 0 / 2 ^ (8 - k))
+pub ones-more : (i k : ℕ) (bs : List ℕ) → i < length bs → 1 ≤ k → k ≤ 8 → Bytes bs → ones_in (8 * i + k) bs ≡ ones_in (8 * i) bs + ones (get_or bs i 0 / 2 ^ (8 - k))
 unfolding ones_in
 ones-more i k [] l f m h = absurd (omega arith)
 ones-more zero k (b ∷ bs) l f m h = by (dec_lt k 8)

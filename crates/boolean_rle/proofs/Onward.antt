@@ -1,7 +1,13 @@
 -- From one position to a later one: the same runs follow, the bytes after the skipped ones are the same, and the positions after those.
 -- Assumes nothing.
-use Rattle.format.proofs.Common.{◌≡◌, refl, sym, ap, ◌∙◌, ℕ, zero, suc, ◌+◌, ◌-◌, ◌<◌, ◌≤◌, arith, dec_lt, List, ◌∷◌, ◌++◌, length, drop}
-use Rattle.format.proofs.Common.{length-append, length-drop, drop-drop, drop_at, drop-append-add, lt-ltb, le-ltb}
+use mathlib.Core.Path.{◌≡◌, refl, sym, ap, ◌∙◌}
+use Prim.Native.Nat.{ℕ, zero, suc, ◌+◌, ◌-◌, ◌<◌, ◌≤◌}
+use native.Mathlib.Omega.{arith}
+use native.Mathlib.Decide.{dec_lt}
+use mathlib.Core.List.{List, ◌∷◌, ◌++◌}
+use lib.ListN.{length, drop, length-append, length-drop}
+use lib.Seq.{drop-drop, drop_at, drop-append-add}
+use borrow.Author.Tests.{lt-ltb, le-ltb}
 use Rattle.format.specs.Digits.{AllBelow}
 use Rattle.format.specs.Parse.{Reason, Parsed, got, refused}
 use Rattle.format.specs.Booleans.{ByteRun, ValidRun, run_layout, run_bytes, byte_count, joined_bytes, byte_run}

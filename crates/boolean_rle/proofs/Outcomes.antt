@@ -1,6 +1,12 @@
 -- A batch by the column, the plain position after it, and one outcome for each promise: each is a line of the laws of batches. Assumes
 -- nothing.
-use Rattle.format.proofs.Common.{◌≡◌, sym, ◌∙◌, ℕ, ◌+◌, ◌-◌, ◌<◌, ◌≤◌, arith, dec_lt, List, length, drop, lt-leb, le-leb}
+use mathlib.Core.Path.{◌≡◌, sym, ◌∙◌}
+use Prim.Native.Nat.{ℕ, ◌+◌, ◌<◌, ◌≤◌}
+use native.Mathlib.Omega.{arith}
+use native.Mathlib.Decide.{dec_lt}
+use mathlib.Core.List.{List}
+use lib.ListN.{length, drop}
+use borrow.Author.Tests.{lt-leb, le-leb}
 use Rattle.format.specs.Digits.{AllBelow}
 use Rattle.format.specs.Booleans.{bits}
 use Rattle.format.proofs.Booleans.{length-bits}

@@ -1,7 +1,13 @@
 -- A batch by what is there: too few values, too few places, or the values after the skipped ones; and the refusal of a cut field.
 -- Assumes nothing.
-use Rattle.format.proofs.Common.{◌≡◌, refl, sym, ℕ, zero, suc, ◌+◌, ◌-◌, ◌<◌, ◌≤◌, max, arith, dec_lt, List, [], ◌++◌, append-nil, length}
-use Rattle.format.proofs.Common.{take, drop, leb, lt-ltb, le-ltb, le-leb, lt-leb}
+use mathlib.Core.Path.{◌≡◌, refl, sym}
+use Prim.Native.Nat.{ℕ, zero, suc, ◌+◌, ◌-◌, ◌<◌, ◌≤◌, max}
+use native.Mathlib.Omega.{arith}
+use native.Mathlib.Decide.{dec_lt}
+use mathlib.Core.List.{List, [], ◌++◌, append-nil}
+use lib.ListN.{length, take, drop}
+use lib.Dec.{leb}
+use borrow.Author.Tests.{lt-ltb, le-ltb, le-leb, lt-leb}
 use Rattle.format.specs.Parse.{Reason, plain, cut, Parsed}
 use Rattle.format.specs.Answers.{refusal, cutting}
 use Rattle.format.specs.Booleans.{ByteRun, byte_run}

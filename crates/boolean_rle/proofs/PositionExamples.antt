@@ -1,5 +1,7 @@
 -- Batches of a small column, by computation: the literal bytes 44 45, and three copies of F0. Assumes nothing.
-use Rattle.format.proofs.Common.{◌≡◌, refl, ℕ, List, [], ◌∷◌}
+use mathlib.Core.Path.{◌≡◌, refl}
+use Prim.Native.Nat.{ℕ}
+use mathlib.Core.List.{List, [], ◌∷◌}
 use Rattle.format.specs.Digits.{digits}
 use Rattle.format.specs.Parse.{cut, bytes}
 use Rattle.format.specs.Booleans.{run_layout, run_bytes, byte_count, joined_bytes, booleans_of, repeat_run, byte_run, byte_runs, booleans}

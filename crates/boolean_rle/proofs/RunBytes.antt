@@ -1,8 +1,11 @@
 -- A run's bytes, and their bits laid into places. Assumes nothing.
-use Rattle.format.proofs.Common.{◌≡◌, refl, sym, ap, ◌∙◌, ℕ, zero, suc, ◌+◌, ◌-◌, ◌*◌, ◌/◌, ◌%◌, ◌^◌, ◌<◌, ◌≤◌, arith, add-zero, List, []}
-use Rattle.format.proofs.Common.{◌∷◌, ◌++◌, append_assoc, length, get_or, take, drop, set, get_or-replicate, length-append, length-drop}
-use Rattle.format.proofs.Common.{List·getD-append, drop-drop, drop-cons, drop-append-le, drop-append-add, set_at, take-suc, append_snoc}
-use Rattle.format.proofs.Common.{length-take-le, get_or-drop}
+use mathlib.Core.Path.{◌≡◌, refl, sym, ap, ◌∙◌}
+use Prim.Native.Nat.{ℕ, zero, suc, ◌+◌, ◌-◌, ◌*◌, ◌/◌, ◌%◌, ◌^◌, ◌<◌, ◌≤◌}
+use native.Mathlib.Omega.{arith}
+use native.Mathlib.Nat.{add-zero}
+use mathlib.Core.List.{List, [], ◌∷◌, ◌++◌, append_assoc}
+use lib.ListN.{length, get_or, take, drop, set, get_or-replicate, length-append, length-drop, get_or-append}
+use lib.Seq.{drop-drop, drop-cons, drop-append-le, drop-append-add, set_at, take-suc, append_snoc, length-take-le, get_or-drop}
 use Rattle.format.specs.Digits.{digits}
 use Rattle.format.specs.Parse.{Parsed, end, got, refused}
 use Rattle.format.specs.Booleans.{ByteRun, repeat, literals, run_layout, run_bytes, byte_count, bits, byte_run}
@@ -10,20 +13,41 @@ use Rattle.format.proofs.Digits.{length_digits, getD-digits}
 use Rattle.format.proofs.Booleans.{length_run, length-bits}
 use Rattle.boolean_rle.specs.declared.ByteRun as code
 use Rattle.boolean_rle.specs.declared.Found.TheVariants as found
-use Rattle.boolean_rle.specs.Found.{found_in, run_bytes_in, bytes_at, Wrote}
+use Rattle.boolean_rle.specs.Found.{found_in, run_bytes_in, Wrote}
 use Rattle.boolean_rle.proofs.FirstPass.{Here, count_in}
 
 -- ---- a run's bytes
+
+-- byte i of the run at p, whose bytes are bs, by its control: where it stands
+pub record ByteAt (s : List ℕ) (p i : ℕ) (bs : List ℕ) : Type 0 where
+  pub there : p < length s
+  pub copied : get_or s p 0 < 128 → (p + 1 < length s) × (get_or s (p + 1) 0 ≡ get_or bs i 0)
+  pub literal : 128 ≤ get_or s p 0 → (p + 1 + i < length s) × (get_or s (p + 1 + i) 0 ≡ get_or bs i 0)
 
 -- element j of what stands at p
 pub at_place : (s : List ℕ) {t : List ℕ} (p j : ℕ) → drop p s ≡ t → get_or s (p + j) 0 ≡ get_or t j 0
 at_place s p j e = sym (get_or-drop p s j 0) ∙ ap (λ (x : List ℕ). get_or x j 0) e
 
+pub byte-at : (s : List ℕ) (p : ℕ) (e : code.ByteRun) (d : ByteRun) → Here s p e d → (i : ℕ) → i < e.count → ByteAt s p i (run_bytes d)
+unfolding run_layout run_bytes byte_count
+byte-at s p e (repeat count byte) h i l =
+    let c : get_or s p 0 ≡ count - 3 = rw add-zero at (at_place s p 0 h.split) in
+    record {
+      there = omega (arith, h.inside, h.size_is);
+      copied = λ u. (omega (arith, h.inside, h.size_is), at_place s p 1 h.split ∙ sym (get_or-replicate count i byte 0 (omega (arith, h.count-is))));
+      literal = λ u. absurd (omega (arith, h.valid));
+    }
+byte-at s p e (literals bs) h i l =
+    let c : get_or s p 0 ≡ 256 - length bs = rw add-zero at (at_place s p 0 h.split) in
+    let z : p + 1 + i ≡ p + suc i = omega arith in
+    record {
+      there = omega (arith, h.inside, h.size_is);
+      copied = λ u. absurd (omega (arith, h.valid));
+      literal = λ u. (omega (arith, h.inside, h.size_is, h.count-is), rw z (at_place s p (suc i) h.split ∙ get_or-append bs _ 0 i (omega (arith, h.count-is))));
+    }
+
 pub bytes-are : (s : List ℕ) (p : ℕ) (e : code.ByteRun) (d : ByteRun) → Here s p e d → run_bytes_in (byte_run (drop p s)) ≡ run_bytes d
 bytes-are s p e d h = ap run_bytes_in h.is-run
-
-pub length-here : {s : List ℕ} {p : ℕ} {e : code.ByteRun} {d : ByteRun} → Here s p e d → length (bytes_at s p) ≡ e.count
-length-here {s} {p} {e} {d} h = ap length (bytes-are s p e d h) ∙ length_run d ∙ h.count-is
 
 pub length-bytes : (total : ℕ) (m : Parsed ByteRun) (e : code.ByteRun) → found_in total m ≡ found.Run e → length (run_bytes_in m) ≡ e.count
 unfolding count_in
@@ -69,7 +93,7 @@ one_more ys k j v o out h l i w all d more e f =
     let b : length all - k ≡ length ys + length more = sym (length-drop k all) ∙ ap length e ∙ length-append ys more in
     let n : length out ≡ k + j + (length d - (k + j)) =
     ap length u ∙ length-append (take (k + j) all) (drop (k + j) d) ∙ rw (length-take-le (k + j) all (omega arith), length-drop (k + j) d) in
-    let g : v ≡ get_or all (k + j) 0 = i ∙ sym (at_place all k j e ∙ List·getD-append ys more 0 j h) in
+    let g : v ≡ get_or all (k + j) 0 = i ∙ sym (at_place all k j e ∙ get_or-append ys more 0 j h) in
     let z : k + (j + 1) ≡ suc (k + j) = omega arith in
     rw (u, g, z) (grow all d (k + j) (omega arith) (omega arith))
 

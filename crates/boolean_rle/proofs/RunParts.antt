@@ -1,16 +1,16 @@
 -- A part of a run's bytes: of a repeat they are copies of one byte, and of literals a part of the input. Assumes nothing.
-use Rattle.format.proofs.Common.{◌≡◌, refl, sym, ap, ◌∙◌, ℕ, zero, suc, ◌+◌, ◌-◌, ◌<◌, ◌≤◌, arith, add-zero, List, ◌∷◌, ◌++◌, append_assoc}
-use Rattle.format.proofs.Common.{length, get_or, take, drop, replicate, length-append, length-drop, take-append-drop, drop-drop}
-use Rattle.format.proofs.Common.{drop-append-le, drop-append-add, take-add, take_at, take-append-le, length-take-le, paste, paste-zero}
-use Rattle.format.proofs.Common.{get_or-take, get_or-drop}
-use Rattle.format.specs.Parse.{Parsed, end, got, refused}
-use Rattle.format.specs.Booleans.{ByteRun, repeat, literals, run_layout, run_bytes, byte_count, byte_run}
+use mathlib.Core.Path.{◌≡◌, refl, sym, ap, ◌∙◌}
+use Prim.Native.Nat.{ℕ, zero, suc, ◌+◌, ◌-◌, ◌<◌, ◌≤◌}
+use native.Mathlib.Omega.{arith}
+use native.Mathlib.Nat.{add-zero}
+use mathlib.Core.List.{List, ◌∷◌, ◌++◌, append_assoc}
+use lib.ListN.{length, get_or, take, drop, replicate, length-append, length-drop, take-append-drop}
+use lib.Seq.{drop-drop, drop-append-le, drop-append-add, take-add, take_at, take-append-le, length-take-le, paste, paste-zero}
+use Rattle.format.specs.Booleans.{ByteRun, repeat, literals, run_layout, run_bytes, byte_count}
 use Rattle.boolean_rle.specs.declared.ByteRun as code
-use Rattle.boolean_rle.specs.declared.Found.TheVariants as found
-use Rattle.boolean_rle.specs.Found.{found_in, run_bytes_in, bytes_at, Wrote}
-use Rattle.boolean_rle.proofs.FirstPass.{Here, here}
-use Rattle.boolean_rle.proofs.RunBytes.{at_place, bytes-are, length-bytes, wrote-more}
-use Rattle.boolean_rle.proofs.SecondPass.{Stands}
+use Rattle.boolean_rle.specs.Found.{Wrote}
+use Rattle.boolean_rle.proofs.FirstPass.{Here}
+use Rattle.boolean_rle.proofs.RunBytes.{at_place, wrote-more}
 
 copies : (n first count b : ℕ) → count ≤ n - first → take count (drop first (replicate n b)) ≡ replicate count b
 copies n first zero b h = refl
@@ -25,10 +25,7 @@ pub record PartAt (s : List ℕ) (p first count : ℕ) (bs : List ℕ) : Type 0 
   pub literal : 128 ≤ get_or s p 0
       → (p + 1 + first + count ≤ length s) × (take count (drop first bs) ≡ take count (drop (p + 1 + first) s))
 
-abbrev pub PartOf : List ℕ → ℕ → ℕ → ℕ → Type 0
-PartOf s p first count = PartAt s p first count (bytes_at s p)
-
-part_at : (s : List ℕ) (p : ℕ) (e : code.ByteRun) (d : ByteRun) → Here s p e d → (first count : ℕ) → 0 < count
+pub part_at : (s : List ℕ) (p : ℕ) (e : code.ByteRun) (d : ByteRun) → Here s p e d → (first count : ℕ) → 0 < count
     → count ≤ e.count - first → PartAt s p first count (run_bytes d)
 unfolding run_layout run_bytes byte_count
 part_at s p e (repeat n byte) h first count some l =
@@ -55,41 +52,15 @@ part_at s p e (literals bs) h first count some l =
       );
     }
 
--- a run that stands for some bytes is there
-run-there : (total : ℕ) (m : Parsed ByteRun) → 0 < length (run_bytes_in m) → (e : code.ByteRun) × (found_in total m ≡ found.Run e)
-run-there total end h = absurd (omega arith)
-run-there total (got d rest) h = (_, refl)
-run-there total (refused r) h = absurd (omega arith)
-
-pub part : {s : List ℕ} {p first count : ℕ} → ((i : ℕ) → get_or s i 0 < 256) → 0 < count → count ≤ length (bytes_at s p) - first
-    → PartOf s p first count
-part {s} {p} {first} {count} b some l =
-    let m = byte_run (drop p s) in
-    let (e, f) = run-there (length s) m (omega arith) in
-    let (d, h) = here s p e b f in
-    rw (bytes-are s p e d h) (part_at s p e d h first count some (omega (arith, length-bytes (length s) m e f)))
-
--- the first of them
-pub head-is : (bs : List ℕ) (i : ℕ) → get_or (take 1 (drop i bs)) 0 0 ≡ get_or bs i 0
-head-is bs i = get_or-take 1 (drop i bs) 0 0 (omega arith) ∙ rw (get_or-drop, add-zero)
-
 -- ---- values in places, that were stored as a part
 
 -- the first bytes of ys are zs, whose values were stored: a byte stands for itself, or for its bits
-module _ {w : ℕ} {values : List ℕ → List ℕ} (v : Stands w values) where
-  wrote-front : (k k' c : ℕ) (ys zs o out : List ℕ) → take c ys ≡ zs → Wrote k k' (values zs) o out → Wrote k k' (values ys) o out
-  wrote-front k k' c ys zs o out e u =
-      let split : values ys ≡ values zs ++ values (drop c ys) =
-      ap values (sym (take-append-drop c ys)) ∙ v.join (take c ys) (drop c ys) ∙ rw e in
-      rw split (wrote-more k k' (values zs) (values (drop c ys)) o out u)
-
-  module _ {s : List ℕ} {p first count : ℕ} {bs : List ℕ} (h : PartAt s p first count bs) (k k' : ℕ) (o out : List ℕ) where
-    pub wrote-copied : get_or s p 0 < 128 → Wrote k k' (values (replicate count (get_or s (p + 1) 0))) o out → Wrote k k' (values (drop first bs)) o out
-    wrote-copied l u = wrote-front k k' count (drop first bs) _ o out (h.copied l).1 u
-
-    pub wrote-literal : 128 ≤ get_or s p 0 → Wrote k k' (values (take count (drop (p + 1 + first) s))) o out
-        → Wrote k k' (values (drop first bs)) o out
-    wrote-literal l u = wrote-front k k' count (drop first bs) _ o out (h.literal l).1 u
+pub wrote-front : (values : List ℕ → List ℕ) → ((a b : List ℕ) → values (a ++ b) ≡ values a ++ values b) → (k k' c : ℕ)
+    (ys zs o out : List ℕ) → take c ys ≡ zs → Wrote k k' (values zs) o out → Wrote k k' (values ys) o out
+wrote-front values join k k' c ys zs o out e w =
+    let split : values ys ≡ values zs ++ values (drop c ys) =
+    ap values (sym (take-append-drop c ys)) ∙ join (take c ys) (drop c ys) ∙ rw e in
+    rw split (wrote-more k k' (values zs) (values (drop c ys)) o out w)
 
 -- a copy of c of them
 pub wrote-copy : (k c : ℕ) (ys part o out : List ℕ) → c ≤ length ys → take c ys ≡ take c part → out ≡ paste o k part c

@@ -1,10 +1,15 @@
 -- The second pass: what is laid down and what is still ahead are together the column's values, run by run; so a call gives the booleans.
 -- Assumes nothing.
-use Rattle.format.proofs.Common.{◌≡◌, refl, sym, ap, ◌∙◌, ℕ, zero, suc, ◌+◌, ◌-◌, ◌*◌, ◌<◌, ◌≤◌, min, max, arith, sub-zero, le_refl, List}
-use Rattle.format.proofs.Common.{[], ◌∷◌, ◌++◌, append-nil, length, take, drop, length-drop, length-append, drop-drop, drop_at, drop-nil}
-use Rattle.format.proofs.Common.{take-append-le, lt-ltb, le-ltb}
+use mathlib.Core.Path.{◌≡◌, refl, sym, ap, ◌∙◌}
+use Prim.Native.Nat.{ℕ, zero, suc, ◌+◌, ◌-◌, ◌*◌, ◌<◌, ◌≤◌, min, max}
+use native.Mathlib.Omega.{arith}
+use native.Mathlib.Nat.{sub-zero, le_refl}
+use mathlib.Core.List.{List, [], ◌∷◌, ◌++◌, append-nil}
+use lib.ListN.{length, take, drop, length-drop, length-append}
+use lib.Seq.{drop-drop, drop_at, drop-nil, take-append-le}
+use borrow.Author.Tests.{lt-ltb, le-ltb}
 use Rattle.format.specs.Fields.{bytes_for}
-use Rattle.format.specs.Parse.{Parsed, end, got, refused, cut}
+use Rattle.format.specs.Parse.{Parsed, end, got, refused, plain, cut}
 use Rattle.format.specs.Answers.{ran, refused_at, cut_at}
 use Rattle.format.specs.declared.Kind.TheVariants.{Booleans}
 use Rattle.format.specs.Booleans.{ByteRun, run_bytes, joined_runs, joined_bytes, bits, booleans_of, byte_run, booleans, booleans_into, BooleansRead}
@@ -16,9 +21,9 @@ use Rattle.boolean_rle.specs.declared.ByteRun as code
 use Rattle.boolean_rle.specs.declared.Found.TheVariants as found
 use Rattle.boolean_rle.specs.declared.Span.TheVariants as span
 use Rattle.boolean_rle.specs.Column.{whole_runs, column}
-use Rattle.boolean_rle.specs.Found.{found_in, found_at, bytes_at, span_of, Wrote}
+use Rattle.boolean_rle.specs.Found.{found_in, span_of, Wrote}
 use Rattle.boolean_rle.proofs.FirstPass.{Here}
-use Rattle.boolean_rle.proofs.RunBytes.{bytes-are, length-left, wrote-more, wrote_on}
+use Rattle.boolean_rle.proofs.RunBytes.{wrote-more, wrote_on}
 use Rattle.boolean_rle.proofs.Column.{none_found, all-got, joined-append, reads, of-enough}
 
 -- ---- the second pass: the column's values from a place on, run by run
@@ -33,13 +38,10 @@ drop-append (suc n) (x ∷ a) b =
     rw z (drop-append n a b)
 
 -- the column begins with the run that was found
-pub column-got : (bs : List ℕ) (d : ByteRun) (rest : List ℕ) → byte_run bs ≡ got d rest → column bs ≡ run_bytes d ++ column rest
-unfolding column joined_bytes
-column-got bs d rest e = rw (all-got bs d rest e)
-
-column-here : (s : List ℕ) (p : ℕ) (e : code.ByteRun) (d : ByteRun) → Here s p e d
+pub column-here : (s : List ℕ) (p : ℕ) (e : code.ByteRun) (d : ByteRun) → Here s p e d
     → column (drop p s) ≡ run_bytes d ++ column (drop (p + e.size) s)
-column-here s p e d h = column-got (drop p s) d (drop (p + e.size) s) h.is-run
+unfolding column joined_bytes
+column-here s p e d h = rw (all-got (drop p s) d (drop (p + e.size) s) h.is-run)
 
 -- if no run is found, the column is empty
 pub column-none : (total : ℕ) (bs : List ℕ) (r q : ℕ) → found_in total (byte_run bs) ≡ found.Cut r q → column bs ≡ []
@@ -48,87 +50,60 @@ column-none total bs r q f =
     let (why, e, g) = none_found total bs r q f in
     rw e
 
--- what a byte stands for, itself or its bits: as many values for each
-pub record Stands (w : ℕ) (values : List ℕ → List ℕ) : Type 0 where
-  pub join : (a b : List ℕ) → values (a ++ b) ≡ values a ++ values b
-  pub size : (bs : List ℕ) → length (values bs) ≡ w * length bs
+-- a pass that goes on stays in the places
+pub between : (k n done more done' : ℕ) → k ≤ done → done ≤ n → done' ≡ min n (done + more) → (k ≤ done') × (done' ≤ n)
+between k n done more done' h l e = (omega arith, omega arith)
 
-abbrev pub itself : List ℕ → List ℕ
-itself bs = bs
+pub up_to : (n done room count : ℕ) → done ≤ n → count ≡ min (n - done) room → done + count ≡ min n (done + room)
+up_to n done room count h e = omega arith
 
-pub as_bytes : Stands 1 itself
-as_bytes = record { join = λ a b. refl; size = λ bs. omega arith }
-
-pub as_bits : Stands 8 bits
-as_bits = record { join = spread-append 2 8; size = length-bits }
-
--- What the second pass knows at a place, with the column's values from `at` on, after `skip` bytes, in the places from k up to `done`: those
--- that are left stand in the column from the place on, after `left` bytes.
-pub record Pass (values : List ℕ → List ℕ) (s : List ℕ) (at skip k n : ℕ) (out₀ : List ℕ) (place left done : ℕ) (out : List ℕ) : Type 0 where
-  pub from : k ≤ done
-  pub upto : done ≤ n
-  pub long : length out ≡ length out₀
-  pub wrote : Wrote k done (values (drop skip (column (drop at s)))) out₀ out
-  pub ahead : done < n → drop (done - k) (values (drop skip (column (drop at s)))) ≡ values (drop left (column (drop place s)))
+-- What the second pass knows at a place, with the values ys laid into the places from k up to `done`: those that are left stand in the
+-- column after `left` bytes. A byte stands for some values: for itself, or for its bits.
+pub record Laid (values : List ℕ → List ℕ) (s ys : List ℕ) (k n : ℕ) (out₀ : List ℕ) (place left done : ℕ) (out : List ℕ) : Type 0 where
+  pub wrote : Wrote k done ys out₀ out
+  pub ahead : done < n → drop (done - k) ys ≡ values (drop left (column (drop place s)))
   pub room : n - done ≤ length (values (drop left (column (drop place s))))
 
-module _ {w : ℕ} {values : List ℕ → List ℕ} (v : Stands w values) {s : List ℕ} where
-  pub pass-first : {at skip k n : ℕ} {out : List ℕ} → k ≤ n → n - k ≤ w * (length (column (drop at s)) - skip)
-      → Pass values s at skip k n out at skip k out
-  pass-first {k = k} h l =
+module _ (values : List ℕ → List ℕ) (join : (a b : List ℕ) → values (a ++ b) ≡ values a ++ values b) (s : List ℕ) where
+  pub laid_from : (at skip k n : ℕ) (out : List ℕ) → n - k ≤ length (values (drop skip (column (drop at s))))
+      → Laid values s (values (drop skip (column (drop at s)))) k n out at skip k out
+  laid_from at skip k n out h =
       let z : k - k ≡ 0 = omega arith in
+      record { wrote = λ all d more e o. o; ahead = λ l. rw z; room = h }
+
+  -- a turn: the run at the place is laid down
+  pub laid_on : (ys : List ℕ) (k n : ℕ) (out₀ : List ℕ) (place left done : ℕ) (out out' : List ℕ) (done' : ℕ) (e : code.ByteRun)
+      (d : ByteRun) → Here s place e d
+      → done < n → k ≤ done → done' ≡ min n (done + length (values (drop left (run_bytes d))))
+      → Wrote done done' (values (drop left (run_bytes d))) out out'
+      → Laid values s ys k n out₀ place left done out → Laid values s ys k n out₀ (place + e.size) (left - e.count) done' out'
+  laid_on ys k n out₀ place left done out out' done' e d h l o z w g =
+      let here = values (drop left (run_bytes d)) in
+      let rest = values (drop (left - e.count) (column (drop (place + e.size) s))) in
+      let a : values (drop left (column (drop place s))) ≡ here ++ rest =
+      rw (column-here s place e d h, drop-append left (run_bytes d) (column (drop (place + e.size) s)), length_run d, h.count-is)
+      (join (drop left (run_bytes d)) (drop (left - e.count) (column (drop (place + e.size) s)))) in
+      let b : drop (done - k) ys ≡ here ++ rest = g.ahead l ∙ a in
+      let i : length ys - (done - k) ≡ length here + length rest = sym (length-drop (done - k) ys) ∙ ap length b
+      ∙ length-append here rest in
+      let j : n - done ≤ length here + length rest = omega (arith, g.room, ap length a, length-append here rest) in
       record {
-        from = omega arith;
-        upto = h;
-        long = refl;
-        wrote = λ all d more e o. o;
-        ahead = λ u. rw z;
-        room = rw (v.size, length-drop) l;
+        wrote = wrote_on k done done' ys (here ++ rest) out₀ out out' o (omega arith) b g.wrote
+            (wrote-more done done' here rest out out' w);
+        ahead = λ u.
+            let y : done' - k ≡ done - k + length here = omega arith in
+            ap (λ (x : ℕ). drop x ys) y ∙ sym (drop-drop (length here) (done - k) ys) ∙ ap (λ (x : List ℕ). drop (length here) x) b
+            ∙ drop_at here rest (length here) refl;
+        room = omega arith;
       }
 
-  module _ {at skip k n : ℕ} {out₀ : List ℕ} {place left done : ℕ} {out : List ℕ} (g : Pass values s at skip k n out₀ place left done out) where
-    -- no run is missing that is still wanted
-    pub pass-whole : {r q : ℕ} → done < n → found_at s place ≡ found.Cut r q → ⊥
-    pass-whole {r} {q} l f =
-        let none : length (values (drop left (column (drop place s)))) ≡ 0 =
-        rw (column-none (length s) (drop place s) r q f, drop-nil left, v.size) (omega arith) in
-        omega (arith, g.room)
-
-    pub pass-end : n ≤ done → Wrote k n (values (drop skip (column (drop at s)))) out₀ out
-    pass-end l =
-        let all : done ≡ n = omega (arith, g.upto) in
-        rw all at g.wrote
-
-    -- a turn: the run at the place is laid down
-    pub pass_on : {e : code.ByteRun} {d : ByteRun} {out' : List ℕ} {left' done' : ℕ} → Here s place e d → done < n
-        → done' ≡ min n (done + w * (e.count - left)) → Wrote done done' (values (drop left (bytes_at s place))) out out'
-        → length out' ≡ length out → left' ≡ left - e.count → Pass values s at skip k n out₀ (place + e.size) left' done' out'
-    pass_on {e} {d} {out'} {left'} {done'} h l to u long less =
-        let ys = values (drop skip (column (drop at s))) in
-        let col = column (drop (place + e.size) s) in
-        let now = values (drop left (run_bytes d)) in
-        let rest = values (drop (left - e.count) col) in
-        let both : values (drop left (column (drop place s))) ≡ now ++ rest =
-        rw (column-here s place e d h, drop-append left (run_bytes d) col, length_run d, h.count-is)
-        (v.join (drop left (run_bytes d)) (drop (left - e.count) col)) in
-        let ahead : drop (done - k) ys ≡ now ++ rest = g.ahead l ∙ both in
-        let all : length ys - (done - k) ≡ length now + length rest = sym (length-drop (done - k) ys) ∙ ap length ahead
-        ∙ length-append now rest in
-        let room : n - done ≤ length now + length rest = omega (arith, g.room, ap length both, length-append now rest) in
-        let many : length now ≡ w * (e.count - left) = v.size (drop left (run_bytes d)) ∙ rw (length-left d left, h.count-is) in
-        let end : done' ≡ min n (done + length now) = to ∙ rw many in
-        rw less (record {
-          from = omega (arith, g.from);
-          upto = omega arith;
-          long = long ∙ g.long;
-          wrote = wrote_on k done done' ys (now ++ rest) out₀ out out' g.from (omega arith) ahead g.wrote
-              (wrote-more done done' now rest out out' (rw (bytes-are s place e d h) at u));
-          ahead = λ u.
-              let y : done' - k ≡ done - k + length now = omega (arith, g.from) in
-              ap (λ (x : ℕ). drop x ys) y ∙ sym (drop-drop (length now) (done - k) ys) ∙ ap (drop (length now)) ahead
-              ∙ drop_at now rest (length now) refl;
-          room = omega arith;
-        })
+  -- no run is missing that is still wanted
+  pub laid-whole : values [] ≡ [] → (ys : List ℕ) (k n : ℕ) (out₀ : List ℕ) (place left done : ℕ) (out : List ℕ) (r q : ℕ) → done < n
+      → found_in (length s) (byte_run (drop place s)) ≡ found.Cut r q → Laid values s ys k n out₀ place left done out → ⊥
+  laid-whole none ys k n out₀ place left done out r q l f g =
+      let z : length (values (drop left (column (drop place s)))) ≡ 0 = rw
+      (column-none (length s) (drop place s) r q f, drop-nil left, none) in
+      omega (arith, g.room)
 
 -- ---- what the call gives, by what the first pass finds
 
@@ -140,7 +115,9 @@ module _ (input : List ℕ) (at n : ℕ) (out : List ℕ) where
     where
       go : (m : Parsed (List ByteRun)) → booleans n (drop at input) ≡ m → OnlyCut m → span_of (length input) m ≡ span.Cut r q
           → BooleansRead input at n out out (cut_at r at (max at q))
+      go end f o e = elim o [ ]
       go (got ds rest) f o e = never (cc)
+      go (refused (plain n)) f o e = elim o [ ]
       go (refused (cut k left)) f o e =
           let z : max at (length input - left) ≡ at + (length input - at - left) = omega arith in
           let i : k ≡ r = cc in

@@ -4,7 +4,6 @@ use Rattle.std.specs.Prelude.{◌≡◌, ℕ, ◌+◌, ◌-◌, List, [], ◌++�
 use Rattle.format.specs.Fields.{pick}
 use Rattle.format.specs.Parse.{Reason, plain, cut_in, Parsed, end, got, refused}
 use Rattle.format.specs.Answers.{refusal}
-use Rattle.format.specs.declared.Refusal.{Refusal}
 use Rattle.format.specs.Booleans.{ByteRun, joined_bytes, booleans_of, byte_runs, booleans}
 use Rattle.boolean_rle.specs.declared.positions.BytePosition.{BytePosition}
 use Rattle.boolean_rle.specs.declared.positions.FlagPosition.{FlagPosition}
@@ -55,30 +54,24 @@ abbrev pub read_flags : ℕ → FlagPosition → FlagBatch
 read_flags n q = flag.Read (record { rows = record { rows = n }; next = q })
 
 -- what is answered: that, or a refusal, at the byte of the call's position, from which on the input has `total` bytes
-abbrev pub answer_by : {P A : Type 0} → (P → A) → (Refusal → A) → ℕ → ℕ → Batch P → A
-answer_by read refuse at total (took vs q) = read q
-answer_by read refuse at total (missing r) = refuse (refusal at total r)
-
 abbrev pub bytes_answer : ℕ → ℕ → ℕ → Batch BytePosition → ByteBatch
-bytes_answer at total n = answer_by (read_bytes n) byte.Refused at total
+bytes_answer at total n (took vs q) = read_bytes n q
+bytes_answer at total n (missing r) = byte.Refused (refusal at total r)
 
 abbrev pub flags_answer : ℕ → ℕ → ℕ → Batch FlagPosition → FlagBatch
-flags_answer at total n = answer_by (read_flags n) flag.Refused at total
+flags_answer at total n (took vs q) = read_flags n q
+flags_answer at total n (missing r) = flag.Refused (refusal at total r)
 
 -- what was taken in the first n places, and what stood in the others; a refused call leaves every place unchanged
 abbrev pub places_after : {P : Type 0} → ℕ → List ℕ → Batch P → List ℕ
 places_after n out (took vs q) = vs ++ drop n out
 places_after n out (missing r) = out
 
--- n are asked for from the byte `at` on, and b is the batch: the answer r, and the caller's places out' at exit
-pub record Given {P A : Type 0} (read : P → A) (refuse : Refusal → A) (at total n : ℕ) (b : Batch P) (out out' : List ℕ) (r : A)
-    : Type 0 where
-  pub answer : r ≡ answer_by read refuse at total (placed (length out) n b)
-  pub places : out' ≡ places_after n out (placed (length out) n b)
+-- THE BYTE READER and THE FLAG READER: the answer r, and the lent places out' at exit
+pub record BytesGiven (input : List ℕ) (p : BytePosition) (n : ℕ) (out out' : List ℕ) (r : ByteBatch) : Type 0 where
+  pub answer : r ≡ bytes_answer p.run.bytes (length input - p.run.bytes) n (placed (length out) n (bytes_from p n input))
+  pub places : out' ≡ places_after n out (placed (length out) n (bytes_from p n input))
 
--- THE BYTE READER and THE FLAG READER
-abbrev pub BytesGiven : List ℕ → BytePosition → ℕ → List ℕ → List ℕ → ByteBatch → Type 0
-BytesGiven input p n = Given (read_bytes n) byte.Refused p.run.bytes (length input - p.run.bytes) n (bytes_from p n input)
-
-abbrev pub FlagsGiven : List ℕ → FlagPosition → ℕ → List ℕ → List ℕ → FlagBatch → Type 0
-FlagsGiven input p n = Given (read_flags n) flag.Refused p.run.bytes (length input - p.run.bytes) n (flags_from p n input)
+pub record FlagsGiven (input : List ℕ) (p : FlagPosition) (n : ℕ) (out out' : List ℕ) (r : FlagBatch) : Type 0 where
+  pub answer : r ≡ flags_answer p.run.bytes (length input - p.run.bytes) n (placed (length out) n (flags_from p n input))
+  pub places : out' ≡ places_after n out (placed (length out) n (flags_from p n input))

@@ -16,8 +16,7 @@ use Rattle.boolean_rle.specs.declared.positions.FlagEnd.TheVariants as flag
 use Rattle.boolean_rle.specs.Column.{runs_at, column}
 use Rattle.boolean_rle.specs.Positions.{skipped, past, past_flags, Plain}
 
--- where an input of `total` bytes is cut: the refusal's number, and the byte from which on `left` are left (byte runs have no other
--- refusal)
+-- where an input of `total` bytes is cut: the refusal's number, and the byte from which on `left` are left (byte runs have no other refusal)
 abbrev pub number_of : Reason → ℕ
 number_of (plain n) = n
 number_of (cut n left) = n

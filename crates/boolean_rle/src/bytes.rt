@@ -1,22 +1,22 @@
 // Bytes in batches, from a position of the row index. The positions before and after them are found first; only then is a place written.
 ghost use Rattle.std.specs.Prelude.{◌≡◌, ◌+◌, ◌-◌, ◌≤◌, length, drop, replicate};
 ghost use Rattle.boolean_rle.specs.Batches.{BytesGiven};
-ghost use Rattle.boolean_rle.specs.Found.{bytes_at, bytes_ahead, Wrote};
+ghost use Rattle.boolean_rle.specs.Found.{found_at, bytes_at, bytes_ahead, Wrote};
 
 use crate::positions::{ByteEnd, BytePosition};
-use crate::{Found, positions};
+use crate::{ByteRun, Found, positions};
 use format::{Refusal, RowNumber};
 use util::bytes;
 
 // A batch: how many bytes, and the position after them.
-#[derive(Drop)]
+#[derive(Clone, Copy)]
 pub struct BytesRead {
     pub rows: RowNumber,
     pub next: BytePosition,
 }
 
 // What the reader answers.
-#[derive(Drop)]
+#[derive(Clone, Copy)]
 pub enum ByteBatch {
     Read(BytesRead),
     Refused(Refusal),
@@ -35,8 +35,16 @@ fn fill(byte: u8, count: usize, out: &mut [u8], k: usize)
 }
 
 // Some bytes of the run at a place, from byte `first` on, in the places from k on: copies of its one byte, or a part of its literals.
-fn put_part(input: &[u8], at: usize, first: usize, count: usize, out: &mut [u8], k: usize)
-    requires { (count ≤ length (bytes_at input.now at) - first) × (k + count ≤ length out.old) }
+fn put_part(
+    input: &[u8],
+    at: usize,
+    run: ByteRun,
+    first: usize,
+    count: usize,
+    out: &mut [u8],
+    k: usize,
+)
+    requires { (found_at input.now at ≡ Found.Run run) × (count ≤ run.count - first) × (k + count ≤ length out.old) }
     ensures { Wrote k (k + count) (drop first (bytes_at input.now at)) out.old out.new }
 {
     // none of a run that is skipped whole, after which the input may end
@@ -66,7 +74,7 @@ fn put_values(input: &[u8], from: BytePosition, n: usize, out: &mut [u8])
             return;
         };
         let count = crate::lesser(n - done, crate::less(run.count, left));
-        put_part(input, place, left, count, out, done);
+        put_part(input, place, run, left, count, out, done);
         done = done + count;
         left = crate::less(left, run.count);
         place = place + run.size;

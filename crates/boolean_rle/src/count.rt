@@ -1,5 +1,4 @@
-// How many booleans are true, of those that stand eight to a byte in given bytes: the bytes that byte runs stand for, not the runs
-// themselves.
+// How many booleans are true, of those that stand eight to a byte in given bytes: the bytes that byte runs stand for, not the runs themselves.
 ghost use Rattle.std.specs.Prelude.{◌≡◌, ◌-◌, ◌*◌, ◌/◌, ◌^◌, ◌≤◌, ◌<◌, length};
 ghost use Rattle.std.specs.Int.Count.{ones};
 ghost use Rattle.boolean_rle.specs.Ones.{ones_in, count_true};
@@ -7,7 +6,7 @@ ghost use Rattle.boolean_rle.specs.Ones.{ones_in, count_true};
 use format::{ByteOffset, Refusal, RowNumber};
 
 // How many booleans are true, or refusal 6.
-#[derive(Drop)]
+#[derive(Clone, Copy)]
 pub enum Count {
     True(usize),
     Refused(Refusal),

@@ -3,19 +3,19 @@ ghost use Rattle.std.specs.Prelude.{◌≡◌, ◌-◌, ◌≤◌, ◌<◌, min,
 ghost use Rattle.boolean_rle.specs.Batches.{FlagsGiven};
 ghost use Rattle.boolean_rle.specs.Found.{Wrote, flags_ahead, Ready};
 
-use crate::positions;
 use crate::positions::{FlagEnd, FlagPosition};
+use crate::{Found, positions};
 use format::{Refusal, RowNumber};
 
 // A batch: how many flags, and the position after them.
-#[derive(Drop)]
+#[derive(Clone, Copy)]
 pub struct FlagsRead {
     pub rows: RowNumber,
     pub next: FlagPosition,
 }
 
 // What the reader answers.
-#[derive(Drop)]
+#[derive(Clone, Copy)]
 pub enum FlagBatch {
     Read(FlagsRead),
     Refused(Refusal),
@@ -29,7 +29,10 @@ fn put_first(input: &[u8], from: FlagPosition, n: usize, out: &mut [u8]) -> usiz
 {
     let start = from.run;
     let skip = from.bytes;
-    let byte = crate::run_byte(input, start.bytes, skip.bytes);
+    let Found::Run(run) = crate::run_at(input, start.bytes) else {
+        return 0;
+    };
+    let byte = crate::run_byte(input, start.bytes, run, skip.bytes);
     let count = crate::lesser(n, 8 - from.bits);
     crate::put_bits(byte, from.bits, count, out, 0);
     count

@@ -1,5 +1,7 @@
 // Booleans: eight to a byte, highest bit first, in byte runs. A first pass over the controls finds what the booleans take, or the refusal;
 // only then is a place written.
+#![tactic(auto)]
+
 ghost use Rattle.std.specs.Prelude.{◌≡◌, ◌+◌, ◌-◌, ◌*◌, ◌≤◌, ◌<◌, min, max, length, take, drop, get_or, replicate};
 ghost use Rattle.format.specs.Digits.{digits, lowest_first};
 ghost use Rattle.format.specs.Fields.{bytes_for};
@@ -16,28 +18,27 @@ pub mod flags;
 pub mod positions;
 
 // A byte run's size in the input, and how many bytes it stands for.
-#[derive(Drop)]
+#[derive(Clone, Copy)]
 struct ByteRun {
     size: usize,
     count: usize,
 }
 
 // What stands at a place: a run, or too few bytes for one: the refusal's number, and the byte where the cut field begins.
-#[derive(Drop)]
+#[derive(Clone, Copy)]
 enum Found {
     Run(ByteRun),
     Cut(u8, usize),
 }
 
 // The bytes that several runs take together, or where the input ends before them.
-#[derive(Drop)]
+#[derive(Clone, Copy)]
 enum Span {
     Whole(usize),
     Cut(u8, usize),
 }
 
-// Control c from 0 to 127: c+3 copies of the next byte. From 128 to 255: 256-c literal bytes. A missing control would stand at the
-// input's end.
+// Control c from 0 to 127: c+3 copies of the next byte. From 128 to 255: 256-c literal bytes. A missing control would stand at the input's end.
 fn run_at(input: &[u8], at: usize) -> Found
     ensures { result ≡ found_at input.now at }
 {
@@ -115,8 +116,8 @@ fn span_from(input: &[u8], at: usize, n: usize) -> Span
 }
 
 // Byte i of the run at a place.
-fn run_byte(input: &[u8], at: usize, i: usize) -> u8
-    requires { i < length (bytes_at input.now at) }
+fn run_byte(input: &[u8], at: usize, run: ByteRun, i: usize) -> u8
+    requires { (found_at input.now at ≡ Found.Run run) × (i < run.count) }
     ensures { result ≡ get_or (bytes_at input.now at) i 0 }
 {
     if input[at] < 128 {
@@ -137,8 +138,8 @@ fn put_bits(byte: u8, skip: usize, m: usize, out: &mut [u8], k: usize)
     }
 }
 
-// A byte's bits as the bytes of a number, the highest bit lowest. The product has bit 7-j, for each j, as the top bit of its byte j. It
-// is one of the bits that are 0, taken from ones: of the product itself the optimiser makes eight stores, and of this one.
+// A byte's bits as the bytes of a number, the highest bit lowest. The product has bit 7-j, for each j, as the top bit of its byte j. It is one of the
+// bits that are 0, taken from ones: of the product itself the optimiser makes eight stores, and of this one.
 fn spread(byte: u8) -> u64
     ensures { lowest_first 8 result ≡ digits 2 8 byte }
 {
@@ -187,8 +188,16 @@ fn put_literals(bytes: &[u8], first: usize, count: usize, out: &mut [u8], k: usi
 
 // The bits of some bytes of the run at a place, from byte `first` on, in eight places each, from k on. The control is looked at once for
 // all: a look at it for each byte keeps the compiler from vectors.
-fn put_bytes(input: &[u8], at: usize, first: usize, count: usize, out: &mut [u8], k: usize)
-    requires { (count ≤ length (bytes_at input.now at) - first) × (k + 8 * count ≤ length out.old) }
+fn put_bytes(
+    input: &[u8],
+    at: usize,
+    run: ByteRun,
+    first: usize,
+    count: usize,
+    out: &mut [u8],
+    k: usize,
+)
+    requires { (found_at input.now at ≡ Found.Run run) × (count ≤ run.count - first) × (k + 8 * count ≤ length out.old) }
     ensures { Wrote k (k + 8 * count) (bits (drop first (bytes_at input.now at))) out.old out.new }
 {
     // none of a run that is skipped whole, after which the input may end
@@ -219,12 +228,12 @@ fn put_run(
     let whole = (n - k) / 8;
     let count = less(run.count, skip);
     if count <= whole {
-        put_bytes(input, at, skip, count, out, k);
+        put_bytes(input, at, run, skip, count, out, k);
         return k + 8 * count;
     }
-    put_bytes(input, at, skip, whole, out, k);
+    put_bytes(input, at, run, skip, whole, out, k);
     put_bits(
-        run_byte(input, at, skip + whole),
+        run_byte(input, at, run, skip + whole),
         0,
         (n - k) % 8,
         out,

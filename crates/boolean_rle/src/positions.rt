@@ -8,14 +8,14 @@ use crate::Found;
 use format::{ByteOffset, Refusal};
 
 // A position of a byte stream: the byte where a byte run begins, and how many bytes of what the runs stand for to skip from there.
-#[derive(Drop)]
+#[derive(Clone, Copy)]
 pub struct BytePosition {
     pub run: ByteOffset,
     pub bytes: ByteOffset,
 }
 
 // A position of a boolean stream: the same, and how many bits of the next byte to skip.
-#[derive(Drop)]
+#[derive(Clone, Copy)]
 pub struct FlagPosition {
     pub run: ByteOffset,
     pub bytes: ByteOffset,
@@ -23,14 +23,14 @@ pub struct FlagPosition {
 }
 
 // The plain position after some bytes; or the refusal's number, and the byte where the cut field begins.
-#[derive(Drop)]
+#[derive(Clone, Copy)]
 pub(crate) enum ByteEnd {
     At(BytePosition),
     Cut(u8, usize),
 }
 
 // The same after some flags.
-#[derive(Drop)]
+#[derive(Clone, Copy)]
 pub(crate) enum FlagEnd {
     At(FlagPosition),
     Cut(u8, usize),

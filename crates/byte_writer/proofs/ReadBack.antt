@@ -1,6 +1,6 @@
 -- The readers in batches read the runs that were chosen, since these are just what so many bytes or flags need; their values are the bytes and the flags, and
 -- the position after all values of some runs is the byte after the runs. Assumes nothing.
-use Rattle.format.proofs.Common.{◌≡◌, refl, sym, ap, ◌∙◌, ℕ, ◌+◌, ◌-◌, ◌≤◌, arith, le_refl, List, [], ◌∷◌, ◌++◌, length, take, drop}
+use Rattle.format.proofs.Common.{◌≡◌, ℕ, ◌+◌, ◌-◌, ◌≤◌, arith, le_refl, List, [], ◌∷◌, ◌++◌, length, take, drop}
 use Rattle.format.proofs.Common.{length-append, drop-append_seam, take_all, le-ltb}
 use Rattle.format.specs.Booleans.{ByteRun, run_layout, run_bytes, byte_count, joined_bytes, joined_runs}
 use Rattle.format.proofs.Booleans.{length_run}

@@ -1,5 +1,7 @@
 // The writer of byte runs: bytes as they are, or flags packed eight to a byte, highest bit first. A first pass measures. Only if there is
 // room does a second write, straight into the output. Both ask one function for the next run.
+#![tactic(auto)]
+
 ghost use Rattle.std.specs.Prelude.{◌≡◌, ◌≤◌, length};
 ghost use Rattle.byte_writer.specs.Choice.{written};
 ghost use Rattle.byte_writer.specs.Flags.{flag_bytes, source};
@@ -11,7 +13,7 @@ mod run;
 mod source;
 
 // What writing bytes comes to: how many were taken, and how many their runs have.
-#[derive(Drop)]
+#[derive(Clone, Copy)]
 pub enum Written {
     Bytes(RowNumber, ByteOffset),
     Refused(Refusal),

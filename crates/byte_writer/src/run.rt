@@ -9,7 +9,7 @@ use crate::source;
 use util::number;
 
 // The next run: copies of one byte, or literal bytes. How many.
-#[derive(Drop)]
+#[derive(Clone, Copy)]
 pub(crate) enum Next {
     Repeat(usize),
     Literals(usize),

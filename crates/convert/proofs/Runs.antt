@@ -104,7 +104,7 @@ delta-good : (signed : Bool) (code : ℕ) (first base : List ℕ) (k : Block) �
 unfolding rebuilt
 delta-good signed code first base k v =
     rw ((altered signed).delta-run code first base k v)
-    (record { valid = delta-valid code first base k v; rows = delta-rows code first base k signed v; not-odd = ap not (next-kept code v.head.code_fits) })
+    (record { valid = delta-valid code first base k v; rows = delta-rows code first base k signed v; not-odd = rw (next-kept code v.head.code_fits) })
 
 -- a direct or delta run is odd, and else no run is
 odd-good : (signed : Bool) (d : Description) → Valid d → is_odd d ≡ true → Good signed d (rewritten signed d)

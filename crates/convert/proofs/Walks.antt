@@ -14,7 +14,6 @@ use Rattle.format.proofs.Tests.{never}
 use Rattle.convert.specs.declared.LaidOutput.{LaidOutput}
 use Rattle.convert.specs.declared.Converted.TheVariants.{Refused}
 use Rattle.convert.specs.declared.turn.Turn.{Turn}
-use Rattle.convert.specs.Convert as c
 use Rattle.convert.specs.Convert.{is_odd, converted, converted_all, odd_runs, result, convert}
 use Rattle.convert.specs.Turn.{Turned, NoRun}
 use Rattle.convert.specs.Walk.{counted, finished, Filled, Lays, Walked}

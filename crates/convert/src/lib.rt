@@ -1,5 +1,7 @@
 // The converter to kept widths (FORMAT.md, "Converter"). It walks the stream twice: first without a place to write to, since nothing is
 // written on a refusal, wherever in the stream it stands; then it writes.
+#![tactic(auto)]
+
 ghost use Rattle.std.specs.Prelude.{◌≡◌, ◌≤◌, length};
 ghost use Rattle.convert.specs.Convert.{done, Converts};
 ghost use Rattle.convert.specs.Walk.{counted, finished, Put, Lays, Walked};
@@ -12,21 +14,21 @@ use turn::Step;
 use util::bytes;
 
 // What was converted: how many runs were altered, and how many bytes the stream now has.
-#[derive(Drop)]
+#[derive(Clone, Copy)]
 pub struct Conversion {
     pub altered: usize,
     pub bytes: ByteOffset,
 }
 
 // What the converter answers.
-#[derive(Drop)]
+#[derive(Clone, Copy)]
 pub enum Converted {
     Done(Conversion),
     Refused(Refusal),
 }
 
 // How far the output is filled, and whether the runs have no room.
-#[derive(Drop)]
+#[derive(Clone, Copy)]
 struct LaidOutput {
     end: ByteOffset,
     full: bool,

@@ -8,7 +8,7 @@ use format::{Answer, ByteOffset, Form, Kind, Refusal, RowNumber};
 use util::{bytes, width};
 
 // A run: the bytes that it takes up, those of the run that it is converted to, and whether its width is odd.
-#[derive(Drop)]
+#[derive(Clone, Copy)]
 pub(crate) struct Turn {
     pub taken: ByteOffset,
     pub given: ByteOffset,
@@ -16,7 +16,7 @@ pub(crate) struct Turn {
 }
 
 // What stands at a place of the stream.
-#[derive(Drop)]
+#[derive(Clone, Copy)]
 pub(crate) enum Step {
     End,
     Run(Turn),

@@ -1,6 +1,12 @@
 -- The writers' form and width as numbers. Assumes nothing.
-use Rattle.format.proofs.Common.{◌≡◌, refl, ℕ, zero, suc, ◌<◌, ◌≤◌, min, arith, dec_lt, Bool, true, false, and-false, List, leb, lt-leb}
-use Rattle.format.proofs.Common.{ne_eqb}
+use mathlib.Core.Path.{◌≡◌, refl}
+use Prim.Native.Nat.{ℕ, zero, suc, ◌<◌, min}
+use native.Mathlib.Omega.{arith}
+use native.Mathlib.Decide.{dec_lt}
+use mathlib.Core.Bool.{Bool, false, and-false}
+use mathlib.Core.List.{List}
+use lib.Dec.{leb}
+use borrow.Author.Tests.{lt-leb, ne_eqb}
 use Rattle.format.specs.declared.Form.{Form}
 use Rattle.format.specs.declared.Form.TheVariants.{ShortRepeat, Direct, FixedDelta, PackedDelta}
 use Rattle.format.specs.Writing.{have_form, width_allowed, writing}

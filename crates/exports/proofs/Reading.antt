@@ -1,6 +1,13 @@
 -- What the run reader gives in the first of the rows, as `orc_read_run`'s number and bytes. Assumes nothing.
-use Rattle.format.proofs.Common.{◌≡◌, refl, ℕ, ◌*◌, ◌≤◌, min, sub-zero, arith, Bool, List, [], ◌∷◌, ◌++◌, append_assoc, length, take, drop}
-use Rattle.format.proofs.Common.{take_at, ℤ}
+use mathlib.Core.Path.{◌≡◌, refl}
+use Prim.Native.Nat.{ℕ, ◌*◌, ◌≤◌, min}
+use native.Mathlib.Nat.{sub-zero}
+use native.Mathlib.Omega.{arith}
+use mathlib.Core.Bool.{Bool}
+use mathlib.Core.List.{List, [], ◌∷◌, ◌++◌, append_assoc}
+use lib.ListN.{length, take, drop}
+use lib.Seq.{take_at}
+use lib.IntN.{ℤ}
 use Rattle.format.specs.Digits.{AllBelow}
 use Rattle.format.specs.Runs.{Description, row_count}
 use Rattle.format.specs.Rows.{i64_rows}
@@ -12,8 +19,8 @@ use Rattle.format.specs.declared.Answer.{Answer}
 use Rattle.format.proofs.Rows.{row-bounds, byte-bounds, i64-count}
 use Rattle.format.proofs.Runs.{parse-empty}
 use Rattle.format.proofs.Streams.{into-end, Into, into-nothing, into-run, into-refusal, into-outcome}
-use Rattle.exports.proofs.RunRoom.{least-room}
-use Rattle.exports.specs.RunRoom.{Enough}
+use Rattle.exports.proofs.Room.{least-room}
+use Rattle.exports.specs.Room.{Enough}
 
 -- rows' begins with the run's rows, if there is one
 pub record Reads (input : List ℕ) (signed : Bool) (out : List ℕ) (rows' : List ℤ) (k : ℕ) (r : Answer) : Type 0 where
@@ -32,16 +39,9 @@ module _ (input : List ℕ) (signed : Bool) (out : List ℕ) (rows part part' : 
       by (into k (parse input)) n (into-outcome k input b) (rw (l, z, sub-zero) at g.answer) (rw (l, z) at g.places)
     where
       -- nothing was read: no row, no byte, and the output as it was
-      none : (x : Parsed Description) → x ≡ into (places_in out) (parse input) → r ≡ answer_of 0 (length input) x
-          → answer_rows (answer_of 0 (length input) x) ≡ 0 → answer_bytes (answer_of 0 (length input) x) ≡ 0
+      none : (x : Parsed Description) → x ≡ into (places_in out) (parse input) → r ≡ answer_of 0 (length input) x → answer_rows (answer_of 0 (length input) x) ≡ 0 → answer_bytes (answer_of 0 (length input) x) ≡ 0
           → out ≡ bytes_of signed out x → Reads input signed out (part' ++ rest) k r
-      none x n a c d o = record {
-        answer = rw (← n) a;
-        fits = rw (a, c) (omega arith);
-        few = rw (a, c) (omega arith);
-        short = rw (a, d) (omega arith);
-        bytes = rw (a, c, ← n) o;
-      }
+      none x n a c d o = record { answer = rw (← n) a; fits = rw (a, c) (omega arith); few = rw (a, c) (omega arith); short = rw (a, d) (omega arith); bytes = rw (a, c, ← n) o }
 
       by : (x : Parsed Description) → x ≡ into (places_in out) (parse input) → Into k input x → r ≡ answer_of 0 (length input) x → part' ≡ run_places signed part x
           → Reads input signed out (part' ++ rest) k r

@@ -1,6 +1,12 @@
 -- A short repeat as `orc_read_run`'s number and bytes, by what its measure named. Assumes nothing.
-use Rattle.format.proofs.Common.{◌≡◌, refl, sym, ap, ◌∙◌, ℕ, ◌+◌, ◌*◌, ◌/◌, ◌%◌, ◌-◌, ◌<◌, ◌≤◌, sub-zero, arith, Bool, List, ◌++◌, map}
-use Rattle.format.proofs.Common.{length, take, drop, get_or, replicate, lt-ltb}
+use mathlib.Core.Path.{◌≡◌, refl, ap, ◌∙◌}
+use Prim.Native.Nat.{ℕ, ◌+◌, ◌*◌, ◌/◌, ◌%◌, ◌-◌, ◌<◌, ◌≤◌}
+use native.Mathlib.Nat.{sub-zero}
+use native.Mathlib.Omega.{arith}
+use mathlib.Core.Bool.{Bool}
+use mathlib.Core.List.{List, ◌++◌, map}
+use lib.ListN.{length, take, drop, get_or, replicate}
+use borrow.Author.Tests.{lt-ltb}
 use Rattle.format.specs.Digits.{number}
 use Rattle.format.specs.Fields.{row}
 use Rattle.format.specs.Runs.{Description, short, row_count}
@@ -8,17 +14,16 @@ use Rattle.format.specs.Rows.{as_i64, rows_of, i64_rows}
 use Rattle.format.specs.Parse.{Parsed, end, got, refused, plain, parse, into}
 use Rattle.format.specs.Promises.{answer_of, RunMeasured}
 use Rattle.format.specs.Answers.{answer_rows, answer_bytes, answer_packed}
-use Rattle.exports.specs.RowBytes.{row_bytes, bytes_of, places_in, LoadedAs}
+use Rattle.exports.specs.RowBytes.{row_bytes, places_in, LoadedAs}
 use Rattle.format.specs.declared.Answer.{Answer}
 use Rattle.format.specs.declared.Answer.TheVariants as answer
 use Rattle.format.specs.declared.Run.{Run}
-use Rattle.format.proofs.Tests.{never}
 use Rattle.format.proofs.Streams.{into-end, into-got, into-refused}
 use Rattle.rle_v2.proofs.ByKind.{is-short}
-use Rattle.rle_v2.proofs.ShortRun.{run, is-run, Measured, measured}
+use Rattle.rle_v2.proofs.ShortRun.{is-run, Measured, measured}
 
 pub run-not-end : (r : Run) → answer.Run r ≡ answer.End → ⊥
-run-not-end r e = never (cc)
+run-not-end r e = let z : ◌≡◌ {A = ℕ} 0 1 = cc in omega arith
 
 into_few : (n : ℕ) (d : Description) (rest : List ℕ) → n < row_count d → into n (got d rest) ≡ refused (plain 8)
 unfolding into
@@ -35,12 +40,8 @@ module _ (s : List ℕ) (signed : Bool) (out : List ℕ) where
   nothing a n m = by (parse s) refl (rw sub-zero at m)
     where
       by : (x : Parsed Description) → x ≡ parse s → a ≡ answer_of 0 (length s) x → Nothing a
-      by end e q =
-          let none = into-end (places_in out) in
-          record { rows = rw q; bytes = rw q; loaded = record { number = rw (q, ← e, none); bytes = rw (← e, none) } }
-      by (refused f) e q =
-          let same = into-refused (places_in out) f in
-          record { rows = rw q; bytes = rw q; loaded = record { number = rw (q, ← e, same); bytes = rw (← e, same) } }
+      by end e q = record { rows = rw q; bytes = rw q; loaded = record { number = rw (q, ← e, into-end (places_in out)); bytes = rw (← e, into-end (places_in out)) } }
+      by (refused f) e q = record { rows = rw q; bytes = rw q; loaded = record { number = rw (q, ← e, into-refused (places_in out) f); bytes = rw (← e, into-refused (places_in out) f) } }
       by (got d rest) e q = absurd (n _ q)
 
   module _ (h : 0 < length s) (k : get_or s 0 0 / 64 ≡ 0) (r : Run) (e : RunMeasured s 0 (answer.Run r)) where
@@ -52,8 +53,7 @@ module _ (s : List ℕ) (signed : Bool) (out : List ℕ) where
 
     pub no_room : places_in out < r.rows.rows → LoadedAs s signed out out 8
     no_room l =
-        let f = into_few (places_in out) (short (get_or s 0 0 % 8 + 3) (take (get_or s 0 0 / 8 + 1) (drop 1 s))) (drop (1 + (get_or s 0 0 / 8 + 1)) s)
-        (rw named.rows_are at l) in
+        let f = into_few (places_in out) (short (get_or s 0 0 % 8 + 3) (take (get_or s 0 0 / 8 + 1) (drop 1 s))) (drop (1 + (get_or s 0 0 / 8 + 1)) s) (rw named.rows_are at l) in
         record { number = rw (parsed, f); bytes = rw (parsed, f) }
 
     pub repeats : (out' : List ℕ) → r.rows.rows ≤ places_in out
@@ -61,8 +61,7 @@ module _ (s : List ℕ) (signed : Bool) (out : List ℕ) where
         → LoadedAs s signed out out' (answer_packed (answer.Run r))
     unfolding i64_rows rows_of
     repeats out' l o =
-        let f = into-got (places_in out) (short (get_or s 0 0 % 8 + 3) (take (get_or s 0 0 / 8 + 1) (drop 1 s))) (drop (1 + (get_or s 0 0 / 8 + 1)) s)
-        (rw named.rows_are at l) in
+        let f = into-got (places_in out) (short (get_or s 0 0 % 8 + 3) (take (get_or s 0 0 / 8 + 1) (drop 1 s))) (drop (1 + (get_or s 0 0 / 8 + 1)) s) (rw named.rows_are at l) in
         record {
           number = rw (parsed, f) (ap answer_packed (rw (sub-zero, parsed) at e));
           bytes = rw (parsed, f) (rw (named.rows_are, named.size_is) at o);

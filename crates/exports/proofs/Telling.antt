@@ -1,85 +1,169 @@
--- What a call with lent words promises by its callee's answer, which is laid into them: of any kind of answer whose words are counted.
--- Assumes nothing.
-use Rattle.format.proofs.Common.{◌≡◌, sym, ap, ◌∙◌, ℕ, ◌<◌, ◌≤◌, List, length, get_or, ℤ, le-leb, lt-leb}
+-- An answer put into words, and what a call with lent words promises by it. Assumes nothing.
+use mathlib.Core.Path.{◌≡◌, refl, sym, ap, ◌∙◌}
+use Prim.Native.Nat.{ℕ, ◌<◌, ◌≤◌}
+use mathlib.Core.List.{List, ◌++◌}
+use lib.ListN.{length, drop, get_or}
+use lib.Dec.{leb}
+use borrow.Author.Tests.{le-leb, lt-leb}
+use Rattle.format.specs.Fields.{pick}
+use Rattle.labels.specs.declared.Label.{Label}
+use Rattle.labels.specs.declared.Label.TheVariants as label
+use Rattle.index.specs.Columns.{Columns}
 use Rattle.index.specs.Promises.{BuiltIn}
 use Rattle.index.specs.declared.Built.{Built}
-use Rattle.labels.specs.Column.{LabelPlaces, LabelledAll}
-use Rattle.labels.specs.declared.LabelColumn.{LabelColumn}
-use Rattle.answer_words.specs.Words.{too_few_words, laid, Told, ToldOf}
-use Rattle.answer_words.proofs.Telling.{few}
+use Rattle.index.specs.declared.Built.TheVariants as built
+use Rattle.index.specs.declared.Found.{Found}
+use Rattle.index.specs.declared.Found.TheVariants as found
+use Rattle.index.specs.declared.Preview.{Preview}
+use Rattle.index.specs.declared.Preview.TheVariants as preview
 use Rattle.exports.specs.Numbers.{number_in}
-use Rattle.exports.specs.TwoOutputs.{ToldOfTwo}
-use Rattle.exports.specs.Index.{built_words, built_word_count, IndexTold}
-use Rattle.exports.specs.LinedUp.{labels_words, labels_word_count, LabelsTold}
-use Rattle.exports.proofs.WordCounts.{built-long, labels-long}
+use Rattle.exports.specs.Index.{built_words, built_word_count, IndexTold, IndexToldDetermined, found_words, found_word_count, LookUpToldDetermined, preview_words, preview_word_count, ReadFromToldDetermined}
+use Rattle.exports.specs.Labels.{label_words, label_word_count, LabelToldDetermined}
+use Rattle.exports.specs.Patched.{PatchedToldDetermined}
+use Rattle.convert.specs.declared.Converted.{Converted}
+use Rattle.convert.specs.declared.Converted.TheVariants as convert
+use Rattle.exports.specs.Converting.{convert_words, convert_word_count, ConvertToldDetermined}
+use Rattle.boolean_rle.specs.declared.count.Count.{Count}
+use Rattle.boolean_rle.specs.declared.count.Count.TheVariants as count
+use Rattle.exports.specs.Counts.{count_words, count_word_count, CountToldDetermined}
+use Rattle.salvage.specs.declared.Outcome.{Outcome}
+use Rattle.salvage.specs.declared.Outcome.TheVariants as salvage
+use Rattle.exports.specs.Salvage.{salvage_words, salvage_word_count, SalvageToldDetermined}
+use Rattle.planner.specs.declared.Checked.{Checked}
+use Rattle.planner.specs.declared.Checked.TheVariants as check
+use Rattle.planner.specs.declared.ColumnAnswer.{ColumnAnswer}
+use Rattle.planner.specs.declared.ColumnAnswer.TheVariants as column
+use Rattle.exports.specs.Columns.{check_words, check_word_count, CheckToldDetermined, column_words, column_word_count, ColumnToldDetermined}
+use Rattle.answer_words.specs.Words.{too_few_words, Told, ToldOf}
+use Rattle.answer_words.proofs.Telling.{few}
 
-module _ {B : Type 0} {words_of : B → List ℕ} {number_of : B → ℕ} {b : B} {words words' : List ℕ} {r : ℕ} where
-  -- what was told is a callee's answer
-  pub told : {a : B} → a ≡ b → Told words_of number_of a words words' r → Told words_of number_of b words words' r
-  told q p = rw q at p
-
-  -- a promise allows one outcome: of the words and the number, and of other places
-  pub told-one : {words'' : List ℕ} {r' : ℕ} → Told words_of number_of b words words' r → Told words_of number_of b words words'' r'
-      → (words' ≡ words'') × (r ≡ r')
-  told-one p q = (p.words_are ∙ sym q.words_are, p.number_is ∙ sym q.number_is)
-
-  pub told-of-one : {A : Type 0} {words'' : List ℕ} {r' : ℕ} {done places places' places'' : List A}
-      → ToldOf words_of number_of b words words' r done places places' → ToldOf words_of number_of b words words'' r' done places places''
-      → (places' ≡ places'') × (words' ≡ words'') × (r ≡ r')
-  told-of-one p q = let (words_same, same) = told-one p.told q.told in (p.places-are ∙ sym q.places-are, words_same, same)
+-- what was told is a callee's answer
+pub told : {B : Type 0} {words_of : B → List ℕ} {number_of : B → ℕ} {a b : B} {words words' : List ℕ} {r : ℕ} → a ≡ b → Told words_of number_of a words words' r
+    → Told words_of number_of b words words' r
+told q p = rw q at p
 
 -- over any answers whose words are counted
-module _ {B : Type 0} {words_of : B → List ℕ} {n : ℕ} (long : (b : B) → length (words_of b) ≡ n) where
-  module _ {number_of : B → ℕ} where
-    -- too few words: nothing is touched
-    pub few-of : {A : Type 0} {b : B} {words : List ℕ} {done places : List A} → length words < n
-        → ToldOf words_of number_of b words words too_few_words done places places
-    few-of {A} {b} {words} h = let e = lt-leb n (length words) h in record { told = few long h; places-are = rw (long b, e) }
+module _ {B : Type 0} {words_of : B → List ℕ} {number_of : B → ℕ} {n : ℕ} (long : (b : B) → length (words_of b) ≡ n) where
+  -- too few words: nothing is touched
+  pub few-of : {A : Type 0} {b : B} {words : List ℕ} {done places : List A} → length words < n → ToldOf words_of number_of b words words too_few_words done places places
+  few-of {A} {b} {words} h = let e = lt-leb n (length words) h in record { told = few long h; places-are = rw (long b, e) }
 
-    -- enough: the words that were laid down are the answer's
-    pub laid_by : {b : B} {said words words' : List ℕ} {r : ℕ} → n ≤ length words → r ≡ number_of b → said ≡ words_of b → words' ≡ laid said words
-        → Told words_of number_of b words words' r
-    laid_by {b} {said} {words} h z e q = record { number_is = rw (long b, le-leb n (length words) h) z; words_are = rw e at q }
+  -- enough: the words that were laid down are the answer's
+  pub laid_by : {b : B} {said words words' : List ℕ} {r : ℕ} → n ≤ length words → r ≡ number_of b → said ≡ words_of b
+      → words' ≡ pick (leb (length said) (length words)) (said ++ drop (length said) words) words → Told words_of number_of b words words' r
+  laid_by {b} {said} {words} h z e q = record { number_is = rw (long b, le-leb n (length words) h) z; words_are = rw e at q }
 
-    -- and the other lent places are what the callee made of them
-    pub told_of : {A : Type 0} {a b : B} {words words' : List ℕ} {r : ℕ} {done places places' : List A} → a ≡ b → n ≤ length words
-        → places' ≡ done → Told words_of number_of a words words' r → ToldOf words_of number_of b words words' r done places places'
-    told_of {A} {a} {b} {words} q h d p = record { told = told q p; places-are = rw (long b, le-leb n (length words) h) d }
+  -- and the other lent places are what the callee made of them
+  pub told_of : {A : Type 0} {a b : B} {words words' : List ℕ} {r : ℕ} {done places places' : List A} → a ≡ b → n ≤ length words → places' ≡ done
+      → Told words_of number_of a words words' r → ToldOf words_of number_of b words words' r done places places'
+  told_of {A} {a} {b} {words} q h d p = record { told = told q p; places-are = rw (long b, le-leb n (length words) h) d }
 
-  -- two outputs, and too few words
-  pub few-of-two : {A C : Type 0} {b : B} {words : List ℕ} {done places : List A} {other others : List C} → length words < n
-      → ToldOfTwo words_of b words words too_few_words done places places other others others
-  few-of-two h = record { first = few-of h; second = few-of h }
+-- the number is word 1 of them
+pub laid : {B : Type 0} {words_of : B → List ℕ} {n : ℕ} {b : B} {said words words' : List ℕ} → ((b : B) → length (words_of b) ≡ n) → n ≤ length words → said ≡ words_of b
+    → words' ≡ pick (leb (length said) (length words)) (said ++ drop (length said) words) words → Told words_of (number_in words_of) b words words' (get_or said 1 0)
+laid long h e q = laid_by long h (ap (λ w. get_or w 1 0) e) e q
 
-  -- the number is word 1 of those that were laid down
-  module _ {a : B} {said words words' : List ℕ} (h : n ≤ length words) where
-    pub laid-words : said ≡ words_of a → words' ≡ laid said words → Told words_of (number_in words_of) a words words' (get_or said 1 0)
-    laid-words e q = laid_by h (ap (λ w. get_or w 1 0) e) e q
+-- every answer has as many words as its function says, and its promise determines the number, the words and every other lent place
 
-    module _ {b : B} {A : Type 0} {done places places' : List A} (q : a ≡ b) (d : places' ≡ done) where
-      pub told-by : said ≡ words_of a → words' ≡ laid said words
-          → ToldOf words_of (number_in words_of) b words words' (get_or said 1 0) done places places'
-      told-by e p = told_of q h d (laid-words e p)
+pub label-long : (l : Label) → length (label_words l) ≡ label_word_count
+unfolding label_words
+label-long (label.Name n) = refl
+label-long (label.Fallback n) = refl
+label-long (label.Refused f) = refl
 
-      pub told-two : {C : Type 0} {other others others' : List C} → others' ≡ other → said ≡ words_of a → words' ≡ laid said words
-          → ToldOfTwo words_of b words words' (get_or said 1 0) done places places' other others others'
-      told-two d' e p = record { first = told-by e p; second = told_of q h d' (laid-words e p) }
+pub label-told-determined : LabelToldDetermined
+label-told-determined lengths numbers flags block fall row words words' words'' r r' p q =
+    (p.words_are ∙ sym q.words_are, p.number_is ∙ sym q.number_is)
 
--- building an index, and the labels of a column, which have three columns at exit: too few words, or the answer laid into them
+pub patched-told-determined : PatchedToldDetermined
+patched-told-determined rows base w out out' out'' words words' words'' r r' p q =
+    (p.places-are ∙ sym q.places-are, p.told.words_are ∙ sym q.told.words_are, p.told.number_is ∙ sym q.told.number_is)
+
+pub count_long : (c : Count) → length (count_words c) ≡ count_word_count
+unfolding count_words
+count_long (count.True n) = refl
+count_long (count.Refused f) = refl
+
+pub count-told-determined : CountToldDetermined
+count-told-determined packed n words words' words'' r r' p q = (p.words_are ∙ sym q.words_are, p.number_is ∙ sym q.number_is)
+
+pub built-long : (b : Built) → length (built_words b) ≡ built_word_count
+unfolding built_words
+built-long (built.Index s) = refl
+built-long (built.Refused f) = refl
+
+-- what building told: too few words, or what was built laid into them
 module _ {input first at counts words : List ℕ} where
   pub index-few : length words < built_word_count → IndexTold input first at counts first at counts words words too_few_words
   index-few h = record { told = few built-long h; columns-are = rw (lt-leb built_word_count (length words) h) }
 
-  pub index-told : {first' at' counts' words' : List ℕ} {b : Built} {r : ℕ} → BuiltIn input first at counts first' at' counts' b
-      → built_word_count ≤ length words → Told built_words (number_in built_words) b words words' r
-      → IndexTold input first at counts first' at' counts' words words' r
+  pub index-told : {first' at' counts' words' : List ℕ} {b : Built} {r : ℕ} → BuiltIn input first at counts first' at' counts' b → built_word_count ≤ length words
+      → Told built_words (number_in built_words) b words words' r → IndexTold input first at counts first' at' counts' words words' r
   index-told q h p = record { told = told q.answer p; columns-are = rw (le-leb built_word_count (length words) h) q.columns }
 
-module _ {flags : List ℕ} {numbers lengths : List ℤ} {block : ℕ} {p : LabelPlaces} {words : List ℕ} where
-  pub labels-few : length words < labels_word_count → LabelsTold flags numbers lengths block p p words words too_few_words
-  labels-few h = record { told = few labels-long h; columns-are = rw (lt-leb labels_word_count (length words) h) }
+pub index-told-determined : IndexToldDetermined
+index-told-determined input first at counts f o n f' o' n' words words' words'' r r' p q =
+    let e = p.columns-are ∙ sym q.columns-are in (
+      ap (λ (c : Columns). c.firsts) e,
+      ap (λ (c : Columns). c.offsets) e,
+      ap (λ (c : Columns). c.counts) e,
+      p.told.words_are ∙ sym q.told.words_are,
+      p.told.number_is ∙ sym q.told.number_is,
+    )
 
-  pub labels-told : {p' : LabelPlaces} {words' : List ℕ} {a : LabelColumn} {r : ℕ} → LabelledAll flags numbers lengths block p p' a
-      → labels_word_count ≤ length words → Told labels_words (number_in labels_words) a words words' r
-      → LabelsTold flags numbers lengths block p p' words words' r
-  labels-told q h t = record { told = told q.answer t; columns-are = rw (le-leb labels_word_count (length words) h) q.places }
+pub found-long : (v : Found) → length (found_words v) ≡ found_word_count
+unfolding found_words
+found-long (found.Entry e) = refl
+found-long (found.Refused f) = refl
+
+pub look-up-told-determined : LookUpToldDetermined
+look-up-told-determined input c row words words' words'' r r' p q = (p.words_are ∙ sym q.words_are, p.number_is ∙ sym q.number_is)
+
+pub preview-long : (p : Preview) → length (preview_words p) ≡ preview_word_count
+unfolding preview_words
+preview-long (preview.Rows n) = refl
+preview-long (preview.Refused f) = refl
+
+pub read-from-told-determined : ReadFromToldDetermined
+read-from-told-determined input c row flag rows rows' rows'' words words' words'' r r' p q =
+    (p.places-are ∙ sym q.places-are, p.told.words_are ∙ sym q.told.words_are, p.told.number_is ∙ sym q.told.number_is)
+
+pub salvage-long : (m : Outcome) → length (salvage_words m) ≡ salvage_word_count
+unfolding salvage_words
+salvage-long (salvage.Written n) = refl
+salvage-long (salvage.Refused f) = refl
+
+pub salvage-told-determined : SalvageToldDetermined
+salvage-told-determined input starts counts fill flag out out' out'' lines lines' lines'' words words' words'' r r' p q = (
+  p.stream-told.places-are ∙ sym q.stream-told.places-are,
+  p.report-told.places-are ∙ sym q.report-told.places-are,
+  p.stream-told.told.words_are ∙ sym q.stream-told.told.words_are,
+  p.stream-told.told.number_is ∙ sym q.stream-told.told.number_is,
+)
+
+pub convert-long : (c : Converted) → length (convert_words c) ≡ convert_word_count
+unfolding convert_words
+convert-long (convert.Done n) = refl
+convert-long (convert.Refused f) = refl
+
+pub convert-told-determined : ConvertToldDetermined
+convert-told-determined input flag out out' out'' words words' words'' r r' p q =
+    (p.places-are ∙ sym q.places-are, p.told.words_are ∙ sym q.told.words_are, p.told.number_is ∙ sym q.told.number_is)
+
+pub check-long : (c : Checked) → length (check_words c) ≡ check_word_count
+unfolding check_words
+check-long (check.Accepted n) = refl
+check-long check.Rejected = refl
+
+pub check-told-determined : CheckToldDetermined
+check-told-determined rows flag c room words words' words'' r r' p q = (p.words_are ∙ sym q.words_are, p.number_is ∙ sym q.number_is)
+
+pub column-long : (a : ColumnAnswer) → length (column_words a) ≡ column_word_count
+unfolding column_words
+column-long (column.Planned n) = refl
+column-long (column.Direct n) = refl
+column-long (column.Refused f) = refl
+
+pub column-told-determined : ColumnToldDetermined
+column-told-determined rows flag c out out' out'' words words' words'' r r' p q =
+    (p.places-are ∙ sym q.places-are, p.told.words_are ∙ sym q.told.words_are, p.told.number_is ∙ sym q.told.number_is)

@@ -1,5 +1,5 @@
--- Batches as words, and what `orc_read_rows`, `orc_read_flags` and `orc_read_bytes` promise: the number that comes back, and every row,
--- flag, byte and word at exit, for every input, position and count. Assumes nothing.
+-- Batches as words, and what `orc_read_rows`, `orc_read_flags` and `orc_read_bytes` promise: the number that comes back, and every row, flag, byte and word
+-- at exit, for every input, position and count. Assumes nothing.
 use Rattle.std.specs.Prelude.{◌≡◌, ℕ, ◌-◌, List, [], ◌∷◌, length, ℤ}
 use Rattle.batches.specs.Batches.{batch}
 use Rattle.batches.specs.BatchPromise as rows
@@ -14,17 +14,17 @@ use Rattle.boolean_rle.specs.declared.flags.FlagBatch.{FlagBatch}
 use Rattle.boolean_rle.specs.declared.flags.FlagBatch.TheVariants as flag
 use Rattle.answer_words.specs.Words.{cut_case, cut_byte, ToldOf}
 use Rattle.exports.specs.RowBytes.{is_signed}
-use Rattle.exports.specs.Numbers.{number_in, counted_eight, refused_eight}
+use Rattle.exports.specs.Numbers.{number_in}
 
 -- ---- ROWS
 
--- word 0 is the case: 0 end, 1 rows, 2 refused; words 1 and 2 are the refusal's number and place; word 3 is how many rows were read, words
--- 4 and 5 are the position after them: the byte of its run, and the rows to skip; word 6 is 1 if the input ends in a field of the refused
--- run, and word 7 the byte where that field begins. A word that the case does not have is 0.
+-- word 0 is the case: 0 end, 1 rows, 2 refused; words 1 and 2 are the refusal's number and place; word 3 is how many rows were read, words 4 and 5 are the
+-- position after them: the byte of its run, and the rows to skip; word 6 is 1 if the input ends in a field of the refused run, and word 7 the byte where
+-- that field begins. A word that the case does not have is 0.
 unfoldable pub rows_words : Batch → List ℕ
-rows_words (row.Rows b) = counted_eight b.rows.rows b.next.run.bytes b.next.skip.rows
+rows_words (row.Rows b) = 1 ∷ 0 ∷ 0 ∷ b.rows.rows ∷ b.next.run.bytes ∷ b.next.skip.rows ∷ 0 ∷ 0 ∷ []
 rows_words row.End = 0 ∷ 0 ∷ 0 ∷ 0 ∷ 0 ∷ 0 ∷ 0 ∷ 0 ∷ []
-rows_words (row.Refused f) = refused_eight f
+rows_words (row.Refused f) = 2 ∷ f.number ∷ f.place.bytes ∷ 0 ∷ 0 ∷ 0 ∷ cut_case f.cut ∷ cut_byte f.cut ∷ []
 
 abbrev pub rows_word_count : ℕ
 rows_word_count = 8
@@ -37,8 +37,8 @@ RowsTold input at skip flag out out' words words' r =
 
 -- ---- FLAGS
 
--- word 0 is the case: 1 flags, 2 refused; words 1 and 2 are the refusal's number and place; word 3 is how many flags were read, words 4, 5
--- and 6 are the position after them: the byte of its run, the bytes and the bits to skip; words 7 and 8 are the cut field, as above
+-- word 0 is the case: 1 flags, 2 refused; words 1 and 2 are the refusal's number and place; word 3 is how many flags were read, words 4, 5 and 6 are the
+-- position after them: the byte of its run, the bytes and the bits to skip; words 7 and 8 are the cut field, as above
 unfoldable pub flags_words : FlagBatch → List ℕ
 flags_words (flag.Read b) = 1 ∷ 0 ∷ 0 ∷ b.rows.rows ∷ b.next.run.bytes ∷ b.next.bytes.bytes ∷ b.next.bits ∷ 0 ∷ 0 ∷ []
 flags_words (flag.Refused f) = 2 ∷ f.number ∷ f.place.bytes ∷ 0 ∷ 0 ∷ 0 ∷ 0 ∷ cut_case f.cut ∷ cut_byte f.cut ∷ []
@@ -58,8 +58,8 @@ FlagsTold input at bytes bits n out out' words words' r =
 -- ---- BYTES: the same without bits
 
 unfoldable pub bytes_words : ByteBatch → List ℕ
-bytes_words (byte.Read b) = counted_eight b.rows.rows b.next.run.bytes b.next.bytes.bytes
-bytes_words (byte.Refused f) = refused_eight f
+bytes_words (byte.Read b) = 1 ∷ 0 ∷ 0 ∷ b.rows.rows ∷ b.next.run.bytes ∷ b.next.bytes.bytes ∷ 0 ∷ 0 ∷ []
+bytes_words (byte.Refused f) = 2 ∷ f.number ∷ f.place.bytes ∷ 0 ∷ 0 ∷ 0 ∷ cut_case f.cut ∷ cut_byte f.cut ∷ []
 
 abbrev pub bytes_word_count : ℕ
 bytes_word_count = 8

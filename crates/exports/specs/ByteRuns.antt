@@ -1,5 +1,5 @@
--- What `orc_write_booleans`, `orc_write_bytes` and the sizes of both promise: the number that comes back, and every byte and word at exit,
--- for all flags and bytes. Assumes nothing.
+-- What `orc_write_booleans`, `orc_write_bytes` and the sizes of both promise: the number that comes back, and every byte and word at exit, for all flags and
+-- bytes. Assumes nothing.
 use Rattle.std.specs.Prelude.{◌≡◌, ℕ, List, [], ◌∷◌, length, ltb}
 use Rattle.format.specs.declared.Kind.TheVariants.{Booleans}
 use Rattle.format.specs.Fields.{pick}
@@ -16,12 +16,11 @@ use Rattle.exports.specs.Numbers.{number_in}
 abbrev pub BooleansWrittenTold : List ℕ → List ℕ → List ℕ → List ℕ → List ℕ → ℕ → Type 0
 BooleansWrittenTold flags out out' words words' r =
     let w = choice.written (flag_bytes flags) in
-    let none = ltb (length out) (length w) in
-    ToldOf answer_words answer_number (pick none (refused_at 8 0) (ran Booleans 1 (length flags) (length w))) words words' r
-    (pick none out (in_front w out)) out out'
+    ToldOf answer_words answer_number (pick (ltb (length out) (length w)) (refused_at 8 0) (ran Booleans 1 (length flags) (length w))) words words' r
+    (pick (ltb (length out) (length w)) out (in_front w out)) out out'
 
--- word 0 is the case: 1 done, 2 refused; words 1 and 2 are the refusal's number and place, 0 unless refused; words 3 and 4 are how many
--- bytes were taken, and how many were written, 0 if refused
+-- word 0 is the case: 1 done, 2 refused; words 1 and 2 are the refusal's number and place, 0 unless refused; words 3 and 4 are how many bytes were taken, and
+-- how many were written, 0 if refused
 unfoldable pub byte_run_words : Written → List ℕ
 byte_run_words (written.Bytes n size) = 1 ∷ 0 ∷ 0 ∷ n.rows ∷ size.bytes ∷ []
 byte_run_words (written.Refused f) = 2 ∷ f.number ∷ f.place.bytes ∷ 0 ∷ 0 ∷ []
@@ -33,9 +32,8 @@ byte_run_word_count = 5
 abbrev pub BytesWrittenTold : List ℕ → List ℕ → List ℕ → List ℕ → List ℕ → ℕ → Type 0
 BytesWrittenTold bytes out out' words words' r =
     let w = choice.written bytes in
-    let none = ltb (length out) (length w) in
-    ToldOf byte_run_words (number_in byte_run_words) (pick none (refused_with 8) (wrote_bytes (length bytes) (length w))) words words' r
-    (pick none out (in_front w out)) out out'
+    ToldOf byte_run_words (number_in byte_run_words) (pick (ltb (length out) (length w)) (refused_with 8) (wrote_bytes (length bytes) (length w))) words words' r
+    (pick (ltb (length out) (length w)) out (in_front w out)) out out'
 
 -- ---- any two outcomes that a promise allows are equal
 

@@ -7,9 +7,9 @@ use Rattle.convert.specs.declared.Converted.{Converted}
 use Rattle.convert.specs.declared.Converted.TheVariants.{Done, Refused}
 use Rattle.convert.specs.Convert.{convert, told_as, outcome_bytes}
 
--- word 0 is the case: 1 converted, 2 refused; words 1 and 2 are the refusal's number and place, 0 unless refused; words 3 and 4 are how
--- many runs were altered and how many bytes the converted stream has, 0 if refused; word 5 is 1 if the input ends in a field of the refused
--- run, else 0, and word 6 the byte where that field begins, 0 if there is none
+-- word 0 is the case: 1 converted, 2 refused; words 1 and 2 are the refusal's number and place, 0 unless refused; words 3 and 4 are
+-- how many runs were altered and how many bytes the converted stream has, 0 where refused; word 5 is 1 where the input ends in a field of the
+-- refused run, else 0, and word 6 the byte where that field begins, 0 where there is none
 unfoldable pub convert_words : Converted → List ℕ
 convert_words (Done c) = 1 ∷ 0 ∷ 0 ∷ c.altered ∷ c.bytes.bytes ∷ 0 ∷ 0 ∷ []
 convert_words (Refused f) = 2 ∷ f.number ∷ f.place.bytes ∷ 0 ∷ 0 ∷ cut_case f.cut ∷ cut_byte f.cut ∷ []

@@ -1,5 +1,5 @@
--- A count of true booleans as words, and what `orc_count_true` promises: the number that comes back, and every lent word at exit, for all
--- bytes and every n. Assumes nothing.
+-- A count of true booleans as words, and what `orc_count_true` promises: the number that comes back, and every lent word at exit, for all bytes and
+-- every n. Assumes nothing.
 use Rattle.std.specs.Prelude.{◌≡◌, ℕ, List, [], ◌∷◌}
 use Rattle.answer_words.specs.Words.{cut_case, cut_byte, Told}
 use Rattle.exports.specs.Numbers.{number_in}
@@ -8,7 +8,7 @@ use Rattle.boolean_rle.specs.declared.count.Count.TheVariants.{True, Refused}
 use Rattle.boolean_rle.specs.Ones.{count_true}
 
 -- word 0 is the case: 1 counted, 2 refused; words 1 and 2 are the refusal's number and place, 0 unless refused; word 3 is how many are
--- true, 0 if refused; word 4 is 1 if a field was cut, else 0, and word 5 the byte where it begins, 0 unless one was cut
+-- true, 0 where refused; word 4 is 1 where a field was cut, else 0, and word 5 the byte where it begins, 0 unless one was cut
 unfoldable pub count_words : Count → List ℕ
 count_words (True n) = 1 ∷ 0 ∷ 0 ∷ n ∷ 0 ∷ 0 ∷ []
 count_words (Refused f) = 2 ∷ f.number ∷ f.place.bytes ∷ 0 ∷ cut_case f.cut ∷ cut_byte f.cut ∷ []
@@ -24,5 +24,5 @@ CountTold packed n words words' r = Told count_words (number_in count_words) (co
 -- any two outcomes that the promise allows are equal
 abbrev pub CountToldDetermined : Type 0
 CountToldDetermined =
-    (packed : List ℕ) (n : ℕ) (words words' words'' : List ℕ) (r r' : ℕ)
-    → CountTold packed n words words' r → CountTold packed n words words'' r' → (words' ≡ words'') × (r ≡ r')
+    (packed : List ℕ) (n : ℕ) (words words' words'' : List ℕ) (r r' : ℕ) → CountTold packed n words words' r → CountTold packed n words words'' r'
+    → (words' ≡ words'') × (r ≡ r')

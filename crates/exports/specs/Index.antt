@@ -1,12 +1,12 @@
--- The index's answers as words, and what its three exported functions promise: the number that comes back, and every lent word, column and
--- row at exit, for every input, all columns and every row. Assumes nothing.
+-- The index's answers as words, and what its three exported functions promise: the number that comes back, and every lent word, column and row at exit,
+-- for every input, all columns and every row. Assumes nothing.
 use Rattle.std.specs.Prelude.{◌≡◌, ℕ, List, [], ◌∷◌, length, leb, ℤ}
 use Rattle.format.specs.Fields.{pick}
 use Rattle.exports.specs.RowBytes.{is_signed}
-use Rattle.answer_words.specs.Words.{Told, ToldOf}
-use Rattle.exports.specs.Numbers.{number_in, counted, counted_eight, refused_eight}
+use Rattle.answer_words.specs.Words.{cut_case, cut_byte, Told, ToldOf}
+use Rattle.exports.specs.Numbers.{number_in}
 use Rattle.index.specs.Entries.{preview_places}
-use Rattle.index.specs.IndexColumns.{Columns, columns_at, building_in, lookup_in, reading_in}
+use Rattle.index.specs.Columns.{Columns, columns_at, building_in, lookup_in, reading_in}
 use Rattle.index.specs.Promises.{built_of, found_of, preview_of}
 use Rattle.index.specs.declared.Built.{Built}
 use Rattle.index.specs.declared.Built.TheVariants as built
@@ -18,11 +18,11 @@ use Rattle.index.specs.declared.Preview.TheVariants as preview
 -- ---- WHAT WAS BUILT
 
 -- word 0 is the case: 1 built, 2 refused; words 1 and 2 are the refusal's number and place, 0 unless refused; words 3, 4 and 5 are how many
--- entries there are, and the rows and the bytes of the stream, 0 if refused; word 6 is 1 if the input ends in a field of the refused run,
--- else 0, and word 7 the byte where that field begins, 0 if there is none
+-- entries there are, and the rows and the bytes of the stream, 0 where refused; word 6 is 1 where the input ends in a field of the refused run,
+-- else 0, and word 7 the byte where that field begins, 0 where there is none
 unfoldable pub built_words : Built → List ℕ
-built_words (built.Index s) = counted_eight s.entries s.rows.rows s.consumed.bytes
-built_words (built.Refused f) = refused_eight f
+built_words (built.Index s) = 1 ∷ 0 ∷ 0 ∷ s.entries ∷ s.rows.rows ∷ s.consumed.bytes ∷ 0 ∷ 0 ∷ []
+built_words (built.Refused f) = 2 ∷ f.number ∷ f.place.bytes ∷ 0 ∷ 0 ∷ 0 ∷ cut_case f.cut ∷ cut_byte f.cut ∷ []
 
 abbrev pub built_word_count : ℕ
 built_word_count = 8
@@ -30,9 +30,9 @@ built_word_count = 8
 -- ---- WHAT WAS FOUND
 
 -- word 0 is the case: 1 found, 2 refused; words 1 and 2 are the refusal's number and place, 0 unless refused; words 3, 4 and 5 are the
--- entry's first row, its byte offset and its rows, 0 if refused
+-- entry's first row, its byte offset and its rows, 0 where refused
 unfoldable pub found_words : Found → List ℕ
-found_words (found.Entry e) = counted 1 e.first.rows e.at.bytes e.rows.rows
+found_words (found.Entry e) = 1 ∷ 0 ∷ 0 ∷ e.first.rows ∷ e.at.bytes ∷ e.rows.rows ∷ []
 found_words (found.Refused f) = 2 ∷ f.number ∷ f.place.bytes ∷ 0 ∷ 0 ∷ 0 ∷ []
 
 abbrev pub found_word_count : ℕ
@@ -40,7 +40,8 @@ found_word_count = 6
 
 -- ---- WHAT WAS READ
 
--- words 0 to 2 are as of what was found, and word 3 is how many rows were read, 0 if refused
+-- word 0 is the case: 1 rows, 2 refused; words 1 and 2 are the refusal's number and place, 0 unless refused; word 3 is how many rows
+-- were read, 0 where refused
 unfoldable pub preview_words : Preview → List ℕ
 preview_words (preview.Rows n) = 1 ∷ 0 ∷ 0 ∷ n.rows ∷ []
 preview_words (preview.Refused f) = 2 ∷ f.number ∷ f.place.bytes ∷ 0 ∷ []
@@ -50,17 +51,13 @@ preview_word_count = 4
 
 -- ---- THE FUNCTIONS
 
--- the three columns of an index: first row, byte offset and rows of each run
-abbrev pub entries_in : List ℕ → List ℕ → List ℕ → Columns
-entries_in first at counts = record { firsts = first; offsets = at; counts = counts }
-
--- BUILDING: and the columns at exit; if the words are too few, as they were
+-- BUILDING: and the columns at exit; where the words are too few, as they were
 pub record IndexTold (input first at counts first' at' counts' words words' : List ℕ) (r : ℕ) : Type 0 where
-  pub told : let m = building_in (length first) (length at) (length counts) input in
-      Told built_words (number_in built_words) (built_of (length input) m) words words' r
-  pub columns-are : let m = building_in (length first) (length at) (length counts) input in
-      let c = entries_in first at counts in
-      entries_in first' at' counts' ≡ pick (leb built_word_count (length words)) (columns_at c m) c
+  pub told : Told built_words (number_in built_words) (built_of (length input) (building_in (length first) (length at) (length counts) input)) words words' r
+  pub columns-are : ◌≡◌ {A = Columns} (record { firsts = first'; offsets = at'; counts = counts' })
+      (pick (leb built_word_count (length words))
+      (columns_at (record { firsts = first; offsets = at; counts = counts }) (building_in (length first) (length at) (length counts) input))
+      (record { firsts = first; offsets = at; counts = counts }))
 
 -- LOOKING UP: nothing but the words is lent
 abbrev pub LookUpTold : List ℕ → Columns → ℕ → List ℕ → List ℕ → ℕ → Type 0

@@ -7,8 +7,8 @@ use Rattle.labels.specs.Labels.{label}
 use Rattle.answer_words.specs.Words.{Told}
 use Rattle.exports.specs.Numbers.{number_in}
 
--- word 0 is the case: 1 a name, 2 refused, 3 the fallback; words 1 and 2 are the refusal's number and place, 0 unless refused; word 3 is
--- the byte of the block where the name begins, 0 unless a name; word 4 is how many bytes the name or the fallback has, 0 if refused
+-- word 0 is the case: 1 a name, 2 refused, 3 the fallback; words 1 and 2 are the refusal's number and place, 0 unless refused; word 3 is the byte of the
+-- block where the name begins, 0 unless a name; word 4 is how many bytes the name or the fallback has, 0 where refused
 unfoldable pub label_words : Label → List ℕ
 label_words (Name n) = 1 ∷ 0 ∷ 0 ∷ n.start.bytes ∷ n.size.bytes ∷ []
 label_words (Fallback n) = 3 ∷ 0 ∷ 0 ∷ 0 ∷ n.bytes ∷ []

@@ -2,9 +2,8 @@
 pub mod Version
 pub mod RowBytes
 pub mod Runs
-pub mod RunRoom
+pub mod Room
 pub mod Numbers
-pub mod TwoOutputs
 pub mod Labels
 pub mod Patched
 pub mod Parts
@@ -12,7 +11,7 @@ pub mod Counts
 pub mod Index
 pub mod Salvage
 pub mod Converting
-pub mod ColumnCalls
+pub mod Columns
 pub mod Batches
 pub mod Rescue
 pub mod LinedUp

@@ -1,5 +1,5 @@
--- A column with missing rows and the labels of a column, as words, and what `orc_spread` and `orc_label_column` promise: the number that
--- comes back, and every place and word at exit, for all flags, rows and columns. Assumes nothing.
+-- A column with missing rows and the labels of a column, as words, and what `orc_spread` and `orc_label_column` promise: the number that comes back, and every
+-- place and word at exit, for all flags, rows and columns. Assumes nothing.
 use Rattle.std.specs.Prelude.{◌≡◌, ℕ, List, [], ◌∷◌, length, leb, ℤ}
 use Rattle.format.specs.Fields.{pick}
 use Rattle.present.specs.Present.{spreading, spread_answer, spread_places}
@@ -11,8 +11,8 @@ use Rattle.labels.specs.declared.LabelColumn.TheVariants as column
 use Rattle.answer_words.specs.Words.{Told, ToldOf}
 use Rattle.exports.specs.Numbers.{number_in}
 
--- word 0 is the case: 1 done, 2 refused; words 1 and 2 are the refusal's number and place, 0 unless refused; word 3 is how many rows the
--- column has, 0 if refused
+-- word 0 is the case: 1 done, 2 refused; words 1 and 2 are the refusal's number and place, 0 unless refused; word 3 is how many rows the column has, 0 if
+-- refused
 unfoldable pub spread_words : Spread → List ℕ
 spread_words (spread.Rows n) = 1 ∷ 0 ∷ 0 ∷ n.rows ∷ []
 spread_words (spread.Refused f) = 2 ∷ f.number ∷ f.place.bytes ∷ 0 ∷ []
@@ -35,12 +35,10 @@ labels_words (column.RefusedRow f row) = 2 ∷ f.number ∷ f.place.bytes ∷ 0 
 abbrev pub labels_word_count : ℕ
 labels_word_count = 5
 
--- ALL LABELS: and the three columns at exit; with too few words they stay as they were
-pub record LabelsTold (flags : List ℕ) (numbers lengths : List ℤ) (block : ℕ) (p p' : LabelPlaces) (words words' : List ℕ) (r : ℕ)
-    : Type 0 where
+-- ALL LABELS: and the three columns at exit; with too few words, as they were
+pub record LabelsTold (flags : List ℕ) (numbers lengths : List ℤ) (block : ℕ) (p p' : LabelPlaces) (words words' : List ℕ) (r : ℕ) : Type 0 where
   pub told : Told labels_words (number_in labels_words) (labels_answer (length flags) (labelling flags numbers lengths block p)) words words' r
-  pub columns-are : p'
-      ≡ pick (leb labels_word_count (length words)) (labels_at flags numbers lengths p (labelling flags numbers lengths block p)) p
+  pub columns-are : p' ≡ pick (leb labels_word_count (length words)) (labels_at flags numbers lengths p (labelling flags numbers lengths block p)) p
 
 -- ---- any two outcomes that a promise allows are equal
 

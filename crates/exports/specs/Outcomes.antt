@@ -1,5 +1,6 @@
--- Each promise of this room's first functions determines the number that comes back and every row, byte and word at exit: any two
--- outcomes that it allows are equal. (The same of the other functions stands with their promises.) Assumes nothing.
+-- Each promise of this room's first functions determines the number that comes back and every row, byte and word at exit: any two outcomes that it allows are
+-- equal. (Those of the other functions stand with their proofs, in proofs/Telling.antt and proofs/PartWords.antt.)
+-- Assumes nothing.
 use Rattle.std.specs.Prelude.{◌≡◌, ℕ, List, ℤ}
 use Rattle.promises.specs.Outcomes.{Determines}
 use Rattle.exports.specs.Version.{face_version}

@@ -1,5 +1,5 @@
--- The reader in parts over words (`answer_words/specs/Parts.antt`): what `orc_part_start`, `orc_part_take` and `orc_part_close` promise:
--- the number that comes back, and every lent word, byte and row at exit, for all states, also those that no start led to. Assumes nothing.
+-- The reader in parts over words (`words/specs/Parts.antt`): what `orc_part_start`, `orc_part_take` and `orc_part_close` promise: the number that comes
+-- back, and every lent word, byte and row at exit, for all states, also those that no start led to. Assumes nothing.
 use Rattle.std.specs.Prelude.{◌≡◌, ℕ, Bool, not, List, T, ℤ}
 use Rattle.format.specs.declared.PartStep.{PartStep}
 use Rattle.format.specs.Parts.{fresh, Takes, Closes}
@@ -19,8 +19,7 @@ pub record Untouched (state state' held held' : List ℕ) (rows rows' : List ℤ
   pub rows_stay : rows' ≡ rows
   pub words-stay : words' ≡ words
 
-pub record Taken (state state' held held' part : List ℕ) (signed : Bool) (rows rows' : List ℤ) (words words' : List ℕ) (r : ℕ)
-    : Type 0 where
+pub record Taken (state state' held held' part : List ℕ) (signed : Bool) (rows rows' : List ℤ) (words words' : List ℕ) (r : ℕ) : Type 0 where
   pub step : PartStep
   pub takes : Takes (reader_of state) part held held' signed rows rows' step
   pub put : PartPut step state state' words words' r
@@ -56,15 +55,12 @@ pub record SameLent (state state' held held' : List ℕ) (rows rows' : List ℤ)
 
 abbrev pub PartToldDetermined : Type 0
 PartToldDetermined =
-    (state held part : List ℕ) (flag : ℕ) (rows : List ℤ) (words state' state'' held' held'' : List ℕ)
-    (rows' rows'' : List ℤ) (words' words'' : List ℕ) (r r' : ℕ)
-    → PartTold state state' held held' part flag rows rows' words words' r
-    → PartTold state state'' held held'' part flag rows rows'' words words'' r'
+    (state held part : List ℕ) (flag : ℕ) (rows : List ℤ) (words state' state'' held' held'' : List ℕ) (rows' rows'' : List ℤ) (words' words'' : List ℕ) (r r' : ℕ)
+    → PartTold state state' held held' part flag rows rows' words words' r → PartTold state state'' held held'' part flag rows rows'' words words'' r'
     → SameLent state' state'' held' held'' rows' rows'' words' words'' r r'
 
 abbrev pub CloseToldDetermined : Type 0
 CloseToldDetermined =
-    (state held : List ℕ) (flag : ℕ) (rows : List ℤ) (words state' state'' held' held'' : List ℕ)
-    (rows' rows'' : List ℤ) (words' words'' : List ℕ) (r r' : ℕ)
+    (state held : List ℕ) (flag : ℕ) (rows : List ℤ) (words state' state'' held' held'' : List ℕ) (rows' rows'' : List ℤ) (words' words'' : List ℕ) (r r' : ℕ)
     → CloseTold state state' held held' flag rows rows' words words' r → CloseTold state state'' held held'' flag rows rows'' words words'' r'
     → SameLent state' state'' held' held'' rows' rows'' words' words'' r r'

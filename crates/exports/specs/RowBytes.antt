@@ -1,5 +1,5 @@
--- What `orc_read_run` promises: the number that comes back, and every byte of the output at exit, for every input and every output. Rows
--- go out as bytes. Assumes nothing.
+-- What `orc_read_run` promises: the number that comes back, and every byte of the output at exit, for every input and every output. Rows go out as bytes.
+-- Assumes nothing.
 use Rattle.std.specs.Prelude.{◌≡◌, ℕ, ◌*◌, ◌/◌, Bool, not, List, [], ◌∷◌, ◌++◌, length, drop, eqb, ℤ}
 use Rattle.format.specs.Digits.{lowest_first}
 use Rattle.format.specs.Runs.{Description, row_count}

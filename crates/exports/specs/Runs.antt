@@ -1,5 +1,5 @@
--- What the functions of one run, of a stream, of booleans, of a byte value and of the writer promise: the answer's words and number, and
--- the rows or bytes of the output at exit, for every input and every output. Assumes nothing.
+-- What the functions of one run, of a stream, of booleans, of a byte value and of the writer promise: the answer's words and number, and the rows or bytes of
+-- the output at exit, for every input and every output. Assumes nothing.
 use Rattle.std.specs.Prelude.{◌≡◌, ℕ, zero, suc, ◌-◌, Bool, List, ◌++◌, map, length, drop, ltb, ℤ}
 use Rattle.format.specs.declared.Answer.{Answer}
 use Rattle.format.specs.declared.Form.{Form}

@@ -2,15 +2,27 @@
 ghost use Rattle.std.specs.Prelude.{◌≡◌, length};
 ghost use Rattle.byte_writer.specs.Choice.{written};
 ghost use Rattle.byte_writer.specs.Flags.{flag_bytes};
-ghost use Rattle.exports.specs.ByteRuns.{BooleansWrittenTold, BytesWrittenTold};
+ghost use Rattle.exports.specs.ByteRuns.{byte_run_words, BooleansWrittenTold, BytesWrittenTold};
 
-use crate::in_words;
+use byte_writer::Written;
+
+// How many words the answer of the byte writer has.
+pub const COUNT: usize = 5;
+
+// What writing bytes came to, as words.
+pub(crate) fn words_of(answer: Written) -> [u64; COUNT]
+    ensures { result ≡ byte_run_words answer }
+{
+    match answer {
+        Written::Bytes(n, size) => [1, 0, 0, n.rows as u64, size.bytes as u64],
+        Written::Refused(f) => [2, f.number as u64, f.place.bytes as u64, 0, 0],
+    }
+}
 
 // Flags as a boolean column: any byte but 0 is true. Nothing is written on refusal 8.
 #[unsafe(no_mangle)]
 pub extern "C" fn orc_write_booleans(flags: &[u8], out: &mut [u8], words: &mut [u64]) -> u64
-    ensures { BooleansWrittenTold flags.now
-        out.old out.new words.old words.new result }
+    ensures { BooleansWrittenTold flags.now out.old out.new words.old words.new result }
 {
     if words.len() < answer_words::COUNT {
         return answer_words::TOO_FEW;
@@ -22,14 +34,13 @@ pub extern "C" fn orc_write_booleans(flags: &[u8], out: &mut [u8], words: &mut [
 // Bytes as a byte column. Nothing is written on refusal 8.
 #[unsafe(no_mangle)]
 pub extern "C" fn orc_write_bytes(bytes: &[u8], out: &mut [u8], words: &mut [u64]) -> u64
-    ensures { BytesWrittenTold bytes.now
-        out.old out.new words.old words.new result }
+    ensures { BytesWrittenTold bytes.now out.old out.new words.old words.new result }
 {
-    if words.len() < in_words::WRITTEN_COUNT {
+    if words.len() < COUNT {
         return answer_words::TOO_FEW;
     }
     let answer = byte_writer::write_bytes(bytes, out);
-    let said = in_words::of_written(answer);
+    let said = words_of(answer);
     answer_words::lay(&said, words);
     said[1]
 }

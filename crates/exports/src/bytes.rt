@@ -1,6 +1,6 @@
 // Rows as bytes: a run is read into rows of our own, and laid out as eight bytes each, lowest first.
 ghost use Rattle.std.specs.Prelude.{◌≡◌, ◌++◌, map, ◌+◌, ◌*◌, ◌/◌, ◌<◌, ◌≤◌, length, take, drop, get_or, replicate, true};
-ghost use Rattle.exports.specs.RunRoom.{Enough};
+ghost use Rattle.exports.specs.Room.{Enough};
 ghost use Rattle.format.specs.Rows.{as_i64};
 ghost use Rattle.format.specs.Digits.{lowest_first};
 ghost use Rattle.exports.specs.RowBytes.{row_bytes, LoadedAs};
@@ -24,7 +24,7 @@ fn put_row(x: u64, out: &mut [u8], at: ByteOffset)
     }
 }
 
-// The first `count` rows, eight bytes each.
+// The first rows, so many, eight bytes each.
 fn put_rows(rows: &[i64], count: RowNumber, out: &mut [u8])
     requires { (count.rows ≤ length rows.now) × (8 * count.rows ≤ length out.old) }
     ensures { out.new ≡ row_bytes (take count.rows rows.now) ++ drop (8 * count.rows) out.old }
@@ -38,7 +38,7 @@ fn put_rows(rows: &[i64], count: RowNumber, out: &mut [u8])
     }
 }
 
-// `count` equal rows, eight bytes each.
+// So many equal rows, eight bytes each.
 fn put_repeat(x: u64, count: RowNumber, out: &mut [u8])
     requires { 8 * count.rows ≤ length out.old }
     ensures { out.new ≡ row_bytes (map as_i64 (replicate count.rows x)) ++ drop (8 * count.rows) out.old }
@@ -51,7 +51,7 @@ fn put_repeat(x: u64, count: RowNumber, out: &mut [u8])
     }
 }
 
-// A short repeat, whose one row goes straight into the bytes. The measure makes all tests.
+// A short repeat, whose one row goes straight into the bytes: what is tested before is the measure's.
 pub(crate) fn read_repeat(input: &[u8], signed: bool, out: &mut [u8]) -> u64
     requires { (0 < length input.now) × (get_or input.now 0 0 / 64 ≡ 0) }
     ensures { LoadedAs input.now signed out.old out.new result }

@@ -1,14 +1,14 @@
 // Columns of rows planned, checked and written, and streams converted: the exported functions over `planner` and `convert`.
-ghost use Rattle.exports.specs.ColumnCalls.{PlanTold, CheckTold, ColumnTold};
+ghost use Rattle.exports.specs.Columns.{PlanTold, CheckTold, ColumnTold};
 ghost use Rattle.exports.specs.Converting.{ConvertTold};
 ghost use Rattle.planner.specs.Check.{proposal};
 
-use crate::in_words;
+use crate::{column_words, convert_words};
 use format::ByteOffset;
 
-// Proposes how a column is cut into runs, and answers how many segments there are. Each is an entry in the first places of the five
-// columns (first row, rows, form, width, base). There is none if a column has too few places. A proposal is accepted wherever there is
-// room, and has no more bytes than direct runs of 64 bits.
+// Proposes how a column is cut into runs: how many segments, each an entry in the first places of the five columns (first row, rows, form,
+// width, base). None where a column has too few places. What it proposes is accepted wherever there is room, and has no more bytes than direct
+// runs of 64 bits.
 #[unsafe(no_mangle)]
 pub extern "C" fn orc_plan(
     rows: &[i64],
@@ -19,13 +19,12 @@ pub extern "C" fn orc_plan(
     widths: &mut [u64],
     bases: &mut [u64],
 ) -> u64
-    ensures { PlanTold rows.now flag
-        (proposal first.new counts.new forms.new widths.new bases.new) result }
+    ensures { PlanTold rows.now flag (proposal first.new counts.new forms.new widths.new bases.new) result }
 {
     planner::plan(rows, flag != 0, first, counts, forms, widths, bases) as u64
 }
 
-// Whether a proposal is accepted in a room of that many bytes.
+// Whether a proposal is accepted in so much room.
 #[unsafe(no_mangle)]
 pub extern "C" fn orc_check_column(
     rows: &[i64],
@@ -38,11 +37,9 @@ pub extern "C" fn orc_check_column(
     room: u64,
     words: &mut [u64],
 ) -> u64
-    ensures { CheckTold rows.now flag
-        (proposal first.now counts.now forms.now widths.now bases.now) room
-        words.old words.new result }
+    ensures { CheckTold rows.now flag (proposal first.now counts.now forms.now widths.now bases.now) room words.old words.new result }
 {
-    if words.len() < in_words::CHECK_COUNT {
+    if words.len() < column_words::CHECK_COUNT {
         return answer_words::TOO_FEW;
     }
     let checked = planner::check(
@@ -57,13 +54,13 @@ pub extern "C" fn orc_check_column(
             bytes: room as usize,
         },
     );
-    let said = in_words::of_checked(checked);
+    let said = column_words::of_checked(checked);
     answer_words::lay(&said, words);
     0
 }
 
-// A column as a stream of runs: as it is proposed, if that is accepted, else as direct runs of 64 bits, 512 rows each and the rest
-// last. Nothing is written on refusal 8.
+// A column as a stream of runs: as it is proposed, where that is accepted, else as direct runs of 64 bits, 512 rows each and the rest last.
+// Nothing is written on refusal 8.
 #[unsafe(no_mangle)]
 pub extern "C" fn orc_write_column(
     rows: &[i64],
@@ -76,15 +73,13 @@ pub extern "C" fn orc_write_column(
     out: &mut [u8],
     words: &mut [u64],
 ) -> u64
-    ensures { ColumnTold rows.now flag
-        (proposal first.now counts.now forms.now widths.now bases.now)
-        out.old out.new words.old words.new result }
+    ensures { ColumnTold rows.now flag (proposal first.now counts.now forms.now widths.now bases.now) out.old out.new words.old words.new result }
 {
-    if words.len() < in_words::COLUMN_COUNT {
+    if words.len() < column_words::COUNT {
         return answer_words::TOO_FEW;
     }
     let answer = planner::write_column(rows, flag != 0, first, counts, forms, widths, bases, out);
-    let said = in_words::of_column(answer);
+    let said = column_words::of(answer);
     answer_words::lay(&said, words);
     said[1]
 }
@@ -93,14 +88,13 @@ pub extern "C" fn orc_write_column(
 // copied. Nothing is written on a refusal: the stream's own, then 8.
 #[unsafe(no_mangle)]
 pub extern "C" fn orc_convert(input: &[u8], flag: u64, out: &mut [u8], words: &mut [u64]) -> u64
-    ensures { ConvertTold input.now flag
-        out.old out.new words.old words.new result }
+    ensures { ConvertTold input.now flag out.old out.new words.old words.new result }
 {
-    if words.len() < in_words::CONVERT_COUNT {
+    if words.len() < convert_words::COUNT {
         return answer_words::TOO_FEW;
     }
     let converted = convert::convert(input, flag != 0, out);
-    let said = in_words::of_converted(converted);
+    let said = convert_words::of(converted);
     answer_words::lay(&said, words);
     said[1]
 }

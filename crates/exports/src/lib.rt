@@ -1,6 +1,8 @@
-// The exported functions, which a caller in Rust or C calls: slices in and out, numbers, and one number back. `orc_read_run` answers by
-// that number alone and writes its rows as bytes. All others write their answer into words of the caller's, and read and write the
-// caller's rows in place; the number is then the refusal's. `answer_words/specs/Words.antt` says what each word means.
+// The exported functions, which a caller in Rust or C calls: slices in and out, numbers, and one number back. `orc_read_run` answers by that number
+// alone and lays its rows out as bytes. All others lay their answer down in words of the caller's (`answer_words/specs/Words.antt` says what each word means),
+// and read and write the caller's rows in place; the number is then the refusal's.
+#![tactic(auto)]
+
 ghost use Rattle.std.specs.Prelude.{◌≡◌};
 ghost use Rattle.format.specs.Kept.{NarrowestKept};
 ghost use Rattle.exports.specs.RowBytes.{Loaded};
@@ -13,15 +15,23 @@ ghost use Rattle.exports.specs.Counts.{CountTold};
 use format::{ByteOffset, RowNumber};
 
 pub mod batch_calls;
+mod batch_words;
 pub mod byte_calls;
 mod bytes;
 pub mod column_calls;
+mod column_words;
+mod convert_words;
+mod count_words;
 mod forms;
-mod in_words;
 pub mod index_calls;
+mod index_words;
+mod label_words;
 pub mod lined_up_calls;
+mod lined_up_words;
 pub mod part_calls;
 pub mod rescue_calls;
+mod rescue_words;
+mod salvage_words;
 
 // The version of these functions: one more with each change of what they take or answer.
 #[unsafe(no_mangle)]
@@ -31,7 +41,7 @@ pub extern "C" fn orc_version() -> u64
     14
 }
 
-// One run at the start of the input, its rows as eight bytes each, lowest first. The flag is 0 for unsigned, any other number for signed.
+// One run at the start of the input, its rows as eight bytes each, lowest first. The flag is 0 for unsigned, and any other number for signed.
 // Answers 0 for end, 1 to 14 for a refusal, else 65,536 times the bytes consumed, plus the rows.
 #[unsafe(no_mangle)]
 pub extern "C" fn orc_read_run(input: &[u8], out: &mut [u8], flag: u64) -> u64
@@ -63,8 +73,7 @@ pub extern "C" fn orc_read_run_at(
     rows: &mut [i64],
     words: &mut [u64],
 ) -> u64
-    ensures { RunTold input.now at flag
-        rows.old rows.new words.old words.new result }
+    ensures { RunTold input.now at flag rows.old rows.new words.old words.new result }
 {
     if words.len() < answer_words::COUNT {
         return answer_words::TOO_FEW;
@@ -73,8 +82,8 @@ pub extern "C" fn orc_read_run_at(
     answer_words::put_answer(answer, words)
 }
 
-// The runs from a position to the end of the input, their rows one after another in the rows lent. It stops at the first refusal; the rows
-// of the runs before it stay.
+// The runs from a position to the end of the input, their rows one after another in the rows lent. At the first refusal it stops, and the
+// rows of the runs before it stay.
 #[unsafe(no_mangle)]
 pub extern "C" fn orc_read_stream(
     input: &[u8],
@@ -83,8 +92,7 @@ pub extern "C" fn orc_read_stream(
     rows: &mut [i64],
     words: &mut [u64],
 ) -> u64
-    ensures { StreamTold input.now at flag
-        rows.old rows.new words.old words.new result }
+    ensures { StreamTold input.now at flag rows.old rows.new words.old words.new result }
 {
     if words.len() < answer_words::STREAM_COUNT {
         return answer_words::TOO_FEW;
@@ -102,8 +110,7 @@ pub extern "C" fn orc_read_booleans(
     out: &mut [u8],
     words: &mut [u64],
 ) -> u64
-    ensures { BooleansTold input.now at n
-        out.old out.new words.old words.new result }
+    ensures { BooleansTold input.now at n out.old out.new words.old words.new result }
 {
     if words.len() < answer_words::COUNT {
         return answer_words::TOO_FEW;
@@ -117,7 +124,7 @@ pub extern "C" fn orc_read_booleans(
     answer_words::put_answer(answer, words)
 }
 
-// A value of n bytes at a position. The caller has the bytes: if this answers with a value, it is the n bytes from the position on.
+// A value of n bytes at a position. The caller has the bytes: where this answers with a value, it is the n bytes from the position on.
 #[unsafe(no_mangle)]
 pub extern "C" fn orc_byte_value(input: &[u8], at: u64, n: u64, words: &mut [u64]) -> u64
     ensures { ValueTold input.now at n words.old words.new result }
@@ -144,8 +151,7 @@ pub extern "C" fn orc_write_run(
     out: &mut [u8],
     words: &mut [u64],
 ) -> u64
-    ensures { WriteTold rows.now flag form width
-        out.old out.new words.old words.new result }
+    ensures { WriteTold rows.now flag form width out.old out.new words.old words.new result }
 {
     if words.len() < answer_words::COUNT {
         return answer_words::TOO_FEW;
@@ -163,8 +169,7 @@ pub extern "C" fn orc_write_patched(
     out: &mut [u8],
     words: &mut [u64],
 ) -> u64
-    ensures { PatchedTold rows.now base width
-        out.old out.new words.old words.new result }
+    ensures { PatchedTold rows.now base width out.old out.new words.old words.new result }
 {
     if words.len() < answer_words::COUNT {
         return answer_words::TOO_FEW;
@@ -193,10 +198,9 @@ pub extern "C" fn orc_label(
     row: u64,
     words: &mut [u64],
 ) -> u64
-    ensures { LabelTold lengths.now numbers.now flags.now
-        block.now fallback.now row words.old words.new result }
+    ensures { LabelTold lengths.now numbers.now flags.now block.now fallback.now row words.old words.new result }
 {
-    if words.len() < in_words::LABEL_COUNT {
+    if words.len() < label_words::COUNT {
         return answer_words::TOO_FEW;
     }
     let label = labels::label_of(
@@ -207,7 +211,7 @@ pub extern "C" fn orc_label(
         fallback,
         RowNumber { rows: row as usize },
     );
-    let said = in_words::of_label(label);
+    let said = label_words::of(label);
     answer_words::lay(&said, words);
     said[1]
 }
@@ -217,11 +221,11 @@ pub extern "C" fn orc_label(
 pub extern "C" fn orc_count_true(packed: &[u8], n: u64, words: &mut [u64]) -> u64
     ensures { CountTold packed.now n words.old words.new result }
 {
-    if words.len() < in_words::TRUE_COUNT {
+    if words.len() < count_words::COUNT {
         return answer_words::TOO_FEW;
     }
     let count = boolean_rle::count::count_true(packed, RowNumber { rows: n as usize });
-    let said = in_words::of_count(count);
+    let said = count_words::of(count);
     answer_words::lay(&said, words);
     said[1]
 }

@@ -1,9 +1,8 @@
-// Columns whose parts are lined up: rows with their flags, and labels with their rows. The exported functions over `present` and
-// `labels::label_column`.
+// Columns whose parts are lined up: rows with their flags, and labels with their rows. The exported functions over `present` and `labels::label_column`.
 ghost use Rattle.labels.specs.Column.{places_in};
 ghost use Rattle.exports.specs.LinedUp.{SpreadTold, LabelsTold};
 
-use crate::in_words;
+use crate::lined_up_words;
 use format::ByteOffset;
 
 // The column whose present rows are given: each at the place of its flag, and the fill at the others.
@@ -15,20 +14,18 @@ pub extern "C" fn orc_spread(
     out: &mut [i64],
     words: &mut [u64],
 ) -> u64
-    ensures { SpreadTold flags.now rows.now fill
-        out.old out.new words.old words.new result }
+    ensures { SpreadTold flags.now rows.now fill out.old out.new words.old words.new result }
 {
-    if words.len() < in_words::SPREAD_COUNT {
+    if words.len() < lined_up_words::SPREAD_COUNT {
         return answer_words::TOO_FEW;
     }
     let spread = present::spread(flags, rows, fill, out);
-    let said = in_words::of_spread(spread);
+    let said = lined_up_words::of_spread(spread);
     answer_words::lay(&said, words);
     said[1]
 }
 
-// The labels of all rows in one pass: where each name of the dictionary begins, and for each row where its name begins and how long it
-// is.
+// What every row is called, in one pass: where each name of the dictionary begins, and for each row where its name begins and how long it is.
 #[unsafe(no_mangle)]
 pub extern "C" fn orc_label_column(
     flags: &[u8],
@@ -45,14 +42,14 @@ pub extern "C" fn orc_label_column(
         (places_in offsets.new starts.new sizes.new)
         words.old words.new result }
 {
-    if words.len() < in_words::LABELS_COUNT {
+    if words.len() < lined_up_words::LABELS_COUNT {
         return answer_words::TOO_FEW;
     }
     let size = ByteOffset {
         bytes: block as usize,
     };
     let labels = labels::label_column(flags, numbers, lengths, size, offsets, starts, sizes);
-    let said = in_words::of_labels(labels);
+    let said = lined_up_words::of_labels(labels);
     answer_words::lay(&said, words);
     said[1]
 }

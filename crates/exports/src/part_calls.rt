@@ -12,8 +12,8 @@ pub extern "C" fn orc_part_start(state: &mut [u64]) -> u64
     answer_words::parts::put_reader(parts::start(), state)
 }
 
-// A call with a part. It takes the part up to the end of a run, whose rows go into the first of the rows lent; or all of it; or nothing, if
-// the call refuses. The bytes of the unfinished run stay in the caller's buffer from call to call.
+// A call with a part: it is taken up to the end of a run, whose rows go into the first of the rows lent, or all of it, or, where the call
+// refuses, nothing of it. The bytes of the unfinished run stand in the bytes lent, from call to call.
 #[unsafe(no_mangle)]
 pub extern "C" fn orc_part_take(
     state: &mut [u64],
@@ -23,8 +23,7 @@ pub extern "C" fn orc_part_take(
     rows: &mut [i64],
     words: &mut [u64],
 ) -> u64
-    ensures { PartTold state.old state.new held.old held.new
-        part.now flag rows.old rows.new words.old words.new result }
+    ensures { PartTold state.old state.new held.old held.new part.now flag rows.old rows.new words.old words.new result }
 {
     if state.len() < answer_words::parts::STATE_COUNT {
         return answer_words::TOO_FEW;
@@ -46,8 +45,7 @@ pub extern "C" fn orc_part_close(
     rows: &mut [i64],
     words: &mut [u64],
 ) -> u64
-    ensures { CloseTold state.old state.new held.old held.new
-        flag rows.old rows.new words.old words.new result }
+    ensures { CloseTold state.old state.new held.old held.new flag rows.old rows.new words.old words.new result }
 {
     if state.len() < answer_words::parts::STATE_COUNT {
         return answer_words::TOO_FEW;

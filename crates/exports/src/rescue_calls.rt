@@ -1,7 +1,7 @@
 // Rows rescued from a damaged stream by the positions of the file's own row index: the exported function over `rescue`.
 ghost use Rattle.exports.specs.Rescue.{RescueTold};
 
-use crate::in_words;
+use crate::rescue_words;
 
 // The rows of all groups in the first places of `rows`, and 1 (kept) or 0 (replaced) for each group in the first of `verdicts`. A group
 // has a position (the byte of a run and the rows to skip from there) and a row count. A refused call leaves both as they were.
@@ -21,11 +21,11 @@ pub extern "C" fn orc_rescue(
         input.now runs.now skips.now counts.now fill flag
         rows.old rows.new verdicts.old verdicts.new words.old words.new result }
 {
-    if words.len() < in_words::RESCUE_COUNT {
+    if words.len() < rescue_words::COUNT {
         return answer_words::TOO_FEW;
     }
     let rescued = rescue::rescue(input, flag != 0, runs, skips, counts, fill, rows, verdicts);
-    let said = in_words::of_rescued(rescued);
+    let said = rescue_words::of(rescued);
     answer_words::lay(&said, words);
     said[1]
 }

@@ -5,7 +5,7 @@ use Rattle.format.specs.declared.Answer.{Answer}
 use Rattle.format.specs.Digits.{digits}
 use Rattle.format.specs.Parse.{bytes}
 use Rattle.format.specs.Answers.{ran, cut_at}
-use Rattle.format.specs.Booleans.{run_layout, run_bytes, byte_count, joined_runs, joined_bytes, bits, booleans_of, repeat_run, byte_run}
+use Rattle.format.specs.Booleans.{run_layout, run_bytes, byte_count, joined_runs, joined_bytes, booleans_of, repeat_run, byte_run}
 use Rattle.format.specs.Booleans.{byte_runs, booleans, booleans_into, booleans_answer, booleans_places}
 
 -- ---- the starred line: 32 booleans of `00 FF FF 00` are 24 true, 8 false, in 4 bytes; with 33 refusal 6, the next control byte missing

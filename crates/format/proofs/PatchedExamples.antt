@@ -5,7 +5,6 @@ use Rattle.format.specs.Digits
 use Rattle.format.specs.Fields
 use Rattle.format.specs.Runs
 use Rattle.format.specs.Runs.{Patch}
-use Rattle.format.specs.Rows
 use Rattle.format.specs.Writing
 use Rattle.format.specs.Answers.{answer_number}
 use Rattle.format.specs.Promises.{answer_of}

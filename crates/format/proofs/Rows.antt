@@ -5,8 +5,7 @@ use Rattle.format.proofs.Common.{pow-le-pow_right, mul-le-mul, arith, Bool, true
 use Rattle.format.proofs.Common.{length, length-map, length-replicate, replicate, length-append}
 use native.Mathlib.Numerals.{add-two}
 use Rattle.format.specs.Digits.{AllBelow}
-use Rattle.format.specs.Fields.{width, block_bytes, bytes_for, row, two64}
-use Rattle.format.specs.Runs
+use Rattle.format.specs.Fields.{pick, negative, width, block_bytes, bytes_for, row, two64}
 use Rattle.format.specs.Runs.{Description, short, direct, fixed, delta, patched, row_count, Valid, layout, Patch, entry_width}
 use Rattle.format.specs.Rows
 use Rattle.format.specs.Rows.{rows_of, as_i64, i64_rows}
@@ -25,7 +24,7 @@ length-steps (suc n) x step = ap suc (length-steps n (Rows.plus x step) step)
 length-walk : (falling : Bool) (x : ℕ) (ms : List ℕ) → length (Rows.walk falling x ms) ≡ length ms
 unfolding Rows.walk
 length-walk falling x [] = refl
-length-walk falling x (m ∷ ms) = ap suc (length-walk falling _ ms)
+length-walk falling x (m ∷ ms) = ap suc (length-walk falling (Rows.plus x (pick falling (negative m) m)) ms)
 
 pub length-patched_rows : (base w : ℕ) (ps : List Patch) (p : ℕ) (vs : List ℕ) → length (Rows.patched_rows base w ps p vs) ≡ length vs
 unfolding Rows.patched_rows
@@ -141,7 +140,7 @@ below_steps (suc n) x step h = (h, below_steps n (Rows.plus x step) step (plus-l
 below-walk : (falling : Bool) (x : ℕ) (ms : List ℕ) → AllBelow two64 (Rows.walk falling x ms)
 unfolding Rows.walk
 below-walk falling x [] = tt
-below-walk falling x (m ∷ ms) = (plus-lt x _, below-walk falling _ ms)
+below-walk falling x (m ∷ ms) = (plus-lt x _, below-walk falling (Rows.plus x (pick falling (negative m) m)) ms)
 
 below-patched : (base w : ℕ) (ps : List Patch) (p : ℕ) (vs : List ℕ) → AllBelow two64 (Rows.patched_rows base w ps p vs)
 unfolding Rows.patched_rows

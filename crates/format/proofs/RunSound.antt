@@ -3,7 +3,7 @@ use Rattle.format.proofs.Common.{◌≡◌, refl, sym, ap, ap₂, ◌∙◌, ℕ
 use Rattle.format.proofs.Common.{◌++◌, append_assoc, cons≢nil, length, ltb, eqb, eqb→eq, nltb→le, eqb_no, ◌≢◌}
 use Rattle.format.specs.Digits.{AllBelow}
 use Rattle.format.specs.Fields.{width, block_bytes}
-use Rattle.format.specs.Runs.{Description, Valid, ValidHead, head₀, head₁, head, layout, patches, too_large, out_of_place, entry_width}
+use Rattle.format.specs.Runs.{Description, Valid, ValidHead, head₀, head₁, layout, patches, too_large, out_of_place, entry_width}
 use Rattle.format.specs.Parse
 use Rattle.format.specs.Parse.{Parsed, code_of, rows_less, parse}
 use Rattle.format.proofs.Fields

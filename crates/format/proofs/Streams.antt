@@ -169,5 +169,5 @@ stream-cut n ds d p q vs v h e pe qe =
 
 -- the last run of a list that ends in one
 pub last_snoc : (none : LastRun) (ds : List Description) (d : Description) → last_or none (ds ++ d ∷ []) ≡ Run (run_of d)
-last_snoc none [] d = refl
-last_snoc none (e ∷ ds) d = last_snoc (Run (run_of e)) ds d
+last_snoc before [] d = refl
+last_snoc before (e ∷ ds) d = last_snoc (Run (run_of e)) ds d

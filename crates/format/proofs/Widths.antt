@@ -1,7 +1,7 @@
 -- The table of widths, each law by one computed test over it.
 -- Assumes nothing.
-use Rattle.format.proofs.Common.{◌≡◌, sym, subst, ℕ, zero, suc, ◌+◌, ◌-◌, ◌*◌, ◌<◌, ◌≤◌, arith, ℕ_discrete, Bool, true, false, ◌&&◌}
-use Rattle.format.proofs.Common.{◌||◌, List, [], ◌∷◌, get_or, T, leb, ltb, eqb, eqb→eq, leb→le, lt-leb}
+use Rattle.format.proofs.Common.{◌≡◌, sym, subst, ℕ, zero, suc, ◌+◌, ◌-◌, ◌<◌, ◌≤◌, arith, ℕ_discrete, Bool, true, false, ◌&&◌}
+use Rattle.format.proofs.Common.{◌||◌, List, [], ◌∷◌, get_or, T, leb, eqb, eqb→eq, leb→le, lt-leb}
 use native.Mathlib.Nat.{not-suc-le-zero}
 use Rattle.format.proofs.Tests.{and_left, and_right}
 use Rattle.format.specs.Fields.{pick, widths, width, least_of, least_width, Narrowest}

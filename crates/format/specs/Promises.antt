@@ -67,8 +67,8 @@ RunMeasured input at r = r ≡ answer_of at (length input - at) (parse (drop at 
 
 -- the last of some runs, or what is given if there are none
 abbrev pub last_or : LastRun → List Description → LastRun
-last_or none [] = none
-last_or none (d ∷ ds) = last_or (last.Run (run_of d)) ds
+last_or before [] = before
+last_or before (d ∷ ds) = last_or (last.Run (run_of d)) ds
 
 abbrev pub last_of : List Description → LastRun
 last_of ds = last_or last.None ds
@@ -79,14 +79,12 @@ stream_answer at (whole ds) = read_whole (total_rows ds) (length (joined ds)) (l
 stream_answer at (broken ds r rest) =
     broke_at (refusal (at + length (joined ds)) (length rest) r) (total_rows ds) (length (joined ds)) (last_of ds)
 
--- the caller's places at exit: the rows of the runs that were read, joined, in the first of them, the others as they were
-abbrev pub stream_places : Bool → List ℤ → List Description → List ℤ
-stream_places signed out ds = joined_rows signed ds ++ drop (total_rows ds) out
-
 -- THE STREAM READER: it reads from the position on, as many runs as there are before a refusal
 pub record StreamRead (input : List ℕ) (at : ℕ) (signed : Bool) (out out' : List ℤ) (r : Stream) : Type 0 where
   pub answer : r ≡ stream_answer at (read_all (length out) (drop at input))
-  pub places : out' ≡ stream_places signed out (runs_of (read_all (length out) (drop at input)))
+  pub places : out' ≡
+      joined_rows signed (runs_of (read_all (length out) (drop at input)))
+      ++ drop (total_rows (runs_of (read_all (length out) (drop at input)))) out
 
 -- THE STREAM'S MEASURE: the stream reader's answer with as many places as a count can name. That is room enough for every stream of less
 -- than 2^55 bytes (`counted-all`); in a longer one, refusal 8 stands at the run whose rows would pass 2^64 - 1.

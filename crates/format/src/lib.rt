@@ -1,16 +1,18 @@
 // The nouns of docs/FORMAT.md: units, kinds, answers. What bytes mean stands in specs/, and the laws of that meaning in proofs/.
+#![tactic(auto)]
+
 ghost use Rattle.std.specs.Prelude.{◌≡◌, ◌<◌};
 ghost use Rattle.format.specs.Answers.{running, ran, refusing, cutting, refused_at, cut_at, kind_number, read_whole, broke_at};
 ghost use Rattle.format.specs.Answers.{answer_number, answer_place, answer_cut, answer_width, answer_rows, answer_bytes, answer_packed};
 
 // File offsets count bytes.
-#[derive(Drop)]
+#[derive(Clone, Copy)]
 pub struct ByteOffset {
     pub bytes: usize,
 }
 
 // Row numbers count rows.
-#[derive(Drop)]
+#[derive(Clone, Copy)]
 pub struct RowNumber {
     pub rows: usize,
 }
@@ -21,7 +23,7 @@ pub const ALL_BITS: u64 = 18446744073709551615;
 pub const TOP_BIT: u64 = 9223372036854775808;
 
 // What a call read or wrote: one of the four kinds of integer run, booleans, or a byte value.
-#[derive(Drop)]
+#[derive(Clone, Copy)]
 pub enum Kind {
     ShortRepeat,
     Direct,
@@ -32,7 +34,7 @@ pub enum Kind {
 }
 
 // What the writer writes. Fixed and packed delta are forms of one kind.
-#[derive(Drop)]
+#[derive(Clone, Copy)]
 pub enum Form {
     ShortRepeat,
     Direct,
@@ -41,7 +43,7 @@ pub enum Form {
 }
 
 // A run: its kind, the width of its values in bits, and how many rows and bytes it has.
-#[derive(Drop)]
+#[derive(Clone, Copy)]
 pub struct Run {
     pub kind: Kind,
     pub width: usize,
@@ -50,14 +52,14 @@ pub struct Run {
 }
 
 // The field that the input ends in: the byte where it begins, or none if no field is cut.
-#[derive(Drop)]
+#[derive(Clone, Copy)]
 pub enum CutField {
     None,
     At(ByteOffset),
 }
 
 // A refusal: its number (FORMAT.md, "Refusals"), the byte where the refused run begins, and for 6, 12, 13 and 14 the field that was cut.
-#[derive(Drop)]
+#[derive(Clone, Copy)]
 pub struct Refusal {
     pub number: u8,
     pub place: ByteOffset,
@@ -65,7 +67,7 @@ pub struct Refusal {
 }
 
 // What a call answers.
-#[derive(Drop)]
+#[derive(Clone, Copy)]
 pub enum Answer {
     End,
     Run(Run),
@@ -73,14 +75,14 @@ pub enum Answer {
 }
 
 // The last of several runs, or none if there are none.
-#[derive(Drop)]
+#[derive(Clone, Copy)]
 pub enum LastRun {
     None,
     Run(Run),
 }
 
 // Several runs: their rows and bytes, and the last of them.
-#[derive(Drop)]
+#[derive(Clone, Copy)]
 pub struct Counts {
     pub rows: RowNumber,
     pub consumed: ByteOffset,
@@ -88,14 +90,14 @@ pub struct Counts {
 }
 
 // What the stream reader answers: every run was read, or a run was refused, with the counts of the runs before it.
-#[derive(Drop)]
+#[derive(Clone, Copy)]
 pub enum Stream {
     Whole(Counts),
     Refused(Refusal, Counts),
 }
 
 // A reader of parts is open, or was refused, or closed.
-#[derive(Drop)]
+#[derive(Clone, Copy)]
 pub enum Standing {
     Opened,
     Broken(Refusal),
@@ -104,7 +106,7 @@ pub enum Standing {
 
 // A reader of parts: how many bytes of the buffer belong to the unfinished run; where that run starts, counted from the first part, modulo
 // 2^64; and whether the reader is open.
-#[derive(Drop)]
+#[derive(Clone, Copy)]
 pub struct PartReader {
     pub held: usize,
     pub at: ByteOffset,
@@ -112,7 +114,7 @@ pub struct PartReader {
 }
 
 // What it answers: a run with its start; "all taken, no run yet"; a refusal; or, after closing, the stream's end.
-#[derive(Drop)]
+#[derive(Clone, Copy)]
 pub enum PartAnswer {
     Run(ByteOffset, Run),
     More,
@@ -121,7 +123,7 @@ pub enum PartAnswer {
 }
 
 // What a call does: its answer, how many of the part's bytes it took, and the reader after it.
-#[derive(Drop)]
+#[derive(Clone, Copy)]
 pub struct PartStep {
     pub answer: PartAnswer,
     pub taken: ByteOffset,

@@ -1,6 +1,13 @@
 -- What building answers, by what the walk over the stream found. Assumes nothing.
-use Rattle.format.proofs.Common.{◌≡◌, refl, sym, ap, ◌∙◌, ℕ, ◌+◌, ◌-◌, ◌*◌, ◌<◌, ◌≤◌, arith, zero-add, true, ◌||◌, or-true, List, length}
-use Rattle.format.proofs.Common.{length-append, leb, ltb, le-leb, lt-leb, le-ltb, lt-ltb}
+use mathlib.Core.Path.{◌≡◌, refl, sym, ap, ◌∙◌}
+use Prim.Native.Nat.{ℕ, ◌+◌, ◌-◌, ◌*◌, ◌<◌, ◌≤◌}
+use native.Mathlib.Omega.{arith}
+use native.Mathlib.Nat.{zero-add}
+use mathlib.Core.Bool.{true, ◌||◌, or-true}
+use mathlib.Core.List.{List}
+use lib.ListN.{length, length-append}
+use lib.Dec.{leb, ltb}
+use borrow.Author.Tests.{le-leb, lt-leb, le-ltb, lt-ltb}
 use Rattle.format.specs.Digits.{AllBelow}
 use Rattle.format.specs.Fields.{two64}
 use Rattle.format.specs.Runs.{Description, joined}
@@ -10,8 +17,8 @@ use Rattle.format.specs.Answers as answers
 use Rattle.format.specs.declared.Refusal.{Refusal}
 use Rattle.format.proofs.Streams.{Reads, reads_whole, reads-broken}
 use Rattle.format.proofs.StreamRoom.{stream-reads}
-use Rattle.index.specs.Entries.{gives, refuses, building}
-use Rattle.index.specs.IndexColumns.{columns_at, building_in}
+use Rattle.index.specs.Entries.{Result, gives, refuses, building}
+use Rattle.index.specs.Columns.{columns_at, building_in}
 use Rattle.index.specs.Promises.{built_of, built_with, not_built, BuiltIn}
 use Rattle.index.specs.declared.Built.TheVariants as built
 use Rattle.index.specs.declared.walk.Total.{Total}
@@ -19,7 +26,7 @@ use Rattle.index.specs.declared.walk.Total.TheVariants as total
 use Rattle.index.specs.declared.walk.Survey.{Survey}
 use Rattle.index.specs.declared.walk.Survey.TheVariants as survey
 use Rattle.index.specs.Walk.{total_of, survey_from, Roomy, Filled}
-use Rattle.index.proofs.IndexColumns.{columns-hold}
+use Rattle.index.proofs.Columns.{columns-hold}
 use Rattle.index.proofs.Totals as Totals
 
 -- ---- what the walk found
@@ -66,32 +73,13 @@ module _ (bs : List ℕ) where
               → answers.refusal p q r ≡ answers.refusal (length (joined ds)) (length bs - length (joined ds)) r
           by p q e f r = rw (e, f)
 
--- ---- what building comes to, in columns of one length
-
-as-table : (bs : List ℕ) {x y z : ℕ} → y ≡ x → z ≡ x → building_in x y z bs ≡ building x bs
-as-table bs {x} a b = rw (a, b) (columns-hold.same-building x bs)
-
-module _ {bs : List ℕ} {x y z k : ℕ} {t : Total} (a : y ≡ x) (b : z ≡ x) (w : Whole bs k t) where
-  eight : ltb x (length w.runs) || leb two64 (total_rows w.runs) ≡ true → building_in x y z bs ≡ refuses (plain 8) 0
-  unfolding building
-  eight e = as-table bs a b ∙ rw (w.whole_is, e)
-
-  module _ {rows : ℕ} (e : t ≡ total.Rows (record { rows = rows })) (l : k ≤ x) where
-    small : (rows ≡ total_rows w.runs) × (total_rows w.runs < two64)
-    small = Totals.rows_are (total_rows w.runs) rows (sym e ∙ w.total-is)
-
-    pub roomy-so : Roomy bs x y z
-    roomy-so = record { runs = w.runs; whole_is = w.whole_is; room = omega (arith, w.count); small = small.1; same-offsets = a; same-counts = b }
-
-    what-is : building_in x y z bs ≡ gives w.runs
-    unfolding building
-    what-is = as-table bs a b ∙ rw (w.whole_is, le-ltb x (length w.runs) (omega (arith, w.count)), lt-leb two64 (total_rows w.runs) small.1)
-
 -- ---- the answers
 
-module _ {bs f o n : List ℕ} where
-  refused-so : (r : Reason) (p : ℕ) → building_in (length f) (length o) (length n) bs ≡ refuses r p
-      → BuiltIn bs f o n f o n (built.Refused (answers.refusal p (length bs - p) r))
+module _ (bs f o n : List ℕ) where
+  abbrev what : Result (List Description)
+  what = building_in (length f) (length o) (length n) bs
+
+  refused-so : (r : Reason) (p : ℕ) → what ≡ refuses r p → BuiltIn bs f o n f o n (built.Refused (answers.refusal p (length bs - p) r))
   refused-so r p e = record { answer = rw e; columns = rw e }
 
   pub unequal-offsets : (length o ≡ length f → ⊥) → BuiltIn bs f o n f o n (not_built 15)
@@ -101,27 +89,47 @@ module _ {bs f o n : List ℕ} where
   unequal-counts h = refused-so (plain 15) 0 (columns-hold.unequal-building (length f) (length o) (length n) bs (λ p. h (sym p.1)))
 
   module _ (a : length o ≡ length f) (b : length n ≡ length f) where
-    pub own-so : {v : Refusal} → Broken bs v → BuiltIn bs f o n f o n (built.Refused v)
-    unfolding building
-    own-so w = rw w.refusal_is (refused-so w.reason (length (joined w.runs)) (as-table bs a b ∙ rw w.broken-is))
+    as-table : what ≡ building (length f) bs
+    as-table = go (length o) (length n) a b
+      where
+        go : (x y : ℕ) → x ≡ length f → y ≡ length f → building_in (length f) x y bs ≡ building (length f) bs
+        go x y p q = rw (p, q) (columns-hold.same-building (length f) bs)
 
-    module _ {k : ℕ} {t : Total} (w : Whole bs k t) where
+    pub own-so : (v : Refusal) → Broken bs v → BuiltIn bs f o n f o n (built.Refused v)
+    unfolding building
+    own-so v w = rw w.refusal_is (refused-so w.reason (length (joined w.runs)) (as-table ∙ rw w.broken-is))
+
+    module _ (k : ℕ) (t : Total) (w : Whole bs k t) where
+      eight : ltb (length f) (length w.runs) || leb two64 (total_rows w.runs) ≡ true → what ≡ refuses (plain 8) 0
+      unfolding building
+      eight e = as-table ∙ rw (w.whole_is, e)
+
       pub past-so : t ≡ total.Past → BuiltIn bs f o n f o n (not_built 8)
       past-so e =
           refused-so (plain 8) 0
-          (eight a b w (rw (le-leb two64 (total_rows w.runs) (Totals.past_is (total_rows w.runs) (sym e ∙ w.total-is)))
+          (eight (rw (le-leb two64 (total_rows w.runs) (Totals.past_is (total_rows w.runs) (sym e ∙ w.total-is)))
           (or-true (ltb (length f) (length w.runs)))))
 
       pub few-so : length f < k → BuiltIn bs f o n f o n (not_built 8)
-      few-so h = refused-so (plain 8) 0 (eight a b w (rw (lt-ltb (length f) (length w.runs) (omega (arith, w.count)))))
+      few-so h = refused-so (plain 8) 0 (eight (rw (lt-ltb (length f) (length w.runs) (omega (arith, w.count)))))
 
-      pub built-so : {rows : ℕ} → t ≡ total.Rows (record { rows = rows }) → k ≤ length f → {f' o' n' : List ℕ} → Filled bs f o n f' o' n'
-          → BuiltIn bs f o n f' o' n' (built_with k rows (length bs))
-      built-so {rows} e l q = record {
-        answer = numbers k rows (length bs) w.count (small a b w e l).0 (ap length w.bytes) ∙ sym (ap (built_of (length bs)) (what-is a b w e l));
-        columns = q.filled w.runs w.whole_is ∙ sym (ap (columns_at (record { firsts = f; offsets = o; counts = n })) (what-is a b w e l));
-      }
-        where
-          numbers : (x y z : ℕ) → x ≡ length w.runs → y ≡ total_rows w.runs → z ≡ length (joined w.runs)
-              → built_with x y z ≡ built_of (length bs) (gives w.runs)
-          numbers x y z p q r = rw (p, q, r)
+      module _ (rows : ℕ) (e : t ≡ total.Rows (record { rows = rows })) (l : k ≤ length f) where
+        small : (rows ≡ total_rows w.runs) × (total_rows w.runs < two64)
+        small = Totals.rows_are (total_rows w.runs) rows (sym e ∙ w.total-is)
+
+        pub roomy-so : Roomy bs (length f) (length o) (length n)
+        roomy-so = record { runs = w.runs; whole_is = w.whole_is; room = omega (arith, w.count); small = small.1; same-offsets = a; same-counts = b }
+
+        what-is : what ≡ gives w.runs
+        unfolding building
+        what-is = as-table ∙ rw (w.whole_is, le-ltb (length f) (length w.runs) (omega (arith, w.count)), lt-leb two64 (total_rows w.runs) small.1)
+
+        pub built-so : (f' o' n' : List ℕ) → Filled bs f o n f' o' n' → BuiltIn bs f o n f' o' n' (built_with k rows (length bs))
+        built-so f' o' n' q = record {
+          answer = numbers k rows (length bs) w.count small.0 (ap length w.bytes) ∙ sym (ap (built_of (length bs)) what-is);
+          columns = q.filled w.runs w.whole_is ∙ sym (ap (columns_at (record { firsts = f; offsets = o; counts = n })) what-is);
+        }
+          where
+            numbers : (x y z : ℕ) → x ≡ length w.runs → y ≡ total_rows w.runs → z ≡ length (joined w.runs)
+                → built_with x y z ≡ built_of (length bs) (gives w.runs)
+            numbers x y z p q r = rw (p, q, r)

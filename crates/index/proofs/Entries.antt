@@ -1,6 +1,12 @@
 -- The entries of a stream's runs: when two tables are the same, and that first row and offset are the sums before. Assumes nothing.
-use Rattle.format.proofs.Common.{◌≡◌, refl, ap, ℕ, suc, ◌+◌, arith, add-zero, zero-add, Bool, List, [], ◌∷◌, ◌++◌, append-nil, length}
-use Rattle.format.proofs.Common.{length-append, T, eqb, eqb→eq, eqb_refl}
+use mathlib.Core.Path.{◌≡◌, refl, ap}
+use Prim.Native.Nat.{ℕ, suc, ◌+◌}
+use native.Mathlib.Omega.{arith}
+use native.Mathlib.Nat.{add-zero, zero-add}
+use mathlib.Core.Bool.{Bool}
+use mathlib.Core.List.{List, [], ◌∷◌, ◌++◌, append-nil}
+use lib.ListN.{length, length-append}
+use lib.Dec.{T, eqb, eqb→eq, eqb_refl}
 use Rattle.format.specs.Runs.{Description, row_count, layout, joined}
 use Rattle.format.specs.Streams.{total_rows}
 use Rattle.format.proofs.Joined.{joined-append, total-snoc}
@@ -47,7 +53,7 @@ total-cons d ds = refl
 pub entries-length : (f a : ℕ) (ds : List Description) → length (entries_from f a ds) ≡ length ds
 unfolding entries_from
 entries-length f a [] = refl
-entries-length f a (d ∷ ds) = ap suc (entries-length _ _ ds)
+entries-length f a (d ∷ ds) = ap suc (entries-length (f + row_count d) (a + length (layout d)) ds)
 
 pub entries-append : (f a : ℕ) (ds es : List Description)
     → entries_from f a (ds ++ es) ≡ entries_from f a ds ++ entries_from (f + total_rows ds) (a + length (joined ds)) es

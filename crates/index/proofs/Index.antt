@@ -1,7 +1,16 @@
 -- The theorems of the index, from the law of streams. Assumes nothing.
-use Rattle.format.proofs.Common.{◌≡◌, refl, sym, ap, ◌∙◌, ◌≢◌, ◌↔◌, ℕ, ◌+◌, ◌-◌, ◌<◌, ◌≤◌, arith, zero-add, Bool, true, false, List, ◌∷◌}
-use Rattle.format.proofs.Common.{◌++◌, List-as-Memᴰ, length, take, drop, drop_at, drop-append-add, leb, ltb, ℤ, leb-true, leb-false, ltb-true}
-use Rattle.format.proofs.Common.{ltb-false}
+use mathlib.Core.Path.{◌≡◌, refl, sym, ap, ◌∙◌}
+use mathlib.Core.Logic.{◌≢◌, ◌↔◌}
+use Prim.Native.Nat.{ℕ, ◌+◌, ◌-◌, ◌<◌, ◌≤◌}
+use native.Mathlib.Omega.{arith}
+use native.Mathlib.Nat.{zero-add}
+use mathlib.Core.Bool.{Bool, true, false}
+use mathlib.Core.List.{List, ◌∷◌, ◌++◌, Memᴰ}
+use lib.ListN.{length, take, drop}
+use lib.Seq.{drop_at, drop-append-add}
+use lib.Dec.{leb, ltb}
+use lib.IntN.{ℤ}
+use borrow.Author.Tests.{leb-true, leb-false, ltb-true, ltb-false}
 use Rattle.format.specs.Digits.{AllBelow}
 use Rattle.format.specs.Runs.{Description, joined}
 use Rattle.format.specs.Parse.{plain}
@@ -13,7 +22,7 @@ use Rattle.format.proofs.Tests.{never}
 use Rattle.index.specs.Entries.{Result, gives, refuses, number_of, unless, Entry, entries, building, table_of, holder, lookup, rows_from, reading}
 use Rattle.index.specs.Theorems.{IsIndex, Holds, LookupHolds, ReadingHolds, IndexHolds, IndexProved}
 use Rattle.index.proofs.Entries.{total-cons}
-use Rattle.index.proofs.HoldingEntry.{holder-sound, Held, held, unheld, what-held, holder-of}
+use Rattle.index.proofs.Held.{holder-sound, Held, held, unheld, what-held, holder-of}
 use Rattle.index.proofs.Checked.{runs-are, checked-right, checked-wrong, right-or-wrong, exactly-whole}
 use Rattle.index.proofs.Building.{built, own, full, building-right}
 use Rattle.index.proofs.Own.{exactly-8}
@@ -36,13 +45,13 @@ module _ (bs : List ℕ) (h : AllBelow 256 bs) where
     unfolding lookup
     lookup-wrong n = rw (checked-wrong bs h es n)
 
-    found-only : (e e' : Entry) → IsIndex bs es → List-as-Memᴰ e es → Holds e r → List-as-Memᴰ e' es → Holds e' r → e ≡ e'
+    found-only : (e e' : Entry) → IsIndex bs es → Memᴰ e es → Holds e r → Memᴰ e' es → Holds e' r → e ≡ e'
     found-only e e' i m k m' k' =
         let a : holder r (entries i.runs) ≡ gives e = holder-of r 0 0 i.runs e (rw i.are at m) k in
         let b : holder r (entries i.runs) ≡ gives e' = holder-of r 0 0 i.runs e' (rw i.are at m') k' in
         cc
 
-    found-exactly : (e : Entry) → (lookup es bs r ≡ gives e) ↔ (IsIndex bs es × List-as-Memᴰ e es × Holds e r)
+    found-exactly : (e : Entry) → (lookup es bs r ≡ gives e) ↔ (IsIndex bs es × Memᴰ e es × Holds e r)
     found-exactly e = (
       λ g. right-or-wrong bs h es
           (λ i. let p = holder-sound r (entries i.runs) e (sym (lookup-right es i r) ∙ g) in (i, rw i.are p.0, p.1))

@@ -1,6 +1,12 @@
--- The rows of the run that holds the row, without the first few, and those of the runs after it. Assumes nothing.
-use Rattle.format.proofs.Common.{◌≡◌, refl, sym, ap, ◌∙◌, ℕ, ◌+◌, ◌-◌, ◌≤◌, arith, Bool, List, ◌∷◌, ◌++◌, length, take, drop, length-append}
-use Rattle.format.proofs.Common.{length-drop, take_at, drop_at, drop-drop, drop-append-le, ℤ}
+-- The rows of the run that holds the row, without the first few, and those of the runs behind it. Assumes nothing.
+use mathlib.Core.Path.{◌≡◌, refl, sym, ap, ◌∙◌}
+use Prim.Native.Nat.{ℕ, ◌+◌, ◌-◌, ◌≤◌}
+use native.Mathlib.Omega.{arith}
+use mathlib.Core.Bool.{Bool}
+use mathlib.Core.List.{List, ◌∷◌, ◌++◌}
+use lib.ListN.{length, take, drop, length-append, length-drop}
+use lib.Seq.{take_at, drop_at, drop-drop, drop-append-le}
+use lib.IntN.{ℤ}
 use Rattle.format.specs.Runs.{Description, row_count, layout, joined}
 use Rattle.format.specs.Rows.{i64_rows}
 use Rattle.format.specs.Parse.{got, parse, into}
@@ -19,12 +25,39 @@ use Rattle.format.proofs.Tests.{never}
 use Rattle.util.proofs.Grow.{back_is}
 use Rattle.index.specs.Walk.{Ready, RowsLaid}
 
-module _ {s : List ℕ} {at skip places : ℕ} (y : Ready s at skip places) where
+module _ (s : List ℕ) (at skip : ℕ) (signed : Bool) (out : List ℤ) (y : Ready s at skip (length out)) where
   abbrev d : Description
   d = y.run
 
   abbrev b : List Description
   b = y.behind
+
+  the-run : parse (drop at s) ≡ got d (joined b)
+  unfolding joined
+  the-run = ap parse y.bytes ∙ parse-complete d (joined b) y.valid.0
+
+  -- the call of the run reader
+  module _ (held held' : List ℤ) (a : Answer) (l : length held ≡ 512) (g : Gives at (length s - at) signed (parse (drop at s)) held held' a) where
+    into-is : into (length held) (parse (drop at s)) ≡ got d (joined b)
+    into-is = ap (into (length held)) the-run ∙ into-got (length held) d (joined b) (omega (arith, row-bounds d y.valid.0, l))
+
+    ran : a ≡ answer.Run (run_of d)
+    ran = g.answer ∙ ap (answer_of at (length s - at)) into-is
+
+    pub held-is : held' ≡ i64_rows signed d ++ drop (row_count d) held
+    held-is = g.places ∙ ap (run_places signed held) into-is
+
+    pub rows_are : (r : Run) → a ≡ answer.Run r → r.rows.rows ≡ row_count d
+    rows_are r e = ap (λ (x : Run). x.rows.rows) (run-inj r (run_of d) (sym e ∙ ran))
+
+    pub bytes-are : (r : Run) → a ≡ answer.Run r → r.consumed.bytes ≡ length (layout d)
+    bytes-are r e = ap (λ (x : Run). x.consumed.bytes) (run-inj r (run_of d) (sym e ∙ ran))
+
+    pub not-refused : (f : Refusal) → a ≡ answer.Refused f → ⊥
+    not-refused f e = run-not-refused (run_of d) f (sym ran ∙ e)
+
+    pub not-ended : a ≡ answer.End → ⊥
+    not-ended e = let q : answer.Run (run_of d) ≡ answer.End = sym ran ∙ e in never (cc)
 
   -- there are so many bytes ..
   pub bytes-within : at + length (layout d) ≤ length s
@@ -32,96 +65,69 @@ module _ {s : List ℕ} {at skip places : ℕ} (y : Ready s at skip places) wher
   bytes-within = omega (arith, length-drop at s, ap length y.bytes, length-append (layout d) (joined b), y.within)
 
   -- .. and so many rows of this run
-  pub rows-within : row_count d - skip ≤ places
+  pub rows-within : row_count d - skip ≤ length out
   unfolding total_rows
   rows-within = omega (arith, y.room)
 
-  -- the run is read aside: its rows are the first of some places
-  pub record Aside (signed : Bool) (held : List ℤ) (a : Answer) : Type 0 where
-    pub ran : a ≡ answer.Run (run_of d)
-    pub rest : List ℤ
-    pub rows : held ≡ i64_rows signed d ++ rest
+  module _ (held held' : List ℤ) (e : held' ≡ i64_rows signed d ++ drop (row_count d) held) (n : ℕ) (q : n ≡ row_count d - skip) where
+    abbrev piece : List ℤ
+    piece = drop skip (i64_rows signed d)
 
-  pub aside : {signed : Bool} {held held' : List ℤ} {a : Answer} → length held ≡ 512
-      → Gives at (length s - at) signed (parse (drop at s)) held held' a → Aside signed held' a
-  unfolding joined
-  aside {signed} {held} l g =
-      let e : into (length held) (parse (drop at s)) ≡ got d (joined b)
-      = ap (into (length held)) (ap parse y.bytes ∙ parse-complete d (joined b) y.valid.0)
-      ∙ into-got (length held) d (joined b) (omega (arith, row-bounds d y.valid.0, l)) in
-      record { ran = g.answer ∙ ap (answer_of at (length s - at)) e; rest = drop (row_count d) held; rows = g.places ∙ ap (run_places signed held) e }
+    piece-long : length piece ≡ n
+    piece-long = length-drop skip (i64_rows signed d) ∙ omega (arith, i64-count signed d)
 
-  module _ {signed : Bool} {held : List ℤ} {a : Answer} (x : Aside signed held a) where
-    pub rows_are : {r : Run} → a ≡ answer.Run r → r.rows.rows ≡ row_count d
-    rows_are {r} e = ap (λ (v : Run). v.rows.rows) (run-inj r (run_of d) (sym e ∙ x.ran))
+    pub held-long : skip + n ≤ length held'
+    held-long = omega (arith, ap length e, length-append (i64_rows signed d) (drop (row_count d) held), i64-count signed d, y.skips)
 
-    pub bytes-are : {r : Run} → a ≡ answer.Run r → r.consumed.bytes ≡ length (layout d)
-    bytes-are {r} e = ap (λ (v : Run). v.consumed.bytes) (run-inj r (run_of d) (sym e ∙ x.ran))
+    piece_is : take n (drop skip held') ≡ piece
+    piece_is =
+        ap (λ (x : List ℤ). take n (drop skip x)) e
+        ∙ ap (take n) (drop-append-le skip (i64_rows signed d) (drop (row_count d) held) (omega (arith, i64-count signed d, y.skips)))
+        ∙ take_at piece (drop (row_count d) held) n piece-long
 
-    pub not-refused : {f : Refusal} → a ≡ answer.Refused f → ⊥
-    not-refused {f} e = run-not-refused (run_of d) f (sym x.ran ∙ e)
+    all-rows : (piece ++ joined_rows signed b) ++ drop (n + total_rows b) out ≡ drop skip (joined_rows signed (d ∷ b)) ++ drop (total_rows (d ∷ b) - skip) out
+    unfolding joined_rows total_rows
+    all-rows =
+        let m : n + total_rows b ≡ row_count d + total_rows b - skip = omega (arith, y.skips) in
+        ap (λ (x : ℕ). (piece ++ joined_rows signed b) ++ drop x out) m
+        ∙ ap (λ (x : List ℤ). x ++ drop (row_count d + total_rows b - skip) out)
+        (sym (drop-append-le skip (i64_rows signed d) (joined_rows signed b) (omega (arith, i64-count signed d, y.skips))))
 
-    pub not-ended : a ≡ answer.End → ⊥
-    not-ended e = let q : answer.Run (run_of d) ≡ answer.End = sym x.ran ∙ e in never (cc)
+    module _ (out₁ part : List ℤ) (c : out₁ ≡ take n (drop skip held') ++ drop n out) (next : ℕ) (k : next ≡ at + length (layout d)) (r : Stream)
+        (g : StreamRead s next signed (drop n out₁) part r) where
+      out-is : out₁ ≡ piece ++ drop n out
+      out-is = c ∙ ap (λ (x : List ℤ). x ++ drop n out) piece_is
 
-    module _ {n : ℕ} (q : n ≡ row_count d - skip) where
-      abbrev piece : List ℤ
-      piece = drop skip (i64_rows signed d)
+      front-is : take n out₁ ≡ piece
+      front-is = ap (take n) out-is ∙ take_at piece (drop n out) n piece-long
 
-      piece-long : length piece ≡ n
-      piece-long = length-drop skip (i64_rows signed d) ∙ omega (arith, i64-count signed d)
+      tail-is : drop n out₁ ≡ drop n out
+      tail-is = ap (λ (x : List ℤ). drop n x) out-is ∙ drop_at piece (drop n out) n piece-long
 
-      pub held-long : skip + n ≤ length held
-      held-long = omega (arith, ap length x.rows, length-append (i64_rows signed d) x.rest, i64-count signed d, y.skips)
+      rest-is : drop next s ≡ joined b
+      unfolding joined
+      rest-is =
+          ap (λ (x : ℕ). drop x s) k ∙ sym (drop-drop (length (layout d)) at s) ∙ ap (λ (x : List ℕ). drop (length (layout d)) x) y.bytes
+          ∙ drop_at (layout d) (joined b) (length (layout d)) refl
 
-      piece_is : take n (drop skip held) ≡ piece
-      piece_is =
-          ap (λ (l : List ℤ). take n (drop skip l)) x.rows
-          ∙ ap (take n) (drop-append-le skip (i64_rows signed d) x.rest (omega (arith, i64-count signed d, y.skips)))
-          ∙ take_at piece x.rest n piece-long
+      reads : read_all (length (drop n out₁)) (drop next s) ≡ whole b
+      unfolding total_rows
+      reads = ap (read_all (length (drop n out₁))) rest-is
+          ∙ stream-whole (length (drop n out₁)) b y.valid.1 (omega (arith, y.room, y.skips, ap length tail-is, length-drop n out))
 
-      module _ (out : List ℤ) (z : places ≡ length out) {out₁ part : List ℤ} (c : out₁ ≡ take n (drop skip held) ++ drop n out)
-          {next : ℕ} (k : next ≡ at + length (layout d)) {r : Stream} (g : StreamRead s next signed (drop n out₁) part r) where
-        all-rows : (piece ++ joined_rows signed b) ++ drop (n + total_rows b) out
-            ≡ drop skip (joined_rows signed (d ∷ b)) ++ drop (total_rows (d ∷ b) - skip) out
-        unfolding joined_rows total_rows
-        all-rows =
-            let m : n + total_rows b ≡ row_count d + total_rows b - skip = omega (arith, y.skips) in
-            rw (m, drop-append-le skip (i64_rows signed d) (joined_rows signed b) (omega (arith, i64-count signed d, y.skips)))
+      part-is : part ≡ joined_rows signed b ++ drop (total_rows b) (drop n out₁)
+      part-is = rw reads at g.places
 
-        out-is : out₁ ≡ piece ++ drop n out
-        out-is = c ∙ ap (λ (l : List ℤ). l ++ drop n out) piece_is
+      done : take n out₁ ++ (part ++ drop (length out₁ - n) (drop n out₁)) ≡ (piece ++ joined_rows signed b) ++ drop (n + total_rows b) out
+      done =
+          back_is out₁ part (joined_rows signed b) n (total_rows b) part-is
+          ∙ ap (λ (x : List ℤ). (x ++ joined_rows signed b) ++ drop (n + total_rows b) out₁) front-is
+          ∙ ap (λ (x : List ℤ). (piece ++ joined_rows signed b) ++ x)
+          (sym (drop-drop (total_rows b) n out₁) ∙ ap (λ (x : List ℤ). drop (total_rows b) x) tail-is ∙ drop-drop (total_rows b) n out)
 
-        front-is : take n out₁ ≡ piece
-        front-is = ap (take n) out-is ∙ take_at piece (drop n out) n piece-long
-
-        tail-is : drop n out₁ ≡ drop n out
-        tail-is = ap (λ (l : List ℤ). drop n l) out-is ∙ drop_at piece (drop n out) n piece-long
-
-        rest-is : drop next s ≡ joined b
-        unfolding joined
-        rest-is =
-            ap (λ (m : ℕ). drop m s) k ∙ sym (drop-drop (length (layout d)) at s) ∙ ap (λ (l : List ℕ). drop (length (layout d)) l) y.bytes
-            ∙ drop_at (layout d) (joined b) (length (layout d)) refl
-
-        reads : read_all (length (drop n out₁)) (drop next s) ≡ whole b
-        unfolding total_rows
-        reads = ap (read_all (length (drop n out₁))) rest-is
-            ∙ stream-whole (length (drop n out₁)) b y.valid.1 (omega (arith, y.room, y.skips, ap length tail-is, length-drop n out))
-
-        part-is : part ≡ joined_rows signed b ++ drop (total_rows b) (drop n out₁)
-        part-is = rw reads at g.places
-
-        done : take n out₁ ++ (part ++ drop (length out₁ - n) (drop n out₁)) ≡ (piece ++ joined_rows signed b) ++ drop (n + total_rows b) out
-        done =
-            back_is out₁ part (joined_rows signed b) n (total_rows b) part-is
-            ∙ ap (λ (l : List ℤ). (l ++ joined_rows signed b) ++ drop (n + total_rows b) out₁) front-is
-            ∙ ap (λ (l : List ℤ). (piece ++ joined_rows signed b) ++ l)
-            (sym (drop-drop (total_rows b) n out₁) ∙ ap (λ (l : List ℤ). drop (total_rows b) l) tail-is ∙ drop-drop (total_rows b) n out)
-
-        pub laid-is : RowsLaid s at skip signed out (take n out₁ ++ (part ++ drop (length out₁ - n) (drop n out₁)))
-        laid-is = record {
-          laid = λ ds v w. done ∙ all-rows
-              ∙ ap (λ (l : List Description). drop skip (joined_rows signed l) ++ drop (total_rows l - skip) out)
-              (joined-unique (d ∷ b) ds y.valid v (sym y.bytes ∙ w));
-        }
+      pub laid-is : RowsLaid s at skip signed out (take n out₁ ++ (part ++ drop (length out₁ - n) (drop n out₁)))
+      laid-is = record { laid = λ ds v w. done ∙ same ds (joined-unique (d ∷ b) ds y.valid v (sym y.bytes ∙ w)) }
+        where
+          same : (ds : List Description) → d ∷ b ≡ ds
+              → (piece ++ joined_rows signed b) ++ drop (n + total_rows b) out ≡ drop skip (joined_rows signed ds) ++ drop (total_rows ds - skip) out
+          same ds u = all-rows ∙ ap (λ (x : List Description). drop skip (joined_rows signed x) ++ drop (total_rows x - skip) out) u

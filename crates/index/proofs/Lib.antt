@@ -1,13 +1,13 @@
 -- The theorems of specs/Theorems.antt, and the laws of the walks.
 
 pub mod Entries
-pub mod HoldingEntry
+pub mod Held
 pub mod Checked
 pub mod Building
 pub mod Own
 pub mod MeasuredRun
 pub mod Index
-pub mod IndexColumns
+pub mod Columns
 pub mod Totals
 pub mod Walks
 pub mod Fills

@@ -1,6 +1,14 @@
 -- The place that holds a row, and the rows that are left. Assumes nothing.
-use Rattle.format.proofs.Common.{◌≡◌, ℕ, suc, ◌+◌, ◌-◌, ◌<◌, ◌≤◌, arith, dec_lt, Bool, true, false, List, length, drop, get_or}
-use Rattle.format.proofs.Common.{drop_of_length-le, drop-cons, ltb, le-leb, lt-leb, le-ltb, lt-ltb}
+use mathlib.Core.Path.{◌≡◌}
+use Prim.Native.Nat.{ℕ, suc, ◌+◌, ◌-◌, ◌<◌, ◌≤◌}
+use native.Mathlib.Omega.{arith}
+use native.Mathlib.Decide.{dec_lt}
+use mathlib.Core.Bool.{Bool, true, false}
+use mathlib.Core.List.{List}
+use lib.ListN.{length, drop, get_or, drop_of_length-le}
+use lib.Seq.{drop-cons}
+use lib.Dec.{ltb}
+use borrow.Author.Tests.{le-leb, lt-leb, le-ltb, lt-ltb}
 use Rattle.format.specs.Fields.{pick}
 use Rattle.index.specs.Entries.{holds_row}
 use Rattle.index.specs.Walk.{place_of, left_of}

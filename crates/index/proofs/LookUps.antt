@@ -1,15 +1,20 @@
 -- What looking up and reading answer, by what the code found in the columns. Assumes nothing.
-use Rattle.format.proofs.Common.{◌≡◌, refl, sym, ap, ◌∙◌, ℕ, suc, ◌<◌, ◌≤◌, arith, Bool, true, false, not, List, [], ◌∷◌, length, get_or}
+use mathlib.Core.Path.{◌≡◌, refl, sym, ap, ◌∙◌}
+use Prim.Native.Nat.{ℕ, suc, ◌<◌, ◌≤◌}
+use native.Mathlib.Omega.{arith}
+use mathlib.Core.Bool.{Bool, true, false, not}
+use mathlib.Core.List.{List, [], ◌∷◌}
+use lib.ListN.{length, get_or}
 use Rattle.format.specs.Fields.{pick}
 use Rattle.format.specs.Runs.{Description}
 use Rattle.format.specs.Parse.{plain}
 use Rattle.format.specs.Streams.{Reading, whole, broken, stream}
 use Rattle.format.proofs.Tests.{never}
 use Rattle.index.specs.Entries.{gives, refuses, unless, holds_row}
-use Rattle.index.specs.IndexColumns.{Columns, checked_columns, checked_in, holder_in, lookup_in}
+use Rattle.index.specs.Columns.{Columns, checked_columns, checked_in, holder_in, lookup_in}
 use Rattle.index.specs.Promises.{found_of, found_at, not_found, LookedUp}
 use Rattle.index.specs.Walk.{right_from, place_of}
-use Rattle.index.proofs.IndexColumns.{columns-hold, alike-true}
+use Rattle.index.proofs.Columns.{columns-hold, alike-true}
 
 -- ---- the place that holds the row, as an entry
 

@@ -1,20 +1,28 @@
 -- What the code knows after looking up: reading answers the same refusal, or the run that holds the row stands so in the stream. Assumes nothing.
-use Rattle.format.proofs.Common.{◌≡◌, refl, sym, ap, ◌∙◌, ℕ, ◌+◌, ◌<◌, ◌≤◌, arith, zero-add, Bool, true, false, List, ◌∷◌, ◌++◌, length}
-use Rattle.format.proofs.Common.{eqb, eqb→eq, ℤ, le-leb}
+use mathlib.Core.Path.{◌≡◌, refl, sym, ap, ◌∙◌}
+use Prim.Native.Nat.{ℕ, ◌+◌, ◌<◌, ◌≤◌}
+use native.Mathlib.Omega.{arith}
+use native.Mathlib.Nat.{zero-add}
+use mathlib.Core.Bool.{Bool, true, false}
+use mathlib.Core.List.{List, ◌∷◌, ◌++◌}
+use lib.ListN.{length}
+use lib.Dec.{eqb, eqb→eq}
+use lib.IntN.{ℤ}
+use borrow.Author.Tests.{le-leb}
 use Rattle.format.specs.Digits.{AllBelow}
 use Rattle.format.specs.Runs.{Description, row_count, AllValid, joined}
 use Rattle.format.specs.Parse.{Reason, plain}
 use Rattle.format.specs.Streams.{total_rows}
 use Rattle.index.specs.Entries.{Result, gives, refuses, Entry, entries, holder, lookup, checked, preview_places}
-use Rattle.index.specs.IndexColumns.{Columns, columns, alike, checked_in, lookup_in, reading_in}
+use Rattle.index.specs.Columns.{Columns, columns, alike, checked_in, lookup_in, reading_in}
 use Rattle.index.specs.Theorems.{as_columns}
 use Rattle.index.specs.Promises.{found_of, LookedUp, preview_of, ReadFrom}
 use Rattle.index.specs.declared.Found.{Found}
 use Rattle.index.specs.declared.Found.TheVariants as found
 use Rattle.index.specs.declared.Preview.TheVariants as preview
-use Rattle.index.proofs.HoldingEntry.{Held, held, unheld, what-held}
+use Rattle.index.proofs.Held.{Held, held, unheld, what-held}
 use Rattle.index.proofs.Checked.{Checked, right, wrong, what-checked}
-use Rattle.index.proofs.IndexColumns.{columns-hold, checked-same, columns-are}
+use Rattle.index.proofs.Columns.{columns-hold, checked-same, columns-are}
 use Rattle.format.proofs.Tests.{and-e}
 
 module _ (bs f o n : List ℕ) (r : ℕ) where

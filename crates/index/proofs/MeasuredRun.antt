@@ -1,5 +1,8 @@
 -- What a measured run says of the stream from its byte on: the stream begins with it (`RunAt` of format), or is refused there. Assumes nothing.
-use Rattle.format.proofs.Common.{◌≡◌, ℕ, ◌-◌, List, [], length, drop}
+use mathlib.Core.Path.{◌≡◌}
+use Prim.Native.Nat.{ℕ}
+use mathlib.Core.List.{List, []}
+use lib.ListN.{drop}
 use Rattle.format.specs.Digits.{AllBelow}
 use Rattle.format.specs.Parse.{parse}
 use Rattle.format.specs.Streams.{broken, stream}

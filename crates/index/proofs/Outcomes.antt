@@ -1,13 +1,17 @@
 -- Any two outcomes of a call are equal, and what was built is a right index. Assumes nothing.
-use Rattle.format.proofs.Common.{◌≡◌, refl, sym, ap, ◌∙◌, ◌≢◌, ℕ, Bool, true, false, not, List, ◌++◌, map, length, take, drop, length-map}
-use Rattle.format.proofs.Common.{take_at}
+use mathlib.Core.Path.{◌≡◌, refl, sym, ap, ◌∙◌}
+use mathlib.Core.Logic.{◌≢◌}
+use Prim.Native.Nat.{ℕ}
+use mathlib.Core.Bool.{Bool, true, false, not}
+use mathlib.Core.List.{List, ◌++◌, map}
+use lib.ListN.{length, take, drop, length-map}
+use lib.Seq.{take_at}
 use Rattle.format.specs.Digits.{AllBelow}
 use Rattle.format.specs.Runs.{Description, row_count}
 use Rattle.format.specs.Parse.{plain, cut}
-use Rattle.format.specs.Answers as answers
 use Rattle.format.proofs.Tests.{never}
 use Rattle.index.specs.Entries.{Result, gives, refuses, number_of, unless, Entry, entries, building, lookup}
-use Rattle.index.specs.IndexColumns.{Columns, sums_before, byte_count, columns_at, alike, building_in, lookup_in}
+use Rattle.index.specs.Columns.{Columns, sums_before, byte_count, columns_at, alike, building_in, lookup_in}
 use Rattle.index.specs.Theorems.{PromisesHold, as_columns}
 use Rattle.index.specs.Promises.{built_of, found_of, not_found, BuiltIn, LookedUp}
 use Rattle.index.specs.declared.Sizes.{Sizes}
@@ -16,7 +20,7 @@ use Rattle.index.specs.declared.Built.TheVariants as built
 use Rattle.index.specs.declared.Found.{Found}
 use Rattle.index.specs.declared.Found.TheVariants as found
 use Rattle.index.proofs.Building as Building
-use Rattle.index.proofs.IndexColumns.{columns-hold, columns-are}
+use Rattle.index.proofs.Columns.{columns-hold, columns-are}
 use Rattle.index.proofs.Index.{lookup-holds}
 use Rattle.index.proofs.Previews.{sums-length}
 
@@ -39,17 +43,24 @@ as-built f o n bs ds e = go (alike f o n) e
     go false e = never (cc)
 
 -- an answer of 15 is a refusal with 15
-abbrev number_in : Found → ℕ
-number_in (found.Entry e) = 0
-number_in (found.Refused f) = f.number
-
 fifteen : (m : Result Entry) → found_of m ≡ not_found 15 → number_of m ≡ 15
 fifteen (gives e) q = never (cc)
 fifteen (refuses (plain k) p) q = ap number_in q
+  where
+    number_in : Found → ℕ
+    number_in (found.Entry e) = 0
+    number_in (found.Refused f) = f.number
 fifteen (refuses (cut k l) p) q = ap number_in q
+  where
+    number_in : Found → ℕ
+    number_in (found.Entry e) = 0
+    number_in (found.Refused f) = f.number
 
-sums-in : (f : Description → ℕ) (ds : List Description) (l : List ℕ) → take (length ds) (sums_before 0 (map f ds) ++ l) ≡ sums_before 0 (map f ds)
-sums-in f ds l = take_at (sums_before 0 (map f ds)) l (length ds) (sums-length 0 (map f ds) ∙ length-map ds f)
+firsts-in : (ds : List Description) (l : List ℕ) → take (length ds) (sums_before 0 (map row_count ds) ++ l) ≡ sums_before 0 (map row_count ds)
+firsts-in ds l = take_at (sums_before 0 (map row_count ds)) l (length ds) (sums-length 0 (map row_count ds) ∙ length-map ds row_count)
+
+offsets-in : (ds : List Description) (l : List ℕ) → take (length ds) (sums_before 0 (map byte_count ds) ++ l) ≡ sums_before 0 (map byte_count ds)
+offsets-in ds l = take_at (sums_before 0 (map byte_count ds)) l (length ds) (sums-length 0 (map byte_count ds) ∙ length-map ds byte_count)
 
 counts-in : (ds : List Description) (l : List ℕ) → take (length ds) (map row_count ds ++ l) ≡ map row_count ds
 counts-in ds l = take_at (map row_count ds) l (length ds) (length-map ds row_count)
@@ -59,8 +70,8 @@ first-of k c = record { firsts = take k c.firsts; offsets = take k c.offsets; co
 
 its-columns : (ds : List Description) (c : Columns) → first-of (length ds) (columns_at c (gives ds)) ≡ as_columns (entries ds)
 its-columns ds c = rw (
-  sums-in row_count ds (drop (length ds) c.firsts),
-  sums-in byte_count ds (drop (length ds) c.offsets),
+  firsts-in ds (drop (length ds) c.firsts),
+  offsets-in ds (drop (length ds) c.offsets),
   counts-in ds (drop (length ds) c.counts),
 ) (sym (columns-are ds))
 

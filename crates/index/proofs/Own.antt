@@ -1,10 +1,17 @@
 -- A stream's own refusal, where there is room enough, is never 8, and building tells 8 exactly where an entry lacks a place. Assumes nothing.
-use Rattle.format.proofs.Common.{◌≡◌, refl, sym, ap, ◌∙◌, ◌≢◌, ◌↔◌, ◌⊎◌, inl, inr, ℕ, ◌-◌, ◌*◌, ◌<◌, ◌≤◌, arith, Bool, true, false, ◌||◌}
-use Rattle.format.proofs.Common.{List, [], length, length-append, leb, ltb, leb-true, ltb-true}
+use mathlib.Core.Path.{◌≡◌, refl, sym, ap, ◌∙◌}
+use mathlib.Core.Logic.{◌≢◌, ◌↔◌, ◌⊎◌, inl, inr}
+use Prim.Native.Nat.{ℕ, ◌-◌, ◌*◌, ◌<◌, ◌≤◌}
+use native.Mathlib.Omega.{arith}
+use mathlib.Core.Bool.{Bool, true, false, ◌||◌}
+use mathlib.Core.List.{List, []}
+use lib.ListN.{length, length-append}
+use lib.Dec.{leb, ltb}
+use borrow.Author.Tests.{leb-true, ltb-true}
 use Rattle.format.specs.Digits.{AllBelow}
 use Rattle.format.specs.Fields.{two64}
 use Rattle.format.specs.Runs.{Description, layout, AllValid, joined}
-use Rattle.format.specs.Parse.{Reason, plain, cut, Parsed, end, got, refused, unless, parse, into}
+use Rattle.format.specs.Parse.{Reason, plain, cut, Parsed, refused, parse, into}
 use Rattle.format.specs.Streams.{Reading, whole, broken, stream, total_rows}
 use Rattle.format.proofs.Below.{behind-below}
 use Rattle.format.proofs.Rows.{row-bounds}

@@ -1,7 +1,15 @@
 -- What reading from a row answers, by what looking it up answered. Assumes nothing.
-use Rattle.format.proofs.Common.{◌≡◌, refl, sym, ap, ◌∙◌, ℕ, zero, suc, ◌+◌, ◌-◌, ◌<◌, ◌≤◌, arith, zero-add, Bool, true, false, List, []}
-use Rattle.format.proofs.Common.{◌∷◌, ◌++◌, map, length, drop, get_or, length-append, length-drop, length-map, drop_at, drop-append-add, ltb}
-use Rattle.format.proofs.Common.{ℤ, lt-leb, le-ltb, lt-ltb, ltb-true, ltb-false}
+use mathlib.Core.Path.{◌≡◌, refl, sym, ap, ◌∙◌}
+use Prim.Native.Nat.{ℕ, zero, suc, ◌+◌, ◌-◌, ◌<◌, ◌≤◌}
+use native.Mathlib.Omega.{arith}
+use native.Mathlib.Nat.{zero-add}
+use mathlib.Core.Bool.{Bool, true, false}
+use mathlib.Core.List.{List, [], ◌∷◌, ◌++◌, map}
+use lib.ListN.{length, drop, get_or, length-append, length-drop, length-map}
+use lib.Seq.{drop_at, drop-append-add}
+use lib.Dec.{ltb}
+use lib.IntN.{ℤ}
+use borrow.Author.Tests.{lt-leb, le-ltb, lt-ltb, ltb-true, ltb-false}
 use Rattle.format.specs.Fields.{pick}
 use Rattle.format.specs.Runs.{Description, row_count, joined}
 use Rattle.format.specs.Parse.{plain}
@@ -11,9 +19,8 @@ use Rattle.format.proofs.Rows.{joined-count}
 use Rattle.format.proofs.Joined.{total-append, joined-append, rows_append, valid-behind}
 use Rattle.format.proofs.Tests.{never}
 use Rattle.index.specs.Entries.{gives, refuses, preview_places}
-use Rattle.index.specs.IndexColumns.{Columns, sums_before, reading_in}
+use Rattle.index.specs.Columns.{Columns, sums_before, reading_in}
 use Rattle.index.specs.Promises.{preview_of, read_rows, not_read, ReadFrom}
-use Rattle.index.specs.declared.Left.{Left}
 use Rattle.index.specs.declared.Left.TheVariants as left
 use Rattle.index.specs.Walk.{left_of, Ready, RowsLaid}
 use Rattle.index.proofs.Entries.{total-cons}
@@ -37,14 +44,14 @@ last_sum f (d ∷ e ∷ ds) (suc k) h = omega (arith, last_sum (f + row_count d)
 
 -- ---- how many rows are left, by what was answered
 
-left-many : (x y r p : ℕ) → left.TooMany ≡ left_of x y r p → p < x + y - r
+pub left-many : (x y r p : ℕ) → left.TooMany ≡ left_of x y r p → p < x + y - r
 left-many x y r p e = go (ltb p (x + y - r)) refl e
   where
     go : (t : Bool) → ltb p (x + y - r) ≡ t → left.TooMany ≡ pick t left.TooMany (left.Rows (record { rows = x + y - r })) → p < x + y - r
     go true q e = ltb-true p (x + y - r) q
     go false q e = never (cc)
 
-left-rows : (x y r p k : ℕ) → left.Rows (record { rows = k }) ≡ left_of x y r p → (k ≡ x + y - r) × (k ≤ p)
+pub left-rows : (x y r p k : ℕ) → left.Rows (record { rows = k }) ≡ left_of x y r p → (k ≡ x + y - r) × (k ≤ p)
 left-rows x y r p k e = go (ltb p (x + y - r)) refl e
   where
     go : (t : Bool) → ltb p (x + y - r) ≡ t → left.Rows (record { rows = k }) ≡ pick t left.TooMany (left.Rows (record { rows = x + y - r }))
@@ -55,103 +62,94 @@ left-rows x y r p k e = go (ltb p (x + y - r)) refl e
         let w : k ≡ x + y - r = ap (λ (n : RowNumber). n.rows) u in
         (w, omega (arith, ltb-false p (x + y - r) q))
 
-module _ {bs f o n : List ℕ} {r first at : ℕ} (t : Through bs f o n r first at) where
+module _ (bs f o n : List ℕ) (r : ℕ) where
   abbrev c : Columns
   c = record { firsts = f; offsets = o; counts = n }
 
-  abbrev ds : List Description
-  ds = t.before ++ (t.run ∷ t.behind)
+  module _ (first at : ℕ) (t : Through bs f o n r first at) where
+    abbrev ds : List Description
+    ds = t.before ++ (t.run ∷ t.behind)
 
-  f-is : f ≡ sums_before 0 (map row_count ds)
-  f-is = ap (λ (x : Columns). x.firsts) t.columns_of
+    f-is : f ≡ sums_before 0 (map row_count ds)
+    f-is = ap (λ (x : Columns). x.firsts) t.columns_of
 
-  n-is : n ≡ map row_count ds
-  n-is = ap (λ (x : Columns). x.counts) t.columns_of
+    n-is : n ≡ map row_count ds
+    n-is = ap (λ (x : Columns). x.counts) t.columns_of
 
-  f-long : length f ≡ length ds
-  f-long = ap length f-is ∙ sums-length 0 (map row_count ds) ∙ length-map ds row_count
+    f-long : length f ≡ length ds
+    f-long = ap length f-is ∙ sums-length 0 (map row_count ds) ∙ length-map ds row_count
 
-  pub some : 1 ≤ length f
-  some = omega (arith, f-long, length-append t.before (t.run ∷ t.behind))
+    pub some : 1 ≤ length f
+    some = omega (arith, f-long, length-append t.before (t.run ∷ t.behind))
 
-  pub n-long : length n ≡ length f
-  n-long = ap length n-is ∙ length-map ds row_count ∙ sym f-long
+    pub n-long : length n ≡ length f
+    n-long = ap length n-is ∙ length-map ds row_count ∙ sym f-long
 
-  last-is : get_or f (length f - 1) 0 + get_or n (length f - 1) 0 ≡ total_rows ds
-  last-is =
-      ap (λ (x : List ℕ). get_or x (length f - 1) 0 + get_or n (length f - 1) 0) f-is
-      ∙ ap (λ (x : List ℕ). get_or (sums_before 0 (map row_count ds)) (length f - 1) 0 + get_or x (length f - 1) 0) n-is
-      ∙ last_sum 0 ds (length f - 1) (omega (arith, some, f-long)) ∙ zero-add (total_rows ds)
+    pub last-is : get_or f (length f - 1) 0 + get_or n (length f - 1) 0 ≡ total_rows ds
+    last-is =
+        ap (λ (x : List ℕ). get_or x (length f - 1) 0 + get_or n (length f - 1) 0) f-is
+        ∙ ap (λ (x : List ℕ). get_or (sums_before 0 (map row_count ds)) (length f - 1) 0 + get_or x (length f - 1) 0) n-is
+        ∙ last_sum 0 ds (length f - 1) (omega (arith, some, f-long)) ∙ zero-add (total_rows ds)
 
-  total-is : total_rows ds ≡ first + (row_count t.run + total_rows t.behind)
-  total-is = omega (arith, total-append t.before (t.run ∷ t.behind), total-cons t.run t.behind, t.first-is)
+    total-is : total_rows ds ≡ first + (row_count t.run + total_rows t.behind)
+    total-is = omega (arith, total-append t.before (t.run ∷ t.behind), total-cons t.run t.behind, t.first-is)
 
-  pub row_below : r < get_or f (length f - 1) 0 + get_or n (length f - 1) 0
-  row_below = omega (arith, last-is, total-is, t.below)
+    pub row_below : r < get_or f (length f - 1) 0 + get_or n (length f - 1) 0
+    row_below = omega (arith, last-is, total-is, t.below)
 
-  rest-is : drop at bs ≡ joined (t.run ∷ t.behind)
-  rest-is = ap (drop at) (t.bytes ∙ joined-append t.before (t.run ∷ t.behind))
-      ∙ drop_at (joined t.before) (joined (t.run ∷ t.behind)) at (sym t.at-is)
+    rest-is : drop at bs ≡ joined (t.run ∷ t.behind)
+    rest-is = ap (drop at) (t.bytes ∙ joined-append t.before (t.run ∷ t.behind))
+        ∙ drop_at (joined t.before) (joined (t.run ∷ t.behind)) at (sym t.at-is)
 
-  rows_are : (signed : Bool) → drop r (joined_rows signed ds) ≡ drop (r - first) (joined_rows signed (t.run ∷ t.behind))
-  rows_are signed =
-      let k : r ≡ length (joined_rows signed t.before) + (r - first) = omega (arith, joined-count signed t.before, t.first-is, t.from) in
-      ap (λ (x : ℕ). drop x (joined_rows signed ds)) k
-      ∙ ap (drop (length (joined_rows signed t.before) + (r - first))) (rows_append signed t.before (t.run ∷ t.behind))
-      ∙ drop-append-add (joined_rows signed t.before) (joined_rows signed (t.run ∷ t.behind)) (r - first)
+    pub ready : (places : ℕ) → total_rows ds - r ≤ places → Ready bs at (r - first) places
+    ready places l = record {
+      run = t.run;
+      behind = t.behind;
+      valid = valid-behind t.before (t.run ∷ t.behind) t.valid;
+      bytes = rest-is;
+      within = omega (
+        arith,
+        t.at-is,
+        ap length (t.bytes ∙ joined-append t.before (t.run ∷ t.behind)),
+        length-append (joined t.before) (joined (t.run ∷ t.behind)),
+      );
+      skips = omega (arith, t.from, t.below);
+      room = omega (arith, total-is, total-cons t.run t.behind, t.from, l);
+    }
 
-  rows_long : (signed : Bool) → length (drop r (joined_rows signed ds)) ≡ total_rows ds - r
-  rows_long signed = length-drop r (joined_rows signed ds) ∙ ap (λ (x : ℕ). x - r) (joined-count signed ds)
+    module _ (signed : Bool) (out : List ℤ) where
+      reading-is : (b : Bool) → ltb (length out) (total_rows ds - r) ≡ b
+          → reading_in signed (length out) c bs r ≡ pick b (refuses (plain 8) 0) (gives (drop r (joined_rows signed ds)))
+      unfolding reading_in
+      reading-is true e = rw (t.checked-is, lt-leb (total_rows ds) r (omega (arith, total-is, t.below)), e)
+      reading-is false e = rw (t.checked-is, lt-leb (total_rows ds) r (omega (arith, total-is, t.below)), e)
 
-  reading-is : (signed : Bool) (places : ℕ) (b : Bool) → ltb places (total_rows ds - r) ≡ b
-      → reading_in signed places c bs r ≡ pick b (refuses (plain 8) 0) (gives (drop r (joined_rows signed ds)))
-  unfolding reading_in
-  reading-is signed places true e = rw (t.checked-is, lt-leb (total_rows ds) r (omega (arith, total-is, t.below)), e)
-  reading-is signed places false e = rw (t.checked-is, lt-leb (total_rows ds) r (omega (arith, total-is, t.below)), e)
+      pub eight-so : length out < total_rows ds - r → ReadFrom bs c r signed out out (not_read 8)
+      eight-so h =
+          let e = reading-is true (lt-ltb (length out) (total_rows ds - r) h) in
+          record { answer = sym (ap preview_of e); places = sym (ap (preview_places out) e) }
 
-  -- the rows that are left, from the last place of the columns
-  abbrev pub left_in : ℕ → Left
-  left_in places = left_of (get_or f (length f - 1) 0) (get_or n (length f - 1) 0) r places
+      rows_are : drop r (joined_rows signed ds) ≡ drop (r - first) (joined_rows signed (t.run ∷ t.behind))
+      rows_are =
+          let k : r ≡ length (joined_rows signed t.before) + (r - first) = omega (arith, joined-count signed t.before, t.first-is, t.from) in
+          ap (λ (x : ℕ). drop x (joined_rows signed ds)) k
+          ∙ ap (drop (length (joined_rows signed t.before) + (r - first))) (rows_append signed t.before (t.run ∷ t.behind))
+          ∙ drop-append-add (joined_rows signed t.before) (joined_rows signed (t.run ∷ t.behind)) (r - first)
 
-  pub eight-so : {signed : Bool} {out : List ℤ} → left.TooMany ≡ left_in (length out) → ReadFrom bs c r signed out out (not_read 8)
-  eight-so {signed} {out} h =
-      let l = left-many (get_or f (length f - 1) 0) (get_or n (length f - 1) 0) r (length out) h in
-      let e = reading-is signed (length out) true (lt-ltb (length out) (total_rows ds - r) (omega (arith, l, last-is))) in
-      record { answer = sym (ap preview_of e); places = sym (ap (preview_places out) e) }
+      rows_long : length (drop r (joined_rows signed ds)) ≡ total_rows ds - r
+      rows_long = length-drop r (joined_rows signed ds) ∙ ap (λ (x : ℕ). x - r) (joined-count signed ds)
 
-  pub left_so : {k places : ℕ} → left.Rows (record { rows = k }) ≡ left_in places → (k ≡ total_rows ds - r) × (k ≤ places)
-  left_so {k} {places} h =
-      let (e, l) = left-rows (get_or f (length f - 1) 0) (get_or n (length f - 1) 0) r places k h in
-      (e ∙ ap (λ (x : ℕ). x - r) last-is, l)
-
-  pub ready : {k places : ℕ} → left.Rows (record { rows = k }) ≡ left_in places → Ready bs at (r - first) places
-  ready h = let (k, q) = left_so h in record {
-    run = t.run;
-    behind = t.behind;
-    valid = valid-behind t.before (t.run ∷ t.behind) t.valid;
-    bytes = rest-is;
-    within = omega (
-      arith,
-      t.at-is,
-      ap length (t.bytes ∙ joined-append t.before (t.run ∷ t.behind)),
-      length-append (joined t.before) (joined (t.run ∷ t.behind)),
-    );
-    skips = omega (arith, t.from, t.below);
-    room = omega (arith, total-is, total-cons t.run t.behind, t.from);
-  }
-
-  pub rows-so : {signed : Bool} {k : ℕ} {out out' : List ℤ} → left.Rows (record { rows = k }) ≡ left_in (length out)
-      → RowsLaid bs at (r - first) signed out out' → ReadFrom bs c r signed out out' (read_rows k)
-  rows-so {signed} {k} {out} h w =
-      let (q, l) = left_so h in
-      let e = reading-is signed (length out) false (le-ltb (length out) (total_rows ds - r) (omega arith)) in
-      let m : total_rows (t.run ∷ t.behind) - (r - first) ≡ length (drop r (joined_rows signed ds)) =
-      omega (arith, rows_long signed, total-is, total-cons t.run t.behind, t.from) in
-      record {
-        answer = ap read_rows (q ∙ sym (rows_long signed)) ∙ sym (ap preview_of e);
-        places =
-            w.laid (t.run ∷ t.behind) (valid-behind t.before (t.run ∷ t.behind) t.valid) rest-is
-            ∙ ap (λ (x : List ℤ). x ++ drop (total_rows (t.run ∷ t.behind) - (r - first)) out) (sym (rows_are signed))
-            ∙ ap (λ (x : ℕ). drop r (joined_rows signed ds) ++ drop x out) m
-            ∙ sym (ap (preview_places out) e);
-      }
+      pub rows-so : (k : ℕ) → k ≡ total_rows ds - r → k ≤ length out → (out' : List ℤ) → RowsLaid bs at (r - first) signed out out'
+          → ReadFrom bs c r signed out out' (read_rows k)
+      rows-so k q l out' w =
+          let e = reading-is false (le-ltb (length out) (total_rows ds - r) (omega arith)) in
+          let m : total_rows (t.run ∷ t.behind) - (r - first) ≡ length (drop r (joined_rows signed ds)) =
+          omega (arith, rows_long, total-is, total-cons t.run t.behind, t.from) in
+          record {
+            answer = ap read_rows (q ∙ sym rows_long) ∙ sym (ap preview_of e);
+            places =
+                w.laid (t.run ∷ t.behind) (valid-behind t.before (t.run ∷ t.behind) t.valid) rest-is
+                ∙ ap (λ (x : List ℤ). x ++ drop (total_rows (t.run ∷ t.behind) - (r - first)) out) (sym rows_are)
+                ∙ ap (λ (x : ℕ). drop r (joined_rows signed ds) ++ drop x out) m
+                ∙ sym (ap (preview_places out) e);
+          }

@@ -1,6 +1,10 @@
 -- Rows counted in 64 bits. Assumes nothing.
-use Rattle.format.proofs.Common.{◌≡◌, refl, ap, ℕ, ◌+◌, ◌-◌, ◌<◌, ◌≤◌, arith, Bool, true, false, leb, eqb, le-leb, lt-leb, leb-true}
-use Rattle.format.proofs.Common.{leb-false, eq-eqb, ne_eqb}
+use mathlib.Core.Path.{◌≡◌, refl, ap}
+use Prim.Native.Nat.{ℕ, ◌+◌, ◌-◌, ◌<◌, ◌≤◌}
+use native.Mathlib.Omega.{arith}
+use mathlib.Core.Bool.{Bool, true, false}
+use lib.Dec.{leb, eqb}
+use borrow.Author.Tests.{le-leb, lt-leb, leb-true, leb-false, eq-eqb, ne_eqb}
 use Rattle.format.specs.Fields.{pick, two64}
 use Rattle.format.specs.declared.RowNumber.{RowNumber}
 use Rattle.format.proofs.Tests.{never}

@@ -1,20 +1,27 @@
 -- The walks that find a stream's runs and compare them with columns: what is left at each place gives the whole's answer. Assumes nothing.
-use Rattle.format.proofs.Common.{◌≡◌, refl, sym, ap, ◌∙◌, ℕ, suc, ◌+◌, ◌<◌, ◌≤◌, arith, dec_lt, add-zero, Bool, true, false, ◌&&◌, and-false}
-use Rattle.format.proofs.Common.{List, [], ◌∷◌, ◌++◌, length, drop, get_or, length-append, length-drop, drop_of_length-le, drop-cons, eqb}
-use Rattle.format.proofs.Common.{eq-eqb, ne_eqb}
+use mathlib.Core.Path.{◌≡◌, refl, sym, ap, ◌∙◌}
+use Prim.Native.Nat.{ℕ, suc, ◌+◌, ◌<◌, ◌≤◌}
+use native.Mathlib.Omega.{arith}
+use native.Mathlib.Decide.{dec_lt}
+use native.Mathlib.Nat.{add-zero}
+use mathlib.Core.Bool.{Bool, true, false, ◌&&◌, and-false}
+use mathlib.Core.List.{List, [], ◌∷◌, ◌++◌}
+use lib.ListN.{length, drop, get_or, length-append, length-drop, drop_of_length-le}
+use lib.Seq.{drop-cons}
+use lib.Dec.{eqb}
+use borrow.Author.Tests.{eq-eqb, ne_eqb}
 use Rattle.format.specs.Runs.{Description, row_count, layout, joined}
 use Rattle.format.specs.Streams.{Reading, whole, broken, after, stream, total_rows}
-use Rattle.format.specs.Answers as answers
 use Rattle.format.specs.declared.Refusal.{Refusal}
 use Rattle.format.specs.declared.Run.{Run}
 use Rattle.format.proofs.StreamRoom.{stream-none}
-use Rattle.index.specs.IndexColumns.{sums_before}
+use Rattle.index.specs.Columns.{sums_before}
 use Rattle.index.specs.Entries.{same}
 use Rattle.index.specs.declared.walk.Total.{Total}
 use Rattle.index.specs.declared.walk.Total.TheVariants as total
 use Rattle.index.specs.declared.walk.Survey.TheVariants as survey
 use Rattle.index.specs.Walk.{total_of, survey_from, right_from, same_three}
-use Rattle.index.proofs.IndexColumns.{regrouped}
+use Rattle.index.proofs.Columns.{regrouped}
 use Rattle.index.proofs.MeasuredRun.{OneRun, NoRun, broken-here}
 
 none_yet : total.Rows (record { rows = 0 }) ≡ total_of 0

@@ -34,7 +34,7 @@ pub record Entry : Type 0 where
   pub at : ℕ
   pub rows : ℕ
 
--- the entries of runs, after these rows and bytes
+-- the entries of runs before which there are so many rows and bytes
 unfoldable pub entries_from : ℕ → ℕ → List Description → List Entry
 entries_from first at [] = []
 entries_from first at (d ∷ ds) =

@@ -5,7 +5,7 @@ use Rattle.format.specs.Streams.{total_rows}
 use Rattle.format.specs.Answers.{refusing, refusal}
 use Rattle.index.specs.Entries as entries
 use Rattle.index.specs.Entries.{Result, gives, refuses, preview_places}
-use Rattle.index.specs.IndexColumns.{Columns, columns_at, building_in, lookup_in, reading_in}
+use Rattle.index.specs.Columns.{Columns, columns_at, building_in, lookup_in, reading_in}
 use Rattle.index.specs.declared.Sizes.{Sizes}
 use Rattle.index.specs.declared.Built.{Built}
 use Rattle.index.specs.declared.Built.TheVariants as built

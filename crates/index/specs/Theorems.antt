@@ -8,7 +8,7 @@ use Rattle.format.specs.Runs.{Description, row_count, AllValid, joined}
 use Rattle.format.specs.Parse.{Reason, plain}
 use Rattle.format.specs.Streams.{whole, broken, read_all, stream, total_rows, joined_rows}
 use Rattle.index.specs.Entries.{Result, gives, refuses, number_of, Entry, entries_from, entries, building, table_of, lookup, reading}
-use Rattle.index.specs.IndexColumns.{Columns, columns_at, building_in, lookup_in, reading_in}
+use Rattle.index.specs.Columns.{Columns, columns_at, building_in, lookup_in, reading_in}
 use Rattle.index.specs.Promises.{BuiltIn, LookedUp, ReadFrom, not_found}
 use Rattle.index.specs.declared.Sizes.{Sizes}
 use Rattle.index.specs.declared.Built.{Built}
@@ -43,7 +43,7 @@ module _ (bs : List ℕ) where
     pub room-enough : (n : ℕ) → 512 * length bs ≤ n → read_all n bs ≡ stream bs
     pub exactly : (ds : List Description) → (stream bs ≡ whole ds) ↔ (AllValid ds × (bs ≡ joined ds))
 
-  -- ---- BUILDING is accepted exactly if the stream is whole, there are places enough and the rows are at most 2^64 - 1
+  -- ---- BUILDING is accepted exactly where the stream is whole, there are places enough and the rows are at most 2^64 - 1
   pub record BuildingHolds : Type 0 where
     pub exactly : (places : ℕ) (ds : List Description)
         → (building places bs ≡ gives ds) ↔ (AllValid ds × (bs ≡ joined ds) × (length ds ≤ places) × (total_rows ds < two64))

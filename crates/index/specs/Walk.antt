@@ -5,7 +5,7 @@ use Rattle.format.specs.Runs.{Description, row_count, AllValid, joined}
 use Rattle.format.specs.Streams.{Reading, whole, broken, stream, total_rows, joined_rows}
 use Rattle.format.specs.Answers.{refusal}
 use Rattle.index.specs.Entries.{gives, same, holds_row}
-use Rattle.index.specs.IndexColumns.{sums_before, byte_count, columns_at}
+use Rattle.index.specs.Columns.{sums_before, byte_count, columns_at}
 use Rattle.index.specs.declared.walk.Total.{Total}
 use Rattle.index.specs.declared.walk.Total.TheVariants as total
 use Rattle.index.specs.declared.walk.Survey.{Survey}
@@ -17,12 +17,12 @@ use Rattle.index.specs.declared.Left.TheVariants as left
 unfoldable pub total_of : ℕ → Total
 total_of n = pick (leb two64 n) total.Past (total.Rows (record { rows = n }))
 
--- what a walk finds that has passed k runs with their rows and p bytes, by the reading of what is left
+-- what a walk finds that has passed k runs, so many rows and p bytes, by the reading of what is left
 abbrev pub survey_from : ℕ → ℕ → ℕ → Reading → Survey
 survey_from k rows p (whole ds) = survey.Whole (k + length ds) (total_of (rows + total_rows ds))
 survey_from k rows p (broken ds r rest) = survey.Refused (refusal (p + length (joined ds)) (length rest) r)
 
--- what is left of the three columns is what is left of the stream, after these rows and bytes
+-- what is left of the three columns is what is left of the stream, before which there are so many rows and bytes
 abbrev pub right_from : ℕ → ℕ → List ℕ → List ℕ → List ℕ → Reading → Bool
 right_from first at fs os ns (whole ds) =
     same eqb fs (sums_before first (map row_count ds)) && (same eqb os (sums_before at (map byte_count ds)) && same eqb ns (map row_count ds))
@@ -32,7 +32,7 @@ right_from first at fs os ns (broken ds r rest) = false
 abbrev pub same_three : ℕ → ℕ → ℕ → ℕ → ℕ → ℕ → Bool
 same_three f o n first at rows = eqb f first && (eqb o at && eqb n rows)
 
--- the first place whose rows hold row r, or the number of places if none does
+-- the first place whose rows hold row r; as many as there are, where none does
 unfoldable pub place_of : ℕ → List ℕ → List ℕ → ℕ
 place_of r [] ns = 0
 place_of r (f ∷ fs) [] = suc (place_of r fs [])
@@ -53,11 +53,11 @@ pub record Filled (input first at counts first' at' counts' : List ℕ) : Type 0
       → record { firsts = first'; offsets = at'; counts = counts' }
       ≡ columns_at (record { firsts = first; offsets = at; counts = counts }) (gives ds)
 
--- how many rows there are from r on, by the last entry: more than the places, or that many
+-- the rows from r on, where the last entry is known: more than the places, or so many
 abbrev pub left_of : ℕ → ℕ → ℕ → ℕ → Left
 left_of first rows r places = pick (ltb places (first + rows - r)) left.TooMany (left.Rows (record { rows = first + rows - r }))
 
--- a run at a place and the runs after it, to the end; it has more rows than are left out, and there is room for the others ..
+-- a run at a place and the runs behind it, to the end; it has more rows than are left out, and there is room for the others ..
 pub record Ready (input : List ℕ) (at skip places : ℕ) : Type 0 where
   pub run : Description
   pub behind : List Description

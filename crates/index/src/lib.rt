@@ -1,5 +1,7 @@
-// The row index of an integer stream, beside it: three columns of the caller, one place a run, with its first row, byte offset and rows.
+// The row index of an integer stream, beside it: three lent columns, one place a run, with its first row, its byte offset and its rows.
 // A caller's index is not trusted: it is compared with the stream before it is used.
+#![tactic(auto)]
+
 ghost use Rattle.std.specs.Prelude.{◌≡◌, ◌+◌, ◌-◌, ◌≤◌, ◌<◌, length, take, drop, ◌++◌};
 ghost use Rattle.index.specs.Entries.{holds_row};
 ghost use Rattle.index.specs.Promises.{built_with, not_built, found_at, not_found, read_rows, not_read, BuiltIn, LookedUp, ReadFrom};
@@ -12,7 +14,7 @@ use util::rows;
 mod walk;
 
 // One run: its first row, where it begins, and how many rows it has.
-#[derive(Drop)]
+#[derive(Clone, Copy)]
 pub struct Entry {
     pub first: RowNumber,
     pub at: ByteOffset,
@@ -20,34 +22,34 @@ pub struct Entry {
 }
 
 // What was built: how many entries, and the rows and bytes of the stream.
-#[derive(Drop)]
+#[derive(Clone, Copy)]
 pub struct Sizes {
     pub entries: usize,
     pub rows: RowNumber,
     pub consumed: ByteOffset,
 }
 
-#[derive(Drop)]
+#[derive(Clone, Copy)]
 pub enum Built {
     Index(Sizes),
     Refused(Refusal),
 }
 
-#[derive(Drop)]
+#[derive(Clone, Copy)]
 pub enum Found {
     Entry(Entry),
     Refused(Refusal),
 }
 
 // The rows from a row on: how many they are.
-#[derive(Drop)]
+#[derive(Clone, Copy)]
 pub enum Preview {
     Rows(RowNumber),
     Refused(Refusal),
 }
 
 // The rows from a row on, as far as there are places for them.
-#[derive(Drop)]
+#[derive(Clone, Copy)]
 enum Left {
     Rows(RowNumber),
     TooMany,
@@ -137,7 +139,7 @@ fn holds(from: RowNumber, rows: RowNumber, row: RowNumber) -> bool
     row.rows - from.rows < rows.rows
 }
 
-// The place of the entry that holds a row, or the number of entries if none does.
+// The place of the entry that holds a row: as many as there are entries, where none does.
 fn place_of(first: &[u64], counts: &[u64], row: RowNumber) -> usize
     requires { length counts.now ≡ length first.now }
     ensures { result ≡ place_of row.rows first.now counts.now }
@@ -190,7 +192,7 @@ pub fn look_up(input: &[u8], first: &[u64], at: &[u64], counts: &[u64], row: Row
     Found::entry(from, place, rows)
 }
 
-// How many rows there are from a row on, by the last entry.
+// The rows from a row on, where the last entry is known.
 fn left_from(first: RowNumber, rows: RowNumber, row: RowNumber, places: usize) -> Left
     requires { row.rows < first.rows + rows.rows }
     ensures { result ≡ left_of first.rows rows.rows row.rows places }
@@ -214,7 +216,7 @@ fn left_from(first: RowNumber, rows: RowNumber, row: RowNumber, places: usize) -
     Left::Rows(RowNumber { rows: n })
 }
 
-// Lays the rows from a row on: those that the run at a place still holds, and those of the runs after it. There is room for them.
+// The rows from a row on that the run at a place holds and the runs behind it, where there is room for them.
 fn lay(input: &[u8], at: ByteOffset, skip: RowNumber, signed: bool, out: &mut [i64])
     requires { Ready input.now at.bytes skip.rows (length out.old) }
     ensures { RowsLaid input.now at.bytes skip.rows signed out.old out.new }

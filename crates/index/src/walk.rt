@@ -6,14 +6,14 @@ ghost use Rattle.index.specs.Walk.{total_of, survey_from, right_from, same_three
 use format::{Answer, ByteOffset, Refusal, RowNumber};
 
 // A count of rows, while it is at most 2^64 - 1.
-#[derive(Drop)]
+#[derive(Clone, Copy)]
 pub(crate) enum Total {
     Rows(RowNumber),
     Past,
 }
 
 // What is found: how many runs and rows a whole stream has, or the stream's own refusal.
-#[derive(Drop)]
+#[derive(Clone, Copy)]
 pub(crate) enum Survey {
     Whole(usize, Total),
     Refused(Refusal),

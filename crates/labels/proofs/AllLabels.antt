@@ -1,10 +1,17 @@
 -- Each answer follows from the first test that applies. If none does, every row has what it needs, and the columns hold what `label` says
 -- of it. Assumes nothing.
-use Rattle.format.proofs.Common.{◌≡◌, refl, sym, ap, subst, ◌∙◌, ℕ, ◌<◌, ◌≤◌, arith, dec_lt, Bool, true, false, List, length, drop, get_or}
-use Rattle.format.proofs.Common.{drop_at, ℤ}
+use mathlib.Core.Path.{◌≡◌, refl, sym, ap, subst, ◌∙◌}
+use Prim.Native.Nat.{ℕ, ◌<◌, ◌≤◌}
+use native.Mathlib.Omega.{arith}
+use native.Mathlib.Decide.{dec_lt}
+use mathlib.Core.Bool.{Bool, true, false}
+use mathlib.Core.List.{List}
+use lib.ListN.{length, drop, get_or}
+use lib.Seq.{drop_at}
+use lib.IntN.{ℤ}
 use Rattle.format.specs.Fields.{pick}
 use Rattle.format.proofs.Tests.{never, T_true, is_false}
-use Rattle.present.proofs.SpreadRows.{spread-length}
+use Rattle.present.proofs.Columns.{spread-length}
 use Rattle.labels.specs.declared.LabelColumn.{LabelColumn}
 use Rattle.labels.specs.Labels.{add_up, is_name, name_at, fallback_of}
 use Rattle.labels.specs.Laws.{AddUp}
@@ -115,8 +122,7 @@ all-labels-hold flags numbers lengths block c c' r p = record {
       let g = all-fine flags numbers lengths block c (tells e) in
       let f = good-before lengths flags numbers row (omega (arith, g.good)) in
       let o = is_false (is_name (get_or flags row 0)) x in
-      let (s, z) = row_is g.comes row h f in
-      (s ∙ rw o, z ∙ rw o);
+      (starts-at g.comes row h f ∙ rw o, sizes-at g.comes row h f ∙ rw o);
   begins = λ n e k h.
       let g = all-fine flags numbers lengths block c (tells e) in
       begins-at lengths c'.offsets (drop (length lengths) c.offsets) (ap (λ (x : LabelPlaces). x.offsets) (at_exit g.comes)) k h;
@@ -130,8 +136,8 @@ all-labels-hold flags numbers lengths block c c' r p = record {
         sizes = ap (λ (y : LabelPlaces). drop (length flags) y.sizes) x
             ∙ drop_at (sizes_of lengths flags numbers) (drop (length flags) c.sizes) (length flags) (spread-length 0 flags _);
       };
-  untouched = λ k e. p.places ∙ as-was (labelling flags numbers lengths (length block) c) (sym p.answer ∙ e) (λ z. never (cc));
-  untouched-row = λ k row e. p.places ∙ as-was (labelling flags numbers lengths (length block) c) (sym p.answer ∙ e) (λ z. never (cc));
+  untouched = λ k e. p.places ∙ as-was k (labelling flags numbers lengths (length block) c) (sym p.answer ∙ e);
+  untouched-row = λ k row e. p.places ∙ as-was-row k row (labelling flags numbers lengths (length block) c) (sym p.answer ∙ e);
 }
   where
     tells : {a : LabelColumn} → r ≡ a → ColumnSaid flags numbers lengths block c a
@@ -142,22 +148,25 @@ all-labels-hold flags numbers lengths block c c' r p = record {
     at_exit : labelling flags numbers lengths (length block) c ≡ gives → c' ≡ labels_at flags numbers lengths c gives
     at_exit e = p.places ∙ ap (labels_at flags numbers lengths c) e
 
-    row_is : labelling flags numbers lengths (length block) c ≡ gives → (row : ℕ) → row < length flags → served lengths flags numbers row ≡ true
-        → let name = is_name (get_or flags row 0) in
-        let k = number_at flags numbers row in
-        (get_or c'.starts row 0 ≡ pick name (start_for lengths k) 0) × (get_or c'.sizes row 0 ≡ pick name (size_for lengths k) 0)
-    row_is e row h f = (
-      ap (λ (x : LabelPlaces). get_or x.starts row 0) (at_exit e)
-          ∙ column-at (start_for lengths) lengths flags numbers (drop (length flags) c.starts) row h f,
-      ap (λ (x : LabelPlaces). get_or x.sizes row 0) (at_exit e)
-          ∙ column-at (size_for lengths) lengths flags numbers (drop (length flags) c.sizes) row h f,
-    )
+    starts-at : labelling flags numbers lengths (length block) c ≡ gives → (row : ℕ) → row < length flags
+        → served lengths flags numbers row ≡ true
+        → get_or c'.starts row 0 ≡ pick (is_name (get_or flags row 0)) (start_for lengths (number_at flags numbers row)) 0
+    starts-at e row h f =
+        ap (λ (x : LabelPlaces). get_or x.starts row 0) (at_exit e)
+        ∙ column-at (start_for lengths) lengths flags numbers (drop (length flags) c.starts) row h f
+
+    sizes-at : labelling flags numbers lengths (length block) c ≡ gives → (row : ℕ) → row < length flags
+        → served lengths flags numbers row ≡ true
+        → get_or c'.sizes row 0 ≡ pick (is_name (get_or flags row 0)) (size_for lengths (number_at flags numbers row)) 0
+    sizes-at e row h f =
+        ap (λ (x : LabelPlaces). get_or x.sizes row 0) (at_exit e)
+        ∙ column-at (size_for lengths) lengths flags numbers (drop (length flags) c.sizes) row h f
 
     holds : labelling flags numbers lengths (length block) c ≡ gives → (fall : List ℕ) (row : ℕ) → row < length flags
         → served lengths flags numbers row ≡ true
         → label_held flags fall c' row
         ≡ pick (is_name (get_or flags row 0)) (name_for lengths (number_at flags numbers row)) (fallback_of (length fall))
-    holds e fall row h f = let (s, z) = row_is e row h f in go (is_name (get_or flags row 0)) s z
+    holds e fall row h f = go (is_name (get_or flags row 0)) (starts-at e row h f) (sizes-at e row h f)
       where
         go : (t : Bool) → get_or c'.starts row 0 ≡ pick t (start_for lengths (number_at flags numbers row)) 0
             → get_or c'.sizes row 0 ≡ pick t (size_for lengths (number_at flags numbers row)) 0
@@ -167,12 +176,15 @@ all-labels-hold flags numbers lengths block c c' r p = record {
         go true s z = rw (s, z)
         go false s z = refl
 
-    -- no place is touched unless rows are answered
-    as-was : {a : LabelColumn} (o : LabelOutcome) → labels_answer (length flags) o ≡ a → (labelled_rows (length flags) ≡ a → ⊥)
-        → labels_at flags numbers lengths c o ≡ c
-    as-was gives e n = absurd (n e)
-    as-was (refuses k) e n = refl
-    as-was (refuses_row k row) e n = refl
+    as-was : (k : ℕ) (o : LabelOutcome) → labels_answer (length flags) o ≡ column_refused k → labels_at flags numbers lengths c o ≡ c
+    as-was k gives e = never (cc)
+    as-was k (refuses n) e = refl
+    as-was k (refuses_row n row) e = refl
+
+    as-was-row : (k row : ℕ) (o : LabelOutcome) → labels_answer (length flags) o ≡ row_refused k row → labels_at flags numbers lengths c o ≡ c
+    as-was-row k row gives e = never (cc)
+    as-was-row k row (refuses n) e = refl
+    as-was-row k row (refuses_row n row') e = refl
 
 pub all-labels-determined : AllLabelsDetermined
 all-labels-determined flags numbers lengths bytes c one two r r' p q = (p.answer ∙ sym q.answer, p.places ∙ sym q.places)

@@ -1,6 +1,8 @@
 -- A column for each slip, by computation. The block has five bytes, the names two and three of them; rows 0 and 2 have a name. Assumes
 -- nothing.
-use Rattle.format.proofs.Common.{◌≡◌, refl, List, [], ◌∷◌, ℤ, pos, negsuc}
+use mathlib.Core.Path.{◌≡◌, refl}
+use mathlib.Core.List.{List, [], ◌∷◌}
+use lib.IntN.{ℤ, pos, negsuc}
 use Rattle.present.specs.Present.{present, spread}
 use Rattle.labels.specs.declared.LabelColumn.{LabelColumn}
 use Rattle.labels.specs.Labels.{total, none_below, add_up_to, start_of, size_of}

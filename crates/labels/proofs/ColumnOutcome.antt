@@ -1,6 +1,12 @@
 -- The call is three tests and then the columns: so what the code tests, in its order, says what comes of it. Assumes nothing.
-use Rattle.format.proofs.Common.{◌≡◌, refl, ℕ, ◌<◌, ◌≤◌, Bool, true, false, ◌||◌, List, ◌++◌, length, drop, ltb, ℤ, lt-ltb, le-ltb}
-use Rattle.format.proofs.Common.{ltb-false}
+use mathlib.Core.Path.{◌≡◌, refl}
+use Prim.Native.Nat.{ℕ, ◌<◌, ◌≤◌}
+use mathlib.Core.Bool.{Bool, true, false, ◌||◌}
+use mathlib.Core.List.{List, ◌++◌}
+use lib.ListN.{length, drop}
+use lib.Dec.{ltb}
+use lib.IntN.{ℤ}
+use borrow.Author.Tests.{lt-ltb, le-ltb, ltb-false}
 use Rattle.format.proofs.Tests.{never}
 use Rattle.labels.specs.declared.LabelColumn.{LabelColumn}
 use Rattle.labels.specs.Labels.{add_up_to}

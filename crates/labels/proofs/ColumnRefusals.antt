@@ -1,6 +1,13 @@
 -- If the lengths do not add up, `label` refuses every row with 18; if they do, the first bad row with 19 and none before it. Assumes
 -- nothing.
-use Rattle.format.proofs.Common.{◌≡◌, refl, sym, ap, ◌∙◌, ℕ, ◌<◌, ◌≤◌, arith, dec_lt, Bool, true, false, List, [], length, get_or, ℤ}
+use mathlib.Core.Path.{◌≡◌, refl, sym, ap, ◌∙◌}
+use Prim.Native.Nat.{ℕ, ◌<◌, ◌≤◌}
+use native.Mathlib.Omega.{arith}
+use native.Mathlib.Decide.{dec_lt}
+use mathlib.Core.Bool.{Bool, true, false}
+use mathlib.Core.List.{List, []}
+use lib.ListN.{length, get_or}
+use lib.IntN.{ℤ}
 use Rattle.format.specs.Fields.{pick}
 use Rattle.format.proofs.Tests.{never}
 use Rattle.labels.specs.declared.Label.{Label}
@@ -8,7 +15,7 @@ use Rattle.labels.specs.declared.Label.TheVariants.{Name, Fallback, Refused}
 use Rattle.labels.specs.Labels.{add_up, is_name, name_at, fallback_of, refused_with}
 use Rattle.labels.specs.Column.{good_rows}
 use Rattle.labels.specs.ColumnLaws.{RowRefused, NoneNineteen}
-use Rattle.labels.proofs.LabelSums.{not-added}
+use Rattle.labels.proofs.Columns.{not-added}
 use Rattle.labels.proofs.ColumnRows.{served, good-before, good-first, label-bad, label-served}
 
 -- a refusal's number: none is 0
@@ -28,7 +35,7 @@ module _ (flags : List ℕ) (numbers lengths : List ℤ) (block : List ℕ) wher
   no-refusal false s z n k e = never (cc)
 
   pub every-18 : add_up lengths block ≡ false → (row : ℕ) → row < length flags → RowRefused flags numbers lengths block 18 row
-  every-18 a row h fall = not-added lengths numbers flags block fall row h (rw a)
+  every-18 a row h fall = not-added lengths numbers flags block fall row h a
 
   module _ (a : add_up lengths block ≡ true) where
     pub bad-19 : good_rows lengths flags numbers < length flags → RowRefused flags numbers lengths block 19 (good_rows lengths flags numbers)

@@ -1,10 +1,18 @@
 -- Row by row: a row before the first bad one has what it needs, so `label` names it, and the columns hold that name. Assumes nothing.
-use Rattle.format.proofs.Common.{◌≡◌, refl, sym, ap, ◌∙◌, ℕ, zero, suc, ◌+◌, ◌<◌, arith, dec_lt, Bool, true, false, List, [], ◌∷◌, ◌++◌, map}
-use Rattle.format.proofs.Common.{length, take, drop, get_or, List·getD-append, drop-cons, drop-drop, ℤ, pos, negsuc, lt-ltb, le-ltb, lt-leb}
+use mathlib.Core.Path.{◌≡◌, refl, sym, ap, ◌∙◌}
+use Prim.Native.Nat.{ℕ, zero, suc, ◌<◌}
+use native.Mathlib.Omega.{arith}
+use native.Mathlib.Decide.{dec_lt}
+use mathlib.Core.Bool.{Bool, true, false}
+use mathlib.Core.List.{List, [], ◌∷◌, ◌++◌, map}
+use lib.ListN.{length, take, drop, get_or, get_or-append}
+use lib.Seq.{drop-cons, drop-drop}
+use lib.IntN.{ℤ, pos, negsuc}
+use borrow.Author.Tests.{lt-ltb, le-ltb, lt-leb}
 use Rattle.format.specs.Fields.{pick}
 use Rattle.format.proofs.Tests.{never}
 use Rattle.present.specs.Present.{rows_for, present, spread}
-use Rattle.present.proofs.SpreadRows.{spread-length, row-at}
+use Rattle.present.proofs.Columns.{spread-length, row-at}
 use Rattle.labels.specs.declared.Label.{Label}
 use Rattle.labels.specs.Labels.{add_up, is_name, entry_of, name_at, fallback_of, refused_with, numbered, named, label}
 use Rattle.labels.specs.Column.{next_inside, has_number, good_rows, start_for, size_for}
@@ -125,7 +133,7 @@ pub column-at : (g : ℤ → ℕ) (lengths : List ℤ) (flags : List ℕ) (numbe
     → get_or (spread 0 flags (map g numbers) ++ rest) row 0 ≡ pick (is_name (get_or flags row 0)) (g (number_at flags numbers row)) 0
 unfolding entry_of
 column-at g lengths flags numbers rest row h f =
-    List·getD-append (spread 0 flags (map g numbers)) rest 0 row (omega (arith, spread-length 0 flags (map g numbers)))
+    get_or-append (spread 0 flags (map g numbers)) rest 0 row (omega (arith, spread-length 0 flags (map g numbers)))
     ∙ row-at 0 flags (map g numbers) row 0 h
     ∙ go (is_name (get_or flags row 0)) f
   where

@@ -1,8 +1,17 @@
 -- The rows before the first bad one, counted from the front: at each flag the rows passed, and the good ones of what is left, are all.
 -- Assumes nothing.
-use Rattle.format.proofs.Common.{◌≡◌, refl, sym, ap, ◌∙◌, ℕ, suc, ◌+◌, ◌<◌, ◌≤◌, add-one, arith, dec_lt, Bool, true, false, List, [], ◌∷◌}
-use Rattle.format.proofs.Common.{map, length, drop, get_or, length-map, drop_of_length-le, List·getD-map, drop-cons, drop-drop, ltb, ℤ, pos}
-use Rattle.format.proofs.Common.{negsuc, ltb-true}
+use mathlib.Core.Path.{◌≡◌, refl, sym, ap, ◌∙◌}
+use Prim.Native.Nat.{ℕ, suc, ◌+◌, ◌<◌, ◌≤◌}
+use native.Mathlib.Numerals.{add-one}
+use native.Mathlib.Omega.{arith}
+use native.Mathlib.Decide.{dec_lt}
+use mathlib.Core.Bool.{Bool, true, false}
+use mathlib.Core.List.{List, [], ◌∷◌, map}
+use lib.ListN.{length, drop, get_or, length-map, drop_of_length-le, get_or-map}
+use lib.Seq.{drop-cons, drop-drop}
+use lib.Dec.{ltb}
+use lib.IntN.{ℤ, pos, negsuc}
+use borrow.Author.Tests.{ltb-true}
 use Rattle.format.specs.Fields.{pick}
 use Rattle.format.proofs.Tests.{never}
 use Rattle.present.specs.Present.{rows_for}
@@ -59,7 +68,7 @@ module _ (lengths numbers : List ℤ) (at : ℕ) where
 -- what is made of each number
 pub mapped_at : (g : ℤ → ℕ) (numbers : List ℤ) (at : ℕ) → at < length numbers → get_or (map g numbers) at 0 ≡ g (get_or numbers at (pos 0))
 mapped_at g numbers at h =
-    any-default (map g numbers) at 0 (g (pos 0)) (rw (length-map numbers g) h) ∙ List·getD-map g numbers at (pos 0)
+    any-default (map g numbers) at 0 (g (pos 0)) (rw (length-map numbers g) h) ∙ get_or-map g numbers at (pos 0)
 
 -- ---- the rows that have what they need
 

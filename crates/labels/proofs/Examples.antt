@@ -1,6 +1,9 @@
 -- A row for each slip, by computation. The block has five bytes, the names two and three of them; rows 0 and 2 have a name. Assumes
 -- nothing.
-use Rattle.format.proofs.Common.{◌≡◌, refl, ℕ, List, [], ◌∷◌, ℤ, pos, negsuc}
+use mathlib.Core.Path.{◌≡◌, refl}
+use Prim.Native.Nat.{ℕ}
+use mathlib.Core.List.{List, [], ◌∷◌}
+use lib.IntN.{ℤ, pos, negsuc}
 use Rattle.labels.specs.declared.Label.{Label}
 use Rattle.present.specs.Present.{present}
 use Rattle.labels.specs.Labels.{total, none_below, add_up_to, start_of, size_of, entry_of, name_at, fallback_of, refused_with, numbered}

@@ -1,10 +1,15 @@
 -- Starts and sizes are two columns with missing rows, spread over the same flags, so each turn is a turn of both. Assumes nothing.
-use Rattle.format.proofs.Common.{◌≡◌, refl, sym, ap, ◌∙◌, ℕ, ◌+◌, ◌<◌, ◌≤◌, arith, Bool, true, false, List, map, length, drop, get_or, set}
-use Rattle.format.proofs.Common.{length-append, ℤ, pos}
+use mathlib.Core.Path.{◌≡◌, refl, sym, ap, ◌∙◌}
+use Prim.Native.Nat.{ℕ, ◌+◌, ◌<◌, ◌≤◌}
+use native.Mathlib.Omega.{arith}
+use mathlib.Core.Bool.{Bool, true, false}
+use mathlib.Core.List.{List, map}
+use lib.ListN.{length, drop, get_or, set, length-append}
+use lib.IntN.{ℤ, pos}
 use Rattle.format.specs.Fields.{pick}
 use Rattle.present.specs.Present.{rows_for}
 use Rattle.present.proofs.SpreadLoop.{row_at, SpreadSoFar, so-far-none, so-far-next, so-far-all}
-use Rattle.labels.specs.Labels.{size, is_name}
+use Rattle.labels.specs.Labels.{is_name}
 use Rattle.labels.specs.RowPass.{name_in, RowsReady, RowsLaid}
 use Rattle.labels.specs.Column.{next_inside, has_number, good_rows, start_for, size_for}
 use Rattle.labels.proofs.ColumnWalk.{Inside, next-inside, mapped_at, good-next, good-bad}

@@ -1,16 +1,21 @@
 -- Each label follows from the first test that applies, and the parts of the names, one after the other, are the block. Assumes nothing.
-use Rattle.format.proofs.Common.{◌≡◌, refl, sym, ap, subst, ◌∙◌, ℕ, zero, suc, ◌+◌, ◌<◌, ◌≤◌, arith, Bool, true, false, not, ◌&&◌, List, []}
-use Rattle.format.proofs.Common.{◌∷◌, length, take, get_or, length-take, length-drop, take-add, take-length, T, leb, ltb, eqb, eqb→eq, le→leb}
-use Rattle.format.proofs.Common.{ltb→lt, ℤ, pos, negsuc, le-leb, lt-leb, leb-true, leb-false, lt-ltb, ltb-true, ltb-false, eq-eqb}
-use Prim.Native.Nat.{zero-le}
+use mathlib.Core.Path.{◌≡◌, refl, sym, ap, subst, ◌∙◌}
+use Prim.Native.Nat.{ℕ, zero, suc, ◌+◌, ◌<◌, ◌≤◌, zero-le}
+use native.Mathlib.Omega.{arith}
+use mathlib.Core.Bool.{Bool, true, false, not, ◌&&◌}
+use mathlib.Core.List.{List, [], ◌∷◌}
+use lib.ListN.{length, take, get_or, length-take, length-drop}
+use lib.Seq.{take-add, take-length}
+use lib.Dec.{T, leb, ltb, eqb, eqb→eq, le→leb, ltb→lt}
+use lib.IntN.{ℤ, pos, negsuc}
 use lib.Signed.{le_z_yes, yes_non_neg}
+use borrow.Author.Tests.{le-leb, lt-leb, leb-true, leb-false, lt-ltb, ltb-true, ltb-false, eq-eqb}
 use Rattle.format.specs.Fields.{pick}
 use Rattle.format.proofs.Tests.{never, T_true, is_false, and_left, and_right}
 use Rattle.labels.specs.declared.Label.{Label}
 use Rattle.labels.specs.Labels.{total, none_below, add_up_to, add_up, start_of, size_of, is_name, entry_of, name_at, fallback_of, refused_with}
 use Rattle.labels.specs.Labels.{numbered, named, label, part_of}
-use Rattle.labels.specs.Laws.{sum, NoneBelow, AddUp, Number, Name, Said, sixteen, eighteen, nineteen, the-name, no_name, LabelsExactly, parts_before}
-use Rattle.labels.specs.Laws.{PartsHold, LabelsGiven, LabelsDetermined}
+use Rattle.labels.specs.Laws.{sum, NoneBelow, AddUp, Number, Name, Said, sixteen, eighteen, nineteen, the-name, no_name, LabelsExactly, parts_before, PartsHold, LabelsGiven, LabelsDetermined}
 
 -- ---- tests
 
@@ -85,8 +90,7 @@ module _ (lengths numbers : List ℤ) (flags block fall : List ℕ) (row : ℕ) 
     unfolding named
     says-named = go (ltb (entry_of flags row) (length numbers)) refl
       where
-        go : (t : Bool) → ltb (entry_of flags row) (length numbers) ≡ t
-            → Says (pick t (numbered lengths (get_or numbers (entry_of flags row) (pos 0))) (refused_with 19))
+        go : (t : Bool) → ltb (entry_of flags row) (length numbers) ≡ t → Says (pick t (numbered lengths (get_or numbers (entry_of flags row) (pos 0))) (refused_with 19))
         go true f = says-numbered _ (ltb-true (entry_of flags row) (length numbers) f) refl
         go false f = nineteen h a n (λ j m. omega (arith, ltb-false (entry_of flags row) (length numbers) f))
 
@@ -120,15 +124,7 @@ module _ (lengths numbers : List ℤ) (flags block fall : List ℕ) (row : ℕ) 
   said (eighteen h a) = rw (lt-leb (length flags) row h, is_false (add_up lengths block) (λ t. a (adds lengths block (T_true (add_up lengths block) t))))
   said (nineteen h a n o) = rw (lt-leb (length flags) row h, added lengths block a, T_true (is_name (get_or flags row 0)) n) (no_number o)
   said (the-name h a n k m) =
-      rw (
-        lt-leb (length flags) row h,
-        added lengths block a,
-        T_true (is_name (get_or flags row 0)) n,
-        lt-ltb (entry_of flags row) (length numbers)
-            m.there,
-        m.entry,
-        lt-ltb k (length lengths) m.inside,
-      )
+      rw (lt-leb (length flags) row h, added lengths block a, T_true (is_name (get_or flags row 0)) n, lt-ltb (entry_of flags row) (length numbers) m.there, m.entry, lt-ltb k (length lengths) m.inside)
   said (no_name h a n) = rw (lt-leb (length flags) row h, added lengths block a, is_false (is_name (get_or flags row 0)) n)
 
 pub labels-exactly : LabelsExactly
@@ -170,8 +166,7 @@ parts-hold lengths block a = record {
   starts = λ k. sym (sum-total (take k lengths) (none-take k lengths a.none_below));
   first = refl;
   adjacent = start-suc lengths;
-  length-is = λ k h. ap pos (simp (length-take, length-drop) (omega (arith, start-suc lengths k, start-le lengths (suc k), total-is lengths block a)))
-      ∙ size_is lengths k a.none_below;
+  length-is = λ k h. ap pos (simp (length-take, length-drop) (omega (arith, start-suc lengths k, start-le lengths (suc k), total-is lengths block a))) ∙ size_is lengths k a.none_below;
   before = parts-before lengths block;
   all = parts-before lengths block (length lengths) ∙ rw (take-length lengths, total-is lengths block a, take-length block);
 }

@@ -1,7 +1,7 @@
 -- The theorems of specs/Laws.antt and specs/ColumnLaws.antt.
 
 pub mod Labels
-pub mod LabelSums
+pub mod Columns
 pub mod Examples
 pub mod ColumnWalk
 pub mod OffsetLoop

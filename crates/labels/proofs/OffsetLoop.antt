@@ -1,6 +1,12 @@
 -- Each turn lays where one name begins and adds its length, so the sum is always where the next begins. Assumes nothing.
-use Rattle.format.proofs.Common.{◌≡◌, refl, ap, ◌∙◌, ℕ, zero, suc, ◌+◌, ◌<◌, ◌≤◌, add-one, arith, List, [], ◌∷◌, ◌++◌, length, take, drop}
-use Rattle.format.proofs.Common.{get_or, set, length-set, drop_of_length-le, List·getD-append, drop-cons, ℤ, pos}
+use mathlib.Core.Path.{◌≡◌, refl, ap, ◌∙◌}
+use Prim.Native.Nat.{ℕ, zero, suc, ◌+◌, ◌<◌, ◌≤◌}
+use native.Mathlib.Numerals.{add-one}
+use native.Mathlib.Omega.{arith}
+use mathlib.Core.List.{List, [], ◌∷◌, ◌++◌}
+use lib.ListN.{length, take, drop, get_or, set, length-set, drop_of_length-le, get_or-append}
+use lib.Seq.{drop-cons}
+use lib.IntN.{ℤ, pos}
 use Rattle.util.proofs.Grow.{grow, kept, filled}
 use Rattle.labels.specs.Labels.{size, total, start_of, size_of}
 use Rattle.labels.specs.Column.{offsets_from}
@@ -22,7 +28,7 @@ pub begins-at : (lengths : List ℤ) (offsets rest : List ℕ) → offsets ≡ o
     → get_or offsets k 0 ≡ start_of lengths k
 begins-at lengths offsets rest e k h =
     let l : k < length (offsets_from 0 lengths) = omega (arith, offsets-length 0 lengths) in
-    rw (e, List·getD-append (offsets_from 0 lengths) rest 0 k l) (omega (arith, offset_at 0 lengths k h))
+    rw (e, get_or-append (offsets_from 0 lengths) rest 0 k l) (omega (arith, offset_at 0 lengths k h))
 
 module _ (lengths : List ℤ) (out₀ : List ℕ) where
   -- i names have their offsets, and the next begins at the sum

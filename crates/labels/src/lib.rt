@@ -1,24 +1,26 @@
 // Labels for the chunk list: stem names are a dictionary (one byte block and a column of lengths), a column of numbers, and flags that say
 // which rows have a name.
+#![tactic(auto)]
+
 ghost use Rattle.std.specs.Prelude.{◌≡◌, true, ◌≤◌, ◌<◌, pos, length, get_or};
 ghost use Rattle.labels.specs.Labels.{name_at, fallback_of, refused_with, add_up_to, add_up, start_of, entry_of, Labelled, PartHanded};
 ghost use Rattle.labels.specs.Labels as Labels;
 ghost use Rattle.labels.specs.Whole.{whole_of};
-ghost use Rattle.labels.specs.Column.{places_in, column_refused, row_refused, LabelledAll};
+ghost use Rattle.labels.specs.Column.{places_in, labelled_rows, column_refused, row_refused, LabelledAll};
 
 use format::{ByteOffset, Refusal, RowNumber};
 
 mod column;
 
 // A name: the byte of the block where it begins, and how many bytes it has.
-#[derive(Drop)]
+#[derive(Clone, Copy)]
 pub struct Name {
     pub start: ByteOffset,
     pub size: ByteOffset,
 }
 
 // What a row is called: a name of the dictionary; the caller's own fallback, by its length; or a refusal.
-#[derive(Drop)]
+#[derive(Clone, Copy)]
 pub enum Label {
     Name(Name),
     Fallback(ByteOffset),
@@ -26,7 +28,7 @@ pub enum Label {
 }
 
 // What all rows of a column are called: how many they are; a refusal; or a refusal with the first row that it is for.
-#[derive(Drop)]
+#[derive(Clone, Copy)]
 pub enum LabelColumn {
     Rows(RowNumber),
     Refused(Refusal),
@@ -34,7 +36,7 @@ pub enum LabelColumn {
 }
 
 // A length or a number of a column: not below 0, or below.
-#[derive(Drop)]
+#[derive(Clone, Copy)]
 enum Whole {
     Number(usize),
     Below,
@@ -61,6 +63,12 @@ impl Label {
 }
 
 impl LabelColumn {
+    pub fn rows(rows: RowNumber) -> Self
+        ensures { result ≡ labelled_rows rows.rows }
+    {
+        LabelColumn::Rows(rows)
+    }
+
     pub fn refused(number: u8) -> Self
         ensures { result ≡ column_refused number }
     {
@@ -252,5 +260,5 @@ pub fn label_column(
     }
     column::put_offsets(lengths, block, offsets);
     column::put_labels(flags, numbers, lengths, offsets, starts, sizes);
-    LabelColumn::Rows(RowNumber { rows })
+    LabelColumn::rows(RowNumber { rows })
 }

@@ -1,5 +1,7 @@
 -- The README's input lines and what they write, by computation. Assumes nothing.
-use Rattle.format.proofs.Common.{◌≡◌, refl, ℕ, List}
+use mathlib.Core.Path.{◌≡◌, refl}
+use Prim.Native.Nat.{ℕ}
+use mathlib.Core.List.{List}
 use Rattle.format.specs.Digits
 use Rattle.format.specs.Fields
 use Rattle.format.specs.Runs
@@ -22,25 +24,36 @@ unfolding Digits.number Digits.digits Fields.widths Fields.width Fields.least_of
     Line.bad_line Line.reply_text Line.frame_of Line.frame_text Line.answer_text
 written line = Line.answer_text line
 
-runs : (written (ascii "000A012C") ≡ ascii "run 5 3 300 300 300 300 300") × (written (ascii "0046021230") ≡ ascii "run 3 4 1 2 3")
+five-rows : written (ascii "000A012C") ≡ ascii "run 5 3 300 300 300 300 300"
 unfolding written
-runs = (refl, refl)
+five-rows = refl
 
-no_run : (written (ascii "01") ≡ ascii "end") × (written (ascii "zz") ≡ ascii "bad line")
+three-rows : written (ascii "0046021230") ≡ ascii "run 3 4 1 2 3"
 unfolding written
-no_run = (refl, refl)
+three-rows = refl
 
 no-room-for-a-gap : written (ascii "0086031F21") ≡ ascii "refused 2"
 unfolding written
 no-room-for-a-gap = refl
 
--- 30 bits and a patch field of 40, whose top bits are zero; either letter case
-wide-field : (written (ascii "00B4001C010500000004000000000003") ≡ ascii "run 1 15 3221225478")
-    × (written (ascii "010a012c") ≡ ascii "run 5 3 150 150 150 150 150")
+-- 30 bits and a patch field of 40, whose top bits are zero
+wide-field : written (ascii "00B4001C010500000004000000000003") ≡ ascii "run 1 15 3221225478"
 unfolding written
-wide-field = (refl, refl)
+wide-field = refl
 
--- a minus sign; the ends of 64 bits
+no_run : written (ascii "01") ≡ ascii "end"
+unfolding written
+no_run = refl
+
+no-digits : written (ascii "zz") ≡ ascii "bad line"
+unfolding written
+no-digits = refl
+
+-- either letter case; a minus sign; the ends of 64 bits
+lower-case : written (ascii "010a012c") ≡ ascii "run 5 3 150 150 150 150 150"
+unfolding written
+lower-case = refl
+
 past_the_end : written (ascii "01C001FEFFFFFFFFFFFFFFFF0102") ≡ ascii "run 2 13 9223372036854775807 -9223372036854775808"
 unfolding written
 past_the_end = refl

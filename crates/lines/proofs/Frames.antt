@@ -1,8 +1,15 @@
 -- A line's frame by the tests that the code makes, and what the run reader gives on it, in words.
 -- Assumes nothing.
-use Rattle.format.proofs.Common.{◌≡◌, refl, sym, ap, ◌∙◌, ℕ, suc, ◌+◌, ◌-◌, ◌*◌, ◌/◌, ◌%◌, ◌<◌, ◌≤◌, arith, Bool, true, false, List, []}
-use Rattle.format.proofs.Common.{◌∷◌, length, take, drop, get_or, length-append, length-take, length-take-le, take_at, get_or-take, ltb, eqb, ℤ}
-use Rattle.format.proofs.Common.{lt-ltb, le-ltb, eq-eqb, ne_eqb, ltb-false}
+use mathlib.Core.Path.{◌≡◌, refl, sym, ap, ◌∙◌}
+use Prim.Native.Nat.{ℕ, suc, ◌+◌, ◌-◌, ◌*◌, ◌/◌, ◌%◌, ◌<◌, ◌≤◌}
+use native.Mathlib.Omega.{arith}
+use mathlib.Core.Bool.{Bool, true, false}
+use mathlib.Core.List.{List, [], ◌∷◌}
+use lib.ListN.{length, take, drop, get_or, length-append, length-take}
+use lib.Seq.{length-take-le, take_at, get_or-take}
+use lib.Dec.{ltb, eqb}
+use lib.IntN.{ℤ}
+use borrow.Author.Tests.{lt-ltb, le-ltb, eq-eqb, ne_eqb, ltb-false}
 use Rattle.format.specs.Runs.{Description, row_count}
 use Rattle.format.specs.Rows.{i64_rows}
 use Rattle.format.specs.Parse.{Parsed, end, got, refused, unless, into, parse}
@@ -17,20 +24,11 @@ use Rattle.text.specs.Hexadecimal.{all_hex, hex_bytes}
 use Rattle.text.specs.Decimal.{row_text, rows_text}
 use Rattle.lines.specs.Line.{bad_line, frame_of, frame_text, answer_text, ended, answer_line, reply_text, reading_text, Framed, Answered}
 use Rattle.text.specs.Written.{TextWritten}
-use Rattle.text.proofs.Texts.{from_first, decimal-length, row-length}
+use Rattle.text.proofs.Texts.{decimal-length, row-length}
 
 -- ---- the tests of a line
 
--- what the tests before the flag's leave, with the line's bytes in the first places
-pub record Passed (line frame : List ℕ) : Type 0 where
-  pub some : length line ≡ 0 → ⊥
-  pub even : length line % 2 ≡ 1 → ⊥
-  pub short : length line ≤ 8800
-  pub hex : all_hex line ≡ true
-  pub bytes : take (length line / 2) frame ≡ hex_bytes line
-  pub room : length line / 2 ≤ length frame
-
-module _ {line frame : List ℕ} where
+module _ (line frame : List ℕ) where
   framed-none : bad_line line ≡ true → Framed line frame 0
   unfolding frame_of
   framed-none e = record { count = rw e; bytes = rw e }
@@ -49,31 +47,37 @@ module _ {line frame : List ℕ} where
       unfolding bad_line
       bad-long h = framed-none (rw (ne_eqb (length line) 0 some, ne_eqb (length line % 2) 1 even, lt-ltb 8800 (length line) h))
 
-      pub bad-digit : length line ≤ 8800 → all_hex line ≡ false → Framed line frame 0
-      unfolding bad_line
-      bad-digit short h = framed-none (rw (ne_eqb (length line) 0 some, ne_eqb (length line % 2) 1 even, le-ltb 8800 (length line) short, h))
+      module _ (short : length line ≤ 8800) where
+        pub bad-digit : all_hex line ≡ false → Framed line frame 0
+        unfolding bad_line
+        bad-digit h = framed-none (rw (ne_eqb (length line) 0 some, ne_eqb (length line % 2) 1 even, le-ltb 8800 (length line) short, h))
 
-  module _ (p : Passed line frame) where
-    -- the flag decides
-    by_flag : bad_line line ≡ ltb 1 (get_or frame 0 0)
-    unfolding bad_line
-    by_flag =
-        let flag : get_or (hex_bytes line) 0 0 ≡ get_or frame 0 0 =
-        ap (λ (l : List ℕ). get_or l 0 0) (sym p.bytes) ∙ get_or-take (length line / 2) frame 0 0 (omega (arith, p.some, p.even)) in
-        rw (ne_eqb (length line) 0 p.some, ne_eqb (length line % 2) 1 p.even, le-ltb 8800 (length line) p.short, p.hex, flag)
+        module _ (hex : all_hex line ≡ true) (is : take (length line / 2) frame ≡ hex_bytes line) (room : length line / 2 ≤ length frame) where
+          flag_is : get_or (hex_bytes line) 0 0 ≡ get_or frame 0 0
+          flag_is = ap (λ (l : List ℕ). get_or l 0 0) (sym is) ∙ get_or-take (length line / 2) frame 0 0 (omega arith)
 
-    pub bad-flag : 1 < get_or frame 0 0 → Framed line frame 0
-    bad-flag h = framed-none (by_flag ∙ lt-ltb 1 (get_or frame 0 0) h)
+          pub bad-flag : 1 < get_or frame 0 0 → Framed line frame 0
+          unfolding bad_line
+          bad-flag h =
+              framed-none (rw (
+                ne_eqb (length line) 0 some,
+                ne_eqb (length line % 2) 1 even,
+                le-ltb 8800 (length line) short,
+                hex,
+                flag_is,
+                lt-ltb 1 (get_or frame 0 0) h,
+              ))
 
-    pub framed : get_or frame 0 0 ≤ 1 → Framed line frame (length line / 2)
-    unfolding frame_of
-    framed h =
-        let e = by_flag ∙ le-ltb 1 (get_or frame 0 0) h in
-        record { count = rw (e, ← p.bytes) (sym (length-take-le (length line / 2) frame p.room)); bytes = rw e p.bytes }
+          pub framed : get_or frame 0 0 ≤ 1 → Framed line frame (length line / 2)
+          unfolding bad_line frame_of
+          framed h =
+              let e : bad_line line ≡ false =
+              rw (ne_eqb (length line) 0 some, ne_eqb (length line % 2) 1 even, le-ltb 8800 (length line) short, hex, flag_is, le-ltb 1 (get_or frame 0 0) h) in
+              record { count = rw (e, ← is) (sym (length-take-le (length line / 2) frame room)); bytes = rw e is }
 
 -- ---- what a frame says of its line
 
-module _ {line frame : List ℕ} {n : ℕ} (f : Framed line frame n) where
+module _ (line frame : List ℕ) (n : ℕ) (f : Framed line frame n) where
   pub frame-long : n ≡ length (take n frame)
   frame-long = f.count ∙ sym (ap length f.bytes)
 
@@ -94,16 +98,20 @@ module _ {line frame : List ℕ} {n : ℕ} (f : Framed line frame n) where
 
 -- ---- the promise
 
-module _ {line out : List ℕ} where
+module _ (line out out' : List ℕ) where
   pub answered-none : length out < 11310 → Answered line out out 0
   unfolding answer_line
   answered-none h = record { count = rw (lt-ltb (length out) 11310 h); places = rw (lt-ltb (length out) 11310 h) }
 
-  pub answered : {out' : List ℕ} {r : ℕ} → 11310 ≤ length out → TextWritten (ended (answer_text line)) out 0 out' r → Answered line out out' r
+  pub answered : (r : ℕ) → 11310 ≤ length out → TextWritten (ended (answer_text line)) out 0 out' r → Answered line out out' r
   unfolding answer_line
-  answered h w =
-      let e = le-ltb (length out) 11310 h in
-      record { count = rw e (from_first w).0; places = rw e (from_first w).1 }
+  answered r h w =
+      let z : 0 + length (ended (answer_text line)) ≡ length (ended (answer_text line)) = omega arith in
+      record { count = rw (le-ltb (length out) 11310 h) (w.next ∙ z); places = rw (le-ltb (length out) 11310 h) (rw z at w.places) }
+
+-- any two outcomes that the promise allows are equal
+pub answered-unique : {line out o o' : List ℕ} {r r' : ℕ} → Answered line out o r → Answered line out o' r' → (r ≡ r') × (o ≡ o')
+answered-unique a b = (a.count ∙ sym b.count, a.places ∙ sym b.places)
 
 -- ---- the run reader's answer
 
@@ -125,9 +133,8 @@ pub record Reads (frame : List ℕ) (signed : Bool) (out' : List ℤ) (r : Answe
   pub few : answer_rows r ≤ 512
   pub words : reply_text r (take (answer_rows r) out') ≡ reading_text (length frame - 1) signed (into 512 (parse (drop 1 frame)))
 
-pub reads : (frame : List ℕ) {signed : Bool} {out out' : List ℤ} {r : Answer} → length out ≡ 512 → RunRead frame 1 signed out out' r
-    → Reads frame signed out' r
-reads frame {signed} {out} {out'} {r} l g = by (into 512 (parse (drop 1 frame))) refl (rw l at g.answer) (rw l at g.places)
+pub reads : (frame : List ℕ) (signed : Bool) (out out' : List ℤ) (r : Answer) → length out ≡ 512 → RunRead frame 1 signed out out' r → Reads frame signed out' r
+reads frame signed out out' r l g = by (into 512 (parse (drop 1 frame))) refl (rw l at g.answer) (rw l at g.places)
   where
     by : (x : Parsed Description) → into 512 (parse (drop 1 frame)) ≡ x → r ≡ answer_of 1 (length frame - 1) x → out' ≡ run_places signed out x
         → Reads frame signed out' r

@@ -43,7 +43,7 @@ rows_in signed (refused r) = []
 abbrev pub reading_text : ℕ → Bool → Parsed Description → List ℕ
 reading_text total signed m = reply_text (answer_of 1 total m) (rows_in signed m)
 
--- The bytes of a line: none if it is bad.
+-- The bytes of a line: none where it is bad.
 unfoldable pub frame_of : List ℕ → List ℕ
 frame_of line = pick (bad_line line) [] (hex_bytes line)
 
@@ -65,7 +65,7 @@ ended text = text ++ ascii "\n"
 abbrev pub answer_room : ℕ
 answer_room = 11310
 
--- the answer line: none if there is less room
+-- the answer line: none where there is less room
 unfoldable pub answer_line : ℕ → List ℕ → List ℕ
 answer_line room line = pick (ltb room answer_room) [] (ended (answer_text line))
 
@@ -79,7 +79,7 @@ pub record Answered (line out out' : List ℕ) (r : ℕ) : Type 0 where
   pub count : r ≡ length (answer_line (length out) line)
   pub places : out' ≡ answer_line (length out) line ++ drop (length (answer_line (length out) line)) out
 
--- what is read of a frame, in that many places; and the places, which hold a run's rows by the frame's flag
+-- what is read of a frame, in so many places; and the places, which hold a run's rows by the frame's flag
 unfoldable pub frame_reading : ℕ → List ℕ → Reading
 frame_reading room [] = reading.Bad
 frame_reading room (flag ∷ run) = reading.Answered (answer_of 1 (length run) (into room (parse run)))

@@ -1,4 +1,6 @@
 // One line of hexadecimal in, one answer line out: the program `runs`, without its input and output.
+#![tactic(auto)]
+
 ghost use Rattle.std.specs.Prelude.{◌≡◌, ◌≤◌, ◌<◌, length, take, get_or, eqb};
 ghost use Rattle.format.specs.Answers.{answer_rows};
 ghost use Rattle.format.specs.Promises.{RunRead};
@@ -6,12 +8,10 @@ ghost use Rattle.lines.specs.Line.{run_text, reply_text, frame_text, ended, answ
 ghost use Rattle.text.specs.Written.{TextWritten};
 
 use format::{Answer, ByteOffset, Kind, RowNumber};
-use text::{put, put_labelled, put_rows, put_word};
+use text::{put, put_decimal, put_rows, put_word};
 
 // The fixed words.
 const RUN: [u8; 4] = *b"run ";
-
-const SPACE: [u8; 1] = *b" ";
 
 const REFUSED: [u8; 8] = *b"refused ";
 
@@ -28,7 +28,7 @@ const MAX_FRAME: usize = MAX_LINE / 2;
 pub const ANSWER_ROOM: usize = 46 + 22 * Kind::MAX_ROWS;
 
 // What is read of a line: that it is bad, or what the run reader answers to its bytes.
-#[derive(Drop)]
+#[derive(Clone, Copy)]
 pub enum Reading {
     Bad,
     Answered(Answer),
@@ -40,8 +40,10 @@ fn put_run(rows: RowNumber, consumed: ByteOffset, values: &[i64], out: &mut [u8]
     ensures { TextWritten (run_text rows.rows consumed.bytes (take rows.rows values.now))
         out.old 0 out.new result.bytes }
 {
-    let mut at = put_labelled(&RUN, rows.rows as u64, out, 0);
-    at = put_labelled(&SPACE, consumed.bytes as u64, out, at);
+    let mut at = put_word(&RUN, out, 0);
+    at = put_decimal(rows.rows as u64, out, at);
+    at = put(b' ', out, at);
+    at = put_decimal(consumed.bytes as u64, out, at);
     at = put_rows(values, rows.rows, out, at);
     ByteOffset { bytes: at }
 }
@@ -59,7 +61,8 @@ fn put_answer(answer: Answer, values: &[i64], out: &mut [u8]) -> ByteOffset
         }
         Answer::Run(run) => put_run(run.rows, run.consumed, values, out),
         Answer::Refused(refusal) => {
-            let end = put_labelled(&REFUSED, refusal.number as u64, out, 0);
+            let at = put_word(&REFUSED, out, 0);
+            let end = put_decimal(refusal.number as u64, out, at);
             ByteOffset { bytes: end }
         }
     }
@@ -78,7 +81,7 @@ fn row_places() -> [i64; Kind::MAX_ROWS]
     [0; Kind::MAX_ROWS]
 }
 
-// How many bytes the line writes, put into the first places of the frame: 0 if the line is bad.
+// How many bytes the line writes, put into the first places of the frame: 0 where the line is bad.
 fn frame_of(line: &[u8], frame: &mut [u8]) -> ByteOffset
     requires { 4400 ≤ length frame.old }
     ensures { Framed line.now frame.new result.bytes }
@@ -124,7 +127,7 @@ fn put_frame(frame: &[u8], out: &mut [u8]) -> ByteOffset
     ByteOffset { bytes: end }
 }
 
-// The answer line to a line (its bytes without the newline), in the first bytes of `out`: how many they are. Nothing is written if `out`
+// The answer line to a line (its bytes without the newline), in the first bytes of `out`: how many they are. Nothing is written where `out`
 // has fewer bytes than any answer line needs.
 pub fn answer_line(line: &[u8], out: &mut [u8]) -> usize
     ensures { Answered line.now out.old out.new result }

@@ -1,8 +1,7 @@
 -- The first 22 bytes of a run and how many bytes there are tell whether it is unfinished: its packed rows are not looked at for that. And a short repeat or a
 -- direct run is refused for nothing else. Assumes nothing.
-use Rattle.format.proofs.Common.{◌≡◌, refl, sym, ap, ◌∙◌, ℕ, zero, suc, ◌+◌, ◌-◌, ◌*◌, ◌/◌, ◌%◌, ◌<◌, ◌≤◌, arith, Bool, true, false, List}
-use Rattle.format.proofs.Common.{[], ◌∷◌, ◌++◌, length, take, drop, length-append, length-drop, T, leb, ltb, eqb}
-use Rattle.format.specs.Fields.{pick, width, Block, bytes_for, last_below}
+use Rattle.std.proofs.Common.{◌≡◌, ℕ, zero, suc, ◌+◌, ◌-◌, ◌*◌, ◌/◌, ◌%◌, ◌<◌, ◌≤◌, Bool, true, false, T, eqb, ltb, leb, List, [], ◌∷◌, ◌++◌, length, take, drop, sym, refl, ap, ◌∙◌, arith, length-append, length-drop}
+use Rattle.format.specs.Fields.{pick, width, bytes_for, last_below}
 use Rattle.format.specs.Runs.{Description, patches, too_large, out_of_place, entry_width}
 use Rattle.format.specs.Parse
 use Rattle.format.specs.Parse.{Reason, plain, cut_in, unfinished, Parsed, end, got, refused, then, unless, bytes, block, varint, code_of, rows_less, parse}

@@ -1,8 +1,6 @@
 -- A run that began before its part: the part's bytes are copied after those held. Assumes nothing.
-use Rattle.format.proofs.Common.{◌≡◌, refl, sym, ap, ◌∙◌, ℕ, zero, suc, ◌+◌, ◌-◌, ◌/◌, ◌<◌, ◌≤◌, arith, Bool, true, false, List, [], ◌∷◌}
-use Rattle.format.proofs.Common.{◌++◌, append_assoc, append-nil, length, take, drop, get_or, length-append, length-take, length-drop}
-use Rattle.format.proofs.Common.{take-append-drop, drop_of_length-le, T, paste, take-paste, take_all, length-take-le, take-append-add}
-use Rattle.format.proofs.Common.{ne_eqb, ℤ}
+use Rattle.std.proofs.Common.{◌≡◌, ℕ, zero, suc, ◌+◌, ◌-◌, ◌/◌, ◌<◌, ◌≤◌, Bool, true, false, T, List, [], ◌∷◌, ◌++◌, length, get_or, take, drop, ℤ, sym, refl, ap, ◌∙◌, append_assoc, append-nil, arith, length-append, length-drop, take-append-drop, drop_of_length-le, length-take, length-take-le, take_all, ne_eqb}
+use lib.Seq.{paste, take-paste, take-append-add}
 use Rattle.format.specs.declared.Answer.{Answer}
 use Rattle.format.specs.Digits.{AllBelow}
 use Rattle.format.specs.Runs.{Description}
@@ -36,16 +34,7 @@ headed n (x ∷ d) h l = go n h
         let e : suc n - 1 ≡ n = omega arith in
         rw e
 
--- such a call, of bytes
-pub record Crosses (s : PartReader) (part buffer : List ℕ) (h k : ℕ) : Type 0 where
-  pub began : Begun s part buffer h k
-  pub lent-bytes : AllBelow 256 buffer
-  pub part_bytes : AllBelow 256 part
-
-module _ {s : PartReader} {part buffer : List ℕ} {h k : ℕ} (x : Crosses s part buffer h k) where
-  abbrev g : Begun s part buffer h k
-  g = x.began
-
+module _ (s : PartReader) (part buffer : List ℕ) (h k : ℕ) (g : Begun s part buffer h k) (b : AllBelow 256 buffer) (c : AllBelow 256 part) where
   size : length (take s.held buffer) ≡ h
   size = length-take s.held buffer ∙ sym g.held
 
@@ -53,7 +42,7 @@ module _ {s : PartReader} {part buffer : List ℕ} {h k : ℕ} (x : Crosses s pa
   front-is = ap (λ (n : ℕ). take n buffer) g.held ∙ take_min s.held buffer
 
   below : AllBelow 256 (take s.held buffer ++ part)
-  below = below-append 256 (take s.held buffer) part (below-take 256 s.held buffer x.lent-bytes) x.part_bytes
+  below = below-append 256 (take s.held buffer) part (below-take 256 s.held buffer b) c
 
   pub few-part : k ≤ length part
   few-part = omega (arith, g.seen)
@@ -62,15 +51,15 @@ module _ {s : PartReader} {part buffer : List ℕ} {h k : ℕ} (x : Crosses s pa
   in_lent = omega (arith, g.seen, g.long, g.held)
 
   -- the part's bytes are copied after them
-  pub crossing : {signed : Bool} {out out' : List ℤ} {a : Answer} {buffer' : List ℕ} → 512 ≤ length out → buffer' ≡ paste buffer h part k
-      → RunRead (take (h + k) buffer') 0 signed out out' a
-      → Joins s part buffer buffer' h k signed out out' (by_answer s h (h + k) (length part) a)
-  crossing {signed} {out} {out'} {a} {buffer'} room p r =
-      let seen : take (h + k) buffer' ≡ take s.held buffer ++ take k part
-      = ap (take (h + k)) p ∙ take-paste buffer h part k (omega (arith, in_lent)) few-part ∙ ap (λ (l : List ℕ). l ++ take k part) front-is in
-      let m : Same s part buffer signed out out' a k
-      = same s part buffer signed out out' a k below room few-part (λ f. omega (arith, size, g.seen)) (rw (← seen) r) in
-      record { step = rw (← size) m.step; lent = p; places = m.places }
+  module _ (signed : Bool) (out out' : List ℤ) (a : Answer) (room : 512 ≤ length out) (buffer' : List ℕ) (p : buffer' ≡ paste buffer h part k)
+      (r : RunRead (take (h + k) buffer') 0 signed out out' a) where
+    pub crossing : Joins s part buffer buffer' h k signed out out' (by_answer s h (h + k) (length part) a) (goes s part buffer)
+    crossing =
+        let seen : take (h + k) buffer' ≡ take s.held buffer ++ take k part
+        = ap (take (h + k)) p ∙ take-paste buffer h part k (omega (arith, in_lent)) few-part ∙ ap (λ (x : List ℕ). x ++ take k part) front-is in
+        let m : Same s part buffer signed out out' a k
+        = same s part buffer signed out out' a k below room few-part (λ f. omega (arith, size, g.seen)) (rw (← seen) r) in
+        record { step = rw (← size) m.step; lent = p; places = m.places }
 
   -- if the call does not refuse, they stay there
   pub kept-lent : is_refused (answered (goes s part buffer).reply) ≡ false
@@ -115,7 +104,8 @@ module _ {s : PartReader} {part buffer : List ℕ} {h k : ℕ} (x : Crosses s pa
           rw (T_true (unfinished r) u)
 
   -- the front and the length say that the run is unfinished: all is held
-  module _ {a : Answer} (long : 22 ≤ h) (m : RunMeasured (take (h + k) buffer) 0 a) (cut : is_cut a ≡ true) where
+  module _ (signed : Bool) (out : List ℤ) (a : Answer) (long : 22 ≤ h) (m : RunMeasured (take (h + k) buffer) 0 a) (cut : is_cut a ≡ true) (buffer' : List ℕ)
+      (p : buffer' ≡ paste buffer h part k) where
     told : (total : ℕ) (m : Parsed Description) → is_cut (answer_of 0 total m) ≡ true → Stops true m
     unfolding is_cut
     told total end e = never (cc)
@@ -131,10 +121,9 @@ module _ {s : PartReader} {part buffer : List ℕ} {h k : ℕ} (x : Crosses s pa
         = length-take-le k (drop h buffer) (omega (arith, in_lent, length-drop h buffer)) ∙ sym (length-take-le k part few-part) in
         rw front-is at (alike (take k (drop h buffer)) (take k part) l (take h buffer) (omega (arith, length-take-le h buffer (omega (arith, in_lent)))) here)
 
-    pub waiting : {signed : Bool} {out : List ℤ} {buffer' : List ℕ} → buffer' ≡ paste buffer h part k
-        → Goes s part buffer buffer' signed out out (holds s (h + k) (length part))
+    pub waiting : Goes s part buffer buffer' signed out out (holds s (h + k) (length part)) (goes s part buffer)
     unfolding on_part
-    waiting {signed} {out} {buffer'} p = go (parse bs) refl there
+    waiting = go (parse bs) refl there
       where
         bs : List ℕ
         bs = take s.held buffer ++ take k part
@@ -144,7 +133,7 @@ module _ {s : PartReader} {part buffer : List ℕ} {h k : ℕ} (x : Crosses s pa
             ∙ ap (λ (n : ℕ). h + n) (length-take-le k part few-part)
 
         go : (m : Parsed Description) → parse bs ≡ m → Stops true m
-            → Goes s part buffer buffer' signed out out (holds s (h + k) (length part))
+            → Goes s part buffer buffer' signed out out (holds s (h + k) (length part)) (goes s part buffer)
         go m e (stops {r} u) =
             let short : length bs < 4356 = unfinished-short bs r (append-below 256 bs (drop k part) (rw (sym split) at below)) e (rw u tt) in
             let n : k ≡ length part = omega (arith, g.seen, count) in
@@ -158,7 +147,7 @@ module _ {s : PartReader} {part buffer : List ℕ} {h k : ℕ} (x : Crosses s pa
             split = append_assoc (take s.held buffer) (take k part) (drop k part) ∙ ap (λ (x : List ℕ). take s.held buffer ++ x) (take-append-drop k part)
 
   -- the front of a delta run says that it is not refused
-  module _ {a : Answer} (long : 22 ≤ h) (d : 3 ≤ get_or buffer 0 0 / 64) (m : RunMeasured (take (h + k) buffer) 0 a) (w : is_whole a ≡ true) where
+  module _ (a : Answer) (long : 22 ≤ h) (d : 3 ≤ get_or buffer 0 0 / 64) (m : RunMeasured (take (h + k) buffer) 0 a) (w : is_whole a ≡ true) where
     abbrev rest : List ℕ
     rest = take (h - 1) (drop 1 buffer)
 

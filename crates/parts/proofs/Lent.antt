@@ -1,6 +1,6 @@
 -- The lent bytes of a call with a part, if none is held: a run is read from the part, and what is held afterwards is copied. Assumes nothing.
-use Rattle.format.proofs.Common.{◌≡◌, refl, sym, ap, ◌∙◌, ℕ, ◌+◌, ◌<◌, ◌≤◌, le_refl, arith, Bool, true, false, List, [], length, take}
-use Rattle.format.proofs.Common.{paste, paste-zero, take-length, ℤ}
+use Rattle.std.proofs.Common.{◌≡◌, ℕ, ◌+◌, ◌<◌, ◌≤◌, Bool, true, false, List, [], length, take, ℤ, sym, refl, ap, ◌∙◌, le_refl, arith}
+use lib.Seq.{paste, paste-zero, take-length}
 use Rattle.format.specs.declared.Answer.{Answer}
 use Rattle.format.specs.Digits.{AllBelow}
 use Rattle.format.specs.Runs.{Description}
@@ -42,7 +42,7 @@ kept at t part buffer b = go (parse part) refl (outcome part b)
             rw u (record { size = refl; in-part = omega arith; in_lent = omega arith; lent = refl })
         by-kind false u = rw u (record { size = refl; in-part = omega arith; in_lent = omega arith; lent = sym (paste-zero buffer 0 part) })
 
-module _ (s : PartReader) (z : s.held ≡ 0) (part buffer : List ℕ) {signed : Bool} {out out' : List ℤ} {a : Answer} {r : PartStep}
+module _ (s : PartReader) (z : s.held ≡ 0) (part buffer : List ℕ) (signed : Bool) (out out' : List ℤ) (a : Answer) (r : PartStep)
     (b : AllBelow 256 part) (room : 512 ≤ length out) (long : 4356 ≤ length buffer)
     (g : RunRead part 0 signed out out' a) (e : r ≡ by_answer s 0 (length part) (length part) a) where
   kept_here : Kept s part buffer (goes s part buffer)
@@ -70,8 +70,8 @@ module _ (s : PartReader) (z : s.held ≡ 0) (part buffer : List ℕ) {signed : 
   pub kept-part : (r.reader.held ≤ length part) × (0 + r.reader.held ≤ length buffer)
   kept-part = (omega (arith, size_is, kept_here.in-part), omega (arith, size_is, kept_here.in_lent))
 
-  pub from-part : {buffer' : List ℕ} → buffer' ≡ paste buffer 0 part r.reader.held → Goes s part buffer buffer' signed out out' r
-  from-part p = record {
+  pub from-part : (buffer' : List ℕ) → buffer' ≡ paste buffer 0 part r.reader.held → Goes s part buffer buffer' signed out out' r (goes s part buffer)
+  from-part buffer' p = record {
     step = stepped;
     lent = p ∙ ap (paste buffer 0 part) size_is ∙ kept_here.lent
         ∙ sym (ap (λ (held : List ℕ). buffer_after held part buffer (goes s part buffer).reply) empty);

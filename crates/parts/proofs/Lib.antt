@@ -4,4 +4,4 @@ pub mod Seen
 pub mod Lent
 pub mod Joined
 pub mod Restored
-pub mod PartRoom
+pub mod Room

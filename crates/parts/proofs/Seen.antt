@@ -1,7 +1,7 @@
 -- The bytes looked at decide as all the bytes do: what the code does with the run reader's answer to them is what the call does. Assumes nothing.
-use Rattle.format.proofs.Common.{◌≡◌, refl, sym, ap, ◌∙◌, ℕ, ◌+◌, ◌-◌, ◌<◌, ◌≤◌, sub-zero, dec_lt, arith, Bool, true, false, List, ◌++◌}
-use Rattle.format.proofs.Common.{append_assoc, length, take, drop, length-append, length-drop, take-append-drop, length-take-le, take_all}
-use Rattle.format.proofs.Common.{ℤ}
+use Rattle.std.proofs.Common.{◌≡◌, ℕ, ◌+◌, ◌-◌, ◌<◌, ◌≤◌, Bool, true, false, List, ◌++◌, length, take, drop, ℤ, sym, refl, ap, ◌∙◌, append_assoc, arith, length-append, length-drop, take-append-drop, length-take-le, take_all}
+use native.Mathlib.Nat.{sub-zero}
+use native.Mathlib.Decide.{dec_lt}
 use Rattle.format.specs.declared.Answer.{Answer}
 use Rattle.format.specs.Digits.{AllBelow}
 use Rattle.format.specs.Runs.{Description, layout}

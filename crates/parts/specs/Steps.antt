@@ -1,5 +1,5 @@
 -- The reader in parts from inside: what a call does by the run reader's answer to the bytes that were looked at. Assumes nothing.
-use Rattle.std.specs.Prelude.{◌≡◌, ℕ, ◌+◌, ◌-◌, ◌%◌, ◌<◌, ◌≤◌, min, Bool, true, false, List, ◌++◌, length, take, ℤ, ◌==◌, nat_lt}
+use Rattle.std.specs.Prelude.{◌≡◌, ℕ, ◌+◌, ◌-◌, ◌%◌, ◌<◌, ◌≤◌, min, Bool, true, false, List, ◌++◌, length, take, ℤ, ◌==◌}
 use Rattle.std.proofs.Math.Seq.{paste}
 use Rattle.format.specs.declared.Run as run
 use Rattle.format.specs.declared.CutField.{CutField}
@@ -16,19 +16,13 @@ use Rattle.format.specs.declared.PartStep.{PartStep}
 use Rattle.format.specs.Fields.{pick, two64}
 use Rattle.format.specs.Parse.{parse}
 use Rattle.format.specs.Answers.{refusing, cutting}
-use Rattle.format.specs.Parts.{Call, in_places, on_part, state_of, answered, step_of, buffer_after, places_after}
-use Rattle.parts.specs.declared.steps.Beginning.{Beginning}
-use Rattle.parts.specs.declared.steps.Beginning.TheVariants as start
+use Rattle.format.specs.Parts.{Call, on_part, state_of, step_of, buffer_after, places_after}
 
--- what the call of an open reader does
-abbrev pub goes : PartReader → List ℕ → List ℕ → Call
-goes s part buffer = on_part (state_of s buffer) part (parse (take s.held buffer ++ part))
-
--- an open reader with room enough
-pub record Goes (s : PartReader) (part buffer buffer' : List ℕ) (signed : Bool) (out out' : List ℤ) (r : PartStep) : Type 0 where
-  pub step : r ≡ step_of s (goes s part buffer)
-  pub lent : buffer' ≡ buffer_after (take s.held buffer) part buffer (goes s part buffer).reply
-  pub places : out' ≡ places_after signed out (goes s part buffer).reply
+-- an open reader with room enough: c is what the call does
+pub record Goes (s : PartReader) (part buffer buffer' : List ℕ) (signed : Bool) (out out' : List ℤ) (r : PartStep) (c : Call) : Type 0 where
+  pub step : r ≡ step_of s c
+  pub lent : buffer' ≡ buffer_after (take s.held buffer) part buffer c.reply
+  pub places : out' ≡ places_after signed out c.reply
 
 -- a run that began before its part: h of the lent bytes are held, and the first k of the part's are all that can belong to it
 pub record Begun (s : PartReader) (part buffer : List ℕ) (h k : ℕ) : Type 0 where
@@ -38,18 +32,21 @@ pub record Begun (s : PartReader) (part buffer : List ℕ) (h k : ℕ) : Type 0 
   pub seen : k ≡ min (length part) (4356 - h)
 
 -- it is read in the lent bytes, whatever the answer is
-pub record Joins (s : PartReader) (part buffer buffer' : List ℕ) (h k : ℕ) (signed : Bool) (out out' : List ℤ) (r : PartStep) : Type 0 where
-  pub step : r ≡ step_of s (goes s part buffer)
+pub record Joins (s : PartReader) (part buffer buffer' : List ℕ) (h k : ℕ) (signed : Bool) (out out' : List ℤ) (r : PartStep)
+    (c : Call) : Type 0 where
+  pub step : r ≡ step_of s c
   pub lent : buffer' ≡ paste buffer h part k
-  pub places : out' ≡ places_after signed out (goes s part buffer).reply
+  pub places : out' ≡ places_after signed out c.reply
+
+abbrev pub goes : PartReader → List ℕ → List ℕ → Call
+goes s part buffer = on_part (state_of s buffer) part (parse (take s.held buffer ++ part))
 
 -- nothing is taken, and nothing changes
 abbrev pub still : PartReader → PartAnswer → PartStep
 still s a = record { answer = a; taken = record { bytes = 0 }; reader = s }
 
--- how a call begins, by the lent bytes, the places and the reader's standing: with an answer, or it goes on
-abbrev pub beginning : ℕ → ℕ → Standing → Beginning
-beginning lent places t = in_places (pick (nat_lt lent 4356) 0 places) t (λ a. start.Stays (answered a)) start.GoesOn
+abbrev pub too_few : PartReader → PartStep
+too_few s = still s (Refused (refusing 8 0))
 
 -- all of the part is taken, and the bytes seen are held
 abbrev pub holds : PartReader → ℕ → ℕ → PartStep
@@ -66,7 +63,7 @@ stops s t a = record { answer = a; taken = record { bytes = 0 }; reader = record
 abbrev pub refuses : PartReader → refusal.Refusal → PartStep
 refuses s f = stops s (Broken f) (Refused f)
 
--- the run is handed out, and the next one starts after it
+-- the run is handed out, and the next one starts behind it
 abbrev pub hands : PartReader → ℕ → run.Run → PartStep
 hands s taken r = record {
   answer = Run s.at r;

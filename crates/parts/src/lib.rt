@@ -1,10 +1,11 @@
 // The reader in parts (FORMAT.md, "Reader in parts"): it takes the input in parts and hands out one run at a time.
+#![tactic(auto)]
+
 ghost use Rattle.std.specs.Prelude.{◌≡◌, ◌+◌, ◌-◌, ◌/◌, ◌<◌, ◌≤◌, length};
 ghost use Rattle.format.specs.Parts.{fresh, Takes, Closes};
-ghost use Rattle.parts.specs.Steps.{Begun, Joins, Goes};
+ghost use Rattle.parts.specs.Steps.{Begun, Joins, Goes, goes};
 
-use crate::steps::Beginning;
-use format::{ByteOffset, Kind, PartReader, PartStep, Standing};
+use format::{ByteOffset, Kind, PartAnswer, PartReader, PartStep, Standing};
 use util::{bytes, number};
 
 mod steps;
@@ -33,15 +34,19 @@ fn join(
     requires in_bounds { 512 ≤ length out.old }
     requires begun { Begun reader part.now buffer.old held.bytes more.bytes }
     ensures { Joins reader part.now buffer.old buffer.new held.bytes more.bytes signed
-        out.old out.new result }
+        out.old out.new result (goes reader part.now buffer.old) }
 {
     let h = held.bytes;
     let k = more.bytes;
     bytes::copy(part, k, buffer, h);
     let a = rle_v2::read_run(&buffer[..h + k], ByteOffset { bytes: 0 }, signed, out);
-    let seen = ByteOffset { bytes: h + k };
-    let all = ByteOffset { bytes: part.len() };
-    steps::on_part(reader, held, seen, all, a)
+    steps::on_part(
+        reader,
+        held,
+        ByteOffset { bytes: h + k },
+        ByteOffset { bytes: part.len() },
+        a,
+    )
 }
 
 // The same, but a call that refuses puts back what stood after the bytes held.
@@ -59,7 +64,7 @@ fn join_or_restore(
     requires bytes_in_bounds { more.bytes ≤ length saved.old }
     requires begun { Begun reader part.now buffer.old held.bytes more.bytes }
     ensures { Goes reader part.now buffer.old buffer.new signed out.old
-        out.new result }
+        out.new result (goes reader part.now buffer.old) }
 {
     let h = held.bytes;
     let k = more.bytes;
@@ -84,6 +89,29 @@ fn most() -> [u8; Kind::MAX_BYTES]
     [0; Kind::MAX_BYTES]
 }
 
+fn restoring(
+    reader: PartReader,
+    part: &[u8],
+    held: ByteOffset,
+    more: ByteOffset,
+    signed: bool,
+    buffer: &mut [u8],
+    out: &mut [i64],
+) -> PartStep
+    requires in_bounds { 512 ≤ length out.old }
+    requires begun { Begun reader part.now buffer.old held.bytes more.bytes }
+    ensures { Goes reader part.now buffer.old buffer.new signed out.old
+        out.new result (goes reader part.now buffer.old) }
+{
+    let k = more.bytes;
+    if k <= 128 {
+        let mut saved = few();
+        return join_or_restore(reader, part, held, more, signed, buffer, &mut saved, out);
+    }
+    let mut saved = most();
+    join_or_restore(reader, part, held, more, signed, buffer, &mut saved, out)
+}
+
 // A patched or delta run that began before the part. If its front is held, that and the length tell whether it stays unfinished: then what
 // stands after the bytes held does not matter. Otherwise the call may refuse.
 fn begun(
@@ -98,7 +126,7 @@ fn begun(
     requires in_bounds { 512 ≤ length out.old }
     requires begun { Begun reader part.now buffer.old held.bytes more.bytes }
     ensures { Goes reader part.now buffer.old buffer.new signed out.old
-        out.new result }
+        out.new result (goes reader part.now buffer.old) }
 {
     let h = held.bytes;
     let k = more.bytes;
@@ -115,13 +143,9 @@ fn begun(
                 return join(reader, part, held, more, signed, buffer, out);
             }
         }
+        return restoring(reader, part, held, more, signed, buffer, out);
     }
-    if k <= 128 {
-        let mut saved = few();
-        return join_or_restore(reader, part, held, more, signed, buffer, &mut saved, out);
-    }
-    let mut saved = most();
-    join_or_restore(reader, part, held, more, signed, buffer, &mut saved, out)
+    restoring(reader, part, held, more, signed, buffer, out)
 }
 
 // A call with a part of an open reader, with room enough.
@@ -135,14 +159,14 @@ fn opened(
     requires in_bounds { 512 ≤ length out.old }
     requires in_bounds_2 { 4356 ≤ length buffer.old }
     ensures { Goes reader part.now buffer.old buffer.new signed out.old
-        out.new result }
+        out.new result (goes reader part.now buffer.old) }
 {
     let h = number::least(reader.held, buffer.len());
     let n = part.len();
-    let all = ByteOffset { bytes: n };
     if h == 0 {
         // a run that lies whole in its part is read from there
         let a = rle_v2::read_first(part, signed, out);
+        let all = ByteOffset { bytes: n };
         let step = steps::on_part(reader, ByteOffset { bytes: 0 }, all, all, a);
         let kept = step.reader;
         bytes::copy(part, kept.held, buffer, 0);
@@ -161,8 +185,13 @@ fn opened(
     // a short repeat or a direct run is never refused, only unfinished
     bytes::copy(part, k, buffer, h);
     let a = rle_v2::read_gathered(&buffer[..h + k], signed, out);
-    let seen = ByteOffset { bytes: h + k };
-    steps::on_part(reader, held, seen, all, a)
+    steps::on_part(
+        reader,
+        held,
+        ByteOffset { bytes: h + k },
+        ByteOffset { bytes: n },
+        a,
+    )
 }
 
 // One call with a part: it is taken up to the end of a run, which is handed out, or all of it; a call that refuses takes nothing. For fewer
@@ -177,9 +206,17 @@ pub fn take(
     ensures { Takes reader part.now buffer.old buffer.new signed out.old
         out.new result }
 {
-    match steps::begin(reader, buffer.len(), out.len()) {
-        Beginning::Stays(answer) => steps::idle(reader, answer),
-        Beginning::GoesOn => opened(reader, part, signed, buffer, out),
+    if out.len() < Kind::MAX_ROWS {
+        return steps::too_few(reader);
+    }
+    if buffer.len() < Kind::MAX_BYTES {
+        return steps::too_few(reader);
+    }
+    let standing = reader.standing;
+    match standing {
+        Standing::Broken(f) => steps::idle(reader, PartAnswer::Refused(f)),
+        Standing::Closed => steps::idle(reader, PartAnswer::End),
+        Standing::Opened => opened(reader, part, signed, buffer, out),
     }
 }
 
@@ -187,9 +224,17 @@ pub fn take(
 pub fn close(reader: PartReader, signed: bool, buffer: &[u8], out: &mut [i64]) -> PartStep
     ensures { Closes reader buffer.now signed out.old out.new result }
 {
-    match steps::begin(reader, buffer.len(), out.len()) {
-        Beginning::Stays(answer) => steps::idle(reader, answer),
-        Beginning::GoesOn => {
+    if out.len() < Kind::MAX_ROWS {
+        return steps::too_few(reader);
+    }
+    if buffer.len() < Kind::MAX_BYTES {
+        return steps::too_few(reader);
+    }
+    let standing = reader.standing;
+    match standing {
+        Standing::Broken(f) => steps::idle(reader, PartAnswer::Refused(f)),
+        Standing::Closed => steps::idle(reader, PartAnswer::End),
+        Standing::Opened => {
             let h = number::least(reader.held, buffer.len());
             let a = rle_v2::read_run(&buffer[..h], ByteOffset { bytes: 0 }, signed, out);
             steps::on_close(reader, a)

@@ -1,11 +1,11 @@
 // What a call of the reader in parts comes to, by what the run reader said of
 // the bytes looked at: the answer, the bytes taken, and the reader after it.
 ghost use Rattle.std.specs.Prelude.{◌≡◌, ◌-◌};
-ghost use Rattle.parts.specs.Steps.{still, beginning, holds, stops, refuses, hands, from_first, cut_short, is_cut, is_whole, is_refused};
+ghost use Rattle.parts.specs.Steps.{still, too_few, holds, stops, refuses, hands, from_first, cut_short, is_cut, is_whole, is_refused};
 ghost use Rattle.parts.specs.Steps.{by_answer, by_last};
 
 use format::{
-    Answer, ByteOffset, CutField, Kind, PartAnswer, PartReader, PartStep, Refusal, RowNumber, Run,
+    Answer, ByteOffset, CutField, PartAnswer, PartReader, PartStep, Refusal, RowNumber, Run,
     Standing,
 };
 
@@ -21,31 +21,12 @@ pub(crate) fn idle(reader: PartReader, answer: PartAnswer) -> PartStep
     }
 }
 
-// How a call begins, before any byte is looked at.
-#[derive(Drop)]
-pub(crate) enum Beginning {
-    Stays(PartAnswer),
-    GoesOn,
-}
-
-// A call stays with refusal 8 if there are too few lent bytes or places, and with what the reader has stopped with; else it goes on.
-pub(crate) fn begin(reader: PartReader, lent: usize, places: usize) -> Beginning
-    ensures { result ≡ beginning lent places reader.standing }
+// Refusal 8: too few places, or too few lent bytes.
+pub(crate) fn too_few(reader: PartReader) -> PartStep
+    ensures { result ≡ too_few reader }
 {
     let none = ByteOffset { bytes: 0 };
-    let few = Beginning::Stays(PartAnswer::Refused(Refusal::new(8, none)));
-    if lent < Kind::MAX_BYTES {
-        return few;
-    }
-    if places < Kind::MAX_ROWS {
-        return few;
-    }
-    let standing = reader.standing;
-    match standing {
-        Standing::Broken(f) => Beginning::Stays(PartAnswer::Refused(f)),
-        Standing::Closed => Beginning::Stays(PartAnswer::End),
-        Standing::Opened => Beginning::GoesOn,
-    }
+    idle(reader, PartAnswer::Refused(Refusal::new(8, none)))
 }
 
 // All of the part is taken, and the bytes seen are held.
@@ -146,7 +127,7 @@ pub(crate) fn cut_short(f: Refusal) -> bool
     }
 }
 
-// What is above a number: 0 if nothing is.
+// What is above a number: 0 where nothing is.
 pub(crate) fn beyond(n: ByteOffset, most: ByteOffset) -> ByteOffset
     ensures { result.bytes ≡ n.bytes - most.bytes }
 {

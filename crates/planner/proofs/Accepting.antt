@@ -1,6 +1,15 @@
 -- Accepted exactly as FORMAT.md, "Column writer", says. Assumes nothing.
-use Rattle.format.proofs.Common.{◌≡◌, refl, sym, ap, subst, ◌∙◌, ◌↔◌, ℕ, ◌+◌, ◌≤◌, arith, add-zero, zero-add, Bool, true, false, ◌&&◌, List}
-use Rattle.format.proofs.Common.{[], ◌∷◌, ◌++◌, length, length-append, ℤ, leb, eqb, eqb-true, eq-eqb, le-leb, lt-leb, leb-true, leb-false}
+use mathlib.Core.Path.{◌≡◌, refl, sym, ap, subst, ◌∙◌}
+use mathlib.Core.Logic.{◌↔◌}
+use Prim.Native.Nat.{ℕ, ◌+◌, ◌≤◌}
+use native.Mathlib.Omega.{arith}
+use native.Mathlib.Nat.{add-zero, zero-add}
+use mathlib.Core.Bool.{Bool, true, false, ◌&&◌}
+use mathlib.Core.List.{List, [], ◌∷◌, ◌++◌}
+use lib.ListN.{length, length-append}
+use lib.IntN.{ℤ}
+use lib.Dec.{leb, eqb}
+use borrow.Author.Tests.{eqb-true, eq-eqb, le-leb, lt-leb, leb-true, leb-false}
 use Rattle.format.specs.Fields.{pick}
 use Rattle.format.specs.Runs.{Description, joined}
 use Rattle.format.specs.Parse.{Parsed, end, got, refused}

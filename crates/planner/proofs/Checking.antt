@@ -1,5 +1,11 @@
 -- The check's walk: the verdict on what is left is the verdict on all. Assumes nothing.
-use Rattle.format.proofs.Common.{◌≡◌, sym, ◌∙◌, ℕ, ◌+◌, ◌-◌, ◌<◌, ◌≤◌, arith, Bool, true, false, List, ◌∷◌, length, drop, ℤ}
+use mathlib.Core.Path.{◌≡◌, sym, ◌∙◌}
+use Prim.Native.Nat.{ℕ, ◌+◌, ◌-◌, ◌<◌, ◌≤◌}
+use native.Mathlib.Omega.{arith}
+use mathlib.Core.Bool.{Bool, true, false}
+use mathlib.Core.List.{List, ◌∷◌}
+use lib.ListN.{length, drop}
+use lib.IntN.{ℤ}
 use Rattle.writer.specs.Sizes.{size_in}
 use Rattle.planner.specs.declared.segment.Segment.{Segment}
 use Rattle.planner.specs.declared.Checked.TheVariants as checked
@@ -23,35 +29,35 @@ module _ (signed : Bool) (rows : List ℤ) (c : Columns) (room : ℕ) where
   pub along-first : equal_lengths c ≡ true → Along 0 0 0
   along-first e = record { few = omega arith; row_in = omega arith; bytes-in = omega arith; so_far = verdict-first signed rows room c e }
 
-module _ {signed : Bool} {rows : List ℤ} {c : Columns} {room k row bytes : ℕ} (a : Along signed rows c room k row bytes) where
-  -- no segment is left
-  pub along-short : length c.starts ≤ k → row < length rows → checked.Rejected ≡ checked_as signed rows c room
-  along-short h l = sym (a.so_far ∙ rw (segment-none c k h) (verdict-short signed rows room k row bytes l))
+  module _ (k row bytes : ℕ) (a : Along k row bytes) where
+    -- no segment is left
+    pub along-short : length c.starts ≤ k → row < length rows → checked.Rejected ≡ checked_as signed rows c room
+    along-short h l = sym (a.so_far ∙ rw (segment-none c k h) (verdict-short signed rows room k row bytes l))
 
-  pub along-end : length c.starts ≤ k → length rows ≤ row
-      → checked.Accepted (record { runs = k; rows = record { rows = row }; bytes = record { bytes = bytes } }) ≡ checked_as signed rows c room
-  along-end h l = sym (a.so_far ∙ rw (segment-none c k h) (verdict-end signed rows room k row bytes (omega (arith, a.row_in)) a.bytes-in))
+    pub along-end : length c.starts ≤ k → length rows ≤ row
+        → checked.Accepted (record { runs = k; rows = record { rows = row }; bytes = record { bytes = bytes } }) ≡ checked_as signed rows c room
+    along-end h l = sym (a.so_far ∙ rw (segment-none c k h) (verdict-end signed rows room k row bytes (omega (arith, a.row_in)) a.bytes-in))
 
-  -- the next one, by the bytes of its run
-  module _ (h : k < length c.starts) {s : Segment} (e : s ≡ segment_at c k) {n : ℕ} (r : n ≡ size_in (step_in signed rows row s any_run)) where
-    left : drop k (segments c) ≡ s ∷ drop (k + 1) (segments c)
-    left = rw e (segment-next c k h)
+    -- the next one, by the bytes of its run
+    module _ (h : k < length c.starts) (s : Segment) (e : s ≡ segment_at c k) (n : ℕ) (r : n ≡ size_in (step_in signed rows row s any_run)) where
+      left : drop k (segments c) ≡ s ∷ drop (k + 1) (segments c)
+      left = rw e (segment-next c k h)
 
-    pub along-out : n ≡ 0 → checked.Rejected ≡ checked_as signed rows c room
-    along-out z = sym (a.so_far
-        ∙ rw left (verdict-out signed rows room k row bytes s (drop (k + 1) (segments c)) a.row_in
-        (none signed rows row s any_run n r z)))
+      pub along-out : n ≡ 0 → checked.Rejected ≡ checked_as signed rows c room
+      along-out z = sym (a.so_far
+          ∙ rw left (verdict-out signed rows room k row bytes s (drop (k + 1) (segments c)) a.row_in
+          (none signed rows row s any_run n r z)))
 
-    pub along-taken : (n ≡ 0 → ⊥) → Taken signed rows row s any_run n
-    along-taken z = some signed rows row s any_run n r z
+      pub along-taken : (n ≡ 0 → ⊥) → Taken signed rows row s any_run n
+      along-taken z = some signed rows row s any_run n r z
 
-    pub along-full : (n ≡ 0 → ⊥) → room - bytes < n → checked.Rejected ≡ checked_as signed rows c room
-    along-full z l = sym (a.so_far ∙ rw left (verdict-full signed rows room k row bytes s (drop (k + 1) (segments c)) n (along-taken z) a.bytes-in l))
+      pub along-full : (n ≡ 0 → ⊥) → room - bytes < n → checked.Rejected ≡ checked_as signed rows c room
+      along-full z l = sym (a.so_far ∙ rw left (verdict-full signed rows room k row bytes s (drop (k + 1) (segments c)) n (along-taken z) a.bytes-in l))
 
-    pub along-next : (n ≡ 0 → ⊥) → n ≤ room - bytes → Along signed rows c room (k + 1) (row + s.count) (bytes + n)
-    along-next z l = record {
-      few = omega arith;
-      row_in = omega (arith, (along-taken z).within, a.row_in);
-      bytes-in = omega (arith, a.bytes-in);
-      so_far = a.so_far ∙ rw left (verdict-next signed rows room k row bytes s (drop (k + 1) (segments c)) n (along-taken z));
-    }
+      pub along-next : (n ≡ 0 → ⊥) → n ≤ room - bytes → Along (k + 1) (row + s.count) (bytes + n)
+      along-next z l = record {
+        few = omega arith;
+        row_in = omega (arith, (along-taken z).within, a.row_in);
+        bytes-in = omega (arith, a.bytes-in);
+        so_far = a.so_far ∙ rw left (verdict-next signed rows room k row bytes s (drop (k + 1) (segments c)) n (along-taken z));
+      }

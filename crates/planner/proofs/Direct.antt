@@ -1,7 +1,17 @@
 -- The direct runs of 64 bits stand for the rows, and take two bytes a run and eight a row. Assumes nothing.
-use Rattle.format.proofs.Common.{◌≡◌, refl, sym, ◌∙◌, ℕ, zero, suc, ◌+◌, ◌-◌, ◌*◌, ◌/◌, ◌<◌, ◌≤◌, min, arith, le_refl, dec_le, Bool, List}
-use Rattle.format.proofs.Common.{[], ◌∷◌, map, length, get_or, take, drop, length-map, length-append, length-take, length-drop}
-use Rattle.format.proofs.Common.{take-append-drop, leb, ℤ, pos, w64, SFits, le-leb, lt-leb}
+use mathlib.Core.Path.{◌≡◌, refl, sym, ◌∙◌}
+use Prim.Native.Nat.{ℕ, zero, suc, ◌+◌, ◌-◌, ◌*◌, ◌/◌, ◌<◌, ◌≤◌, min}
+use native.Mathlib.Omega.{arith}
+use native.Mathlib.Nat.{le_refl}
+use native.Mathlib.Decide.{dec_le}
+use mathlib.Core.Bool.{Bool}
+use mathlib.Core.List.{List, [], ◌∷◌, map}
+use lib.ListN.{length, get_or, take, drop, length-map, length-append, length-take, length-drop, take-append-drop}
+use lib.Dec.{leb}
+use lib.IntN.{ℤ, pos}
+use mir.Syntax.{w64}
+use mir.Val.{SFits}
+use borrow.Author.Tests.{le-leb, lt-leb}
 use Rattle.format.specs.declared.Form.TheVariants.{Direct}
 use Rattle.format.specs.Digits.{AllBelow}
 use Rattle.format.specs.Fields.{widths, width, two64}

@@ -1,5 +1,10 @@
 -- Proposals for each slip, by computation: four rows 7, 7, 7, 9 as a short repeat and a direct run of 4 bits, or as a patched run. Assumes nothing.
-use Rattle.format.proofs.Common.{◌≡◌, refl, ℕ, false, List, [], ◌∷◌, ◌++◌, replicate, pos}
+use mathlib.Core.Path.{◌≡◌, refl}
+use Prim.Native.Nat.{ℕ}
+use mathlib.Core.Bool.{false}
+use mathlib.Core.List.{List, [], ◌∷◌, ◌++◌}
+use lib.ListN.{replicate}
+use lib.IntN.{pos}
 use Rattle.format.specs.Fields.{zigzagged, shortest_in, shortest}
 use Rattle.format.specs.Kept.{kept_widths, kept_codes, among, is_kept, is_kept_width}
 use Rattle.format.specs.Runs.{joined}

@@ -1,7 +1,16 @@
 -- The direct runs of 64 bits, laid as a proposal: the check accepts it, and its runs are those. Assumes nothing.
-use Rattle.format.proofs.Common.{◌≡◌, refl, sym, ap, ◌∙◌, ℕ, zero, suc, ◌+◌, ◌-◌, ◌*◌, ◌<◌, ◌≤◌, min, arith, le_refl, dec_lt, Bool, true}
-use Rattle.format.proofs.Common.{◌&&◌, List, [], ◌∷◌, map, length, take, drop, set, length-set, length-drop, length-take, length-take-le}
-use Rattle.format.proofs.Common.{drop-drop, get_or-take, get_or-set_same, get_or-set_other, ℤ, leb, eq-eqb, leb-true}
+use mathlib.Core.Path.{◌≡◌, refl, sym, ap, ◌∙◌}
+use Prim.Native.Nat.{ℕ, zero, suc, ◌+◌, ◌-◌, ◌*◌, ◌<◌, ◌≤◌, min}
+use native.Mathlib.Omega.{arith}
+use native.Mathlib.Nat.{le_refl}
+use native.Mathlib.Decide.{dec_lt}
+use mathlib.Core.Bool.{Bool, true, ◌&&◌}
+use mathlib.Core.List.{List, [], ◌∷◌, map}
+use lib.ListN.{length, take, drop, set, length-set, length-drop, length-take}
+use lib.Seq.{length-take-le, drop-drop, get_or-take, get_or-set_same, get_or-set_other}
+use lib.IntN.{ℤ}
+use lib.Dec.{leb}
+use borrow.Author.Tests.{eq-eqb, leb-true}
 use Rattle.format.specs.declared.Form.TheVariants.{Direct}
 use Rattle.format.specs.Rows.{as_u64}
 use Rattle.format.specs.Parse.{got}

@@ -1,6 +1,10 @@
--- Runs laid one after the other: what stands so far, then what is still to come, is the whole. Assumes nothing.
-use Rattle.format.proofs.Common.{◌≡◌, refl, ap, ◌∙◌, ℕ, ◌+◌, ◌-◌, ◌≤◌, arith, List, [], ◌++◌, append_assoc, length, take, drop}
-use Rattle.format.proofs.Common.{length-append, length-take-le}
+-- Runs laid one behind the other: what stands so far, then what is still to come, is the whole. Assumes nothing.
+use mathlib.Core.Path.{◌≡◌, refl, ap, ◌∙◌}
+use Prim.Native.Nat.{ℕ, ◌+◌, ◌-◌, ◌≤◌}
+use native.Mathlib.Omega.{arith}
+use mathlib.Core.List.{List, [], ◌++◌, append_assoc}
+use lib.ListN.{length, take, drop, length-append}
+use lib.Seq.{length-take-le}
 use Rattle.util.proofs.Grow.{rest-is, back_is, front-is, kept_by, long-by, filled}
 
 pub record Grown (whole out₀ out : List ℕ) (bytes : ℕ) (rest : List ℕ) : Type 0 where

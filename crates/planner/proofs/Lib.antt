@@ -9,7 +9,7 @@ pub mod Walks
 pub mod Checking
 pub mod Planning
 pub mod Widely
-pub mod ColumnPromise
+pub mod Columns
 pub mod Reading
 pub mod Examples
 pub mod Proposing

@@ -1,6 +1,11 @@
--- The runs of an accepted proposal, laid one after the other. Assumes nothing.
-use Rattle.format.proofs.Common.{◌≡◌, ℕ, ◌+◌, ◌-◌, ◌<◌, ◌≤◌, arith, Bool, true, List, ◌∷◌, ◌++◌, length, take, drop, length-append}
-use Rattle.format.proofs.Common.{length-drop, ℤ}
+-- The runs of an accepted proposal, laid one behind the other. Assumes nothing.
+use mathlib.Core.Path.{◌≡◌}
+use Prim.Native.Nat.{ℕ, ◌+◌, ◌-◌, ◌<◌, ◌≤◌}
+use native.Mathlib.Omega.{arith}
+use mathlib.Core.Bool.{Bool, true}
+use mathlib.Core.List.{List, ◌∷◌, ◌++◌}
+use lib.ListN.{length, take, drop, length-append, length-drop}
+use lib.IntN.{ℤ}
 use Rattle.format.specs.Runs.{layout, joined}
 use Rattle.planner.specs.declared.segment.Segment.{Segment}
 use Rattle.planner.specs.Check.{Columns, segments, covers, all_runs, runs, accepted}
@@ -26,39 +31,39 @@ module _ (signed : Bool) (rows : List ℤ) (c : Columns) (out₀ : List ℕ) whe
       let t = tests signed rows c (length out₀) e in
       record { few = omega arith; covering = t.1; writers = t.2; grown = grown-first all out₀ t.3 }
 
-module _ {signed : Bool} {rows : List ℤ} {c : Columns} {out₀ out : List ℕ} {k row bytes : ℕ} (p : Plan signed rows c out₀ out k row bytes) where
-  pub plan-end : length c.starts ≤ k → ColumnLaid (runs signed rows (segments c)) out₀ out
-  unfolding runs joined
-  plan-end h = grown-end (rw (segment-none c k h) at p.grown)
+  module _ (out : List ℕ) (k row bytes : ℕ) (p : Plan out k row bytes) where
+    pub plan-end : length c.starts ≤ k → ColumnLaid (runs signed rows (segments c)) out₀ out
+    unfolding runs joined
+    plan-end h = grown-end (rw (segment-none c k h) at p.grown)
 
-  module _ (h : k < length c.starts) {s : Segment} (e : s ≡ segment_at c k) where
-    abbrev ss : List Segment
-    ss = drop (k + 1) (segments c)
+    module _ (h : k < length c.starts) (s : Segment) (e : s ≡ segment_at c k) where
+      abbrev ss : List Segment
+      ss = drop (k + 1) (segments c)
 
-    left : drop k (segments c) ≡ s ∷ ss
-    left = rw e (segment-next c k h)
+      left : drop k (segments c) ≡ s ∷ ss
+      left = rw e (segment-next c k h)
 
-    pub the-next : Next signed rows row s ss
-    the-next = next signed rows row s ss (rw left at p.covering) (rw left at p.writers)
+      pub the-next : Next signed rows row s ss
+      the-next = next signed rows row s ss (rw left at p.covering) (rw left at p.writers)
 
-    here : Grown (all signed rows c out₀) out₀ out bytes (layout the-next.which ++ joined (runs signed rows ss))
-    here = rw (left, the-next.runs-are) at p.grown
+      here : Grown all out₀ out bytes (layout the-next.which ++ joined (runs signed rows ss))
+      here = rw (left, the-next.runs-are) at p.grown
 
-    abbrev lent : List ℕ
-    lent = take (length out - bytes) (drop bytes out)
+      abbrev lent : List ℕ
+      lent = take (length out - bytes) (drop bytes out)
 
-    fits : length (layout the-next.which) ≤ length lent
-    fits =
-        rw (rest-is out bytes)
-        (omega (arith, length-drop bytes out, grown-sum here, length-append (layout the-next.which) (joined (runs signed rows ss)), here.room))
+      fits : length (layout the-next.which) ≤ length lent
+      fits =
+          rw (rest-is out bytes)
+          (omega (arith, length-drop bytes out, grown-sum here, length-append (layout the-next.which) (joined (runs signed rows ss)), here.room))
 
-    pub plan-next : {part : List ℕ} {n : ℕ} → Ran (step_in signed rows row s (length lent)) lent part n
-        → Plan signed rows c out₀ (take bytes out ++ (part ++ drop (length out - bytes) (drop bytes out))) (k + 1) (row + s.count) (bytes + n)
-    plan-next {part} {n} r =
-        let x = next-ran signed rows row s ss the-next lent part n fits r in
-        record {
-          few = omega arith;
-          covering = the-next.covering;
-          writers = the-next.writers;
-          grown = rw x.0 (grown-next (layout the-next.which) (joined (runs signed rows ss)) part here x.1);
-        }
+      pub plan-next : (part : List ℕ) (n : ℕ) → Ran (step_in signed rows row s (length lent)) lent part n
+          → Plan (take bytes out ++ (part ++ drop (length out - bytes) (drop bytes out))) (k + 1) (row + s.count) (bytes + n)
+      plan-next part n r =
+          let x = next-ran signed rows row s ss the-next lent part n fits r in
+          record {
+            few = omega arith;
+            covering = the-next.covering;
+            writers = the-next.writers;
+            grown = rw x.0 (grown-next (layout the-next.which) (joined (runs signed rows ss)) part here x.1);
+          }

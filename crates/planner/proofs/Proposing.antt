@@ -1,6 +1,14 @@
 -- What the planner proposes is sound, since it has passed the check; and what follows of a sound proposal. Assumes nothing.
-use Rattle.format.proofs.Common.{◌≡◌, refl, sym, ap, ℕ, zero, suc, ◌+◌, ◌*◌, ◌/◌, ◌<◌, ◌≤◌, arith, Bool, true, false, List, length}
-use Rattle.format.proofs.Common.{length-take-le, ℤ, ltb, eq-eqb, ltb-false}
+use mathlib.Core.Path.{◌≡◌, refl, sym, ap}
+use Prim.Native.Nat.{ℕ, zero, suc, ◌+◌, ◌*◌, ◌/◌, ◌<◌, ◌≤◌}
+use native.Mathlib.Omega.{arith}
+use mathlib.Core.Bool.{Bool, true, false}
+use mathlib.Core.List.{List}
+use lib.ListN.{length}
+use lib.Seq.{length-take-le}
+use lib.IntN.{ℤ}
+use lib.Dec.{ltb}
+use borrow.Author.Tests.{eq-eqb, ltb-false}
 use Rattle.format.specs.Runs.{Description, joined}
 use Rattle.format.proofs.Tests.{never}
 use Rattle.proposer.specs.Proposed.{Proposed}

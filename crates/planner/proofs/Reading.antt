@@ -1,6 +1,12 @@
 -- Whatever the proposal, what is written reads whole as exactly the rows. Assumes nothing.
-use Rattle.format.proofs.Common.{◌≡◌, refl, sym, ap, subst, ◌∙◌, ℕ, ◌+◌, ◌<◌, ◌≤◌, arith, Bool, List, [], ◌∷◌, ◌++◌, length, take, drop}
-use Rattle.format.proofs.Common.{take-append-drop, drop-length, drop-drop, take-append_seam, drop-append_seam, ℤ}
+use mathlib.Core.Path.{◌≡◌, refl, sym, ap, subst, ◌∙◌}
+use Prim.Native.Nat.{ℕ, ◌+◌, ◌<◌, ◌≤◌}
+use native.Mathlib.Omega.{arith}
+use mathlib.Core.Bool.{Bool}
+use mathlib.Core.List.{List, [], ◌∷◌, ◌++◌}
+use lib.ListN.{length, take, drop, take-append-drop}
+use lib.Seq.{drop-length, drop-drop, take-append_seam, drop-append_seam}
+use lib.IntN.{ℤ}
 use Rattle.format.specs.Digits.{AllBelow}
 use Rattle.format.specs.Fields.{two64}
 use Rattle.format.specs.Runs.{Description, AllValid, joined}
@@ -11,7 +17,7 @@ use Rattle.format.proofs.Rows.{joined-count}
 use Rattle.format.proofs.Streams.{stream-whole}
 use Rattle.planner.specs.declared.segment.Segment.{Segment}
 use Rattle.planner.specs.declared.ColumnAnswer.{ColumnAnswer}
-use Rattle.planner.specs.Check.{Columns, segments_from, segments, any_run, Column, planned, direct, eight, column, column_bytes, told_as}
+use Rattle.planner.specs.Check.{Columns, segments_from, any_run, Column, planned, direct, eight, column, column_bytes, told_as}
 use Rattle.planner.specs.Laws.{sum_rows, Accept, none, more, Accepted, Answers, as-planned, as-direct, Reads, WhateverProposed}
 use Rattle.planner.specs.Laws.{when-planned, when-direct, when-eight, Whatever, CheckDetermined, ColumnDetermined}
 use Rattle.planner.proofs.Accepting.{check-exactly}

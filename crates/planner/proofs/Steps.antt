@@ -1,6 +1,13 @@
 -- One segment, by its form's writer. Assumes nothing.
-use Rattle.format.proofs.Common.{◌≡◌, refl, sym, ap, ◌∙◌, ℕ, zero, suc, ◌+◌, ◌-◌, ◌<◌, ◌≤◌, arith, Bool, true, false, not, and-false, List}
-use Rattle.format.proofs.Common.{[], map, length, take, drop, leb, eqb, leb→le, ℤ, lt-leb, ne_eqb, le-leb, eqb-true, not-true, not-false}
+use mathlib.Core.Path.{◌≡◌, refl, sym, ap, ◌∙◌}
+use Prim.Native.Nat.{ℕ, zero, suc, ◌-◌, ◌<◌, ◌≤◌}
+use native.Mathlib.Omega.{arith}
+use mathlib.Core.Bool.{Bool, true, false, not, and-false}
+use mathlib.Core.List.{List, [], map}
+use lib.ListN.{length, take, drop}
+use lib.Dec.{leb, eqb, leb→le}
+use lib.IntN.{ℤ}
+use borrow.Author.Tests.{lt-leb, ne_eqb, le-leb, eqb-true}
 use Rattle.format.specs.declared.Form.{Form}
 use Rattle.format.specs.declared.Form.TheVariants.{ShortRepeat, Direct, FixedDelta, PackedDelta}
 use Rattle.format.specs.declared.Answer.{Answer}
@@ -106,24 +113,21 @@ module _ (signed : Bool) (form width base : ℕ) (part : List ℤ) (out out' : L
 -- ---- where it stands
 
 -- it begins at this row, and ends within the column
-pub here-is : (at rows : ℕ) (s : Segment) (b : Bool) → b ≡ in_place rows at s → not b ≡ false → s.start ≡ at
-here-is at rows s b e h = eqb-true s.start at (both (eqb s.start at) (leb s.count (rows - at)) (sym e ∙ not-false b h)).0
+pub here-is : (at rows : ℕ) (s : Segment) (b : Bool) → b ≡ in_place rows at s → b ≡ true → s.start ≡ at
+here-is at rows s b e h = eqb-true s.start at (both (eqb s.start at) (leb s.count (rows - at)) (sym e ∙ h)).0
 
-pub within-is : (at rows : ℕ) (s : Segment) (b : Bool) → b ≡ in_place rows at s → not b ≡ false → s.count ≤ rows - at
-within-is at rows s b e h = leb→le s.count (rows - at) (rw (both (eqb s.start at) (leb s.count (rows - at)) (sym e ∙ not-false b h)).1 tt)
+pub within-is : (at rows : ℕ) (s : Segment) (b : Bool) → b ≡ in_place rows at s → b ≡ true → s.count ≤ rows - at
+within-is at rows s b e h = leb→le s.count (rows - at) (rw (both (eqb s.start at) (leb s.count (rows - at)) (sym e ∙ h)).1 tt)
 
 module _ (signed : Bool) (rows : List ℤ) (at : ℕ) (s : Segment) (room : ℕ) where
-  pub step-elsewhere : (b : Bool) → b ≡ in_place (length rows) at s → not b ≡ true → is_run (step_in signed rows at s room) ≡ false
+  pub step-elsewhere : (b : Bool) → b ≡ in_place (length rows) at s → b ≡ false → is_run (step_in signed rows at s room) ≡ false
   unfolding step_in
-  step-elsewhere b e h = rw (← e, not-true b h)
+  step-elsewhere b e h = rw (← e, h)
 
-  -- its rows as the code takes them, from `at` to before `at + count`
-  pub step-here : (b : Bool) → b ≡ in_place (length rows) at s → not b ≡ false
-      → step_in signed rows at s room ≡ write_in signed s.form s.width s.base (take (at + s.count - at) (drop at rows)) room
+  pub step-here : (b : Bool) → b ≡ in_place (length rows) at s → b ≡ true
+      → step_in signed rows at s room ≡ write_in signed s.form s.width s.base (take s.count (drop at rows)) room
   unfolding step_in
-  step-here b e h =
-      let k : at + s.count - at ≡ s.count = omega arith in
-      rw (sym e ∙ not-false b h, here-is at (length rows) s b e h, k)
+  step-here b e h = rw (sym e ∙ h, here-is at (length rows) s b e h)
 
 pub form-packed : (n : ℕ) → (n ≡ 0 → ⊥) → (n ≡ 1 → ⊥) → (n ≡ 2 → ⊥) → PackedDelta ≡ form_of n
 unfolding form_of

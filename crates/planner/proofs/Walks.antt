@@ -1,7 +1,14 @@
 -- The walk over the segments: each turn takes one of them, or ends with what the check says. Assumes nothing.
-use Rattle.format.proofs.Common.{◌≡◌, refl, ◌∙◌, ℕ, suc, ◌+◌, ◌-◌, ◌<◌, ◌≤◌, arith, add-zero, zero-add, Bool, true, false, ◌&&◌, and-false}
-use Rattle.format.proofs.Common.{List, [], ◌∷◌, ◌++◌, length, take, drop, length-append, length-take, length-drop, eqb, leb, ℤ, eqb-true}
-use Rattle.format.proofs.Common.{eq-eqb, ne_eqb, leb-true, leb-false, le-leb, lt-leb}
+use mathlib.Core.Path.{◌≡◌, refl, ◌∙◌}
+use Prim.Native.Nat.{ℕ, suc, ◌+◌, ◌-◌, ◌<◌, ◌≤◌}
+use native.Mathlib.Omega.{arith}
+use native.Mathlib.Nat.{add-zero, zero-add}
+use mathlib.Core.Bool.{Bool, true, false, ◌&&◌, and-false}
+use mathlib.Core.List.{List, [], ◌∷◌, ◌++◌}
+use lib.ListN.{length, take, drop, length-append, length-take, length-drop}
+use lib.Dec.{eqb, leb}
+use lib.IntN.{ℤ}
+use borrow.Author.Tests.{eqb-true, eq-eqb, ne_eqb, leb-true, leb-false, le-leb, lt-leb}
 use Rattle.format.specs.Fields.{pick}
 use Rattle.format.specs.Runs.{Description, row_count, layout, joined}
 use Rattle.format.specs.Parse.{plain, Parsed, end, got, refused}

@@ -1,6 +1,13 @@
 -- The writers of all forms: what they accept depends on the room only by its length, stands for the rows, and has no width above 255. Assumes nothing.
-use Rattle.format.proofs.Common.{◌≡◌, refl, sym, ap, subst, ◌∙◌, ℕ, zero, suc, ◌%◌, ◌^◌, ◌<◌, ◌≤◌, arith, Bool, true, false, not, ◌&&◌}
-use Rattle.format.proofs.Common.{List, [], map, length, length-map, T, ltb, ℤ, ltb-false, le-ltb}
+use mathlib.Core.Path.{◌≡◌, refl, sym, ap, subst, ◌∙◌}
+use Prim.Native.Nat.{ℕ, zero, suc, ◌%◌, ◌^◌, ◌<◌, ◌≤◌}
+use native.Mathlib.Omega.{arith}
+use mathlib.Core.Bool.{Bool, true, false, not, ◌&&◌}
+use mathlib.Core.List.{List, [], map}
+use lib.ListN.{length, length-map}
+use lib.Dec.{T, ltb}
+use lib.IntN.{ℤ}
+use borrow.Author.Tests.{ltb-false, le-ltb}
 use Rattle.format.specs.declared.Form.{Form}
 use Rattle.format.specs.declared.Form.TheVariants.{ShortRepeat, Direct, FixedDelta, PackedDelta}
 use Rattle.format.specs.Fields.{two64}

@@ -2,7 +2,6 @@
 -- here says how segments are found.
 -- Assumes nothing.
 use Rattle.std.specs.Prelude.{◌≡◌, ℕ, zero, suc, ◌+◌, Bool, true, false, ◌&&◌, List, [], ◌∷◌, ◌++◌, map, length, take, drop, get_or, leb, eqb, ℤ}
-use Rattle.std.specs.Borrow.{Bor}
 use Rattle.format.specs.declared.Form.TheVariants.{ShortRepeat, Direct, FixedDelta, PackedDelta}
 use Rattle.format.specs.Fields.{pick}
 use Rattle.format.specs.Runs.{Description, joined}
@@ -31,10 +30,6 @@ pub record Columns : Type 0 where
 abbrev pub proposal : List ℕ → List ℕ → List ℕ → List ℕ → List ℕ → Columns
 proposal starts counts forms widths bases = record { starts = starts; counts = counts; forms = forms; widths = widths; bases = bases }
 
--- the columns that a call is lent
-abbrev pub lent : Bor (List ℕ) → Bor (List ℕ) → Bor (List ℕ) → Bor (List ℕ) → Bor (List ℕ) → Columns
-lent starts counts forms widths bases = proposal starts.now counts.now forms.now widths.now bases.now
-
 abbrev pub equal_lengths : Columns → Bool
 equal_lengths c =
     eqb (length c.counts) (length c.starts) && eqb (length c.forms) (length c.starts)
@@ -62,7 +57,7 @@ covers rows at (s ∷ ss) = eqb s.start at && covers rows (at + s.count) ss
 abbrev pub any_run : ℕ
 any_run = 4356
 
--- what the form's writer answers in that much room; a number that is no form is not accepted, and only patched runs have a base
+-- what the form's writer answers in so much room; a number that is no form is not accepted, and only patched runs have a base
 unfoldable pub write_in : Bool → ℕ → ℕ → ℕ → List ℤ → ℕ → Parsed Description
 write_in signed zero width base part room = writing signed ShortRepeat width (map as_u64 part) room
 write_in signed (suc zero) width base part room = writing signed Direct width (map as_u64 part) room
@@ -104,7 +99,7 @@ accepted signed rows c room =
     equal_lengths c && covers (length rows) 0 (segments c) && all_runs signed rows (segments c)
     && leb (length (joined (runs signed rows (segments c)))) room
 
--- ---- OTHERWISE direct runs of 64 bits, 512 rows each and the rest last
+-- ---- ELSE direct runs of 64 bits, 512 rows each and the rest last
 
 -- 512 rows each, and the rest; in at most `fuel` parts
 unfoldable pub parts : ℕ → List ℤ → List (List ℤ)
@@ -128,7 +123,7 @@ column signed rows c room =
     pick (accepted signed rows c room) (planned (runs signed rows (segments c)))
     (pick (leb (length (joined (wide signed rows))) room) (direct (wide signed rows)) eight)
 
--- the caller's buffer at exit: the runs first, and the rest as it was
+-- the lent bytes at exit: the runs in the first of them, and what stood in the others
 abbrev pub column_bytes : List ℕ → Column → List ℕ
 column_bytes out (planned ds) = joined ds ++ drop (length (joined ds)) out
 column_bytes out (direct ds) = joined ds ++ drop (length (joined ds)) out
@@ -136,15 +131,15 @@ column_bytes out eight = out
 
 -- ---- THE PROMISES
 
--- the answer gives the number of runs, their rows and their bytes
+-- the answer tells of runs how many they are, their rows and their bytes
 abbrev pub told : List Description → Columned
 told ds = record { runs = length ds; rows = record { rows = total_rows ds }; bytes = record { bytes = length (joined ds) } }
 
--- of the check, which writes nothing
+-- of the check: no byte is lent to it
 unfoldable pub checked_as : Bool → List ℤ → Columns → ℕ → Checked
 checked_as signed rows c room = pick (accepted signed rows c room) (checked.Accepted (told (runs signed rows (segments c)))) checked.Rejected
 
--- of the writer: the answer, and every byte of the buffer
+-- of the writer: the answer, and every lent byte
 abbrev pub told_as : Column → ColumnAnswer
 told_as (planned ds) = answer.Planned (told ds)
 told_as (direct ds) = answer.Direct (told ds)

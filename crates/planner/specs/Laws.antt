@@ -15,7 +15,7 @@ use Rattle.planner.specs.declared.ColumnAnswer.TheVariants as answer
 use Rattle.planner.specs.Check.{Columns, equal_lengths, segments, any_run, write_in, run_of, wide, Column, planned, direct, eight, column}
 use Rattle.planner.specs.Check.{told, checked_as, Wrote}
 
--- Room matters only by its size: in some room a writer accepts what it accepts with room for any run, if that fits.
+-- Room enough is enough: what a writer accepts in some room is what it accepts with room for any run, where that room holds it.
 abbrev pub RoomForAny : Type 0
 RoomForAny =
     (signed : Bool) (form width base : ℕ) (part : List ℤ) (room : ℕ) (d : Description) (rest : List ℕ) → AllI64 part → base < two64

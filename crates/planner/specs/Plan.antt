@@ -1,5 +1,5 @@
--- THE PLANNER'S PROPOSAL has no one right value; how many bytes it saves is measured. What holds of every proposal: the check accepts it
--- in as much room as the direct runs of 64 bits take, and there is one if there are rows, and places for the direct runs. Assumes nothing.
+-- THE PLANNER'S PROPOSAL has no one right value: how well it cuts is measured. What holds of it whatever it is: the check accepts it in as
+-- much room as the direct runs of 64 bits take, and there is one wherever there are rows, and places for the direct runs. Assumes nothing.
 use Rattle.std.specs.Prelude.{◌≡◌, ℕ, ◌+◌, ◌-◌, ◌*◌, ◌/◌, ◌<◌, ◌≤◌, min, Bool, true, false, ◌&&◌, List, length, take, ℤ, leb}
 use Rattle.format.specs.Runs.{Description, joined}
 use Rattle.proposer.specs.Proposed.{Proposed}
@@ -18,7 +18,7 @@ pub record Sound (signed : Bool) (rows : List ℤ) (c : Columns) (k : ℕ) : Typ
   pub places : Proposed c.starts c.counts c.forms c.widths c.bases k
   pub accepted : Accepted signed rows (first_of k c) (length (joined (wide signed rows))) runs
 
--- how many direct runs that many rows have, and whether each column has that many places
+-- how many direct runs so many rows have, and whether each column has so many places
 abbrev pub direct_runs : ℕ → ℕ
 direct_runs rows = (rows + 511) / 512
 
@@ -27,8 +27,8 @@ have_places n c =
     leb n (length c.starts) && leb n (length c.counts) && leb n (length c.forms) && leb n (length c.widths)
     && leb n (length c.bases)
 
--- THE PROMISE, of the columns at exit and of the answer, a number of segments: none if there are no rows, or if a column has fewer places
--- than there are direct runs; otherwise a sound proposal
+-- THE PROMISE, of the columns as they stand at exit and of the number of segments that is answered: none where there are no rows, or where
+-- a column has fewer places than there are direct runs; else a sound proposal
 pub data Proposes (signed : Bool) (rows : List ℤ) (c : Columns) : ℕ → Type 0 where
   no_rows : length rows ≡ 0 → Proposes signed rows c 0
   no-places : have_places (direct_runs (length rows)) c ≡ false → Proposes signed rows c 0
@@ -59,7 +59,7 @@ pub data Kept (signed : Bool) (rows : List ℤ) (c : Columns) : ℕ → Type 0 w
   dropped : Kept signed rows c 0
   kept : {k : ℕ} → Sound signed rows c k → Kept signed rows c k
 
--- the k-th direct run of that many rows, as a segment: 512 rows, or the rest; form 1 is direct, and code 31 means 64 bits
+-- the k-th direct run of so many rows, as a segment: 512 rows, or the rest; form 1 is direct, and code 31 means 64 bits
 abbrev pub direct_at : ℕ → ℕ → Segment
 direct_at rows k = record { start = 512 * k; count = min 512 (rows - 512 * k); form = 1; width = 31; base = 0 }
 
@@ -67,7 +67,7 @@ direct_at rows k = record { start = 512 * k; count = min 512 (rows - 512 * k); f
 abbrev pub DirectLaid : ℕ → Columns → ℕ → Type 0
 DirectLaid rows c n = (k : ℕ) → k < n → segment_at c k ≡ direct_at rows k
 
--- the direct runs, if there are places for them
+-- the direct runs, where there are places for them
 pub data Fallback (signed : Bool) (rows : List ℤ) (c : Columns) : ℕ → Type 0 where
   too_few : have_places (direct_runs (length rows)) c ≡ false → Fallback signed rows c 0
   laid : {k : ℕ} → Sound signed rows c k → Fallback signed rows c k

@@ -33,22 +33,22 @@ segment_at c k = record {
 abbrev pub in_place : ℕ → ℕ → Segment → Bool
 in_place rows at s = eqb s.start at && leb s.count (rows - at)
 
--- what its writer answers in that much room; one that is out of place is not accepted
+-- what its writer answers in so much room; one that is out of place is not accepted
 unfoldable pub step_in : Bool → List ℤ → ℕ → Segment → ℕ → Parsed Description
 step_in signed rows at s room = pick (in_place (length rows) at s) (run_in signed rows s room) (refused (plain 10))
 
--- a writer's answer m by its bytes, and the caller's buffer at exit
+-- a writer's answer m, told by its bytes, and the lent bytes at exit
 pub record Ran (m : Parsed Description) (out out' : List ℕ) (r : ℕ) : Type 0 where
   pub size : r ≡ size_in m
   pub places : out' ≡ bytes_in out m
 
 -- ---- ALL OF THEM
 
--- the runs stand in the first bytes, and the others are as they were
+-- the runs stand in the first bytes, and what stood there in the others
 abbrev pub ColumnLaid : List Description → List ℕ → List ℕ → Type 0
 ColumnLaid ds out out' = out' ≡ joined ds ++ drop (length (joined ds)) out
 
--- the direct runs, and the answer for them
+-- the direct runs, and what the answer tells of them
 pub record WideLaid (signed : Bool) (rows : List ℤ) (out out' : List ℕ) (r : Columned) : Type 0 where
   pub answer : r ≡ told (wide signed rows)
   pub places : ColumnLaid (wide signed rows) out out'

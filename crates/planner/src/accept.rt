@@ -1,9 +1,13 @@
-// What the check of a proposal needs beside its segments.
-ghost use Rattle.std.specs.Prelude.{◌≡◌, ◌&&◌, eqb};
+// The check: a walk over the segments, by the bytes of each.
+ghost use Rattle.std.specs.Prelude.{◌≡◌, true, ◌&&◌, eqb};
+ghost use Rattle.proposer.specs.Proposed.{Proposed};
+ghost use Rattle.planner.specs.Check.{proposal, equal_lengths, checked_as};
+ghost use Rattle.planner.specs.Plan.{Kept};
 
-use format::Kind;
+use crate::{Checked, Columned, segment, write};
+use format::{ByteOffset, Kind, RowNumber};
 
-// Whether the columns have one length.
+// Whether the columns are of one length.
 pub(crate) fn are_equal(n: usize, counts: usize, forms: usize, widths: usize, bases: usize) -> bool
     ensures { result ≡ (eqb counts n && eqb forms n && eqb widths n && eqb bases n) }
 {
@@ -19,7 +23,89 @@ pub(crate) fn are_equal(n: usize, counts: usize, forms: usize, widths: usize, ba
     bases == n
 }
 
-// Room for any run: to count the bytes of a patched run, it is written here.
-pub(crate) fn bytes_room() -> [u8; Kind::MAX_BYTES] {
+// Room for any run: a patched one is written to tell its bytes.
+fn bytes_room() -> [u8; Kind::MAX_BYTES] {
     [0u8; Kind::MAX_BYTES]
+}
+
+// Every segment begins where the one before it ends and is accepted, the last ends with the last row, and there is so much room.
+pub(crate) fn walk(
+    rows: &[i64],
+    signed: bool,
+    first: &[u64],
+    counts: &[u64],
+    forms: &[u64],
+    widths: &[u64],
+    bases: &[u64],
+    room: ByteOffset,
+) -> Checked
+    requires { equal_lengths (proposal first.now counts.now forms.now widths.now bases.now) ≡ true }
+    ensures { result ≡ checked_as signed rows.now
+        (proposal first.now counts.now forms.now widths.now bases.now)
+        room.bytes }
+{
+    let limit = room.bytes;
+    let mut run = bytes_room();
+    let mut k: usize = 0;
+    let mut row: usize = 0;
+    let mut bytes: usize = 0;
+    while k < first.len() {
+        let s = segment::at(first, counts, forms, widths, bases, k);
+        let at = RowNumber { rows: row };
+        let n = segment::step_size(rows, signed, at, s, &mut run).bytes;
+        if n == 0 {
+            return Checked::Rejected;
+        }
+        if limit - bytes < n {
+            return Checked::Rejected;
+        }
+        k += 1;
+        row += s.count as usize;
+        bytes += n;
+    }
+    if row < rows.len() {
+        return Checked::Rejected;
+    }
+    Checked::Accepted(Columned {
+        runs: k,
+        rows: RowNumber { rows: row },
+        bytes: ByteOffset { bytes },
+    })
+}
+
+// The first k segments, where they are accepted and have no more bytes than the direct runs; else none.
+pub(crate) fn sound(
+    rows: &[i64],
+    signed: bool,
+    first: &[u64],
+    counts: &[u64],
+    forms: &[u64],
+    widths: &[u64],
+    bases: &[u64],
+    k: usize,
+) -> usize
+    requires { Proposed first.now counts.now forms.now widths.now bases.now k }
+    ensures { Kept signed rows.now
+        (proposal first.now counts.now forms.now widths.now bases.now) result }
+{
+    let any = ByteOffset { bytes: usize::MAX };
+    let c = walk(
+        rows,
+        signed,
+        &first[..k],
+        &counts[..k],
+        &forms[..k],
+        &widths[..k],
+        &bases[..k],
+        any,
+    );
+    match c {
+        Checked::Accepted(t) => {
+            if write::is_longer(t.bytes, RowNumber { rows: rows.len() }) {
+                return 0;
+            }
+            k
+        }
+        Checked::Rejected => 0,
+    }
 }

@@ -1,20 +1,43 @@
 // One segment of a proposal, and its writer.
-ghost use Rattle.std.specs.Prelude.{◌≡◌, ◌≤◌, length};
+ghost use Rattle.std.specs.Prelude.{◌≡◌, ◌<◌, ◌≤◌, length};
 ghost use Rattle.writer.specs.Sizes.{size_in};
-ghost use Rattle.planner.specs.Check.{any_run, write_in};
-ghost use Rattle.planner.specs.Walk.{form_of, in_place, step_in, Ran};
+ghost use Rattle.planner.specs.Check.{proposal, any_run, write_in};
+ghost use Rattle.planner.specs.Walk.{form_of, segment_at, in_place, step_in, Ran};
 
 use format::{ByteOffset, Form, RowNumber};
 use util::pattern;
 
-// Any five numbers, as they are proposed.
-#[derive(Drop)]
+// As it is proposed: any five numbers.
+#[derive(Clone, Copy)]
 pub(crate) struct Segment {
     pub start: u64,
     pub count: u64,
     pub form: u64,
     pub width: u64,
     pub base: u64,
+}
+
+// The k-th of each column.
+pub(crate) fn at(
+    first: &[u64],
+    counts: &[u64],
+    forms: &[u64],
+    widths: &[u64],
+    bases: &[u64],
+    k: usize,
+) -> Segment
+    requires { (k < length first.now) × (k < length counts.now) × (k < length forms.now) × (k < length widths.now)
+        × (k < length bases.now) }
+    ensures { result ≡ segment_at
+        (proposal first.now counts.now forms.now widths.now bases.now) k }
+{
+    Segment {
+        start: first[k],
+        count: counts[k],
+        form: forms[k],
+        width: widths[k],
+        base: bases[k],
+    }
 }
 
 // The forms that have no base.
@@ -33,7 +56,7 @@ fn form_of(form: u64) -> Form
     Form::PackedDelta
 }
 
-// Writes the segment's run. Answers its bytes, or 0 if the writer does not accept the rows. No form has a width above 255.
+// Some rows as the segment's run: its bytes, or 0 where the writer does not accept them. No form has a width above 255.
 fn write(part: &[i64], signed: bool, s: Segment, out: &mut [u8]) -> ByteOffset
     ensures { Ran (write_in signed s.form s.width s.base part.now (length out.old)) out.old
         out.new result.bytes }
@@ -54,7 +77,7 @@ fn write(part: &[i64], signed: bool, s: Segment, out: &mut [u8]) -> ByteOffset
     a.consumed()
 }
 
-// The bytes of that run, with room for any. Only a patched run is written to count them, into the caller's buffer.
+// The bytes of that run, where there is room for any: nothing is written, but for a patched run, into the place that is lent for it.
 fn size(part: &[i64], signed: bool, s: Segment, run: &mut [u8]) -> ByteOffset
     requires { length run.old ≡ any_run }
     ensures { result.bytes ≡ size_in (write_in signed s.form s.width s.base part.now any_run) }
@@ -81,7 +104,7 @@ fn is_in_place(rows: RowNumber, at: RowNumber, s: Segment) -> bool
     s.count <= (end - row) as u64
 }
 
-// Writes the segment if it begins at this row and ends within the column. Answers its bytes, or 0 if it is not accepted.
+// A segment of the rows, where it begins at this row and ends within the column: its bytes, or 0 where it is not accepted.
 pub(crate) fn step(
     rows: &[i64],
     signed: bool,
@@ -101,7 +124,7 @@ pub(crate) fn step(
     write(&rows[row..row + s.count as usize], signed, s, out)
 }
 
-// The same bytes, with room for any run.
+// The same bytes, where there is room for any run.
 pub(crate) fn step_size(
     rows: &[i64],
     signed: bool,

@@ -1,18 +1,50 @@
-// The direct runs of 64 bits, written if no proposal is accepted.
-ghost use Rattle.std.specs.Prelude.{◌≡◌, map, ◌+◌, ◌*◌, ◌/◌, ◌≤◌, min, length, take, drop, leb, ltb};
+// What is written: the runs of a proposal that the check accepts, or direct runs of 64 bits.
+ghost use Rattle.std.specs.Prelude.{◌≡◌, true, map, ◌+◌, ◌*◌, ◌/◌, ◌≤◌, min, length, take, drop, leb, ltb};
 ghost use Rattle.format.specs.Runs.{joined};
 ghost use Rattle.format.specs.Rows.{as_u64};
 ghost use Rattle.format.specs.Writing.{writing, AllI64};
 ghost use Rattle.planner.specs.Check as Check;
-ghost use Rattle.planner.specs.Walk.{Ran, WideLaid};
+ghost use Rattle.planner.specs.Check.{proposal, accepted, segments};
+ghost use Rattle.planner.specs.Walk.{Ran, ColumnLaid, WideLaid};
 
-use crate::Columned;
+use crate::{Columned, segment};
 use format::{ByteOffset, Form, Kind, RowNumber};
 
 // The width code of 64 bits.
 pub(crate) const WIDEST: u8 = 31;
 
-// Whether the direct runs of that many rows have room: two bytes a run and eight a row.
+// The runs of a proposal, one behind the other.
+pub(crate) fn planned(
+    rows: &[i64],
+    signed: bool,
+    first: &[u64],
+    counts: &[u64],
+    forms: &[u64],
+    widths: &[u64],
+    bases: &[u64],
+    out: &mut [u8],
+)
+    requires { accepted signed rows.now (proposal first.now counts.now forms.now widths.now bases.now) (length out.old)
+        ≡ true }
+    ensures { ColumnLaid
+        (Check.runs signed rows.now
+        (segments (proposal first.now counts.now forms.now widths.now bases.now)))
+        out.old out.new }
+{
+    let mut k: usize = 0;
+    let mut row: usize = 0;
+    let mut bytes: usize = 0;
+    while k < first.len() {
+        let s = segment::at(first, counts, forms, widths, bases, k);
+        let at = RowNumber { rows: row };
+        let n = segment::step(rows, signed, at, s, &mut out[bytes..]).bytes;
+        k += 1;
+        row += s.count as usize;
+        bytes += n;
+    }
+}
+
+// Whether the direct runs of so many rows have room: two bytes a run and eight a row.
 pub(crate) fn wide_fits(rows: RowNumber, room: ByteOffset) -> bool
     ensures { result ≡ leb (2 * ((rows.rows + 511) / 512) + 8 * rows.rows) room.bytes }
 {
@@ -25,7 +57,7 @@ pub(crate) fn wide_fits(rows: RowNumber, room: ByteOffset) -> bool
     2 * runs <= limit - 8 * n
 }
 
-// Whether that is more bytes than the direct runs have.
+// Whether so many bytes are more than those of the direct runs.
 pub(crate) fn is_longer(bytes: ByteOffset, rows: RowNumber) -> bool
     ensures { result ≡ ltb (2 * ((rows.rows + 511) / 512) + 8 * rows.rows) bytes.bytes }
 {
@@ -47,7 +79,7 @@ pub(crate) fn know(rows: &[i64])
     }
 }
 
-// The rows of the next direct run, by how many are left.
+// The rows of the next direct run, of so many that are left.
 pub(crate) fn part_rows(left: RowNumber) -> RowNumber
     ensures { result.rows ≡ min 512 left.rows }
 {
@@ -61,7 +93,7 @@ pub(crate) fn part_rows(left: RowNumber) -> RowNumber
     }
 }
 
-// Writes n rows as a direct run of 64 bits. Answers its bytes.
+// Some rows as a direct run of 64 bits: its bytes.
 fn wide_run(rows: &[i64], signed: bool, at: RowNumber, n: RowNumber, out: &mut [u8]) -> ByteOffset
     requires { at.rows + n.rows ≤ length rows.now }
     ensures { Ran (writing signed Form.Direct 31 (map as_u64 (take n.rows (drop at.rows rows.now)))
@@ -73,7 +105,7 @@ fn wide_run(rows: &[i64], signed: bool, at: RowNumber, n: RowNumber, out: &mut [
     a.consumed()
 }
 
-// Writes the direct runs, 512 rows each and the rest last.
+// The direct runs, 512 rows each and the rest last.
 pub(crate) fn wide(rows: &[i64], signed: bool, out: &mut [u8]) -> Columned
     requires { length (joined (Check.wide signed rows.now)) ≤ length out.old }
     ensures { WideLaid signed rows.now out.old out.new result }

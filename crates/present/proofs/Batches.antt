@@ -1,11 +1,17 @@
 -- The rows used up by the first flags are as many as these flags stand for, so a column that is cut between two flags, with its rows cut
 -- after those, spreads to the two parts of the whole. Assumes nothing.
-use Rattle.format.proofs.Common.{◌≡◌, refl, sym, ap, ◌∙◌, ℕ, ◌+◌, arith, Bool, true, false, List, [], ◌∷◌, ◌++◌, append_assoc, length, take}
-use Rattle.format.proofs.Common.{drop, get_or, length-append, length-drop, take-append-drop, take_at, drop_at, drop-drop, length-take-le, ℤ}
+use mathlib.Core.Path.{◌≡◌, refl, sym, ap, ◌∙◌}
+use Prim.Native.Nat.{ℕ, ◌+◌}
+use native.Mathlib.Omega.{arith}
+use mathlib.Core.Bool.{Bool, true, false}
+use mathlib.Core.List.{List, [], ◌∷◌, ◌++◌, append_assoc}
+use lib.ListN.{length, take, drop, get_or, length-append, length-drop, take-append-drop}
+use lib.Seq.{take_at, drop_at, drop-drop, length-take-le}
+use lib.IntN.{ℤ}
 use Rattle.format.specs.Fields.{pick}
 use Rattle.present.specs.Present.{is_there, present, spread}
 use Rattle.present.specs.Laws.{LinedUp, rank, AllBatches}
-use Rattle.present.proofs.SpreadRows.{count-append, count_cut, spread-length}
+use Rattle.present.proofs.Columns.{count-append, count_cut, spread-length}
 use Rattle.present.proofs.Calls.{column-stands}
 
 spread-append : (fill : ℤ) (f g : List ℕ) (r s : List ℤ) → LinedUp f r

@@ -1,15 +1,21 @@
 -- The call is two tests and then the column: so each answer is given exactly if its tests say so, and the places are the column's or as
 -- they were. Assumes nothing.
-use Rattle.format.proofs.Common.{◌≡◌, refl, sym, ap, subst, ◌∙◌, ℕ, ◌<◌, ◌≤◌, arith, Bool, true, false, not, List, ◌++◌, length, drop}
-use Rattle.format.proofs.Common.{length-append, length-drop, ltb, ℤ, ne_eqb, eq-eqb, le-ltb, lt-ltb, eqb-true, eqb-false, ltb-true}
-use Rattle.format.proofs.Common.{ltb-false}
+use mathlib.Core.Path.{◌≡◌, refl, sym, ap, subst, ◌∙◌}
+use Prim.Native.Nat.{ℕ, ◌<◌, ◌≤◌}
+use native.Mathlib.Omega.{arith}
+use mathlib.Core.Bool.{Bool, true, false, not}
+use mathlib.Core.List.{List, ◌++◌}
+use lib.ListN.{length, drop, length-append, length-drop}
+use lib.Dec.{ltb}
+use lib.IntN.{ℤ}
+use borrow.Author.Tests.{ne_eqb, eq-eqb, le-ltb, lt-ltb, eqb-true, eqb-false, ltb-true, ltb-false}
 use Rattle.format.specs.Fields.{pick}
 use Rattle.format.proofs.Tests.{never}
 use Rattle.present.specs.declared.answer.Spread.{Spread}
 use Rattle.present.specs.Present.{present, spread, SpreadOutcome, gives, refuses, lined_up, spreading, spread_over, not_spread}
 use Rattle.present.specs.Present.{spread_answer, spread_places, SpreadOut}
 use Rattle.present.specs.Laws.{LinedUp, picked, SpreadSaid, twenty-one, eight, all-rows, SpreadsHold, SpreadsDetermined}
-use Rattle.present.proofs.SpreadRows.{spread-length, picked-back, picked-front}
+use Rattle.present.proofs.Columns.{spread-length, picked-back, picked-front}
 
 -- ---- the outcome, by what the code tests
 

@@ -1,5 +1,9 @@
 -- A line for each slip, by computation. Assumes nothing.
-use Rattle.format.proofs.Common.{◌≡◌, refl, ℕ, List, [], ◌∷◌, length, ℤ, pos, negsuc}
+use mathlib.Core.Path.{◌≡◌, refl}
+use Prim.Native.Nat.{ℕ}
+use mathlib.Core.List.{List, [], ◌∷◌}
+use lib.ListN.{length}
+use lib.IntN.{ℤ, pos, negsuc}
 use Rattle.present.specs.declared.answer.Spread.{Spread}
 use Rattle.present.specs.Present.{present, spread, spreading, spread_answer, spread_places, spread_over, not_spread}
 

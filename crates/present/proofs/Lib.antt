@@ -1,7 +1,7 @@
 -- The theorems of specs/Laws.antt.
 
 pub mod SpreadLoop
-pub mod SpreadRows
+pub mod Columns
 pub mod Batches
 pub mod Calls
 pub mod Examples

@@ -1,7 +1,14 @@
 -- A turn of the loop takes one flag, and the rows that it stands for. So the places laid, and the column of what is left of both, are
 -- always the whole column. Assumes nothing.
-use Rattle.format.proofs.Common.{◌≡◌, refl, ap, ◌∙◌, ℕ, zero, suc, ◌+◌, ◌<◌, ◌≤◌, add-one, arith, dec_lt, Bool, true, false, List, [], ◌∷◌}
-use Rattle.format.proofs.Common.{◌++◌, length, take, drop, get_or, set, length-set, drop_of_length-le, drop-cons, drop-drop, get_or-drop}
+use mathlib.Core.Path.{◌≡◌, refl, ap, ◌∙◌}
+use Prim.Native.Nat.{ℕ, zero, suc, ◌+◌, ◌<◌, ◌≤◌}
+use native.Mathlib.Numerals.{add-one}
+use native.Mathlib.Omega.{arith}
+use native.Mathlib.Decide.{dec_lt}
+use mathlib.Core.Bool.{Bool, true, false}
+use mathlib.Core.List.{List, [], ◌∷◌, ◌++◌}
+use lib.ListN.{length, take, drop, get_or, set, length-set, drop_of_length-le}
+use lib.Seq.{drop-cons, drop-drop, get_or-drop}
 use Rattle.format.specs.Fields.{pick}
 use Rattle.util.proofs.Grow.{grow, kept, filled}
 use Rattle.present.specs.Present.{is_there, rows_for, present, spread}

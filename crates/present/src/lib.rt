@@ -1,4 +1,6 @@
 // Columns with missing rows: flags say which rows are there, and each row that is there goes to its own place, with a fill in the others.
+#![tactic(auto)]
+
 ghost use Rattle.std.specs.Prelude.{◌≡◌, ◌≤◌, ◌++◌, length, drop};
 ghost use Rattle.format.specs.Fields.{pick};
 ghost use Rattle.present.specs.Present.{is_there, rows_for, present, SpreadOut};
@@ -78,5 +80,5 @@ pub fn spread(flags: &[u8], rows: &[i64], fill: i64, out: &mut [i64]) -> Spread
         return Spread::refused(8);
     }
     lay(flags, rows, fill, out);
-    Spread::Rows(RowNumber { rows: flags.len() })
+    Spread::rows(RowNumber { rows: flags.len() })
 }

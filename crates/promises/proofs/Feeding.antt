@@ -57,7 +57,8 @@ prefixed : {at : ℕ} {bs : List ℕ} (rest : List ℕ) (ds : List Description) 
     → Result at bs (record { runs = starting at ds ++ f.runs; state = f.state })
 unfolding joined starting after
 prefixed rest [] v e t = rw e t
-prefixed rest (d ∷ ds) v e t = consed v.0 (e ∙ append_assoc (layout d) (joined ds) rest) (prefixed rest ds v.1 refl t)
+prefixed {at} rest (d ∷ ds) v e t =
+    consed v.0 (e ∙ append_assoc (layout d) (joined ds) rest) (prefixed {at = (at + length (layout d)) % two64} rest ds v.1 refl t)
 
 -- ---- one part
 

@@ -1,5 +1,5 @@
 -- The reader in parts gives what the whole-stream reader gives of the joined bytes, however they are cut. Assumes nothing.
-use Rattle.format.proofs.Common.{◌≡◌, refl, sym, ap, ◌∙◌, ℕ, ◌+◌, ◌-◌, ◌%◌, ◌<◌, ◌≤◌, arith, List, [], ◌∷◌, ◌++◌, append_assoc, append-nil}
+use Rattle.format.proofs.Common.{◌≡◌, refl, sym, ap, ◌∙◌, ℕ, suc, ◌+◌, ◌-◌, ◌%◌, ◌<◌, ◌≤◌, arith, List, [], ◌∷◌, ◌++◌, append_assoc, append-nil}
 use Rattle.format.proofs.Common.{length, length-append, le-ltb}
 use Rattle.format.specs.Digits.{AllBelow}
 use Rattle.format.specs.Fields.{two64}
@@ -10,8 +10,8 @@ use Rattle.format.proofs.Runs.{parse-empty}
 use Rattle.format.proofs.RunComplete.{parse-complete}
 use Rattle.format.proofs.Streams.{into-refused, stream-whole, stream-broken, Reads, reads_whole, reads-broken, stream-post}
 use Rattle.format.specs.Parts as reader
-use Rattle.format.specs.Parts.{State, start, on_part, take_part, close}
-use Rattle.promises.specs.Parts.{Fed, GivenInParts, feed, joined_parts, read_parts, starting, stream_gives, rows_in, SameAsStream, AnyCut}
+use Rattle.format.specs.Parts.{Handed, State, start, on_part, take_part, close}
+use Rattle.promises.specs.Parts.{Fed, GivenInParts, offer, feed, joined_parts, read_parts, starting, stream_gives, rows_in, SameAsStream, AnyCut}
 use Rattle.promises.specs.Parts.{AtOnce, ByThatCall, Begins}
 use Rattle.promises.proofs.Feeding.{nothing-held, begun, after, Result, waiting, barred, fed}
 
@@ -81,7 +81,10 @@ by-that-call places s part d rest h o v e = rw (le-ltb places 512 h, o, e, parse
 feed-append : (s : State) (ps qs : List (List ℕ)) → (feed s (ps ++ qs)).runs ≡ (feed s ps).runs ++ (feed (feed s ps).state qs).runs
 unfolding feed
 feed-append s [] qs = refl
-feed-append s (p ∷ ps) qs = rw (feed-append _ ps qs, append_assoc)
+feed-append s (p ∷ ps) qs =
+    let f : Fed = offer (suc (length p)) s p in
+    ap (λ (hs : List Handed). f.runs ++ hs) (feed-append f.state ps qs)
+    ∙ sym (append_assoc f.runs (feed f.state ps).runs (feed (feed f.state ps).state qs).runs)
 
 joined-parts-append : (ps qs : List (List ℕ)) → joined_parts (ps ++ qs) ≡ joined_parts ps ++ joined_parts qs
 joined-parts-append [] qs = refl

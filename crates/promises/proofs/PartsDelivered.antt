@@ -13,7 +13,6 @@ use Rattle.format.specs.Streams.{Reading, read_all, runs_of, total_rows, joined_
 use Rattle.format.specs.Parts as reader
 use Rattle.format.specs.Parts.{Handed, State, Call, take_part, close, state_of, answered, places_after, room}
 use Rattle.format.proofs.Below.{append-below, below-drop}
-use Rattle.format.proofs.Runs.{run}
 use Rattle.format.proofs.Rows.{i64-count, joined-count}
 use Rattle.promises.specs.Parts.{Fed, go_on, offer, feed, GivenInParts, read_parts, joined_parts, starting, last_answer, stream_gives, rows_in}
 use Rattle.promises.specs.PartsCalls.{rows_shown, AsStreamHolds, StandsHolds, Shown, shown, Offers, last, gives, Offered, no_part, a-part, Delivers}
@@ -48,7 +47,7 @@ offers-is {signed} {s} {buffer} {bytes} (last {buffer'} {out} {out'} {r} l t n) 
     let c : Call = take_part 512 (state_of s buffer) bytes in
     let same : take_part (room buffer out) (state_of s buffer) bytes ≡ c = taking l (state_of s buffer) bytes in
     let a : r.answer ≡ answered c.reply = ap (λ (x : PartStep). x.answer) t.step ∙ ap (λ (x : Call). answered x.reply) same in
-    let stops : go_on (λ u rest. offer calls u rest) bytes c c.reply ≡ record { runs = []; state = c.state } = no_run _ bytes c c.reply (rw a at n) in
+    let stops : go_on (λ u rest. offer calls u rest) bytes c c.reply ≡ record { runs = []; state = c.state } = no_run (λ u rest. offer calls u rest) bytes c c.reply (rw a at n) in
     record {
       runs = sym (ap (λ (f : Fed). map (shown signed) f.runs) stops);
       state = follows s bytes buffer buffer' signed out out' r l.bytes below t ∙ ap (λ (x : Call). x.state) same ∙ sym (ap (λ (f : Fed). f.state) stops);

@@ -12,7 +12,7 @@ use Rattle.format.proofs.Again.{below-mono}
 use Rattle.format.specs.PatchedWriting.{differences, lows, patches_above, field, Parts, run, patches_in, entries_of, parts}
 use Rattle.promises.specs.Patched.{Describes, OnlySkips}
 use Rattle.promises.proofs.PatchedBase.{base-least}
-use Rattle.format.proofs.PatchedWriting.{width-mono, width-56, code-found, code-least, code_fits, gap-least, gap-8, size_is}
+use Rattle.format.proofs.PatchedWriting.{width-mono, width-56, code-found, code-least, gap-least, gap-8, size_is}
 use Rattle.format.proofs.Tests.{not_left, not_right}
 use Rattle.promises.proofs.PatchedPlaces.{Rising, rises, sums, rows-sums, sums-below, kept, lows-sums, above-sums}
 use Rattle.promises.proofs.PatchedEntries.{fewest, least-gaps}

@@ -1,5 +1,5 @@
--- What is promised of a proposal: it has no more runs than each of the five columns has places. Nothing is promised of the runs: the
--- planner checks them.
+-- What is promised of a proposal: it has no more runs than each of the five columns has places. Which runs they are is not: what is proposed is checked
+-- where it is taken up.
 -- Assumes nothing.
 use Rattle.std.specs.Prelude.{ℕ, ◌≤◌, List, length}
 

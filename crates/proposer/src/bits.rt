@@ -1,6 +1,5 @@
-// Arithmetic on rows, and the kept widths (FORMAT.md, "Kept widths"): 1, 2, 4, 8, 16, 24, 32, 40, 48, 56 and 64 bits are the classes 0
-// to 10. Rows are 64-bit patterns. Sums wrap and shifts are taken modulo 64, so no number needs a proof that it is in range: a proposal is
-// checked by `planner`.
+// Numbers of rows, and the kept widths (FORMAT.md, "Kept widths"): 1, 2, 4, 8, 16, 24, 32, 40, 48, 56 and 64 bits are the classes 0 to 10. Rows are
+// 64-bit patterns throughout; sums wrap and shifts are taken modulo 64, so that nothing is asked of a number: what is proposed is checked elsewhere.
 ghost use Rattle.std.specs.Prelude.{◌≤◌};
 
 use format::TOP_BIT;
@@ -19,7 +18,7 @@ pub(crate) fn times(a: u64, b: u64) -> u64 {
     (a % 65536) * (b % 65536)
 }
 
-// Rounds bits up to whole bytes.
+// The next multiple of eight: bits of whole bytes.
 pub(crate) fn whole_bytes(bits: u64) -> u64 {
     pattern::add(bits, 7) >> 3 << 3
 }
@@ -38,7 +37,7 @@ pub(crate) fn magnitude(step: u64) -> u64 {
     }
 }
 
-// The number that is stored for a row: zigzagged if signed.
+// The number that stands for a row: zigzagged if signed.
 pub(crate) fn number(row: u64, signed: bool) -> u64 {
     if signed { pattern::zigzag_of(row) } else { row }
 }
@@ -55,7 +54,7 @@ pub(crate) fn varint(number: u64) -> u64 {
     (needs(number) * 37 + 222) >> 8 << 3
 }
 
-// The class of the narrowest kept width with at least that many bits. Sums and no branches, since rows vary.
+// The class of the narrowest kept width that has so many bits. Sums and no branches, since rows vary.
 pub(crate) fn class(bits: u64) -> u64 {
     let above = pattern::sub(bits, 1) % 64;
     let small = pattern::add(

@@ -1,10 +1,10 @@
-// The widths that the rows of a window need. The walk tries only these, so it is fast if the rows are alike.
+// Which widths the rows of a window ask for: the walk's states are these and no others, so that its cost is small where the rows are alike.
 use crate::{bits, cells, states};
 use util::pattern;
 
-// How many widths direct runs have and, for each class, the first width that holds it, in four bits; the same for packed deltas; and the
-// classes of at most two frames (open patched runs).
-#[derive(Drop)]
+// How many widths direct runs have and, for each class, the first of them that has it, in four bits; the same of packed deltas; and
+// the classes of at most two frames, as patched runs are called while their rows come in.
+#[derive(Clone, Copy)]
 pub(crate) struct Candidates {
     pub directs: u64,
     pub direct_of: u64,
@@ -13,22 +13,22 @@ pub(crate) struct Candidates {
     pub frames: Frames,
 }
 
-#[derive(Drop)]
+#[derive(Clone, Copy)]
 pub(crate) struct Frames {
     pub count: u64,
     pub one: u64,
     pub two: u64,
 }
 
-// The chosen widths: how many, and the first for each class.
-#[derive(Drop)]
+// Widths that are chosen: how many, and the first for each class.
+#[derive(Clone, Copy)]
 struct Chosen {
     count: u64,
     first: u64,
 }
 
-// The last row and step, and how many steps differed from the one before.
-#[derive(Drop)]
+// The row and the step before, and how many steps differed so far.
+#[derive(Clone, Copy)]
 struct Seen {
     row: u64,
     step: u64,
@@ -36,7 +36,7 @@ struct Seen {
 }
 
 impl Chosen {
-    // One class more: the next chosen width holds it, its own if it is taken.
+    // One class more: the next width that is chosen has it, its own where it is taken.
     fn offer(self, class: u64, take: bool, widths: &mut [u64; 16]) -> Chosen {
         let first = self.first | self.count << (class % 16 * 4);
         if take {
@@ -55,7 +55,7 @@ impl Chosen {
 }
 
 impl Frames {
-    // One class more, if there are fewer than two.
+    // One class more, where there are fewer than two.
     fn with(self, class: u64) -> Frames {
         if self.count == 0 {
             Frames {
@@ -73,12 +73,12 @@ impl Frames {
     }
 }
 
-// The first of the chosen widths that holds a class.
+// The first of the chosen widths that has a class.
 pub(crate) fn first(of: u64, class: u64) -> u64 {
     of >> (class % 16 * 4) & 15
 }
 
-// The candidates of a window. The widths are bits as a state has them.
+// The candidates of a window. The widths come as a state counts them.
 pub(crate) fn of(
     rows: &[i64],
     signed: bool,
@@ -88,8 +88,8 @@ pub(crate) fn of(
     let mut numbers = cells::all(0);
     let mut steps = cells::all(0);
     let uneven = count(rows, signed, &mut numbers, &mut steps);
-    let d = choose(&numbers, rows.len() as u64, false, direct);
-    let p = choose(&steps, uneven, true, packed);
+    let d = choose_direct(&numbers, rows.len() as u64, direct);
+    let p = choose_packed(&steps, uneven, packed);
     let widest = states::bits(cells::at(direct, pattern::sub(d.count, 1)));
     Candidates {
         directs: d.count,
@@ -100,8 +100,8 @@ pub(crate) fn of(
     }
 }
 
-// Counts a row by the class of its number, and its step by the class of its size. A step that equals the one before is not counted: a
-// fixed delta takes it.
+// Counts a row by the class of its number, and its step by that of its size where it differs from the step before: equal steps are a fixed delta's,
+// and say nothing of the others.
 fn tally(
     seen: Seen,
     row: u64,
@@ -128,7 +128,7 @@ fn tally(
     }
 }
 
-// Counts all rows. Answers how many steps differ from the one before.
+// Counts all rows. Answers how many steps differ.
 fn count(rows: &[i64], signed: bool, numbers: &mut [u64; 16], steps: &mut [u64; 16]) -> u64 {
     let mut seen = Seen {
         row: cells::row(rows, 0),
@@ -143,36 +143,47 @@ fn count(rows: &[i64], signed: bool, numbers: &mut [u64; 16], steps: &mut [u64; 
     seen.uneven
 }
 
-// Whether at least one in 64 is here.
+// Whether one in 64 is here.
 fn is_common(here: u64, all: u64) -> bool {
     0 < here && all <= here << 6
 }
 
-// The widths of direct runs or of packed deltas, by how many rows or steps have each class. A class is chosen if one in 64 has it. Direct
-// runs also have the widest class, which some row needs. A step that is wider than all chosen ones ends a packed delta, and may be the
-// first of the next. Its widths begin at two bits, which take the steps of one bit too; at 64 bits a direct run is as good.
-fn choose(counts: &[u64; 16], all: u64, packed: bool, widths: &mut [u64; 16]) -> Chosen {
+// A class that one row in 64 has; and the widest, which some row needs.
+fn choose_direct(numbers: &[u64; 16], rows: u64, widths: &mut [u64; 16]) -> Chosen {
     let mut chosen = Chosen { count: 0, first: 0 };
     let mut seen = 0;
+    let mut k = 0;
+    while k < 11 {
+        let here = cells::at(numbers, k);
+        seen = pattern::add(seen, here);
+        chosen = chosen.offer(k, is_common(here, rows) || 0 < here && seen == rows, widths);
+        k += 1;
+    }
+    chosen
+}
+
+// A class that one step in 64 has, from two bits on. A step that is wider than all of these ends a run, and may be the first of the next.
+// At 64 bits a direct run is as good.
+fn choose_packed(steps: &[u64; 16], uneven: u64, widths: &mut [u64; 16]) -> Chosen {
+    let mut chosen = Chosen { count: 0, first: 0 };
+    // steps of one bit are packed in two
     let mut narrow = 0;
     let mut k = 0;
     while k < 11 {
-        let here = cells::at(counts, k);
-        seen = pattern::add(seen, here);
-        let take = if packed {
-            0 < k && k < 10 && is_common(pattern::add(here, narrow), all)
-        } else {
-            is_common(here, all) || 0 < here && seen == all
-        };
-        chosen = chosen.offer(k, take, widths);
+        let here = cells::at(steps, k);
+        chosen = chosen.offer(
+            k,
+            0 < k && k < 10 && is_common(pattern::add(here, narrow), uneven),
+            widths,
+        );
         narrow = if k == 0 { here } else { 0 };
         k += 1;
     }
     chosen
 }
 
-// The two narrowest frames that hold one step in four: between two rows of a frame of W bits no step is wider. A frame as wide as the
-// widest direct run gains nothing. At most 40 bits, and not 2, which is near 1 and 4.
+// The two narrowest frames that hold every fourth step: a frame of W bits has no wider step between two of its rows. A frame as wide as
+// the widest direct run gains nothing. Up to 40 bits, and not 2, which is near 1 and 4.
 fn choose_frames(steps: &[u64; 16], uneven: u64, widest: u64) -> Frames {
     let mut frames = Frames {
         count: 0,

@@ -1,5 +1,5 @@
-// Sixteen cells, enough for the eleven classes of widths or the numbers of a frame. An index is taken modulo 16, so it is always inside.
-// Also reads and stores of slices that allow an index past the end.
+// Sixteen cells, one for each class of widths or each number of a frame and some to spare: an index is taken modulo 16, and is never outside. And
+// places of slices, which may not be there.
 use util::pattern;
 
 pub(crate) fn all(x: u64) -> [u64; 16] {
@@ -16,13 +16,13 @@ pub(crate) fn put(cells: &mut [u64; 16], k: u64, x: u64) {
     cells[i] = x;
 }
 
-// Adds to a cell.
+// So many more in a cell.
 pub(crate) fn tally(cells: &mut [u64; 16], k: u64, more: u64) {
     let i = (k % 16) as usize;
     cells[i] = pattern::add(cells[i], more);
 }
 
-// Row i of a run, or 0 if it has none.
+// Row i of a run: 0 where it has none.
 pub(crate) fn row(rows: &[i64], i: usize) -> u64 {
     if i < rows.len() {
         pattern::to_u64(rows[i])
@@ -31,7 +31,7 @@ pub(crate) fn row(rows: &[i64], i: usize) -> u64 {
     }
 }
 
-// Stores x, or does nothing if the column has no place i.
+// What is put into a place that is not there is lost.
 pub(crate) fn lay(column: &mut [u64], i: usize, x: u64) {
     if i < column.len() {
         column[i] = x;

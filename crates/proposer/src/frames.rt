@@ -1,13 +1,13 @@
-// A patched run while its rows come in: its frame, which is the least row and the greatest of those that W bits hold above it, and what
-// the rows outside the frame cost as patches.
+// A patched run while its rows come in: its frame (the least and the greatest of the rows that W bits hold above the least) and what the rows
+// outside cost as patches.
 use crate::patched::MAX_ENTRIES;
 use crate::states::FAR;
 use crate::{bits, cells, patched};
 use util::pattern;
 
-#[derive(Drop)]
+#[derive(Clone, Copy)]
 pub(crate) struct Frame {
-    // its first row
+    // where it begins, in rows
     pub start: u64,
     low: u64,
     high: u64,
@@ -19,14 +19,14 @@ pub(crate) struct Frame {
     reach: u64,
     last: u64,
     gap: u64,
-    // how many rows in a row were outside
+    // how many rows outside came one behind the other
     pub streak: u64,
-    // bits of the path before the run and of its header, base and values; and bits of its list
+    // bits of all before the run, its header, base and values; and of its list
     bits: u64,
     list: u64,
 }
 
-// A state that any run replaces. Frames are kept in cells: if they were passed by value, their numbers would be copied at each row.
+// A state that any run replaces. Frames are kept in cells: handed on by value, their numbers would be copied at each row.
 pub(crate) fn none() -> [u64; 16] {
     let mut cells = cells::all(0);
     let mut frame = Frame::of(0, 0, FAR);
@@ -51,7 +51,7 @@ pub(crate) fn head(base: u64) -> u64 {
 }
 
 impl Frame {
-    // A run of one row. The bits are those of the path before it, its head and the row.
+    // A run of one row, behind so many bits, head and row among them.
     fn of(at: u64, row: u64, bits: u64) -> Frame {
         Frame {
             start: at,
@@ -68,12 +68,12 @@ impl Frame {
         }
     }
 
-    // The same, if `before` is the bits of the path and the head.
+    // The same behind so many bits, the head among them.
     pub(crate) fn open(width: u64, at: u64, row: u64, before: u64) -> Frame {
         Frame::of(at, row, pattern::add(before, width))
     }
 
-    // The frame in the cells.
+    // What cells hold.
     pub(crate) fn load(cells: &[u64; 16]) -> Frame {
         Frame {
             start: cells[0],
@@ -104,7 +104,7 @@ impl Frame {
         cells[10] = self.list;
     }
 
-    // The bits of the path up to here, if the run ends here.
+    // The bits up to here, if the run ends.
     pub(crate) fn cost(self) -> u64 {
         pattern::add(bits::whole_bytes(self.bits), self.list)
     }
@@ -121,7 +121,7 @@ impl Frame {
         self.raised(row)
     }
 
-    // A row outside the frame: the frame is lowered to it, or it becomes a patch.
+    // A row outside: the frame is lowered to it, or it becomes a patch.
     fn outside(self, width: u64, at: u64, row: u64) -> Frame {
         if !bits::is_below(row, self.low) {
             return self.patched(width, at, row);
@@ -132,7 +132,7 @@ impl Frame {
         if at != pattern::add(self.start, 1) {
             return self.patched(width, at, row);
         }
-        // the first row was the one outside
+        // the first row was the one that sticks out
         let mut frame = self.lowered(row);
         frame.high = row;
         frame.highs = 1;
@@ -153,7 +153,7 @@ impl Frame {
         };
         self.high = row;
         if self.entries == 0 {
-            // a list must not be empty: the greatest rows are patched, with a base 2^W below them
+            // a list must not be empty: the greatest rows are patched, over a base 2^W below them
             self.list = if MAX_ENTRIES < self.highs {
                 FAR
             } else {

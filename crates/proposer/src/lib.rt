@@ -1,12 +1,14 @@
-// Proposes where a column is cut into runs, and each run's form, width and base (FORMAT.md, "Planner"): a shortest path, found by dynamic
-// programming over a window of rows. It is proved safe and ending and no more: `planner` checks every proposal, and lays the direct runs
-// of 64 bits if one is not accepted.
+// Proposes where a column is cut into runs, and each run's form, width and base (FORMAT.md, "Planner"): a shortest path, found by dynamic programming
+// over a window of rows. It is proved safe and ending and no more: `planner` checks every proposal, and has the direct runs of 64 bits if one is not
+// accepted.
 //
-// The nodes of the graph are the places between rows, an edge is a run from its first row to the place after its last, and its length is
-// the run's bits. For each window of at most 512 rows: `candidates` finds the widths that its rows and steps need, and only runs of these
-// widths are tried; `walk` goes over the rows once, with an open run for each of these widths and each form (`frames` has the patched
-// ones), and keeps the cheapest path to each row; `path` is then turned round, and its runs are proposed, all of them or all but the last.
-ghost use Rattle.std.specs.Prelude.{◌≡◌, ◌≤◌, ◌<◌, length};
+// A node of the graph is a row, an edge is a run that begins there, and its length is the run's bits. For each window of at most 512 rows: `candidates`
+// finds which widths its rows and steps ask for, and no other edges are looked at; `walk` goes over the rows once, with an open run for each of these
+// widths and each form (`frames` are those of patched runs); the `path` of least bits is turned round, and its runs are proposed, all of them or all but
+// the last.
+#![tactic(auto)]
+
+ghost use Rattle.std.specs.Prelude.{◌≤◌, ◌<◌, length};
 ghost use Rattle.proposer.specs.Proposed.{Proposed};
 
 use util::{number, pattern};
@@ -24,40 +26,19 @@ mod walk;
 use path::{PLACES, WINDOW};
 use runs::Run;
 
-// A window's last run is left to the next window if it begins this late. The end of the window then doesn't cut it, and a row is walked
-// over at most 4/3 times.
+// A window's last run is left to the next window where it begins this late: a run is then not cut where the window ends, and a row is
+// walked over at most 4/3 times.
 const LATE: u64 = WINDOW / 4 * 3;
 
-// Rows whose cheapest path is known: from `start` to before `end`. The runs proposed from it end at `stop`, or later with a fixed delta
-// that goes on.
-#[derive(Drop)]
-struct Window {
-    start: usize,
-    end: usize,
-    stop: usize,
+// The runs laid so far: where the next begins, how many, and their bytes. Those that the columns have no place for are counted and lost.
+#[derive(Clone, Copy)]
+struct LaidRuns {
+    at: usize,
+    count: usize,
+    bytes: u64,
 }
 
-impl Window {
-    // No rows, before the first.
-    fn none() -> Window
-        ensures { (result.start ≡ 0) × (result.end ≡ 0) }
-    {
-        Window {
-            start: 0,
-            end: 0,
-            stop: 0,
-        }
-    }
-}
-
-// A run, and the row after its last.
-#[derive(Drop)]
-struct Placed {
-    run: Run,
-    end: usize,
-}
-
-// That many rows further, at least one, and not past the end.
+// So many rows further, at least one, up to the end.
 fn further(at: usize, rows: u64, end: usize) -> usize
     requires { at < end }
     ensures { (at < result) × (result ≤ end) }
@@ -76,8 +57,7 @@ fn is_step(rows: &[i64], i: usize, step: u64) -> bool {
     0 < i && pattern::sub(cells::row(rows, i), cells::row(rows, i - 1)) == step
 }
 
-// Extends a fixed-delta run past its first `count` rows for as long as the step stays the same, past the window's end too; the extra rows
-// cost no bytes.
+// How many rows the first so many, in equal steps, go on with: a fixed delta takes them at no cost, behind the window too.
 fn stretch(rows: &[i64], count: u64) -> u64 {
     let step = pattern::sub(cells::row(rows, 1), cells::row(rows, 0));
     let end = number::least(rows.len(), WINDOW as usize);
@@ -88,7 +68,7 @@ fn stretch(rows: &[i64], count: u64) -> u64 {
     i as u64
 }
 
-// The row after the run that begins `from` rows into a window.
+// The end of the run that begins `from` rows into a window.
 fn run_end(rows: &[i64], at: usize, run: u64, from: u64, window: u64) -> usize
     requires { at < length rows.now }
     ensures { (at < result) × (result ≤ length rows.now) }
@@ -100,7 +80,7 @@ fn run_end(rows: &[i64], at: usize, run: u64, from: u64, window: u64) -> usize
     further(at, count, rows.len())
 }
 
-// Where a window's proposed runs end: with the window, or before its last run if that begins late and more rows follow.
+// Where the runs of a window end that are proposed now: with the window, or before its last run where that begins late and more rows follow.
 fn stop_of(at: usize, last: u64, end: usize, rows: usize) -> usize
     requires { at < end }
     ensures { (at < result) × (result ≤ end) }
@@ -111,41 +91,122 @@ fn stop_of(at: usize, last: u64, end: usize, rows: usize) -> usize
     end
 }
 
-// The window for the run that begins at this row: the same window, or the next one, whose cheapest path is found first.
-fn window_at(
+// Puts a run into place k of the columns.
+fn put(
+    run: Run,
+    k: usize,
+    at: usize,
+    rows: usize,
+    first: &mut [u64],
+    counts: &mut [u64],
+    forms: &mut [u64],
+    widths: &mut [u64],
+    bases: &mut [u64],
+) {
+    cells::lay(first, k, at as u64);
+    cells::lay(counts, k, rows as u64);
+    cells::lay(forms, k, run.form);
+    cells::lay(widths, k, run.width);
+    cells::lay(bases, k, run.base);
+}
+
+// The runs of a path through the rows up to `end`: those up to `stop` or, with a fixed delta that goes on, a little further.
+fn lay_runs(
     rows: &[i64],
     signed: bool,
-    at: usize,
-    window: Window,
-    path: &mut [u64; PLACES],
-) -> Window
-    requires { (at < length rows.now) × (window.start ≤ at) × (window.start ≤ window.end) }
-    ensures { (result.start ≤ at) × (result.start ≤ result.end) }
+    end: usize,
+    stop: usize,
+    path: &[u64; PLACES],
+    laid: LaidRuns,
+    first: &mut [u64],
+    counts: &mut [u64],
+    forms: &mut [u64],
+    widths: &mut [u64],
+    bases: &mut [u64],
+) -> LaidRuns
+    requires { (laid.count ≤ laid.at) × (laid.at < stop) × (stop ≤ end) × (end ≤ length rows.now) }
+    ensures { (laid.at < result.at) × (result.at ≤ length rows.now) × (result.count ≤ result.at) }
 {
-    if at < window.stop {
-        return window;
+    let start = laid.at;
+    let mut at = start;
+    let mut count = laid.count;
+    let mut bytes = laid.bytes;
+    while at < stop {
+        let from = (at - start) as u64;
+        let state = path::at(path, from);
+        let next = run_end(rows, at, state, from, (end - start) as u64);
+        let run = runs::of(&rows[at..next], signed, states::form(state));
+        put(
+            run,
+            count,
+            at,
+            next - at,
+            first,
+            counts,
+            forms,
+            widths,
+            bases,
+        );
+        bytes = pattern::add(bytes, run.bytes);
+        count += 1;
+        at = next;
     }
+    LaidRuns { at, count, bytes }
+}
+
+// The runs of one window more.
+fn lay_window(
+    rows: &[i64],
+    signed: bool,
+    path: &mut [u64; PLACES],
+    laid: LaidRuns,
+    first: &mut [u64],
+    counts: &mut [u64],
+    forms: &mut [u64],
+    widths: &mut [u64],
+    bases: &mut [u64],
+) -> LaidRuns
+    requires { (laid.count ≤ laid.at) × (laid.at < length rows.now) }
+    ensures { (laid.at < result.at) × (result.at ≤ length rows.now) × (result.count ≤ result.at) }
+{
+    let at = laid.at;
     let end = further(at, WINDOW, rows.len());
     walk::walk(&rows[at..end], signed, path);
     let last = path::turn(path, (end - at) as u64);
     let stop = stop_of(at, last, end, rows.len());
-    Window {
-        start: at,
-        end,
-        stop,
-    }
+    lay_runs(
+        rows, signed, end, stop, path, laid, first, counts, forms, widths, bases,
+    )
 }
 
-// The run that begins at this row, on the path of its window.
-fn run_at(rows: &[i64], signed: bool, at: usize, window: Window, path: &[u64; PLACES]) -> Placed
-    requires { (at < length rows.now) × (window.start ≤ at) × (window.start ≤ window.end) }
-    ensures { (at < result.end) × (result.end ≤ length rows.now) }
-{
-    let from = (at - window.start) as u64;
-    let state = path::at(path, from);
-    let end = run_end(rows, at, state, from, (window.end - window.start) as u64);
-    let run = runs::of(&rows[at..end], signed, states::form(state));
-    Placed { run, end }
+// The direct runs of 64 bits.
+fn lay_widest(
+    rows: usize,
+    first: &mut [u64],
+    counts: &mut [u64],
+    forms: &mut [u64],
+    widths: &mut [u64],
+    bases: &mut [u64],
+) -> usize {
+    let mut at: usize = 0;
+    let mut k: usize = 0;
+    while at < rows {
+        let end = further(at, WINDOW, rows);
+        put(
+            runs::widest(),
+            k,
+            at,
+            end - at,
+            first,
+            counts,
+            forms,
+            widths,
+            bases,
+        );
+        at = end;
+        k += 1;
+    }
+    k
 }
 
 // The bytes of the direct runs of 64 bits.
@@ -153,9 +214,49 @@ fn widest_bytes(rows: u64) -> u64 {
     pattern::add(rows << 3, pattern::add(rows, WINDOW - 1) / WINDOW << 1)
 }
 
-// Proposes runs for a column, in the first places of the five: first row, rows, form (0 short repeat, 1 direct, 2 fixed delta, 3 packed
-// delta, 4 patched), width (bytes, code, code, code, bits) and base. Answers how many, or 0 if a column has too few places, or if the
-// direct runs of 64 bits have fewer bytes. Runs that a column has no place for are counted and lost.
+// The runs of all windows.
+fn lay_all(
+    rows: &[i64],
+    signed: bool,
+    first: &mut [u64],
+    counts: &mut [u64],
+    forms: &mut [u64],
+    widths: &mut [u64],
+    bases: &mut [u64],
+) -> LaidRuns {
+    let mut path = path::start();
+    let mut laid = LaidRuns {
+        at: 0,
+        count: 0,
+        bytes: 0,
+    };
+    while laid.at < rows.len() {
+        laid = lay_window(
+            rows, signed, &mut path, laid, first, counts, forms, widths, bases,
+        );
+    }
+    laid
+}
+
+// The cheapest runs, which are never above the direct runs of 64 bits. Answers how many.
+fn lay(
+    rows: &[i64],
+    signed: bool,
+    first: &mut [u64],
+    counts: &mut [u64],
+    forms: &mut [u64],
+    widths: &mut [u64],
+    bases: &mut [u64],
+) -> usize {
+    let laid = lay_all(rows, signed, first, counts, forms, widths, bases);
+    if widest_bytes(rows.len() as u64) < laid.bytes {
+        return lay_widest(rows.len(), first, counts, forms, widths, bases);
+    }
+    laid.count
+}
+
+// Proposes runs for a column, in the first places of the five: first row, rows, form (0 short repeat, 1 direct, 2 fixed delta, 3 packed delta, 4
+// patched), width (bytes, code, code, code, bits) and base. Answers how many, or 0 where a column has too few places.
 pub fn propose(
     rows: &[i64],
     signed: bool,
@@ -165,31 +266,15 @@ pub fn propose(
     widths: &mut [u64],
     bases: &mut [u64],
 ) -> usize
-    ensures { Proposed first.old counts.old forms.old widths.old
-        bases.old result }
+    ensures { Proposed first.old counts.old forms.old widths.old bases.old result }
 {
-    let mut path = path::start();
-    let mut window = Window::none();
-    let mut at: usize = 0;
-    let mut count: usize = 0;
-    let mut bytes: u64 = 0;
-    while at < rows.len() {
-        let k = count;
-        count += 1;
-        window = window_at(rows, signed, at, window, &mut path);
-        let next = run_at(rows, signed, at, window, &path);
-        cells::lay(first, k, at as u64);
-        cells::lay(counts, k, (next.end - at) as u64);
-        cells::lay(forms, k, next.run.form);
-        cells::lay(widths, k, next.run.width);
-        cells::lay(bases, k, next.run.base);
-        bytes = pattern::add(bytes, next.run.bytes);
-        at = next.end;
-    }
-    if widest_bytes(rows.len() as u64) < bytes {
-        return 0;
-    }
-    let most = number::least(number::least(first.len(), counts.len()), forms.len());
-    let room = number::least(number::least(most, widths.len()), bases.len());
+    let room = number::least(
+        first.len(),
+        number::least(
+            counts.len(),
+            number::least(forms.len(), number::least(widths.len(), bases.len())),
+        ),
+    );
+    let count = lay(rows, signed, first, counts, forms, widths, bases);
     if count <= room { count } else { 0 }
 }

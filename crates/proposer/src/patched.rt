@@ -1,16 +1,16 @@
-// The size of the run that the patched writer makes of rows, a base and a width, without writing it.
+// What the patched writer makes of rows, a base and a width, without writing it.
 use crate::{bits, cells};
 use format::Kind;
 use util::pattern;
 
-// More bytes than any run has: the writer does not accept the run, or some readers can't read it.
+// More bytes than any run has: the writer does not accept the run, or some readers do not read it.
 pub(crate) const NONE: u64 = u64::MAX;
 
 // The most entries of a list.
 pub(crate) const MAX_ENTRIES: u64 = Kind::MAX_PATCHES as u64;
 
-// The list so far: its entries with the skips, the row of the last, the largest gap, and the bits of all patches.
-#[derive(Drop)]
+// What is patched so far: entries of the list, skips among them, the row of the last, the largest gap and the patches' bits.
+#[derive(Clone, Copy)]
 struct List {
     entries: u64,
     last: u64,
@@ -33,7 +33,7 @@ impl List {
     }
 }
 
-// The entries for a patch at that distance from the one before: a gap above 255 takes skips first.
+// The entries that a patch takes so far behind the one before: a gap of more than 255 rows is skips first.
 pub(crate) fn entries(distance: u64) -> u64 {
     if distance == 0 {
         1
@@ -42,7 +42,7 @@ pub(crate) fn entries(distance: u64) -> u64 {
     }
 }
 
-// The least width of the table with that many bits.
+// The width of the table that has so many bits.
 pub(crate) fn table(bits: u64) -> u64 {
     if bits < 25 {
         bits
@@ -58,17 +58,17 @@ pub(crate) fn entry(patch: u64, gap: u64) -> u64 {
     table(pattern::add(patch, bits::needs(gap)))
 }
 
-// The bytes of a base, which has a sign bit beside its magnitude: 9 for -2^63, which no run can have.
+// Bytes of a base, which has a sign bit beside its magnitude: 9 for -2^63, which no run has.
 pub(crate) fn base_bytes(base: u64) -> u64 {
     bits::needs(bits::magnitude(base)) / 8 + 1
 }
 
-// Whether every reader knows the patch width: at most 56 bits, and some don't know 26, 28 and 30.
+// Whether every reader has the patch width: 56 bits at most, and some do not know 26, 28 and 30.
 pub(crate) fn is_read_everywhere(patch: u64) -> bool {
     patch <= 56 && !(25 <= patch && patch <= 30)
 }
 
-// The list for a base.
+// The list over a base.
 fn list_over(rows: &[i64], base: u64, width: u64) -> List {
     let mut list = List {
         entries: 0,
@@ -85,7 +85,7 @@ fn list_over(rows: &[i64], base: u64, width: u64) -> List {
     list
 }
 
-// The bytes of the run, if the writer accepts it and every reader can read it: some can't read an empty list.
+// The bytes of the run, where the writer accepts it and every reader reads it: the list is not empty.
 pub(crate) fn bytes(rows: &[i64], base: u64, width: u64) -> u64 {
     let l = list_over(rows, base, width);
     let patch = table(bits::needs(l.patches));

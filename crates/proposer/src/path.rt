@@ -1,4 +1,4 @@
-// For each row of a window, the cheapest path up to it: its last run as a state, its bits those of whole bytes.
+// For each row of a window, the cheapest path up to it: its last run as a state, in whole bytes.
 ghost use Rattle.std.specs.Prelude.{◌<◌};
 
 use crate::{bits, states};
@@ -8,7 +8,7 @@ use util::pattern;
 // Rows of a window: the most that a run has.
 pub(crate) const WINDOW: u64 = Kind::MAX_ROWS as u64;
 
-// A place for each row of a window, and one after the last.
+// A place for each row of a window, and one behind the last.
 pub(crate) const PLACES: usize = Kind::MAX_ROWS + 1;
 
 pub(crate) fn start() -> [u64; PLACES] {
@@ -36,7 +36,7 @@ pub(crate) fn bits_to(path: &[u64; PLACES], row: u64) -> u64 {
     states::bits(at(path, row))
 }
 
-// The path up to a row ends with this run, rounded up to whole bytes.
+// The path up to a row ends with this run, whose bytes are whole.
 pub(crate) fn end(path: &mut [u64; PLACES], row: u64, run: u64) {
     put(
         path,
@@ -45,7 +45,7 @@ pub(crate) fn end(path: &mut [u64; PLACES], row: u64, run: u64) {
     );
 }
 
-// Where a run begins: before its end, whatever the state says.
+// Where a run begins that has an end: before it, whatever the state says.
 fn begin(state: u64, end: u64) -> u64
     requires { 0 < end }
     ensures { result < end }
@@ -54,7 +54,7 @@ fn begin(state: u64, end: u64) -> u64
     if from < end { from } else { end - 1 }
 }
 
-// Turns the path round: after it each run stands at its first row, with its end in place of its beginning. Answers where the last begins.
+// Turns the path round: from now on each run stands where it begins, its end for the beginning. Answers where the last begins.
 pub(crate) fn turn(path: &mut [u64; PLACES], rows: u64) -> u64 {
     let mut end = rows;
     let mut run = at(path, rows);
@@ -65,6 +65,6 @@ pub(crate) fn turn(path: &mut [u64; PLACES], rows: u64) -> u64 {
         put(path, from, states::state(0, end, form));
         end = from;
     }
-    // only the place of the last run's end was not overwritten
+    // the last run's end is the one place that was not written over
     states::from(at(path, rows))
 }

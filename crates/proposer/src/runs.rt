@@ -4,7 +4,7 @@ use crate::states::{DIRECT, FIXED, PACKED, PATCHED, SHORT};
 use crate::{bits, cells, frames, patched};
 use util::pattern;
 
-#[derive(Drop)]
+#[derive(Clone, Copy)]
 pub(crate) struct Run {
     pub form: u64,
     pub width: u64,
@@ -12,12 +12,22 @@ pub(crate) struct Run {
     pub bytes: u64,
 }
 
-// The bytes of a head and of packed values after it.
+// Direct at 64 bits, which every row has; its bytes are not asked for.
+pub(crate) fn widest() -> Run {
+    Run {
+        form: DIRECT,
+        width: 31,
+        base: 0,
+        bytes: 0,
+    }
+}
+
+// Packed values behind a head of so many bytes.
 fn bytes(head: u64, count: u64, width: u64) -> u64 {
     pattern::add(head, bits::whole_bytes(bits::times(count, width)) >> 3)
 }
 
-// The run of these rows in the form of a state.
+// The run whose form and first row a state has.
 pub(crate) fn of(rows: &[i64], signed: bool, form: u64) -> Run {
     match form {
         SHORT => short(rows, signed),
@@ -67,8 +77,8 @@ fn packed(rows: &[i64], signed: bool) -> Run {
     }
 }
 
-// The patched run with its frame's base; or direct, if the patched writer does not accept it or direct is no longer. The frame's own count
-// of bits can't be used: it was made with the bases that the frame had on the way.
+// The patched run over the base that its frame has; direct where its writer does not accept it, or direct is no longer: the frame's own
+// figures are those of the bases that it had on its way.
 fn patched(rows: &[i64], signed: bool, width: u64) -> Run {
     let base = base(rows, width);
     let bytes = patched::bytes(rows, base, width);
@@ -84,7 +94,7 @@ fn patched(rows: &[i64], signed: bool, width: u64) -> Run {
     direct
 }
 
-// The bytes of a delta run's header, first row and first step.
+// Header, first row and first step of a delta run.
 fn delta_head(rows: &[i64], signed: bool) -> u64 {
     let first = cells::row(rows, 0);
     let step = pattern::sub(cells::row(rows, 1), first);
@@ -95,7 +105,7 @@ fn delta_head(rows: &[i64], signed: bool) -> u64 {
     pattern::add(2, bits >> 3)
 }
 
-// All numbers, joined by "or".
+// The bits of all numbers, one over the other.
 fn numbers(rows: &[i64], signed: bool) -> u64 {
     let mut all = 0;
     let mut i: usize = 0;
@@ -115,7 +125,7 @@ fn step_to(rows: &[i64], i: usize, falls: bool) -> u64 {
     if falls { pattern::sub(0, step) } else { step }
 }
 
-// All magnitudes after the first step, joined by "or".
+// The bits of all magnitudes behind the first step, one over the other.
 fn magnitudes(rows: &[i64]) -> u64 {
     let falls = 1 == step_to(rows, 1, false) >> 63;
     let mut all = 0;
@@ -127,7 +137,7 @@ fn magnitudes(rows: &[i64]) -> u64 {
     all
 }
 
-// The base of the rows' frame.
+// The base that the rows' frame comes to.
 fn base(rows: &[i64], width: u64) -> u64 {
     let first = cells::row(rows, 0);
     let mut frame = frames::none();

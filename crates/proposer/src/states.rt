@@ -1,5 +1,5 @@
-// A state is an open run as one number: the bits of the path up to here, then where the run begins (ten bits), then its form (four bits).
-// The cheaper of two is the smaller number. Forms are those of a proposal; a patched run's is 4 plus its class.
+// A state: a run that is open, as one number, so that the cheaper of two is the lesser: the bits up to here, then where the run begins (ten
+// bits), then its form (four). Forms are those of a proposal; a patched run's is 4 and its class.
 pub(crate) const SHORT: u64 = 0;
 
 pub(crate) const DIRECT: u64 = 1;
@@ -10,7 +10,7 @@ pub(crate) const PACKED: u64 = 3;
 
 pub(crate) const PATCHED: u64 = 4;
 
-// More bits than any path through a window has, and the state of a run that can't be extended.
+// Bits that no path through a window takes, and the state that cannot go on.
 pub(crate) const FAR: u64 = 67108864;
 
 pub(crate) const CLOSED: u64 = 1099511627776;
@@ -19,7 +19,7 @@ pub(crate) fn state(bits: u64, from: u64, form: u64) -> u64 {
     bits << 14 | from << 4 | form
 }
 
-// Bits as a state has them, to be added to one.
+// So many bits more, as a state has them.
 pub(crate) fn more(bits: u64) -> u64 {
     bits << 14
 }

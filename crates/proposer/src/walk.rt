@@ -1,6 +1,5 @@
-// The dynamic programming: one walk over a window of rows finds the cheapest path to each of them. There is one open run for each form and
-// width. A row extends each open run, or opens it anew after the cheapest path to the row before; the cheapest of all is the path to the
-// row after.
+// One walk over a window of rows, which finds the cheapest path to each row: a row extends each open run, or opens it anew after the cheapest path to
+// the row before.
 use crate::candidates::{Candidates, Frames};
 use crate::frames::Frame;
 use crate::path::PLACES;
@@ -14,9 +13,9 @@ const MIN_EQUAL: u64 = Kind::MIN_REPEAT as u64 - 1;
 
 const MAX_EQUAL: u64 = Kind::MAX_REPEAT as u64 - 1;
 
-// The last step, whether the open packed deltas fall (1 or 0), whether this step turned them, the open fixed delta, and how many steps of
-// 0 came last.
-#[derive(Drop)]
+// The step before, whether the packed deltas that are open fall (1 or 0), whether this step turned them, the fixed delta, and how many
+// steps of 0 came last.
+#[derive(Clone, Copy)]
 struct Steps {
     step: u64,
     falls: u64,
@@ -25,8 +24,8 @@ struct Steps {
     equal: u64,
 }
 
-// The steps with one more, and the cheapest of the runs that end with it.
-#[derive(Drop)]
+// These with one step more, and the cheapest of the runs that end there.
+#[derive(Clone, Copy)]
 struct Stepped {
     steps: Steps,
     best: u64,
@@ -43,11 +42,10 @@ impl Steps {
         }
     }
 
-    // One step more. A run that begins with it begins at the row before. `bits` are those of the path to there, of the header, of the
-    // first row and of this step.
+    // One step more. A run that begins with it begins at the row before, behind so many bits with its header, first row and this step.
     fn take(self, step: u64, from: u64, bits: u64) -> Steps {
         let fresh = states::state(bits, from, FIXED);
-        // a step of 0 fits either direction
+        // a step of 0 goes on with either direction
         let turns = if step == 0 {
             0
         } else {
@@ -70,7 +68,7 @@ impl Steps {
         }
     }
 
-    // The packed delta that begins with this step: a step of 0 begins a rising run.
+    // The packed delta that begins with this step: one of 0 begins a run that rises.
     fn packed(self, from: u64, bits: u64) -> u64 {
         if self.step == 0 && self.falls == 1 {
             CLOSED
@@ -79,7 +77,7 @@ impl Steps {
         }
     }
 
-    // The first of the packed widths that this step fits.
+    // The first of the packed widths that goes on with this step.
     fn first(self, candidates: Candidates) -> u64 {
         if self.turns == 1 {
             candidates.packeds
@@ -92,7 +90,7 @@ impl Steps {
     }
 }
 
-// Extends the direct run of width k by this row, or opens it. Widths from `first` on hold the row.
+// The direct run of width k with this row: those from `first` on have it.
 fn direct_at(runs: &mut [u64; 16], widths: &[u64; 16], k: u64, first: u64, fresh: u64) -> u64 {
     let on = pattern::add(bits::least(cells::at(runs, k), fresh), cells::at(widths, k));
     let run = if k < first { CLOSED } else { on };
@@ -100,7 +98,7 @@ fn direct_at(runs: &mut [u64; 16], widths: &[u64; 16], k: u64, first: u64, fresh
     run
 }
 
-// Extends the packed delta of width k by this step, or begins one with it. Widths from `first` on hold the step.
+// The packed delta of width k with this step: those from `first` on have it, and each may begin with it.
 fn packed_at(runs: &mut [u64; 16], widths: &[u64; 16], k: u64, first: u64, fresh: u64) -> u64 {
     let on = pattern::add(cells::at(runs, k), cells::at(widths, k));
     let run = bits::least(if k < first { CLOSED } else { on }, fresh);
@@ -130,7 +128,7 @@ fn go_packed(runs: &mut [u64; 16], widths: &[u64; 16], count: u64, first: u64, f
     best
 }
 
-// A short repeat of the last equal rows, as many as it can hold.
+// A short repeat of the last rows, which are equal: as many as it takes.
 fn go_short(path: &[u64; PLACES], at: u64, equal: u64, bits: u64) -> u64 {
     if equal < MIN_EQUAL {
         return CLOSED;
@@ -140,8 +138,8 @@ fn go_short(path: &[u64; PLACES], at: u64, equal: u64, bits: u64) -> u64 {
     states::state(pattern::add(path::bits_to(path, from), run), from, SHORT)
 }
 
-// Extends the patched run of this class, or opens a new one if that is cheaper, or if five rows in a row were outside the frame and
-// another form is cheaper. `before` has the bits of the path and the head. Answers the cheaper of this run and the best of the others.
+// A patched run of this class: on with it, or a new one where that is cheaper, and where five rows in a row have left the frame for another
+// form. `before` has the head in it. Answers the cheaper of it and the best of the other runs.
 fn go_patched(frame: &mut [u64; 16], class: u64, at: u64, row: u64, before: u64, best: u64) -> u64 {
     let width = bits::width(class);
     let form = pattern::add(PATCHED, class);
@@ -156,7 +154,7 @@ fn go_patched(frame: &mut [u64; 16], class: u64, at: u64, row: u64, before: u64,
     bits::least(best, states::state(cost, on.start, form))
 }
 
-// The same for both patched runs.
+// The patched runs, each with the best of those before it.
 fn go_frames(
     one: &mut [u64; 16],
     two: &mut [u64; 16],
@@ -177,7 +175,7 @@ fn go_frames(
     go_patched(two, frames.two, at, row, opened, first)
 }
 
-// The delta runs. From the second row on there is a step; a run that begins with it begins at the row before.
+// The runs of equal and of packed steps. From the second row on there is a step; a run that begins with it begins at the row before.
 fn go_steps(
     steps: Steps,
     rows: &[i64],
@@ -216,7 +214,7 @@ fn go_steps(
     }
 }
 
-// Row i of the window: extends every open run, and puts the cheapest into the path.
+// Row i of the window: every open run with it, and the cheapest in the path.
 fn go(
     steps: Steps,
     rows: &[i64],
@@ -255,7 +253,7 @@ fn go(
     stepped.steps
 }
 
-// All rows, one after the other.
+// Row after row, with the widths of the candidates.
 fn along(
     rows: &[i64],
     signed: bool,
@@ -289,7 +287,7 @@ fn along(
     }
 }
 
-// Finds the cheapest path to each row of a window.
+// Walks over the rows of a window.
 pub(crate) fn walk(rows: &[i64], signed: bool, path: &mut [u64; PLACES]) {
     let mut direct_widths = cells::all(0);
     let mut packed_widths = cells::all(0);

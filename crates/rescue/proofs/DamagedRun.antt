@@ -1,15 +1,23 @@
 -- A true group's own bytes end where the stream's first rows up to its last end; so they are before the damaged run if its rows are, or
 -- after it if they begin there, and the same in both inputs. Assumes nothing.
-use Rattle.format.proofs.Common.{◌≡◌, refl, sym, ap, ◌∙◌, subst, ◌⊎◌, inl, inr, ℕ, suc, ◌+◌, ◌-◌, ◌<◌, ◌≤◌, arith, dec_lt, true, List, []}
-use Rattle.format.proofs.Common.{◌∷◌, ◌++◌, length, take, drop, take-take, drop-drop, pos}
-use Rattle.format.specs.Digits.{AllBelow, sum}
+use mathlib.Core.Path.{◌≡◌, refl, sym, ap, ◌∙◌, subst}
+use mathlib.Core.Logic.{◌⊎◌, inl, inr}
+use Prim.Native.Nat.{ℕ, suc, ◌+◌, ◌-◌, ◌<◌, ◌≤◌}
+use native.Mathlib.Omega.{arith}
+use native.Mathlib.Decide.{dec_lt}
+use mathlib.Core.Bool.{true}
+use mathlib.Core.List.{List, [], ◌∷◌, ◌++◌}
+use lib.ListN.{length, take, drop}
+use lib.Seq.{take-take, drop-drop}
+use lib.IntN.{pos}
+use Rattle.format.specs.Digits.{AllBelow}
 use Rattle.format.specs.Runs.{Description, row_count, layout, joined}
 use Rattle.format.specs.Streams.{whole, stream, runs_of, total_rows}
 use Rattle.index.proofs.Entries.{total-cons}
 use Rattle.batches.specs.Batches.{Position, position_of}
 use Rattle.batches.proofs.RowPositions.{past_first}
 use Rattle.batches.proofs.NextPosition.{joined-long, no_bytes, no-total}
-use Rattle.rescue.specs.Rescue.{position, at, made_plain, Group, group, paired, after_rows}
+use Rattle.rescue.specs.Rescue.{position, at, made_plain, Group, group, paired, after_rows, sum}
 use Rattle.rescue.specs.RescueTheorems.{counts, TrueFrom, cut_from, span, own_bytes, SameBytes, RunDamaged, DamagedRun, DamagedCut}
 use Rattle.rescue.proofs.ListParts.{part_same}
 use Rattle.rescue.proofs.WholeStreams.{within, row-at, true-end}
@@ -52,7 +60,7 @@ past-front (d ∷ ds) es b k l =
 module _ (ds : List Description) where
   cut-split : (k n : ℕ) (ns ms : List ℕ)
       → cut ds k (ns ++ (n ∷ ms)) ≡ cut ds k ns ++ (group (position_of 0 (k + sum ns) ds) n ∷ cut ds (k + sum ns + n) ms)
-  unfolding cut_from paired
+  unfolding cut_from paired sum
   cut-split k n [] ms = let z : k ≡ k + 0 = omega arith in ap (λ (j : ℕ). group (position_of 0 j ds) n ∷ cut ds (j + n) ms) z
   cut-split k n (m ∷ ns) ms =
       let z : k + m + sum ns ≡ k + (m + sum ns) = omega arith in
@@ -80,6 +88,7 @@ module _ (bs cs : List ℕ) (ds es : List Description) (d : Description) (h : Al
   true-at : (k : ℕ) (before later : List Group) (g : Group) → TrueFrom bs all k (before ++ (g ∷ later))
       → (made_plain bs g.from ≡ at (position_of 0 (k + sum (counts before)) all))
       × TrueFrom bs all (k + sum (counts before) + g.count) later
+  unfolding sum
   true-at k [] later g t = let z : k ≡ k + 0 = omega arith in
       subst (λ (j : ℕ). (made_plain bs g.from ≡ at (position_of 0 j all)) × TrueFrom bs all (j + g.count) later) z t
   true-at k (f ∷ before) later g (a, t) =

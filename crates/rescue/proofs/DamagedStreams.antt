@@ -1,13 +1,20 @@
 -- A kept group's own bytes reach as far as its next position passes, so with these the same both are made plain to the same: it is kept,
 -- whatever all other bytes are. Assumes nothing.
-use Rattle.format.proofs.Common.{◌≡◌, refl, sym, ap, ◌∙◌, ℕ, zero, suc, ◌+◌, ◌-◌, ◌<◌, ◌≤◌, arith, Bool, true, false, List, [], ◌∷◌, ◌++◌}
-use Rattle.format.proofs.Common.{length, take, drop, get_or, replicate, length-append, drop-drop, T, eqb, leb→le, ℤ}
-use Rattle.format.specs.Digits.{AllBelow, sum}
+use mathlib.Core.Path.{◌≡◌, refl, sym, ap, ◌∙◌}
+use Prim.Native.Nat.{ℕ, zero, suc, ◌+◌, ◌-◌, ◌<◌, ◌≤◌}
+use native.Mathlib.Omega.{arith}
+use mathlib.Core.Bool.{Bool, true, false}
+use mathlib.Core.List.{List, [], ◌∷◌, ◌++◌}
+use lib.ListN.{length, take, drop, get_or, replicate, length-append}
+use lib.Seq.{drop-drop}
+use lib.Dec.{T, eqb, leb→le}
+use lib.IntN.{ℤ}
+use Rattle.format.specs.Digits.{AllBelow}
 use Rattle.format.specs.Streams.{runs_of, joined_rows}
 use Rattle.format.proofs.Tests.{T_true, and-e}
 use Rattle.batches.specs.Batches.{Position, reading_at}
 use Rattle.rescue.specs.Rescue.{at, Group, beginning, not_after, rising, in_order, after_rows, end_of, kept, verdict}
-use Rattle.rescue.specs.Rescue.{group_rows}
+use Rattle.rescue.specs.Rescue.{group_rows, sum}
 use Rattle.rescue.specs.RescueTheorems.{counts, starts, span, own_bytes, SameBytes, KeptStays, DamageStays, DamagedStream}
 use Rattle.rescue.proofs.ListParts.{part_same}
 use Rattle.rescue.proofs.RescuedGroups.{kept-met, met-kept, read-so, every-list}

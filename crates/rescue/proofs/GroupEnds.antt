@@ -1,7 +1,17 @@
 -- A group's end and rows depend on its position made plain alone, so they may be read from there; and they are what a call of batches with
 -- as many places gives. Assumes nothing.
-use Rattle.format.proofs.Common.{◌≡◌, refl, sym, ap, ◌∙◌, ℕ, ◌+◌, ◌<◌, ◌≤◌, min, arith, dec_le, min-eq_left, Bool, true, List, [], length}
-use Rattle.format.proofs.Common.{take, length-take, take-nil, T, eqb, eqb→eq, eq-eqb, ne_eqb, ℤ}
+use mathlib.Core.Path.{◌≡◌, refl, sym, ap, ◌∙◌}
+use Prim.Native.Nat.{ℕ, ◌+◌, ◌<◌, ◌≤◌, min}
+use native.Mathlib.Omega.{arith}
+use native.Mathlib.Decide.{dec_le}
+use native.Mathlib.Nat.{min-eq_left}
+use mathlib.Core.Bool.{Bool, true}
+use mathlib.Core.List.{List, []}
+use lib.ListN.{length, take, length-take}
+use lib.Seq.{take-nil}
+use lib.Dec.{T, eqb, eqb→eq}
+use borrow.Author.Tests.{eq-eqb, ne_eqb}
+use lib.IntN.{ℤ}
 use Rattle.format.specs.Digits.{AllBelow}
 use Rattle.format.specs.Fields.{pick}
 use Rattle.format.specs.Streams.{Reading, runs_of, total_rows}

@@ -1,10 +1,16 @@
 -- What the code reads from a plain position is a call of batches, whose end and rows are the group's; so the group is kept exactly if that
 -- end is the next position made plain, and filled otherwise. Assumes nothing.
-use Rattle.format.proofs.Common.{◌≡◌, refl, sym, ap, ◌∙◌, ℕ, ◌<◌, ◌≤◌, arith, Bool, true, false, List, [], ◌∷◌, ◌++◌, append-nil, length}
-use Rattle.format.proofs.Common.{take, drop, replicate, length-append, length-drop, length-take, drop_of_length-le, eqb, ℤ, eqb-true}
+use mathlib.Core.Path.{◌≡◌, refl, sym, ap, ◌∙◌}
+use Prim.Native.Nat.{ℕ, ◌<◌, ◌≤◌}
+use native.Mathlib.Omega.{arith}
+use mathlib.Core.Bool.{Bool, true, false}
+use mathlib.Core.List.{List, [], ◌∷◌, ◌++◌, append-nil}
+use lib.ListN.{length, take, drop, replicate, length-append, length-drop, length-take, drop_of_length-le}
+use lib.Dec.{eqb}
+use lib.IntN.{ℤ}
+use borrow.Author.Tests.{eqb-true}
 use Rattle.format.specs.Digits.{AllBelow}
 use Rattle.format.specs.Fields.{pick}
-use Rattle.format.proofs.Tests.{never}
 use Rattle.batches.specs.Batches.{Position, BatchOutcome, gives, ended, refuses, rows_left, reading_at, batch}
 use Rattle.batches.specs.BatchPromise.{position_in, batch_answer, places_after, RowsRead}
 use Rattle.batches.specs.declared.RowPosition.{RowPosition}
@@ -24,10 +30,10 @@ none (x ∷ l) e = absurd (omega arith)
 
 plain_at : (a : PlainPosition) (p : RowPosition) → plain.At p ≡ plain_in a → a ≡ at (position_in p)
 plain_at (at q) p e = let f : p ≡ row_position q.run q.skip = cc in rw f
-plain_at nowhere p e = never (cc)
+plain_at nowhere p e = let z : ◌≡◌ {A = ℕ} 0 1 = cc in absurd (omega arith)
 
 plain-nowhere : (a : PlainPosition) → plain.Nowhere ≡ plain_in a → a ≡ nowhere
-plain-nowhere (at q) e = never (cc)
+plain-nowhere (at q) e = let z : ◌≡◌ {A = ℕ} 0 1 = cc in absurd (omega arith)
 plain-nowhere nowhere e = refl
 
 meets-nowhere : (a : PlainPosition) → meets a nowhere ≡ false
@@ -95,9 +101,9 @@ module _ (s : List ℕ) (from to : RowPosition) (signed : Bool) (out : List ℤ)
       full true x k =
           let l : length g.rows ≡ n = eqb-true (length g.rows) n x in
           rw (drop_of_length-le out {i = length g.rows} (omega arith)) (append-nil g.rows)
-      full false x k = never (cc)
-  all ended b k = never (cc)
-  all (refuses f) b k = never (cc)
+      full false x k = let z : ◌≡◌ {A = ℕ} 0 1 = cc in absurd (omega arith)
+  all ended b k = let z : ◌≡◌ {A = ℕ} 0 1 = cc in absurd (omega arith)
+  all (refuses f) b k = let z : ◌≡◌ {A = ℕ} 0 1 = cc in absurd (omega arith)
 
   -- into some, by what the call answers
   pub read_some : {out' : List ℤ} {a : Batch} → 0 < n → RowsRead s from signed out out' a → (b : Batch) → a ≡ b → (r : Bool)
@@ -123,7 +129,7 @@ module _ (s : List ℕ) (from to : Plain) (signed : Bool) (out : List ℤ) where
     keeps = λ p next a b.
         ap (λ (x : PlainPosition). meets x (made_plain s next))
         (sym (end-nowhere s p (length out) (plain-nowhere (made_plain s p) (sym e ∙ a))));
-    rows = λ p a t. never (cc);
+    rows = λ p a t. let z : ◌≡◌ {A = ℕ} 0 1 = cc in absurd (omega arith);
   }
 
   pub to-nowhere : to ≡ plain.Nowhere → GroupRead s from to signed out out false
@@ -133,7 +139,7 @@ module _ (s : List ℕ) (from to : Plain) (signed : Bool) (out : List ℤ) where
     keeps = λ p next a b.
         let end = end_of s (group p (length out)) in
         sym (ap (meets end) (plain-nowhere (made_plain s next) (sym e ∙ b)) ∙ meets-nowhere end);
-    rows = λ p a t. never (cc);
+    rows = λ p a t. let z : ◌≡◌ {A = ℕ} 0 1 = cc in absurd (omega arith);
   }
 
   pub read_at : {p q : RowPosition} {out' : List ℤ} {r : Bool} → from ≡ plain.At p → to ≡ plain.At q

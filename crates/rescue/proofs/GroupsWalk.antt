@@ -1,14 +1,18 @@
 -- Each turn puts one group's rows and verdict after those before it, and goes on from the next position made plain; so what stands so far
 -- and what is still to come are always the whole. Assumes nothing.
-use Rattle.format.proofs.Common.{◌≡◌, refl, sym, ap, ◌∙◌, ℕ, suc, ◌+◌, ◌-◌, ◌<◌, ◌≤◌, arith, Bool, true, false, List, [], ◌∷◌, ◌++◌}
-use Rattle.format.proofs.Common.{append_assoc, append-nil, length, take, drop, set, get_or, length-set, length-drop, drop-drop}
-use Rattle.format.proofs.Common.{length-take-le, ℤ}
-use Rattle.format.specs.Digits.{sum}
+use mathlib.Core.Path.{◌≡◌, refl, sym, ap, ◌∙◌}
+use Prim.Native.Nat.{ℕ, suc, ◌+◌, ◌-◌, ◌<◌, ◌≤◌}
+use native.Mathlib.Omega.{arith}
+use mathlib.Core.Bool.{Bool, true, false}
+use mathlib.Core.List.{List, [], ◌∷◌, ◌++◌, append_assoc, append-nil}
+use lib.ListN.{length, take, drop, set, get_or, length-set, length-drop}
+use lib.Seq.{drop-drop, length-take-le}
+use lib.IntN.{ℤ}
 use Rattle.batches.specs.Batches.{Position}
 use Rattle.batches.specs.BatchPromise.{position_in}
 use Rattle.batches.specs.declared.RowPosition.{RowPosition}
 use Rattle.rescue.specs.Rescue.{made_plain, Group, group, positions, groups, beginning, kept, verdict, group_rows, rescued_rows}
-use Rattle.rescue.specs.Rescue.{verdicts}
+use Rattle.rescue.specs.Rescue.{verdicts, sum}
 use Rattle.rescue.specs.RescuePromise.{rescued_as, Written}
 use Rattle.rescue.specs.RescueSteps.{plain_in, position_at, GroupRescued, Fit, all_groups}
 use Rattle.rescue.specs.declared.Plain.{Plain}
@@ -106,6 +110,7 @@ module _ (bs : List ℕ) (signed : Bool) (rs ss ns : List ℕ) (fill-row : ℤ) 
       marks-here = ap (verdicts bs) (groups-at (length bs) rs ss ns f.skips-long f.counts-long i h) ∙ rw (begins, one)
 
       counted : sum (marks_from i) ≡ verdict (kept bs g next) + sum (marks_from (i + 1))
+      unfolding sum
       counted = ap sum marks-here
 
       -- a group is rescued in its part of the rows, and its verdict is laid
@@ -173,7 +178,7 @@ module _ (bs : List ℕ) (signed : Bool) (rs ss ns : List ℕ) (fill-row : ℤ) 
           ∙ length-take-le i marks (omega (arith, f.marks-fit, w.marks-long, w.listed))
 
       keeps-all : keeps ≡ sum (verdicts bs all)
-      unfolding verdicts
+      unfolding verdicts sum
       keeps-all =
           let e : sum (marks_from i) ≡ 0 = ap (λ (x : List Group). sum (verdicts bs x)) none in
           omega (arith, w.count)

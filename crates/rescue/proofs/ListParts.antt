@@ -1,7 +1,13 @@
 -- Laws of lists over any element: places filled with one element, and parts that the front of a list settles. Assumes nothing.
-use Rattle.format.proofs.Common.{◌≡◌, refl, sym, ap, ◌∙◌, ℕ, zero, suc, ◌+◌, ◌-◌, ◌<◌, add-one, arith, dec_lt, zero-add, List, [], ◌∷◌, ◌++◌}
-use Rattle.format.proofs.Common.{length, take, drop, set, replicate, replicate-append-replicate, take-suc-set, take_all, take-append-le}
-use Rattle.format.proofs.Common.{take-nil}
+use mathlib.Core.Path.{◌≡◌, sym, ap, ◌∙◌}
+use Prim.Native.Nat.{ℕ, zero, suc, ◌+◌, ◌-◌, ◌<◌}
+use native.Mathlib.Numerals.{add-one}
+use native.Mathlib.Omega.{arith}
+use native.Mathlib.Decide.{dec_lt}
+use native.Mathlib.Nat.{zero-add}
+use mathlib.Core.List.{List, [], ◌∷◌, ◌++◌}
+use lib.ListN.{length, take, drop, set, replicate, replicate-append-replicate}
+use lib.Seq.{take-suc-set, take_all, take-append-le, take-nil}
 use Rattle.batches.proofs.RowPositions.{take_past}
 
 -- ---- places filled with one element, one a turn

@@ -1,11 +1,18 @@
 -- Two columns side by side have at each number what both have there: so the groups from a number on begin at the position that the code
 -- finds there, and their order and sums are tested one by one. Assumes nothing.
-use Rattle.format.proofs.Common.{◌≡◌, refl, sym, ap, ◌∙◌, ℕ, zero, suc, ◌+◌, ◌-◌, ◌<◌, ◌≤◌, arith, dec_lt, ◌&&◌, List, [], ◌∷◌, length, drop}
-use Rattle.format.proofs.Common.{get_or, drop_of_length-le, List·getD-eq-default, drop-cons, leb, ltb, eqb, le-ltb, lt-ltb}
-use Rattle.format.specs.Digits.{sum}
+use mathlib.Core.Path.{◌≡◌, refl, sym, ap, ◌∙◌}
+use Prim.Native.Nat.{ℕ, zero, suc, ◌+◌, ◌-◌, ◌<◌, ◌≤◌}
+use native.Mathlib.Omega.{arith}
+use native.Mathlib.Decide.{dec_lt}
+use mathlib.Core.Bool.{◌&&◌}
+use mathlib.Core.List.{List, [], ◌∷◌}
+use lib.ListN.{length, drop, get_or, drop_of_length-le, get_or-eq_default}
+use lib.Seq.{drop-cons}
+use lib.Dec.{leb, ltb, eqb}
+use borrow.Author.Tests.{le-ltb, lt-ltb}
 use Rattle.batches.specs.Batches.{Position}
 use Rattle.batches.specs.BatchPromise.{position_in}
-use Rattle.rescue.specs.Rescue.{position, Group, group, paired, positions, groups, beginning, not_after, rising, in_order}
+use Rattle.rescue.specs.Rescue.{position, Group, group, paired, positions, groups, beginning, not_after, rising, in_order, sum}
 use Rattle.rescue.specs.RescueSteps.{position_at}
 
 -- ---- side by side
@@ -66,7 +73,7 @@ module _ (end : ℕ) (rs ss ns : List ℕ) (l : length ss ≡ length rs) (k : le
       go (yes h) = ap (beginning end) (groups-at i h)
       go (no h) =
           ap (beginning end) (groups-end i (omega arith))
-          ∙ sym (rw (List·getD-eq-default rs end {n = i} (omega arith), List·getD-eq-default ss 0 {n = i} (omega arith)))
+          ∙ sym (rw (get_or-eq_default rs end {n = i} (omega arith), get_or-eq_default ss 0 {n = i} (omega arith)))
 
 -- ---- in order
 
@@ -102,9 +109,11 @@ module _ (end : ℕ) (rs ss : List ℕ) (l : length ss ≡ length rs) where
 -- ---- sums
 
 pub sum-at : (ns : List ℕ) (i : ℕ) → i < length ns → sum (drop i ns) ≡ get_or ns i 0 + sum (drop (suc i) ns)
+unfolding sum
 sum-at ns i h = ap sum (drop-cons ns i 0 h)
 
 pub sum-end : (ns : List ℕ) (i : ℕ) → length ns ≤ i → sum (drop i ns) ≡ 0
+unfolding sum
 sum-end ns i h = ap sum (drop_of_length-le ns {i = i} h)
 
 pub fewer : (left n t : ℕ) → n ≤ left → ltb left (n + t) ≡ ltb (left - n) t

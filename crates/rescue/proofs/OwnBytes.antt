@@ -1,7 +1,14 @@
 -- Two inputs with the same bytes from a position's run to the end of the run that holds its last row have the same runs there, so the same
 -- rows and the same next position. Assumes nothing.
-use Rattle.format.proofs.Common.{◌≡◌, refl, sym, ap, ◌∙◌, subst, ℕ, ◌+◌, ◌-◌, ◌<◌, ◌≤◌, arith, dec_lt, Bool, List, [], ◌∷◌, ◌++◌, length}
-use Rattle.format.proofs.Common.{take, drop, take-append-drop, take-take, take_at, drop_at, drop-drop, ne_eqb}
+use mathlib.Core.Path.{◌≡◌, refl, sym, ap, ◌∙◌, subst}
+use Prim.Native.Nat.{ℕ, ◌+◌, ◌-◌, ◌<◌, ◌≤◌}
+use native.Mathlib.Omega.{arith}
+use native.Mathlib.Decide.{dec_lt}
+use mathlib.Core.Bool.{Bool}
+use mathlib.Core.List.{List, [], ◌∷◌, ◌++◌}
+use lib.ListN.{length, take, drop, take-append-drop}
+use lib.Seq.{take-take, take_at, drop_at, drop-drop}
+use borrow.Author.Tests.{ne_eqb}
 use Rattle.format.specs.Digits.{AllBelow}
 use Rattle.format.specs.Runs.{Description, Valid, row_count, layout}
 use Rattle.format.specs.Rows.{i64_rows}
@@ -12,15 +19,13 @@ use Rattle.format.proofs.Rows.{i64-count, row-bounds}
 use Rattle.format.proofs.Runs.{Outcome, nothing, run, refusal, outcome}
 use Rattle.index.proofs.Entries.{total-cons}
 use Rattle.format.proofs.StreamRoom.{stream-none, stream-refused, stream-cons}
-use Rattle.format.proofs.Tests.{never}
 use Rattle.batches.specs.Batches.{Position, position_of, reading_at}
 use Rattle.batches.proofs.RowPositions.{runs_after, in-first, past_first, no_run, rows-cons}
 use Rattle.batches.proofs.NextPosition.{no-total}
 use Rattle.rescue.specs.Rescue.{at, made_plain}
 use Rattle.rescue.specs.RescueTheorems.{span}
 use Rattle.rescue.proofs.ListParts.{part_same, front_same}
-use Rattle.batches.proofs.SeekWalk.{first-row}
-use Rattle.rescue.proofs.PlainPositions.{plain-if, plain-inv}
+use Rattle.rescue.proofs.PlainPositions.{plain-if, plain-inv, first-row}
 
 -- ---- the bytes of the first runs
 
@@ -45,7 +50,7 @@ begins : (bs : List ℕ) (b : ℕ) (d : Description) (ds : List Description) →
 begins bs b d ds h e = go (parse (drop b bs)) refl (outcome (drop b bs) (below-drop 256 b bs h))
   where
     none : [] ≡ d ∷ ds → Begins bs b d ds
-    none q = never (cc)
+    none q = let z : ◌≡◌ {A = ℕ} 0 1 = cc in absurd (omega arith)
 
     go : (m : Parsed Description) → parse (drop b bs) ≡ m → Outcome (drop b bs) m → Begins bs b d ds
     go m q (nothing z) = none (sym (ap (λ (x : List ℕ). runs_of (stream x)) z ∙ ap runs_of stream-none) ∙ e)

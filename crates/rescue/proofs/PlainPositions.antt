@@ -1,24 +1,27 @@
 -- A position made plain goes by the run that stands at its byte; and what is read from it is what is read from the position that it was
 -- made of. Assumes nothing.
-use Rattle.format.proofs.Common.{◌≡◌, ap, ◌∙◌, subst, ℕ, ◌+◌, ◌-◌, ◌<◌, ◌≤◌, min, arith, dec_le, sub-zero, Bool, true, List, [], ◌∷◌, length}
-use Rattle.format.proofs.Common.{drop, leb, le-leb, lt-leb}
+use mathlib.Core.Path.{◌≡◌, ap, ◌∙◌, subst}
+use Prim.Native.Nat.{ℕ, ◌+◌, ◌-◌, ◌<◌, ◌≤◌, min}
+use native.Mathlib.Omega.{arith}
+use native.Mathlib.Decide.{dec_le}
+use native.Mathlib.Nat.{sub-zero}
+use mathlib.Core.Bool.{Bool, true}
+use mathlib.Core.List.{List, [], ◌∷◌}
+use lib.ListN.{length, drop}
+use lib.Dec.{leb}
+use borrow.Author.Tests.{le-leb, lt-leb}
 use Rattle.format.specs.Digits.{AllBelow}
 use Rattle.format.specs.Fields.{pick}
 use Rattle.format.specs.Runs.{Description, row_count, layout}
 use Rattle.format.specs.Parse.{Parsed}
 use Rattle.format.specs.Streams.{Reading, stream, runs_of, total_rows}
-use Rattle.format.specs.declared.ByteOffset.{ByteOffset}
-use Rattle.format.specs.declared.Refusal.{Refusal}
-use Rattle.format.proofs.Tests.{never}
+use Rattle.format.specs.declared.Run.{Run}
 use Rattle.index.proofs.Entries.{total-cons}
 use Rattle.batches.specs.Batches.{Position, position_of, rows_left, count_left, reading_at}
-use Rattle.batches.specs.BatchPromise.{position_in}
-use Rattle.batches.specs.BatchSteps.{Stands, SameRow, Finds}
-use Rattle.batches.specs.declared.RowPosition.{RowPosition}
-use Rattle.batches.specs.declared.Sought.TheVariants as sought
-use Rattle.batches.proofs.RowPositions.{in-first}
+use Rattle.batches.specs.BatchSteps.{Stands}
+use Rattle.batches.proofs.RowPositions.{runs_after, in-first, past_first, no_run}
 use Rattle.batches.proofs.NextPosition.{no-total, onward}
-use Rattle.batches.proofs.SeekWalk.{runs_on, runs-are, over-place, over-enough, first-row}
+use Rattle.batches.proofs.RunAtByte.{There, no_bytes, a-run, a-refusal, there, Ran}
 use Rattle.rescue.specs.Rescue.{position, PlainPosition, at, nowhere, made_plain}
 use Rattle.rescue.specs.RescueTheorems.{EveryPosition}
 
@@ -42,13 +45,13 @@ plain-inv bs p {q} e = go (dec_le p.skip (total_rows (runs bs p)))
   where
     go : Dec (p.skip ≤ total_rows (runs bs p)) → (p.skip ≤ total_rows (runs bs p)) × (position_of p.run p.skip (runs bs p) ≡ q)
     go (yes l) = (l, cc (plain-if bs p l))
-    go (no l) = never (cc (plain-not bs p (omega arith)))
+    go (no l) = let z : ◌≡◌ {A = ℕ} 0 1 = cc (plain-not bs p (omega arith)) in absurd (omega arith)
 
 pub nowhere-inv : (bs : List ℕ) (p : Position) → made_plain bs p ≡ nowhere → total_rows (runs_of (reading_at bs p)) < p.skip
 nowhere-inv bs p e = go (dec_le p.skip (total_rows (runs bs p)))
   where
     go : Dec (p.skip ≤ total_rows (runs bs p)) → total_rows (runs bs p) < p.skip
-    go (yes l) = never (cc (plain-if bs p l))
+    go (yes l) = let z : ◌≡◌ {A = ℕ} 0 1 = cc (plain-if bs p l) in absurd (omega arith)
     go (no l) = omega arith
 
 -- ---- by the run at the byte
@@ -59,35 +62,47 @@ module _ (s : List ℕ) (p skip : ℕ) where
   plain-none e h = plain-not s (position p skip) (rw e (omega (arith, no-total)))
 
   module _ (d : Description) (t : Stands s p d) where
+    abbrev rest : List Description
+    rest = runs_of (stream (drop (p + length (layout d)) s))
+
+    runs-are : runs_of (stream (drop p s)) ≡ d ∷ rest
+    runs-are = ap runs_of t.onward ∙ runs_after d (stream (drop (p + length (layout d)) s))
+
     -- one that holds the row
-    pub plain_in : skip < row_count d → made_plain s (position p skip) ≡ at (position p skip)
-    plain_in h =
-        plain-if s (position p skip) (rw (runs-are s p d t) (omega (arith, total-cons d (runs_on s p d t))))
-        ∙ ap at (ap (position_of p skip) (runs-are s p d t) ∙ in-first p skip d (runs_on s p d t) h)
+    pub plain_in_lem : skip < row_count d → made_plain s (position p skip) ≡ at (position p skip)
+    plain_in_lem h =
+        plain-if s (position p skip) (rw runs-are (omega (arith, total-cons d rest)))
+        ∙ ap at (ap (position_of p skip) runs-are ∙ in-first p skip d rest h)
 
     -- one that is passed
     pub plain-on : row_count d ≤ skip → made_plain s (position p skip) ≡ made_plain s (position (p + length (layout d)) (skip - row_count d))
     unfolding made_plain
-    plain-on h = rw (over-enough s p d t skip h, over-place s p d t skip h)
+    plain-on h = rw (runs-are, total-cons d rest, past_first p skip d rest h) (go (dec_le skip (row_count d + total_rows rest)))
+      where
+        q : PlainPosition
+        q = at (position_of (p + length (layout d)) (skip - row_count d) rest)
+
+        go : Dec (skip ≤ row_count d + total_rows rest)
+            → pick (leb skip (row_count d + total_rows rest)) q nowhere ≡ pick (leb (skip - row_count d) (total_rows rest)) q nowhere
+        go (yes l) = rw (le-leb skip (row_count d + total_rows rest) l, le-leb (skip - row_count d) (total_rows rest) (omega arith))
+        go (no l) = rw (lt-leb skip (row_count d + total_rows rest) (omega arith), lt-leb (skip - row_count d) (total_rows rest) (omega arith))
+
+-- no row to skip: whatever stands there
+pub first-row : (s : List ℕ) (p : ℕ) → AllBelow 256 s → position_of p 0 (runs_of (stream (drop p s))) ≡ position p 0
+first-row s p h = go (there s p h)
+  where
+    go : {m : Parsed Description} → There s p m → position_of p 0 (runs_of (stream (drop p s))) ≡ position p 0
+    go (no_bytes z q) = ap (λ (m : Reading). position_of p 0 (runs_of m)) q ∙ no_run p 0
+    go (a-run {d} t) = ap (position_of p 0) (runs-are s p 0 d t) ∙ in-first p 0 d (rest s p 0 d t) t.some
+    go (a-refusal {r} q n) = ap (λ (m : Reading). position_of p 0 (runs_of m)) q ∙ no_run p 0
 
 pub plain_still : (s : List ℕ) (p : ℕ) → AllBelow 256 s → made_plain s (position p 0) ≡ at (position p 0)
 plain_still s p h = plain-if s (position p 0) (omega arith) ∙ ap at (first-row s p h)
 
--- ---- what seeking found: positions of the same row are made plain to the same
-
-module _ {s : List ℕ} (p : RowPosition) where
-  plain-same : {q : Position} → SameRow s (position_in p) q → made_plain s (position_in p) ≡ made_plain s q
-  unfolding made_plain
-  plain-same w = rw (w.enough, w.place)
-
-  pub sought-first : (run : ByteOffset) → AllBelow 256 s → Finds s p (sought.Begins run) → made_plain s (position_in p) ≡ at (position run.bytes 0)
-  sought-first run h w = plain-same w ∙ plain_still s run.bytes h
-
-  pub sought-within : {q : RowPosition} → Finds s p (sought.Within q) → made_plain s (position_in p) ≡ at (position_in q)
-  sought-within {q} (holds, past, w) = plain-same w ∙ plain_in s q.run.bytes q.skip.rows holds.run holds.stands holds.skips
-
-  pub sought-nowhere : {f : Refusal} → Finds s p (sought.Refused f) → made_plain s (position_in p) ≡ nowhere
-  sought-nowhere w = plain-not s (position_in p) w.few
+-- a run that was measured is passed
+pub plain-passed : (s : List ℕ) (p skip : ℕ) (r : Run) → Ran s p r → r.rows.rows ≤ skip
+    → made_plain s (position p skip) ≡ made_plain s (position (p + r.consumed.bytes) (skip - r.rows.rows))
+plain-passed s p skip r o l = rw (o.rows_are, o.bytes-are) (plain-on s p skip o.run o.stands (omega (arith, o.rows_are)))
 
 -- ---- a position and what it is made plain: the same rows, as many, and the same positions of the rows after them
 
@@ -124,7 +139,7 @@ plain-twice bs p {q} h e =
 pub every-position : EveryPosition
 every-position bs b skip h = record {
   still = plain_still bs b h;
-  held = plain_in bs b skip;
+  held = plain_in_lem bs b skip;
   passed = plain-on bs b skip;
   unread = plain-none bs b skip;
   twice = λ q e. plain-twice bs (position b skip) h e;

@@ -1,15 +1,57 @@
 -- The tests are taken in their order, and the first that fails names the refusal; if none does, the outcome is all groups. Assumes nothing.
-use Rattle.format.proofs.Common.{◌≡◌, refl, sym, ap, ◌∙◌, ◌≢◌, ◌↔◌, ℕ, ◌<◌, ◌≤◌, arith, Bool, true, false, not, ◌||◌, List, length, T, ltb}
-use Rattle.format.proofs.Common.{eqb, eqb→eq, ℤ, pos, ltb-true, ltb-false, eq-eqb}
-use Rattle.format.specs.Digits.{sum}
-use Rattle.format.specs.Fields.{pick}
-use Rattle.format.proofs.Tests.{and-e, and_i, never}
-use Rattle.rescue.specs.Rescue.{positions, groups, rescued_rows, verdicts}
+use mathlib.Core.Path.{◌≡◌, refl, sym, ◌∙◌}
+use mathlib.Core.Logic.{◌≢◌, ◌↔◌}
+use Prim.Native.Nat.{ℕ, ◌<◌, ◌≤◌}
+use native.Mathlib.Omega.{arith}
+use mathlib.Core.Bool.{Bool, true, false, not, ◌||◌}
+use mathlib.Core.List.{List}
+use lib.ListN.{length}
+use lib.Dec.{T, ltb, eqb, eqb→eq}
+use lib.IntN.{ℤ}
+use borrow.Author.Tests.{ltb-true, ltb-false, le-ltb, lt-ltb, eq-eqb, ne_eqb}
+use Rattle.format.proofs.Tests.{and-e, and_i}
+use Rattle.rescue.specs.Rescue.{positions, groups, in_order, rescued_rows, verdicts, sum}
 use Rattle.rescue.specs.Rescue.{RescueOutcome, refused, rescued, refuse_if, listed, rescuing}
 use Rattle.rescue.specs.RescuePromise.{refused_with, Written}
-use Rattle.rescue.specs.RescueSteps.{refusal_of, Fit, all_groups}
+use Rattle.rescue.specs.RescueSteps.{all_groups}
 use Rattle.rescue.specs.RescueTheorems.{Listed, Room, CallHolds, EveryCall, Determined}
 use Rattle.rescue.specs.declared.Rescued.{Rescued}
+
+-- ---- test by test
+
+module _ (signed : Bool) (fill : ℤ) (bs rs ss ns : List ℕ) (places marks : ℕ) where
+  abbrev said : RescueOutcome
+  said = rescuing signed fill bs rs ss ns places marks
+
+  pub other-skips : length rs ≢ length ss → said ≡ refused 17
+  unfolding rescuing
+  other-skips n = rw (ne_eqb (length rs) (length ss) n)
+
+  module _ (a : length rs ≡ length ss) where
+    pub other-counts : length rs ≢ length ns → said ≡ refused 17
+    unfolding rescuing
+    other-counts n = rw (eq-eqb (length rs) (length ss) a, ne_eqb (length rs) (length ns) n)
+
+    module _ (b : length rs ≡ length ns) where
+      pub no-order : in_order (length bs) (positions rs ss) ≡ false → said ≡ refused 17
+      unfolding rescuing
+      no-order n = rw (eq-eqb (length rs) (length ss) a, eq-eqb (length rs) (length ns) b, n)
+
+      module _ (c : in_order (length bs) (positions rs ss) ≡ true) where
+        pub few-rows : ltb places (sum ns) ≡ true → said ≡ refused 8
+        unfolding rescuing
+        few-rows n = rw (eq-eqb (length rs) (length ss) a, eq-eqb (length rs) (length ns) b, c, n)
+
+        module _ (d : ltb places (sum ns) ≡ false) where
+          pub few-marks : marks < length ns → said ≡ refused 8
+          unfolding rescuing
+          few-marks n =
+              rw (eq-eqb (length rs) (length ss) a, eq-eqb (length rs) (length ns) b, c, d, lt-ltb marks (length ns) n)
+
+          pub all_said : length ns ≤ marks → said ≡ all_groups signed fill bs (groups (positions rs ss) ns)
+          unfolding rescuing
+          all_said n =
+              rw (eq-eqb (length rs) (length ss) a, eq-eqb (length rs) (length ns) b, c, d, le-ltb marks (length ns) n)
 
 -- ---- what it leaves
 
@@ -61,46 +103,19 @@ every_call signed fill bs rs ss ns places marks = go
         → CallHolds signed fill bs rs ss ns places marks (refuse_if (not a) 17 (refuse_if b 8 (rescued rows vs)))
     go false b r s = record {
       is-17 = (λ e i. r.1 i, λ n. refl);
-      is-8 = (λ e. never (cc), λ (i, n). absurd (r.1 i));
-      otherwise = λ x y. (λ e. never (cc), λ (i, n, p, q). absurd (r.1 i));
+      is-8 = (λ e. let z : ◌≡◌ {A = ℕ} 0 1 = cc in absurd (omega arith), λ (i, n). absurd (r.1 i));
+      otherwise = λ x y. (λ e. let z : ◌≡◌ {A = ℕ} 0 1 = cc in absurd (omega arith), λ (i, n, p, q). absurd (r.1 i));
     }
     go true true r s = record {
-      is-17 = (λ e. never (cc), λ n. absurd (n (r.0 tt)));
+      is-17 = (λ e. let z : ◌≡◌ {A = ℕ} 0 1 = cc in absurd (omega arith), λ n. absurd (n (r.0 tt)));
       is-8 = (λ e. (r.0 tt, s.1), λ n. refl);
-      otherwise = λ x y. (λ e. never (cc), λ (i, n, p, q). absurd (s.1 n));
+      otherwise = λ x y. (λ e. let z : ◌≡◌ {A = ℕ} 0 1 = cc in absurd (omega arith), λ (i, n, p, q). absurd (s.1 n));
     }
     go true false r s = record {
-      is-17 = (λ e. never (cc), λ n. absurd (n (r.0 tt)));
-      is-8 = (λ e. never (cc), λ (i, n). absurd (n (s.0 tt)));
+      is-17 = (λ e. let z : ◌≡◌ {A = ℕ} 0 1 = cc in absurd (omega arith), λ n. absurd (n (r.0 tt)));
+      is-8 = (λ e. let z : ◌≡◌ {A = ℕ} 0 1 = cc in absurd (omega arith), λ (i, n). absurd (n (s.0 tt)));
       otherwise = λ x y. (λ e. (r.0 tt, s.0 tt, cc, cc), λ (i, n, p, q). cc);
     }
-
--- ---- by the number that the tests give
-
-module _ (signed : Bool) (fill : ℤ) (bs rs ss ns : List ℕ) (places marks : ℕ) where
-  pub said-refused : {n : ℕ} → n ≡ refusal_of bs rs ss ns places marks → n ≢ 0 → rescuing signed fill bs rs ss ns places marks ≡ refused n
-  unfolding rescuing
-  said-refused {n} e z = go (listed bs rs ss ns) (ltb places (sum ns) || ltb marks (length ns)) _ e
-    where
-      go : (a b : Bool) (m : RescueOutcome) → n ≡ pick a (pick b 8 0) 17 → refuse_if (not a) 17 (refuse_if b 8 m) ≡ refused n
-      go false b m e = ap refused (sym e)
-      go true true m e = ap refused (sym e)
-      go true false m e = absurd (z e)
-
-  pub all_said : refusal_of bs rs ss ns places marks ≡ 0
-      → rescuing signed fill bs rs ss ns places marks ≡ all_groups signed fill bs (groups (positions rs ss) ns)
-  unfolding rescuing
-  all_said e = go (listed bs rs ss ns) (ltb places (sum ns) || ltb marks (length ns)) _ e
-    where
-      go : (a b : Bool) (m : RescueOutcome) → ◌≡◌ {A = ℕ} (pick a (pick b 8 0) 17) 0 → refuse_if (not a) 17 (refuse_if b 8 m) ≡ m
-      go false b m e = absurd (omega arith)
-      go true true m e = absurd (omega arith)
-      go true false m e = refl
-
-pub fit-so : (bs : List ℕ) {rs ss ns : List ℕ} {places marks : ℕ} → refusal_of bs rs ss ns places marks ≡ 0 → Fit rs ss ns places marks
-fit-so bs {rs} {ss} {ns} {places} {marks} e =
-    let (i, r, p, q) = ((every_call true (pos 0) bs rs ss ns places marks).otherwise _ _).0 (all_said true (pos 0) bs rs ss ns places marks e) in
-    record { skips-long = sym i.skips-long; counts-long = sym i.counts-long; rows_fit = r.rows_fit; marks-fit = r.marks-fit }
 
 -- ---- ANY TWO OUTCOMES
 

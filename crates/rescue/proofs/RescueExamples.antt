@@ -1,21 +1,31 @@
 -- Calls by computation: a stream of two runs of three rows, at bytes 0 and 2; with a run after them that is cut; and with the first run
 -- damaged. Assumes nothing.
-use Rattle.format.proofs.Common.{◌≡◌, refl, ℕ, false, List, [], ◌∷◌, ◌++◌, pos}
-use Rattle.format.specs.Digits.{sum}
+use mathlib.Core.Path.{◌≡◌, refl}
+use Prim.Native.Nat.{ℕ}
+use mathlib.Core.Bool.{false}
+use mathlib.Core.List.{List, [], ◌∷◌, ◌++◌}
+use lib.IntN.{pos}
 use Rattle.format.proofs.Examples.{told}
 use Rattle.format.specs.Streams as Streams
 use Rattle.batches.specs.Batches.{position_of}
-use Rattle.batches.proofs.BatchExamples.{two, hurt}
-use Rattle.rescue.specs.Rescue.{made_plain, paired, rising, in_order, kept, group_rows, rescued_rows, verdicts}
+use Rattle.rescue.specs.Rescue.{made_plain, paired, rising, in_order, kept, group_rows, rescued_rows, verdicts, sum}
 use Rattle.rescue.specs.Rescue.{RescueOutcome, refused, rescued, rescuing}
 
--- the two runs of `two`, with the first header damaged: a short repeat of nine bytes, of which four are there
+-- three rows 5, and three rows 7
+abbrev two : List ℕ
+two = 0x00 ∷ 0x05 ∷ 0x00 ∷ 0x07 ∷ []
+
+-- .. and a short repeat of two bytes, of which one is there
+abbrev hurt : List ℕ
+hurt = two ++ (0x08 ∷ 0x01 ∷ [])
+
+-- .. and the two, with the first header damaged: a short repeat of nine bytes, of which four are there
 abbrev torn : List ℕ
 torn = 0x38 ∷ 0x05 ∷ 0x00 ∷ 0x07 ∷ []
 
 -- by runs, skips and counts, with the fill row 9
 unfoldable said : List ℕ → List ℕ → List ℕ → List ℕ → ℕ → ℕ → RescueOutcome
-unfolding told Streams.stream position_of made_plain paired rising in_order kept group_rows rescued_rows verdicts rescuing
+unfolding told Streams.stream position_of made_plain paired rising in_order kept group_rows rescued_rows verdicts sum rescuing
 said bs rs ss ns places marks = rescuing false (pos 9) bs rs ss ns places marks
 
 -- a skip that passes a run is the same position

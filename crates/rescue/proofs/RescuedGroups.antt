@@ -1,15 +1,22 @@
 -- A kept group ends at the one place where the next begins, so there are rows enough and they are its own; then the groups' rows and
 -- verdicts are found one after the other by how many stand before them. Assumes nothing.
-use Rattle.format.proofs.Common.{◌≡◌, refl, sym, ap, ◌∙◌, ℕ, ◌+◌, ◌<◌, arith, min-eq_left, Bool, true, false, List, [], ◌∷◌, ◌++◌, length}
-use Rattle.format.proofs.Common.{take, drop, get_or, replicate, length-append, length-take, length-replicate, take_at, drop-append-add, T}
-use Rattle.format.proofs.Common.{eqb, T_not, ℤ, eq-eqb, eqb-true}
-use Rattle.format.specs.Digits.{sum}
+use mathlib.Core.Path.{◌≡◌, refl, sym, ap, ◌∙◌}
+use Prim.Native.Nat.{ℕ, ◌+◌, ◌<◌}
+use native.Mathlib.Omega.{arith}
+use native.Mathlib.Nat.{min-eq_left}
+use mathlib.Core.Bool.{Bool, true, false}
+use mathlib.Core.List.{List, [], ◌∷◌, ◌++◌}
+use lib.ListN.{length, take, drop, get_or, replicate, length-append, length-take, length-replicate}
+use lib.Seq.{take_at, drop-append-add}
+use lib.Dec.{T, eqb, T_not}
+use lib.IntN.{ℤ}
+use borrow.Author.Tests.{eq-eqb, eqb-true}
 use Rattle.format.specs.Fields.{pick}
-use Rattle.format.proofs.Tests.{T_true, is_false, never}
+use Rattle.format.proofs.Tests.{T_true, is_false}
 use Rattle.batches.specs.Batches.{Position, RowBatch, BatchOutcome, gives, ended, refuses, rows_left, reading_at, batch}
 use Rattle.batches.proofs.BatchCalls.{from-long}
 use Rattle.rescue.specs.Rescue.{PlainPosition, at, nowhere, made_plain, meets, Group, group, beginning, after_rows, end_of, kept}
-use Rattle.rescue.specs.Rescue.{verdict, own_rows, group_rows, rescued_rows, verdicts}
+use Rattle.rescue.specs.Rescue.{verdict, own_rows, group_rows, rescued_rows, verdicts, sum}
 use Rattle.rescue.specs.RescueTheorems.{counts, EveryGroup, EveryList}
 use Rattle.rescue.proofs.PlainPositions.{plain-if, plain-inv}
 use Rattle.rescue.proofs.GroupEnds.{Met, met, meets-same, end_none, after_all, after_is}
@@ -52,9 +59,9 @@ module _ (bs : List ℕ) (g : Group) (next : Position) where
           where
             all : (x : Bool) → eqb (length b.rows) g.count ≡ x → pick x (at b.next) nowhere ≡ at q → Gave
             all true l k = (b, e, eqb-true (length b.rows) g.count l, f ∙ sym k)
-            all false l k = never (cc)
-        by ended e k f = never (cc)
-        by (refuses r) e k f = never (cc)
+            all false l k = let z : ◌≡◌ {A = ℕ} 0 1 = cc in absurd (omega arith)
+        by ended e k f = let z : ◌≡◌ {A = ℕ} 0 1 = cc in absurd (omega arith)
+        by (refuses r) e k f = let z : ◌≡◌ {A = ℕ} 0 1 = cc in absurd (omega arith)
 
     gave_kept : 0 < g.count → Gave → T (kept bs g next)
     gave_kept h (b, e, l, f) =
@@ -104,7 +111,7 @@ module _ (signed : Bool) (fill : ℤ) (bs : List ℕ) where
   rows gs = rescued_rows signed fill bs gs
 
   all-many : (gs : List Group) → length (rows gs) ≡ sum (counts gs)
-  unfolding rescued_rows
+  unfolding rescued_rows sum
   all-many [] = refl
   all-many (g ∷ gs) =
       let next = beginning (length bs) gs in
@@ -119,7 +126,7 @@ module _ (signed : Bool) (fill : ℤ) (bs : List ℕ) where
   rows_at : (before later : List Group) (g : Group)
       → take g.count (drop (sum (counts before)) (rows (before ++ (g ∷ later))))
       ≡ group_rows signed fill bs g (beginning (length bs) later)
-  unfolding rescued_rows
+  unfolding rescued_rows sum
   rows_at [] later g =
       let next = beginning (length bs) later in
       take_at (group_rows signed fill bs g next) (rows later) g.count (rows-many bs g next signed fill)

@@ -1,8 +1,15 @@
 -- A true position tells how many rows are left, so of two at the same byte the later skips no fewer: true positions are in order if no byte
 -- falls. The bytes of a row's plain position rise with the row, so any cut of the rows is such. Assumes nothing.
-use Rattle.format.proofs.Common.{◌≡◌, refl, sym, ap, ◌∙◌, ℕ, suc, ◌+◌, ◌-◌, ◌<◌, ◌≤◌, arith, dec_lt, Bool, true, false, ◌&&◌, ◌||◌, List, []}
-use Rattle.format.proofs.Common.{◌∷◌, map, length, length-map, T, leb, ltb, eqb, le→leb, eqb→eq, eq-eqb, le-leb, le-ltb, lt-ltb, ltb-true}
-use Rattle.format.specs.Digits.{AllBelow, sum}
+use mathlib.Core.Path.{◌≡◌, refl, sym, ap, ◌∙◌}
+use Prim.Native.Nat.{ℕ, suc, ◌+◌, ◌-◌, ◌<◌, ◌≤◌}
+use native.Mathlib.Omega.{arith}
+use native.Mathlib.Decide.{dec_lt}
+use mathlib.Core.Bool.{Bool, true, false, ◌&&◌, ◌||◌}
+use mathlib.Core.List.{List, [], ◌∷◌, map}
+use lib.ListN.{length, length-map}
+use lib.Dec.{T, leb, ltb, eqb, le→leb, eqb→eq}
+use borrow.Author.Tests.{eq-eqb, le-leb, le-ltb, lt-ltb, ltb-true}
+use Rattle.format.specs.Digits.{AllBelow}
 use Rattle.format.specs.Runs.{Description, AllValid, row_count, layout, joined}
 use Rattle.format.specs.Streams.{whole, stream, runs_of, total_rows}
 use Rattle.format.proofs.Rows.{row-bounds}
@@ -11,10 +18,9 @@ use Rattle.index.proofs.Entries.{total-cons}
 use Rattle.batches.specs.Batches.{Position, position_of, reading_at}
 use Rattle.batches.proofs.RowPositions.{in-first, past_first, no_run}
 use Rattle.batches.proofs.NextPosition.{joined-long, no_bytes}
-use Rattle.rescue.specs.Rescue.{position, at, made_plain, Group, paired, positions, groups, not_after, rising, in_order}
+use Rattle.rescue.specs.Rescue.{position, at, made_plain, Group, paired, positions, groups, not_after, rising, in_order, sum}
 use Rattle.rescue.specs.RescueTheorems.{starts, TrueFrom, FromStart, BytesRise, TrueOrder, cut_from, EveryCut}
-use Rattle.batches.proofs.SeekWalk.{first-row}
-use Rattle.rescue.proofs.PlainPositions.{plain-inv}
+use Rattle.rescue.proofs.PlainPositions.{plain-inv, first-row}
 use Rattle.rescue.proofs.WholeStreams.{laid, within, row_is, true-rows, whole-call}
 
 -- ---- the byte of a row's position
@@ -159,7 +165,7 @@ module _ (bs : List ℕ) (ds : List Description) (h : AllBelow 256 bs) (e : stre
   first = ap (λ m. position_of 0 0 (runs_of m)) (sym e) ∙ first-row bs 0 h
 
   pub cut-true : (k : ℕ) (ns : List ℕ) → k + sum ns ≡ total_rows ds → TrueFrom bs ds k (cut ds k ns)
-  unfolding cut_from paired
+  unfolding cut_from paired sum
   cut-true k [] l = omega arith
   cut-true k (n ∷ ns) l = ((true-rows bs ds k h e (omega arith)).0, cut-true (k + n) ns (omega arith))
 

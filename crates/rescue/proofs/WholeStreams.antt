@@ -1,7 +1,14 @@
 -- By induction over the groups: the rows from the group's position are the stream's from row k on, so its end is the position of row k and
 -- its count, which is the next group's. Assumes nothing.
-use Rattle.format.proofs.Common.{◌≡◌, refl, sym, ap, ◌∙◌, ℕ, ◌+◌, ◌-◌, ◌*◌, ◌≤◌, arith, Bool, List, [], ◌∷◌, length, take, drop, replicate}
-use Rattle.format.proofs.Common.{take-append-drop, drop_of_length-le, drop-drop, T, ℤ}
+use mathlib.Core.Path.{◌≡◌, refl, sym, ap, ◌∙◌}
+use Prim.Native.Nat.{ℕ, ◌+◌, ◌-◌, ◌*◌, ◌≤◌}
+use native.Mathlib.Omega.{arith}
+use mathlib.Core.Bool.{Bool}
+use mathlib.Core.List.{List, [], ◌∷◌}
+use lib.ListN.{length, take, drop, replicate, take-append-drop, drop_of_length-le}
+use lib.Seq.{drop-drop}
+use lib.Dec.{T}
+use lib.IntN.{ℤ}
 use Rattle.format.specs.Digits.{AllBelow}
 use Rattle.format.specs.Runs.{Description, AllValid, row_count, layout, joined}
 use Rattle.format.specs.Streams.{Reading, whole, stream, runs_of, total_rows, joined_rows}

@@ -1,7 +1,6 @@
 -- Rows rescued by positions (FORMAT.md, "Rows rescued by positions"): the row groups of a damaged stream, each with the position of its
 -- first row and its number of rows; which of them are kept, and the rows of all. Assumes nothing.
 use Rattle.std.specs.Prelude.{ℕ, ◌+◌, Bool, true, false, not, ◌&&◌, ◌||◌, List, [], ◌∷◌, ◌++◌, length, take, replicate, leb, ltb, eqb, ℤ}
-use Rattle.format.specs.Digits.{sum}
 use Rattle.format.specs.Fields.{pick}
 use Rattle.format.specs.Streams.{runs_of, total_rows}
 use Rattle.batches.specs.Batches.{Position, position_of, rows_left, reading_at}
@@ -117,6 +116,11 @@ refuse_if false n m = m
 -- the columns are of one length, and their positions in order
 abbrev pub listed : List ℕ → List ℕ → List ℕ → List ℕ → Bool
 listed bs rs ss ns = eqb (length rs) (length ss) && (eqb (length rs) (length ns) && in_order (length bs) (positions rs ss))
+
+-- a sum of whole numbers, of any size
+unfoldable pub sum : List ℕ → ℕ
+sum [] = 0
+sum (n ∷ ns) = n + sum ns
 
 -- by the columns of bytes, skips and counts, and the number of places for rows and for verdicts: 17, then 8
 unfoldable pub rescuing : Bool → ℤ → List ℕ → List ℕ → List ℕ → List ℕ → ℕ → ℕ → RescueOutcome

@@ -1,8 +1,7 @@
 -- What the call promises: its answer and every lent place, for every input, flag, fill row, all columns and all places. Assumes nothing.
 use Rattle.std.specs.Prelude.{◌≡◌, ℕ, Bool, List, ◌++◌, length, drop, ℤ}
-use Rattle.format.specs.Digits.{sum}
 use Rattle.format.specs.Answers.{refusing}
-use Rattle.rescue.specs.Rescue.{RescueOutcome, refused, rescued, rescuing}
+use Rattle.rescue.specs.Rescue.{RescueOutcome, refused, rescued, sum, rescuing}
 use Rattle.rescue.specs.declared.Rescued.{Rescued}
 use Rattle.rescue.specs.declared.Rescued.TheVariants as answer
 

@@ -1,11 +1,9 @@
 -- For the functions of the code: plain positions in the code's words, and what one group and all groups leave. Assumes nothing.
-use Rattle.std.specs.Prelude.{◌≡◌, ℕ, ◌≤◌, Bool, true, ◌||◌, List, length, get_or, ltb, ℤ}
-use Rattle.format.specs.Digits.{sum}
-use Rattle.format.specs.Fields.{pick}
+use Rattle.std.specs.Prelude.{◌≡◌, ℕ, ◌≤◌, Bool, true, List, length, get_or, ℤ}
 use Rattle.batches.specs.Batches.{Position}
 use Rattle.batches.specs.declared.RowPosition.{RowPosition}
 use Rattle.rescue.specs.Rescue.{PlainPosition, at, nowhere, made_plain, Group, group, kept, own_rows, group_rows}
-use Rattle.rescue.specs.Rescue.{listed, rescued_rows, verdicts, RescueOutcome, rescued}
+use Rattle.rescue.specs.Rescue.{rescued_rows, verdicts, sum, RescueOutcome, rescued}
 use Rattle.rescue.specs.declared.Plain.{Plain}
 use Rattle.rescue.specs.declared.Plain.TheVariants as plain
 
@@ -36,10 +34,6 @@ pub record GroupRescued (input : List ℕ) (from to : Plain) (signed : Bool) (fi
       → r ≡ kept input (group p (length out)) next
   pub rows : (p next : Position) → from ≡ plain_in (made_plain input p) → to ≡ plain_in (made_plain input next)
       → out' ≡ group_rows signed fill input (group p (length out)) next
-
--- the number that a call is refused with, or 0 if it is not
-abbrev pub refusal_of : List ℕ → List ℕ → List ℕ → List ℕ → ℕ → ℕ → ℕ
-refusal_of bs rs ss ns places marks = pick (listed bs rs ss ns) (pick (ltb places (sum ns) || ltb marks (length ns)) 8 0) 17
 
 -- what the tests of a call have shown
 pub record Fit (rs ss ns : List ℕ) (places marks : ℕ) : Type 0 where

@@ -1,14 +1,14 @@
 -- What is proved of rows rescued by positions: statements over every input of bytes, all groups, every fill row and both flags.
 -- Assumes nothing.
 use Rattle.std.specs.Prelude.{◌≡◌, ◌↔◌, ◌⊎◌, ℕ, ◌+◌, ◌-◌, ◌<◌, ◌≤◌, Bool, not, List, [], ◌∷◌, ◌++◌, map, length, take, drop, get_or, replicate, T, eqb, ℤ}
-use Rattle.format.specs.Digits.{AllBelow, sum}
+use Rattle.format.specs.Digits.{AllBelow}
 use Rattle.format.specs.Fields.{pick}
 use Rattle.format.specs.Runs.{Description, row_count, layout, joined}
 use Rattle.format.specs.Streams.{whole, stream, runs_of, total_rows, joined_rows}
 use Rattle.batches.specs.Batches.{Position, RowBatch, gives, position_of, reading_at, batch}
 use Rattle.batches.specs.BatchSteps.{Stands}
 use Rattle.rescue.specs.Rescue.{position, at, nowhere, made_plain, meets, Group, positions, groups, beginning, in_order, after_rows}
-use Rattle.rescue.specs.Rescue.{kept, verdict, own_rows, group_rows, rescued_rows, verdicts, RescueOutcome, refused, rescued}
+use Rattle.rescue.specs.Rescue.{kept, verdict, own_rows, group_rows, rescued_rows, verdicts, RescueOutcome, refused, rescued, sum}
 use Rattle.rescue.specs.Rescue.{rescuing}
 use Rattle.rescue.specs.RescuePromise.{RowsRescued}
 use Rattle.rescue.specs.declared.Rescued.{Rescued}

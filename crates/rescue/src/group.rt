@@ -5,17 +5,38 @@ ghost use Rattle.rescue.specs.Rescue.{at, made_plain, meets};
 ghost use Rattle.rescue.specs.RescueSteps.{plain_at, plain_in, GroupRead, GroupRescued};
 
 use crate::Plain;
-use batches::{Batch, RowPosition, Sought};
+use batches::{Batch, RowPosition};
+use format::{Answer, ByteOffset};
 
 // Makes a position plain: whole runs are passed while there are at least as many rows to skip. With none left, no run is looked at.
 pub(crate) fn make_plain(input: &[u8], from: RowPosition) -> Plain
     ensures { result ≡ plain_in (made_plain input.now (position_in from)) }
 {
-    match batches::seek(input, from) {
-        Sought::Begins(run) => Plain::At(crate::row_position(run.bytes, 0)),
-        Sought::Within(p) => Plain::At(p),
-        Sought::Refused(_) => Plain::Nowhere,
+    let run = from.run;
+    let skip = from.skip;
+    let mut place = run.bytes;
+    let mut left = skip.rows;
+    while 0 < left {
+        let a = rle_v2::measure(input, ByteOffset { bytes: place });
+        match a {
+            Answer::Run(r) => {
+                let rows = r.rows;
+                let consumed = r.consumed;
+                if left < rows.rows {
+                    return Plain::At(crate::row_position(place, left));
+                }
+                left -= rows.rows;
+                place += consumed.bytes;
+            }
+            Answer::Refused(_) => {
+                return Plain::Nowhere;
+            }
+            Answer::End => {
+                return Plain::Nowhere;
+            }
+        }
     }
+    Plain::At(crate::row_position(place, 0))
 }
 
 // Whether two positions are equal.

@@ -1,9 +1,8 @@
-// The columns that list the groups: a position by its number, and the refusals.
+// The columns that list the groups: their order, their sum, and a position by its number.
 ghost use Rattle.std.specs.Prelude.{◌≡◌, length, ltb};
-ghost use Rattle.format.specs.Digits.{sum};
 ghost use Rattle.batches.specs.BatchPromise.{position_in};
-ghost use Rattle.rescue.specs.Rescue.{positions, not_after, in_order};
-ghost use Rattle.rescue.specs.RescueSteps.{position_at, refusal_of};
+ghost use Rattle.rescue.specs.Rescue.{positions, not_after, in_order, sum};
+ghost use Rattle.rescue.specs.RescueSteps.{position_at};
 
 use batches::RowPosition;
 use format::{ByteOffset, RowNumber};
@@ -38,7 +37,7 @@ fn not_after(p: RowPosition, q: RowPosition) -> bool
 
 // Whether the positions are in order: the first is (0, 0), no byte falls or passes the end, and at the same byte no skip falls. An empty
 // list is in order only if the input is empty.
-fn in_order(end: ByteOffset, runs: &[u64], skips: &[u64]) -> bool
+pub(crate) fn in_order(end: ByteOffset, runs: &[u64], skips: &[u64]) -> bool
     requires { length skips.now ≡ length runs.now }
     ensures { result ≡ in_order end.bytes (positions runs.now skips.now) }
 {
@@ -66,7 +65,7 @@ fn in_order(end: ByteOffset, runs: &[u64], skips: &[u64]) -> bool
 }
 
 // Whether the counts add up to more than there are places. Each is compared with the places that are left, so no sum can pass 2^64.
-fn too_many(counts: &[u64], places: RowNumber) -> bool
+pub(crate) fn too_many(counts: &[u64], places: RowNumber) -> bool
     ensures { result ≡ ltb places.rows (sum counts.now) }
 {
     let mut left = places.rows as u64;
@@ -80,36 +79,4 @@ fn too_many(counts: &[u64], places: RowNumber) -> bool
         i += 1;
     }
     false
-}
-
-// The number that a call is refused with, or 0: 17 if the columns are of unequal length or the positions are not in order, then 8 if there
-// are too few places for rows or verdicts.
-pub(crate) fn refusal(
-    input: &[u8],
-    runs: &[u64],
-    skips: &[u64],
-    counts: &[u64],
-    places: RowNumber,
-    marks: usize,
-) -> u8
-    ensures { result ≡ refusal_of
-        input.now runs.now skips.now counts.now places.rows marks }
-{
-    if runs.len() != skips.len() {
-        return 17;
-    }
-    if runs.len() != counts.len() {
-        return 17;
-    }
-    let end = ByteOffset { bytes: input.len() };
-    if !in_order(end, runs, skips) {
-        return 17;
-    }
-    if too_many(counts, places) {
-        return 8;
-    }
-    if marks < counts.len() {
-        return 8;
-    }
-    0
 }

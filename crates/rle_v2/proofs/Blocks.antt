@@ -1,6 +1,10 @@
 -- The fields of a block that stands in a slice. Assumes nothing.
-use Rattle.format.proofs.Common.{◌≡◌, ◌∙◌, ℕ, ◌*◌, ◌^◌, ◌≤◌, lt_of_lt_of_le, mul-le-mul, arith, List, [], ◌∷◌, map, length, length-map}
-use Rattle.format.proofs.Common.{pow_pos, pow_mono}
+use mathlib.Core.Path.{◌≡◌, ◌∙◌}
+use Prim.Native.Nat.{ℕ, ◌^◌, ◌≤◌}
+use native.Mathlib.Nat.{lt_of_lt_of_le}
+use mathlib.Core.List.{List, [], ◌∷◌, map}
+use lib.ListN.{length, length-map}
+use lib.Pow.{pow_pos, pow_mono}
 use Rattle.format.specs.Digits.{AllBelow, digits}
 use Rattle.format.specs.Fields.{two64, bytes_for}
 use Rattle.format.proofs.Digits.{length_digits, digits-below}

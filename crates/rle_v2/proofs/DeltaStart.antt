@@ -1,5 +1,9 @@
 -- The two varints of a delta run's body, by what the varint reader answered. Assumes nothing.
-use Rattle.format.proofs.Common.{◌≡◌, refl, sym, ap, ◌∙◌, ℕ, ◌+◌, ◌-◌, ◌<◌, ◌≤◌, arith, List, length, drop, get_or, ne_eqb}
+use mathlib.Core.Path.{◌≡◌, refl, sym, ap, ◌∙◌}
+use Prim.Native.Nat.{ℕ, ◌+◌, ◌<◌, ◌≤◌}
+use native.Mathlib.Omega.{arith}
+use mathlib.Core.List.{List}
+use lib.ListN.{length, drop, get_or}
 use Rattle.format.specs.Parse.{Parsed, plain, cut_in, refused}
 use Rattle.format.specs.Runs.{Description}
 use Rattle.format.specs.declared.Answer.TheVariants as answer
@@ -7,26 +11,20 @@ use Rattle.format.proofs.Reading.{field-at}
 use Rattle.util.specs.declared.varint.Varint.TheVariants.{Value, Cut, TooLong}
 use Rattle.util.specs.Varint.{varint_at}
 use Rattle.util.proofs.Varints.{value-is, cut-is, long-is}
-use Rattle.rle_v2.specs.Tested.{passed_by}
 use Rattle.rle_v2.specs.DeltaStart.{both, gone_by, StartsAt}
+use Rattle.rle_v2.proofs.RefusedBy.{by_field}
 
--- the second varint stands after the first
-pub stood-after : (s : List ℕ) (at : ℕ) → ((i : ℕ) → get_or s i 0 < 256) → {first next base end : ℕ} → varint_at s (at + 2) ≡ Value first next
-    → varint_at s next ≡ Value base end → at ≤ end
-stood-after s at below q q' = omega (arith, (value-is s (at + 2) below _ _ q).end, (value-is s _ below _ _ q').end)
-
-module _ {s : List ℕ} {at rows : ℕ} (below : (i : ℕ) → get_or s i 0 < 256) where
+module _ (s : List ℕ) (at rows : ℕ) (below : (i : ℕ) → get_or s i 0 < 256) where
   -- the input ends in a varint, which begins at x; or it goes on after ten bytes
   cut_at : (x : ℕ) → at + 2 ≤ x → x ≤ length s
-      → ((body : List ℕ → List ℕ → List ℕ → Parsed Description) → both body (drop (at + 2) s) ≡ refused (cut_in 12 (drop x s)))
-      → StartsAt s at rows (gone_by 12 x)
+      → ((body : List ℕ → List ℕ → List ℕ → Parsed Description) → both body (drop (at + 2) s) ≡ refused (cut_in 12 (drop x s))) → StartsAt s at rows (gone_by 12 x)
   cut_at x h l p = record {
     rows_is = λ z. absurd (omega (arith, z));
     started = λ z. absurd (omega (arith, z));
     refusal = λ z. record {
       reason = cut_in 12 (drop x s);
       parsed = p;
-      refusal_is = rw (ne_eqb x 0 (λ e. omega (arith, e))) (ap answer.Refused (sym (field-at s at x 12 (omega arith) l)));
+      refusal_is = by_field at 12 x (λ e. omega (arith, e)) ∙ ap answer.Refused (sym (field-at s at x 12 (omega arith) l));
     };
   }
 
@@ -44,7 +42,7 @@ module _ {s : List ℕ} {at rows : ℕ} (below : (i : ℕ) → get_or s i 0 < 25
   pub first-long : varint_at s (at + 2) ≡ TooLong → StartsAt s at rows (gone_by 5 0)
   first-long q = long-at (λ body. rw (long-is s (at + 2) below q))
 
-  module _ {first next : ℕ} (q : varint_at s (at + 2) ≡ Value first next) where
+  module _ (first next : ℕ) (q : varint_at s (at + 2) ≡ Value first next) where
     -- .. or the second
     pub second-cut : varint_at s next ≡ Cut → StartsAt s at rows (gone_by 12 next)
     second-cut q' =
@@ -54,16 +52,18 @@ module _ {s : List ℕ} {at rows : ℕ} (below : (i : ℕ) → get_or s i 0 < 25
     pub second-long : varint_at s next ≡ TooLong → StartsAt s at rows (gone_by 5 0)
     second-long q' = long-at (λ body. rw ((value-is s (at + 2) below first next q).parsed, long-is s next below q'))
 
-    pub both-stood : {base end : ℕ} → varint_at s next ≡ Value base end
+    pub both-stood : (base end : ℕ) → varint_at s next ≡ Value base end
         → StartsAt s at rows (record {
-          tested = passed_by (end - at);
+          number = 0;
+          field = record { bytes = 0 };
           bits = 0;
           rows = record { rows = rows };
           first = first;
           base = base;
           next = record { bytes = end };
+          end = record { bytes = end };
         })
-    both-stood {base} {end} q' =
+    both-stood base end q' =
         let x = value-is s (at + 2) below first next q in
         let y = value-is s next below base end q' in
         record {
@@ -77,7 +77,7 @@ module _ {s : List ℕ} {at rows : ℕ} (below : (i : ℕ) → get_or s i 0 < 25
             within = y.within;
             parsed = λ body. rw (x.parsed, y.parsed);
             bits_is = refl;
-            bytes-are = refl;
+            end_is = refl;
           };
           refusal = λ z. absurd (z refl);
         }

@@ -1,6 +1,12 @@
 -- What a direct run gives, by the tests of its reader. Assumes nothing.
-use Rattle.format.proofs.Common.{◌≡◌, refl, sym, ap, ◌∙◌, ℕ, ◌+◌, ◌-◌, ◌*◌, ◌<◌, ◌≤◌, arith, dec_lt, Bool, List, ◌++◌, map, length, drop}
-use Rattle.format.proofs.Common.{get_or, ℤ}
+use mathlib.Core.Path.{◌≡◌, refl, sym, ap, ◌∙◌}
+use Prim.Native.Nat.{ℕ, ◌+◌, ◌-◌, ◌*◌, ◌<◌, ◌≤◌}
+use native.Mathlib.Omega.{arith}
+use native.Mathlib.Decide.{dec_lt}
+use mathlib.Core.Bool.{Bool}
+use mathlib.Core.List.{List, ◌++◌, map}
+use lib.ListN.{length, drop, get_or}
+use lib.IntN.{ℤ}
 use Rattle.format.specs.Fields.{width, bytes_for}
 use Rattle.format.specs.Runs.{Description, direct}
 use Rattle.format.specs.Rows.{as_i64, i64_rows, rows_of}
@@ -11,11 +17,8 @@ use Rattle.format.specs.declared.Run.{Run}
 use Rattle.format.specs.declared.Answer.TheVariants as answer
 use Rattle.format.specs.declared.Kind.TheVariants.{Direct}
 use Rattle.format.proofs.Rows.{width-le, bytes_count}
-use Rattle.format.proofs.Reading.{byte-after, none_after, block_at, block_here, block-cut}
-use Rattle.format.proofs.Reading.{answer-refused, answer-cut, answer-run, run-inj, run-not-refused, gives-run}
-use Rattle.util.specs.Packed.{fields}
+use Rattle.format.proofs.Reading.{byte-after, none_after, block_at, block_here, block-cut, answer-refused, answer-cut, answer-run, run-inj, run-not-refused, gives-8, gives-run}
 use Rattle.rle_v2.specs.Pass.{decoded}
-use Rattle.rle_v2.specs.RunAt.{run_at}
 use Rattle.rle_v2.proofs.Pass.{decoded-is}
 use Rattle.rle_v2.proofs.Blocks.{block-count, block-patterns}
 
@@ -28,7 +31,7 @@ module _ (s : List ℕ) (at : ℕ) where
   count = rows_less (get_or s at 0) (get_or s (at + 1) 0) + 1
 
   abbrev pub run : Parsed Description
-  run = run_at direct_run s at
+  run = direct_run (get_or s at 0) (drop (at + 1) s)
 
   pub no_header : at < length s → length s - at < 2 → refused_at 1 at ≡ answer_of at (length s - at) run
   unfolding direct_run
@@ -55,7 +58,6 @@ module _ (s : List ℕ) (at : ℕ) where
     pub there : bytes_for (count * bits) ≤ length s - (at + 2)
     pub width_is : r.width ≡ bits
     pub rows_are : r.rows.rows ≡ count
-    pub answered : answer.Run r ≡ answer_of at (length s - at) run
 
   pub measured : (r : Run) → at < length s → answer.Run r ≡ answer_of at (length s - at) run → Measured r
   measured r h e = by (dec_lt (length s - at) 2) (dec_lt (length s - (at + 2)) (bytes_for (count * bits)))
@@ -67,7 +69,7 @@ module _ (s : List ℕ) (at : ℕ) where
           let u : 2 ≤ length s - at = omega arith in
           let t : bytes_for (count * bits) ≤ length s - (at + 2) = omega arith in
           let q : r ≡ running Direct bits count (2 + bytes_for (count * bits)) = run-inj r _ (e ∙ sym (run_is u t)) in
-          record { head = u; there = t; width_is = rw q; rows_are = rw q; answered = e }
+          record { head = u; there = t; width_is = rw q; rows_are = rw q }
 
   pub rows-there : (r : Run) → Measured r → bytes_for (r.rows.rows * r.width) ≤ length s - (at + 2)
   rows-there r m = rw (m.width_is, m.rows_are) m.there
@@ -77,12 +79,16 @@ module _ (s : List ℕ) (at : ℕ) where
       → (rest : List ℕ) × (run ≡ got (direct (code_of (get_or s at 0)) (block_at s (at + 2) r.width r.rows.rows)) rest)
   found r m = (drop (at + 2 + bytes_for (count * bits)) s, rw (m.width_is, m.rows_are) (is-run m.head m.there))
 
-  pub read_is : {signed : Bool} {out out' : List ℤ} {r : Run} → Measured r → r.rows.rows ≤ length out
-      → out' ≡ decoded signed (map as_i64 (fields r.width r.rows.rows (drop (at + 2) s))) ++ drop r.rows.rows out
-      → Gives at (length s - at) signed run out out' (answer.Run r)
-  unfolding i64_rows rows_of
-  read_is {signed} {out} m h o =
-      let n = block-count s (at + 2) bits count in
-      let b = block-patterns s (at + 2) bits count (width-le _) in
-      gives-run at (length s - at) signed run out _ _ (is-run m.head m.there) _ _ m.answered (rw n (rw m.rows_are at h))
-      (rw (m.rows_are, m.width_is) at o ∙ rw n (ap (λ (x : List ℤ). x ++ drop count out) (decoded-is signed (block_at s (at + 2) bits count).values b)))
+  module _ (signed : Bool) (out : List ℤ) (r : Run) (e : answer.Run r ≡ answer_of at (length s - at) run) (m : Measured r) where
+    pub no_room : length out < r.rows.rows → Gives at (length s - at) signed run out out (refused_at 8 at)
+    no_room h = gives-8 at (length s - at) signed run out _ _ (is-run m.head m.there) (rw (block-count s (at + 2) bits count) (rw m.rows_are at h))
+
+    pub read_is : (out' : List ℤ) → r.rows.rows ≤ length out
+        → out' ≡ decoded signed (map as_i64 (block_at s (at + 2) r.width r.rows.rows).values) ++ drop r.rows.rows out
+        → Gives at (length s - at) signed run out out' (answer.Run r)
+    unfolding i64_rows rows_of
+    read_is out' h o =
+        let n = block-count s (at + 2) bits count in
+        gives-run at (length s - at) signed run out _ _ (is-run m.head m.there) out' (answer.Run r) e (rw n (rw m.rows_are at h))
+        (rw (m.rows_are, m.width_is) at o
+        ∙ rw n (ap (λ (x : List ℤ). x ++ drop count out) (decoded-is signed (block_at s (at + 2) bits count).values (block-patterns s (at + 2) bits count (width-le _)))))

@@ -1,10 +1,9 @@
 pub mod PatchRefusals
 pub mod PatchRows
 pub mod Pass
-pub mod Window
 pub mod Blocks
 pub mod PartFields
-pub mod TestedRun
+pub mod RefusedBy
 pub mod DeltaStart
 pub mod DirectRun
 pub mod ShortRun
@@ -13,6 +12,7 @@ pub mod PatchWalk
 pub mod DeltaRows
 pub mod DeltaRun
 pub mod PatchedRun
+pub mod PatchedFound
 pub mod ByKind
 pub mod PartRun
 pub mod OneRun

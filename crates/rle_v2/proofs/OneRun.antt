@@ -1,5 +1,8 @@
 -- One run of a stream in n places: what stands at a byte (`RunAt` of format), and that the run's rows have room. Assumes nothing.
-use Rattle.format.proofs.Common.{◌≡◌, ℕ, ◌-◌, ◌≤◌, List, length, drop}
+use mathlib.Core.Path.{◌≡◌}
+use Prim.Native.Nat.{ℕ, ◌-◌, ◌≤◌}
+use mathlib.Core.List.{List}
+use lib.ListN.{length, drop}
 use Rattle.format.specs.Digits.{AllBelow}
 use Rattle.format.specs.Runs.{Description}
 use Rattle.format.specs.Parse.{Parsed, parse, into}

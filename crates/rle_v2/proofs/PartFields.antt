@@ -1,8 +1,13 @@
 -- Fields of a block from one on whose number is a multiple of eight begin with a byte: they are the fields that the bytes from there on begin
 -- with. Assumes nothing.
-use Rattle.format.proofs.Common.{◌≡◌, refl, sym, ap, ◌∙◌, ℕ, ◌+◌, ◌-◌, ◌*◌, ◌/◌, ◌%◌, ◌≤◌, ◌<◌, mul-le-mul_right, arith, List, ◌++◌, map}
-use Rattle.format.proofs.Common.{map-append, append_assoc, length, take, drop, length-drop, length-map, take-append-drop, ext_get_or}
-use Rattle.format.proofs.Common.{get_or-take, get_or-drop, drop-append-add, length-take-le, take-add, take_at, drop_at, drop-drop, ℤ}
+use mathlib.Core.Path.{◌≡◌, sym, ap, ◌∙◌}
+use Prim.Native.Nat.{ℕ, ◌+◌, ◌-◌, ◌*◌, ◌/◌, ◌%◌, ◌≤◌, ◌<◌}
+use native.Mathlib.Nat.{mul-le-mul_right}
+use native.Mathlib.Omega.{arith}
+use mathlib.Core.List.{List, ◌++◌, map, map-append, append_assoc}
+use lib.ListN.{length, take, drop, length-drop, length-map, take-append-drop}
+use lib.Seq.{ext_get_or, get_or-take, get_or-drop, drop-append-add, length-take-le, take-add, take_at, drop_at, drop-drop}
+use lib.IntN.{ℤ}
 use Rattle.format.specs.Digits.{AllBelow, number, spread}
 use Rattle.format.specs.Fields.{bytes_for}
 use Rattle.format.specs.Rows.{as_i64}
@@ -47,9 +52,7 @@ module _ {w count skip n : ℕ} {s : List ℕ} {out : List ℤ} (y : PartThere w
   all = fields w count s
 
   part_count : (m : ℕ) → m ≤ n → length (map as_i64 (take m (drop skip all))) ≡ m
-  part_count m h =
-      length-map (take m (drop skip all)) as_i64
-      ∙ length-take-le m (drop skip all) (rw (length-drop, length_fields w count s) (omega (arith, y.within)))
+  part_count m h = length-map (take m (drop skip all)) as_i64 ∙ length-take-le m (drop skip all) (rw (length-drop, length_fields w count s) (omega (arith, y.within)))
 
   -- ---- an eight that was unpacked aside
 
@@ -75,8 +78,7 @@ module _ {w count skip n : ℕ} {s : List ℕ} {out : List ℤ} (y : PartThere w
       let from : drop begun z ≡ drop skip all = drop-drop begun (8 * (skip / 8)) all ∙ ap (λ (k : ℕ). drop k all) whole in
       let g : held ≡ p ++ (r ++ rest)
       = e ∙ rw (fields-from w count (skip / 8) (begun + n) s eight-within y.there d, take-add begun n z, map-append, append_assoc) in
-      let lp : length p ≡ begun
-      = length-map (take begun z) as_i64 ∙ length-take-le begun z (rw (length-drop, length_fields w count s) (omega (arith, y.within))) in
+      let lp : length p ≡ begun = length-map (take begun z) as_i64 ∙ length-take-le begun z (rw (length-drop, length_fields w count s) (omega (arith, y.within))) in
       let lr : length r ≡ n = ap (λ (x : List ℕ). length (map as_i64 (take n x))) from ∙ part_count n (omega arith) in
       f ∙ rw (g, drop_at p (r ++ rest) begun lp, take_at r rest n lr) (ap (λ (x : List ℕ). map as_i64 (take n x) ++ drop n out) from)
 
@@ -108,8 +110,7 @@ module _ {w count skip n : ℕ} {s : List ℕ} {out : List ℤ} (y : PartThere w
         let from : drop (8 * next) all ≡ drop head z = ap (λ (k : ℕ). drop k all) eights ∙ sym (drop-drop head skip all) in
         let joined : a ++ b ≡ map as_i64 (take n z)
         = ap (λ (x : List ℕ). a ++ map as_i64 x) (fields-from w count next (n - head) s next-within y.there d ∙ ap (take (n - head)) from)
-        ∙ sym (map-append as_i64 (take head z) (take (n - head) (drop head z)))
-        ∙ ap (map as_i64) (sym (take-add head (n - head) z) ∙ ap (λ (k : ℕ). take k z) sum) in
+        ∙ sym (map-append as_i64 (take head z) (take (n - head) (drop head z))) ∙ ap (map as_i64) (sym (take-add head (n - head) z) ∙ ap (λ (k : ℕ). take k z) sum) in
         let kept : drop (head + (n - head)) one ≡ drop n out
         = sym (drop-drop (n - head) head one)
         ∙ ap (drop (n - head)) (ap (drop head) e ∙ drop_at a (drop head out) head la)

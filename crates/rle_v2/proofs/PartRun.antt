@@ -1,8 +1,16 @@
 -- What a part of a direct run gives, by the tests of its reader: a run whose first byte names another kind is not direct, and the fields laid,
 -- decoded, are the run's own rows from `skip` on. Assumes nothing.
-use Rattle.format.proofs.Common.{◌≡◌, refl, sym, ap, ◌∙◌, ◌≢◌, ℕ, zero, suc, ◌+◌, ◌-◌, ◌/◌, ◌<◌, ◌≤◌, min, arith, dec_le, Bool, List, []}
-use Rattle.format.proofs.Common.{◌∷◌, ◌++◌, map, length, take, drop, get_or, length-drop, length-map, drop_of_length-le, take-nil, take_all}
-use Rattle.format.proofs.Common.{length-take-le, ℤ, lt-ltb, le-ltb}
+use mathlib.Core.Path.{◌≡◌, refl, sym, ap, ◌∙◌}
+use mathlib.Core.Logic.{◌≢◌}
+use Prim.Native.Nat.{ℕ, zero, suc, ◌+◌, ◌-◌, ◌/◌, ◌<◌, ◌≤◌, min}
+use native.Mathlib.Omega.{arith}
+use native.Mathlib.Decide.{dec_le}
+use mathlib.Core.Bool.{Bool}
+use mathlib.Core.List.{List, [], ◌∷◌, ◌++◌, map}
+use lib.ListN.{length, take, drop, get_or, length-drop, length-map, drop_of_length-le}
+use lib.Seq.{take-nil, take_all, length-take-le}
+use lib.IntN.{ℤ}
+use borrow.Author.Tests.{lt-ltb, le-ltb}
 use Rattle.format.specs.Digits.{AllBelow}
 use Rattle.format.specs.Fields.{two64, row}
 use Rattle.format.specs.Runs.{Description, short, direct, fixed, delta, patched, layout}
@@ -10,6 +18,7 @@ use Rattle.format.specs.Rows.{as_i64, i64_rows, rows_of}
 use Rattle.format.specs.Parse.{Parsed, end, got, refused, code_of, parse}
 use Rattle.format.specs.Promises.{run_of, answer_of}
 use Rattle.format.specs.declared.Answer.{Answer}
+use Rattle.format.specs.declared.Answer.TheVariants as answer
 use Rattle.format.specs.declared.Run.{Run}
 use Rattle.format.proofs.Below.{below-take, below-drop}
 use Rattle.format.proofs.Reading.{NoRun, block_at, byte-here, run-inj}
@@ -83,7 +92,8 @@ first-laid rows out n e = by (dec_le (length out) (length rows))
 
 -- ---- the run that its measure names
 
-module _ (s : List ℕ) (at skip : ℕ) (signed : Bool) (out : List ℤ) {r : Run} (m : Measured s at r) where
+module _ (s : List ℕ) (at skip : ℕ) (signed : Bool) (out : List ℤ) (r : Run)
+    (e : answer.Run r ≡ answer_of at (length s - at) (direct-run.run s at)) (m : Measured s at r) where
   abbrev values : List ℕ
   values = (block_at s (at + 2) r.width r.rows.rows).values
 
@@ -121,7 +131,7 @@ module _ (s : List ℕ) (at skip : ℕ) (signed : Bool) (out : List ℤ) {r : Ru
       let lr : length rows ≡ r.rows.rows - skip = rw (length-drop, i64-count signed d, count) in
       let o : two ≡ take n rows ++ drop n out
       = then-pass (decoded signed) (map as_i64 (take n (drop skip values))) out one two n lv f g ∙ ap (λ (x : List ℤ). x ++ drop n out) (decoded-rows n) in
-      let named : r ≡ run_of d = run-inj r (run_of d) (m.answered ∙ ap (answer_of at (length s - at)) there) in
+      let named : r ≡ run_of d = run-inj r (run_of d) (e ∙ ap (answer_of at (length s - at)) there) in
       record {
         answer = ap part.Read named ∙ sym (rw (there, lt-ltb skip (length values) (omega (arith, count))));
         places = rw there (o ∙ first-laid rows out n (q ∙ ap (min (length out)) (sym lr)));

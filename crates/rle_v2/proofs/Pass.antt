@@ -1,15 +1,20 @@
 -- The turns of a loop that makes a pass over its places, once for every pass; and what each reader's pass makes of the patterns it finds.
 -- Assumes nothing.
-use Rattle.format.proofs.Common.{◌≡◌, refl, sym, ap, ◌∙◌, ℕ, zero, suc, ◌+◌, ◌-◌, ◌*◌, ◌^◌, ◌<◌, ◌≤◌, sub-zero, zero-mul, add-zero, add-one}
-use Rattle.format.proofs.Common.{arith, Bool, true, false, List, [], ◌∷◌, ◌++◌, map, length, take, drop, get_or, set, length-set, length-map}
-use Rattle.format.proofs.Common.{drop-cons, get_or-drop, take_at, drop_at, ℤ}
+use mathlib.Core.Path.{◌≡◌, refl, sym, ap, ◌∙◌}
+use Prim.Native.Nat.{ℕ, zero, suc, ◌+◌, ◌-◌, ◌*◌, ◌^◌, ◌<◌, ◌≤◌}
+use native.Mathlib.Nat.{sub-zero, zero-mul, add-zero}
+use native.Mathlib.Numerals.{add-one}
+use native.Mathlib.Omega.{arith}
+use mathlib.Core.Bool.{Bool, true, false}
+use mathlib.Core.List.{List, [], ◌∷◌, ◌++◌, map}
+use lib.ListN.{length, take, drop, get_or, set, length-set}
+use lib.Seq.{drop-cons, get_or-drop, take_at, drop_at}
+use lib.IntN.{ℤ}
 use Rattle.format.specs.Digits.{AllBelow}
 use Rattle.format.specs.Fields.{two64, zigzag, row}
 use Rattle.format.specs.Rows as Rows
 use Rattle.format.specs.Rows.{plus, as_i64}
 use Rattle.format.proofs.Patterns.{as-back}
-use Rattle.util.specs.Packed.{fields}
-use Rattle.util.proofs.Window.{length_fields}
 use Rattle.util.proofs.Grow.{grow, kept, filled}
 use Rattle.rle_v2.specs.Pass.{pass, stepped, unzigzagged, decoded, based, moved, summed}
 
@@ -41,29 +46,6 @@ module _ {S A : Type 0} (new : S → A → A) (on : S → A → S) (first : S) (
         made = grow out i a _ _ b m;
         rest = kept out out₀ i a t.rest;
       }
-
-  -- what is still to come stands as it stood
-  later : (out : List A) (i k : ℕ) (s : S) (d : A) → Turn out i s → get_or out (i + k) d ≡ get_or out₀ (i + k) d
-  later out i k s d t = sym (get_or-drop i out k d) ∙ ap (λ (x : List A). get_or x k d) t.rest ∙ get_or-drop i out₀ k d
-
-  -- four turns at once, by what the places held before the first
-  pub turn-four : (out : List A) (i : ℕ) (s : S) (d a₁ a₂ a₃ a₄ : A) (s₁ s₂ s₃ s₄ : S) → Turn out i s → i + 4 ≤ n → n ≤ length out₀
-      → a₁ ≡ new s (get_or out i d) → s₁ ≡ on s (get_or out i d)
-      → a₂ ≡ new s₁ (get_or out (i + 1) d) → s₂ ≡ on s₁ (get_or out (i + 1) d)
-      → a₃ ≡ new s₂ (get_or out (i + 2) d) → s₃ ≡ on s₂ (get_or out (i + 2) d)
-      → a₄ ≡ new s₃ (get_or out (i + 3) d) → s₄ ≡ on s₃ (get_or out (i + 3) d)
-      → Turn (set (set (set (set out i a₁) (i + 1) a₂) (i + 2) a₃) (i + 3) a₄) (i + 4) s₄
-  turn-four out i s d a₁ a₂ a₃ a₄ s₁ s₂ s₃ s₄ t h l ea₁ es₁ ea₂ es₂ ea₃ es₃ ea₄ es₄ =
-      let e₂ : i + 1 + 1 ≡ i + 2 = omega arith in
-      let e₃ : i + 2 + 1 ≡ i + 3 = omega arith in
-      let e₄ : i + 3 + 1 ≡ i + 4 = omega arith in
-      let t₁ = turn-next out i s d a₁ s₁ t (omega arith) l ea₁ es₁ in
-      let g₁ = later out i 1 s d t ∙ sym (rw add-zero at (later _ (i + 1) 0 s₁ d t₁)) in
-      let t₂ = rw e₂ at (turn-next _ (i + 1) s₁ d a₂ s₂ t₁ (omega arith) l (rw g₁ at ea₂) (rw g₁ at es₂)) in
-      let g₂ = later out i 2 s d t ∙ sym (rw add-zero at (later _ (i + 2) 0 s₂ d t₂)) in
-      let t₃ = rw e₃ at (turn-next _ (i + 2) s₂ d a₃ s₃ t₂ (omega arith) l (rw g₂ at ea₃) (rw g₂ at es₃)) in
-      let g₃ = later out i 3 s d t ∙ sym (rw add-zero at (later _ (i + 3) 0 s₃ d t₃)) in
-      rw e₄ at (turn-next _ (i + 3) s₃ d a₄ s₄ t₃ (omega arith) l (rw g₃ at ea₄) (rw g₃ at es₄))
 
   pub turn_last : (out : List A) (i : ℕ) (s : S) → Turn out i s → n ≤ i → out ≡ pass new on first (take n out₀) ++ drop n out₀
   unfolding pass
@@ -108,11 +90,6 @@ summed-is falling x [] h = refl
 summed-is falling x (m ∷ ms) h = rw (as-back m h.0) (ap (λ (l : List ℤ). as_i64 (moved falling x m) ∷ l) (summed-is falling (moved falling x m) ms h.1))
 
 -- a pass over what was just laid down in the first n places
-pub then-pass : {A : Type 0} (f : List A → List A) (vs out one two : List A) (n : ℕ) → length vs ≡ n → one ≡ vs ++ drop n out
-    → two ≡ f (take n one) ++ drop n one
+pub then-pass : {A : Type 0} (f : List A → List A) (vs out one two : List A) (n : ℕ) → length vs ≡ n → one ≡ vs ++ drop n out → two ≡ f (take n one) ++ drop n one
     → two ≡ f vs ++ drop n out
 then-pass f vs out one two n l e g = g ∙ rw (e, take_at vs (drop n out) n l, drop_at vs (drop n out) n l)
-
-pub pass-fields : (f : List ℤ → List ℤ) (w n : ℕ) (s : List ℕ) (out : List ℤ) {one two : List ℤ} → one ≡ map as_i64 (fields w n s) ++ drop n out
-    → two ≡ f (take n one) ++ drop n one → two ≡ f (map as_i64 (fields w n s)) ++ drop n out
-pass-fields f w n s out e g = then-pass f (map as_i64 (fields w n s)) out _ _ n (length-map (fields w n s) as_i64 ∙ length_fields w n s) e g

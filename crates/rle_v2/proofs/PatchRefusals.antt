@@ -1,7 +1,13 @@
 -- The walk over a patch list finds exactly refusals 3 and 7. Assumes nothing.
-use Rattle.format.proofs.Common.{◌≡◌, refl, ◌∙◌, sym, ap, ℕ, ◌+◌, ◌-◌, ◌<◌, ◌≤◌, arith, ℕ_discrete, Bool, true, false, ◌&&◌, ◌||◌, or-true}
-use Rattle.format.proofs.Common.{List, [], ◌∷◌, pow_pos, leb, ltb, eqb, le-ltb, lt-ltb, lt-leb, eq-eqb, ne_eqb, eqb-true, ltb-false}
-use mathlib.Core.Bool.{or_assoc}
+use mathlib.Core.Path.{◌≡◌, refl, ◌∙◌, sym, ap}
+use Prim.Native.Nat.{ℕ, ◌+◌, ◌-◌, ◌<◌, ◌≤◌}
+use native.Mathlib.Omega.{arith}
+use native.Mathlib.Decide.{ℕ_discrete}
+use mathlib.Core.Bool.{Bool, true, false, ◌&&◌, ◌||◌, or-true, or_assoc}
+use mathlib.Core.List.{List, [], ◌∷◌}
+use lib.Pow.{pow_pos}
+use lib.Dec.{leb, ltb, eqb}
+use borrow.Author.Tests.{le-ltb, lt-ltb, lt-leb, eq-eqb, ne_eqb, eqb-true, ltb-false}
 use Rattle.format.specs.Fields.{pick}
 use Rattle.format.proofs.RunComplete.{limit_is}
 use Rattle.format.specs.Runs.{Patch, is_skip, gap_of, patch_of, patches_from, patches, last_is_skip, taken, shared, outside, patch_limit, too_large, out_of_place}
@@ -22,8 +28,7 @@ places-from pw before f [] h = refl
 places-from pw before f (e ∷ es) h = go (is_skip pw e) (places-from pw (before + gap_of pw e) f es (omega arith))
   where
     go : (t : Bool) → under f (patches_from pw (before + gap_of pw e) es) ≡ false
-        → under f (pick t (patches_from pw (before + gap_of pw e) es) (record { place = before + gap_of pw e; patch = patch_of pw e }
-        ∷ patches_from pw (before + gap_of pw e) es)) ≡ false
+        → under f (pick t (patches_from pw (before + gap_of pw e) es) (record { place = before + gap_of pw e; patch = patch_of pw e } ∷ patches_from pw (before + gap_of pw e) es)) ≡ false
     go true ih = ih
     go false ih = rw (le-ltb (before + gap_of pw e) f (omega arith)) ih
 
@@ -67,21 +72,17 @@ walk_is pw rows before free skip (e ∷ es) h = go (is_skip pw e) (walk_is pw ro
     qs : List Patch
     qs = patches_from pw b es
 
-    -- the patches from e on, if e is a skip and if not
-    from : Bool → List Patch
-    from t = pick t qs (record { place = b; patch = patch_of pw e } ∷ qs)
+    q : Patch
+    q = record { place = b; patch = patch_of pw e }
 
     -- an entry whose place is free and inside
     in_place : (ltb b free ≡ false) → misplaced pw rows b (b + 1) false es ≡ (last_or pw false es || (under (b + 1) qs || (shared qs || outside rows qs)))
         → misplaced pw rows b (b + 1) false es ≡ (last_or pw false es || (under free qs || ((taken b qs || shared qs) || outside rows qs)))
     in_place l ih =
-        ih ∙ rw (places-from pw b free es (ltb-false b free l), taken-under b qs (places-from pw b b es (omega arith)))
-        (ap (λ (z : Bool). last_or pw false es || z) (sym (or_assoc (under (b + 1) qs) (shared qs) (outside rows qs))))
+        ih ∙ rw (places-from pw b free es (ltb-false b free l), taken-under b qs (places-from pw b b es (omega arith))) (ap (λ (z : Bool). last_or pw false es || z) (sym (or_assoc (under (b + 1) qs) (shared qs) (outside rows qs))))
 
-    by : (l o : Bool) → ltb b free ≡ l → leb rows b ≡ o → misplaced pw rows b (b + 1) false es
-        ≡ (last_or pw false es || (under (b + 1) qs || (shared qs || outside rows qs)))
-        → pick (l || o) true (misplaced pw rows b (b + 1) false es)
-        ≡ (last_or pw false es || ((l || under free qs) || ((taken b qs || shared qs) || (o || outside rows qs))))
+    by : (l o : Bool) → ltb b free ≡ l → leb rows b ≡ o → misplaced pw rows b (b + 1) false es ≡ (last_or pw false es || (under (b + 1) qs || (shared qs || outside rows qs)))
+        → pick (l || o) true (misplaced pw rows b (b + 1) false es) ≡ (last_or pw false es || ((l || under free qs) || ((taken b qs || shared qs) || (o || outside rows qs))))
     by true o el eo ih = sym (or-true (last_or pw false es))
     by false true el eo ih = rw (or-true (taken b qs || shared qs), or-true (under free qs)) (sym (or-true (last_or pw false es)))
     by false false el eo ih = in_place el ih
@@ -89,7 +90,7 @@ walk_is pw rows before free skip (e ∷ es) h = go (is_skip pw e) (walk_is pw ro
     go : (t : Bool) → misplaced pw rows b free true es ≡ (last_or pw true es || (under free qs || (shared qs || outside rows qs)))
         → misplaced pw rows b (b + 1) false es ≡ (last_or pw false es || (under (b + 1) qs || (shared qs || outside rows qs)))
         → pick t (misplaced pw rows b free true es) (pick (ltb b free || leb rows b) true (misplaced pw rows b (b + 1) false es))
-        ≡ (last_or pw t es || (under free (from t) || (shared (from t) || outside rows (from t))))
+        ≡ (last_or pw t es || (under free (pick t qs (q ∷ qs)) || (shared (pick t qs (q ∷ qs)) || outside rows (pick t qs (q ∷ qs)))))
     go true skipped named = skipped
     go false skipped named = by (ltb b free) (leb rows b) refl refl named
 

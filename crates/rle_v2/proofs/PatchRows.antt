@@ -1,11 +1,17 @@
 -- The walk over a patch list patches exactly the rows that the definition names. Assumes nothing.
-use Rattle.format.proofs.Common.{◌≡◌, refl, sym, ap, ◌∙◌, ℕ, zero, suc, ◌+◌, ◌-◌, ◌*◌, ◌/◌, ◌%◌, ◌^◌, ◌<◌, ◌≤◌, arith, dec_lt, ℕ_discrete}
-use Rattle.format.proofs.Common.{Bool, true, false, ◌&&◌, ◌||◌, List, [], ◌∷◌, ◌++◌, map, length, get_or, set, length-set, length-map}
-use Rattle.format.proofs.Common.{length-append, List·getD-map, List·getD-append, get_or-set_same, get_or-set_other, ext_get_or, ℤ, pos, pow_pos}
-use Rattle.format.proofs.Common.{pow_mono, mod-lt, mod-eq_of_lt, mod-add-mod, zero-mul, add-zero, add_assoc, suc-add, pow-zero, div-one}
-use Rattle.format.proofs.Common.{div-lt_iff_lt-mul, leb, eqb, eq-eqb, ne_eqb, leb-false}
-use lib.Seq.{get_or-append-add}
-use native.Mathlib.Nat.{add-suc}
+use mathlib.Core.Path.{◌≡◌, refl, sym, ap, ◌∙◌}
+use Prim.Native.Nat.{ℕ, zero, suc, ◌+◌, ◌-◌, ◌*◌, ◌/◌, ◌%◌, ◌^◌, ◌<◌, ◌≤◌}
+use native.Mathlib.Omega.{arith}
+use native.Mathlib.Decide.{dec_lt, ℕ_discrete}
+use mathlib.Core.Bool.{Bool, true, false, ◌&&◌, ◌||◌}
+use mathlib.Core.List.{List, [], ◌∷◌, ◌++◌, map}
+use lib.ListN.{length, get_or, set, length-set, length-map, length-append, get_or-map, get_or-append}
+use lib.Seq.{get_or-set_same, get_or-set_other, get_or-append-add, ext_get_or}
+use lib.IntN.{ℤ, pos}
+use lib.Pow.{pow_pos, pow_mono}
+use native.Mathlib.Nat.{mod-lt, mod-eq_of_lt, mod-add-mod, zero-mul, add-zero, add_assoc, suc-add, add-suc, pow-zero, div-one, div-lt_iff_lt-mul}
+use lib.Dec.{leb, eqb}
+use borrow.Author.Tests.{eq-eqb, ne_eqb, leb-false}
 use Rattle.format.specs.Fields.{pick, two64}
 use Rattle.format.specs.Rows as Rows
 use Rattle.format.specs.Rows.{plus, as_i64}
@@ -86,16 +92,24 @@ patch-past : (w pw before rows p : ℕ) (es : List ℕ) (out : List ℤ) → row
     → get_or (patch_all w pw before out es) p (pos 0) ≡ get_or out p (pos 0)
 unfolding patch_all patches_from outside
 patch-past w pw before rows p [] out h o = refl
-patch-past w pw before rows p (x ∷ es) out h o =
-    go (before + gap_of pw x) (patches_from pw (before + gap_of pw x) es) (is_skip pw x) o (λ l. patch-past w pw (before + gap_of pw x) rows p es l h)
+patch-past w pw before rows p (x ∷ es) out h o = go (is_skip pw x) o (λ l. patch-past w pw (before + gap_of pw x) rows p es l h)
   where
-    go : (b : ℕ) (qs : List Patch) (t : Bool) → outside rows (pick t qs (record { place = b; patch = patch_of pw x } ∷ qs)) ≡ false
+    b : ℕ
+    b = before + gap_of pw x
+
+    qs : List Patch
+    qs = patches_from pw b es
+
+    named : ℤ
+    named = patched_row w (patch_of pw x) (get_or out b (pos 0))
+
+    go : (t : Bool) → outside rows (pick t qs (record { place = b; patch = patch_of pw x } ∷ qs)) ≡ false
         → ((l : List ℤ) → outside rows qs ≡ false → get_or (patch_all w pw b l es) p (pos 0) ≡ get_or l p (pos 0))
-        → get_or (patch_all w pw b (pick t out (set out b (patched_row w (patch_of pw x) (get_or out b (pos 0))))) es) p (pos 0) ≡ get_or out p (pos 0)
-    go b qs true o' ih = ih out o'
-    go b qs false o' ih =
+        → get_or (patch_all w pw b (pick t out (set out b named)) es) p (pos 0) ≡ get_or out p (pos 0)
+    go true o' ih = ih out o'
+    go false o' ih =
         let q = neither (leb rows b) (outside rows qs) o' in
-        ih (set out b _) q.1 ∙ get_or-set_other out b p _ (pos 0) (λ e. omega (arith, leb-false rows b q.0, h, e))
+        ih (set out b named) q.1 ∙ get_or-set_other out b p named (pos 0) (λ e. omega (arith, leb-false rows b q.0, h, e))
 
 get_d_rows : (base w : ℕ) (ps : List Patch) (p i : ℕ) (vs : List ℕ) → i < length vs
     → get_or (Rows.patched_rows base w ps p vs) i 0 ≡ plus base (get_or vs i 0 + Rows.patch_at (p + i) ps * 2 ^ w)
@@ -106,7 +120,7 @@ get_d_rows base w ps p (suc i) (v ∷ vs) h = get_d_rows base w ps (suc p) i vs 
 
 getD-i64 : (l : List ℕ) (i : ℕ) → get_or (map as_i64 l) i (pos 0) ≡ as_i64 (get_or l i 0)
 unfolding as_i64
-getD-i64 l i = List·getD-map as_i64 l i 0
+getD-i64 l i = get_or-map as_i64 l i 0
 
 module _ (w pw base : ℕ) (vs es : List ℕ) (t : List ℤ) (h : out_of_place pw (length vs) es ≡ false) where
   before-rows : List ℕ
@@ -130,10 +144,9 @@ module _ (w pw base : ℕ) (vs es : List ℕ) (t : List ℤ) (h : out_of_place p
   inside i l =
       let r : ℕ = plus base (get_or vs i 0 + 0 * 2 ^ w) in
       let e : get_or start i (pos 0) ≡ as_i64 r
-      = List·getD-append (map as_i64 before-rows) t (pos 0) i (rw (length-rows []) l) ∙ getD-i64 before-rows i ∙ ap as_i64 (get_d_rows base w [] 0 i vs l) in
+      = get_or-append (map as_i64 before-rows) t (pos 0) i (rw (length-rows []) l) ∙ getD-i64 before-rows i ∙ ap as_i64 (get_d_rows base w [] 0 i vs l) in
       let f : get_or (map as_i64 after-rows ++ t) i (pos 0) ≡ as_i64 (plus base (get_or vs i 0 + Rows.patch_at (0 + i) (patches pw es) * 2 ^ w))
-      = List·getD-append (map as_i64 after-rows) t (pos 0) i (rw (length-rows (patches pw es)) l) ∙ getD-i64 after-rows i
-      ∙ ap as_i64 (get_d_rows base w (patches pw es) 0 i vs l) in
+      = get_or-append (map as_i64 after-rows) t (pos 0) i (rw (length-rows (patches pw es)) l) ∙ getD-i64 after-rows i ∙ ap as_i64 (get_d_rows base w (patches pw es) 0 i vs l) in
       let z : 0 + i ≡ i = omega arith in
       patch-at w pw 0 i r es start (mod-lt _ (pow_pos 64)) (rw (length-append, length-rows []) (omega arith)) e parts.0
       ∙ ap as_i64 (rw (zero-mul, add-zero, mod-add-mod, add_assoc, z)) ∙ sym f

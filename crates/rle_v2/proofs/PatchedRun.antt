@@ -1,44 +1,42 @@
 -- What a patched base run gives, by the tests of its reader. Assumes nothing.
-use Rattle.format.proofs.Common.{◌≡◌, refl, sym, ◌∙◌, ◌≢◌, ℕ, ◌+◌, ◌-◌, ◌*◌, ◌/◌, ◌%◌, ◌<◌, ◌≤◌, arith, dec_lt, Bool, true, false, List, []}
-use Rattle.format.proofs.Common.{◌∷◌, ◌++◌, length, take, drop, get_or, length-drop, length-take-le, ℤ, lt-ltb, le-ltb, ne_eqb}
-use Rattle.format.specs.Fields.{pick, width}
-use Rattle.format.specs.Runs.{Description, patched, entry_width, patches, too_large, out_of_place, layout}
-use Rattle.format.specs.Rows.{base_value, i64_rows, rows_of}
-use Rattle.format.specs.Parse.{Parsed, got, refused, plain, cut_in, code_of, rows_less, unless, patched_body, patched_run}
-use Rattle.format.specs.Answers.{running}
-use Rattle.format.specs.Promises.{run_of}
+use mathlib.Core.Path.{◌≡◌, refl, sym, ap, ◌∙◌}
+use Prim.Native.Nat.{ℕ, ◌+◌, ◌-◌, ◌*◌, ◌/◌, ◌%◌, ◌<◌, ◌≤◌}
+use native.Mathlib.Omega.{arith}
+use native.Mathlib.Decide.{dec_lt}
+use mathlib.Core.Bool.{Bool, true, false}
+use mathlib.Core.List.{List, [], ◌∷◌, ◌++◌, map}
+use lib.ListN.{length, take, drop, get_or, length-drop}
+use lib.Seq.{length-take-le}
+use lib.IntN.{ℤ}
+use borrow.Author.Tests.{lt-ltb, le-ltb}
+use Rattle.format.specs.Fields.{pick, width, bytes_for}
+use Rattle.format.specs.Runs.{Description, patched, entry_width, patches, too_large, out_of_place}
+use Rattle.format.specs.Rows as Rows
+use Rattle.format.specs.Rows.{as_i64, base_value, i64_rows, rows_of}
+use Rattle.format.specs.Parse.{Parsed, got, refused, plain, code_of, rows_less, unless, patched_body, patched_run}
+use Rattle.format.specs.Promises.{answer_of, Gives}
+use Rattle.format.specs.declared.Answer.TheVariants as answer
+use Rattle.format.specs.Answers.{ran, refused_at}
 use Rattle.format.specs.declared.Kind.TheVariants.{PatchedBase}
 use Rattle.format.proofs.Rows.{width-le, bytes_count}
-use Rattle.format.proofs.Widths.{width-pos}
-use Rattle.format.proofs.Reading.{byte-here, bytes-here, bytes_cut, block_at, block_here, block-cut, answer-refused, answer-cut}
-use Rattle.util.specs.Packed.{fields}
-use Rattle.rle_v2.specs.PatchList.{Listed, list_number}
-use Rattle.rle_v2.specs.PatchedHead.{InRange, value_bytes, list_bytes, values_at, list_at, end_at, found_at, gone_by, body_at, cut_body}
-use Rattle.rle_v2.specs.PatchedHead.{Headed, IsFound, patched_places, IsMeasured}
-use Rattle.rle_v2.specs.RunAt.{run_at}
-use Rattle.rle_v2.specs.declared.patched_base.Found.{Found}
-use Rattle.rle_v2.specs.declared.patched_base.Header.{Header}
+use Rattle.format.proofs.Reading.{byte-here, bytes-here, bytes_cut, block_at, block_here, block-cut, answer-refused, answer-cut, answer-run, gives-8, gives-run}
+use Rattle.rle_v2.specs.Pass.{based}
+use Rattle.rle_v2.specs.PatchList.{list_number, patch_all}
+use Rattle.rle_v2.specs.PatchedHead.{cut_body}
 use Rattle.rle_v2.proofs.Pass.{based-is}
 use Rattle.rle_v2.proofs.PatchRefusals.{none-refused}
 use Rattle.rle_v2.proofs.PatchRows.{patched-is}
-use Rattle.rle_v2.proofs.Blocks.{block-count, block-patterns, code-width, entry-width}
-use Rattle.rle_v2.proofs.TestedRun.{gone-plain}
+use Rattle.rle_v2.proofs.Blocks.{block-count, block-patterns}
 
 module _ (s : List ℕ) (at : ℕ) where
-  gone : (m : Parsed Description) (n : ℕ) → n ≢ 0 → m ≡ refused (plain n) → IsFound s at m (gone_by n 0)
-  gone m n z e = record { heads = λ y. absurd (z y); refusal = λ y. answer-refused at (length s - at) m n e }
-
-  gone-in : (m : Parsed Description) (n x : ℕ) → n ≢ 0 → at < x → x ≤ length s → m ≡ refused (cut_in n (drop x s)) → IsFound s at m (gone_by n x)
-  gone-in m n x z h l e = record {
-    heads = λ y. absurd (z y);
-    refusal = λ y. rw (ne_eqb x 0 (λ q. omega arith)) (answer-cut s at x n m (omega arith) l e);
-  }
-
   -- ---- the header
 
-  pub no_header : at < length s → length s - at < 4 → IsFound s at (run_at patched_run s at) (gone_by 1 0)
+  abbrev pub run : Parsed Description
+  run = patched_run (get_or s at 0) (drop (at + 1) s)
+
+  pub no_header : at < length s → length s - at < 4 → refused_at 1 at ≡ answer_of at (length s - at) run
   unfolding patched_run
-  no_header h l = gone _ 1 (λ z. omega arith) (few (drop (at + 1) s) (rw length-drop (omega arith)))
+  no_header h l = answer-refused at (length s - at) run 1 (few (drop (at + 1) s) (rw length-drop (omega arith)))
     where
       few : (bs : List ℕ) → length bs < 3 → patched_run (get_or s at 0) bs ≡ refused (plain 1)
       few [] k = refl
@@ -47,7 +45,7 @@ module _ (s : List ℕ) (at : ℕ) where
       few (b ∷ c ∷ e ∷ bs) k = absurd (omega arith)
 
   pub is_body : 4 ≤ length s - at
-      → run_at patched_run s at
+      → run
       ≡ patched_body (code_of (get_or s at 0)) (rows_less (get_or s at 0) (get_or s (at + 1) 0) + 1) (get_or s (at + 2) 0 / 32 + 1) (get_or s (at + 2) 0 % 32)
       (get_or s (at + 3) 0 / 32 + 1) (get_or s (at + 3) 0 % 32) (drop (at + 4) s)
   unfolding patched_run
@@ -59,171 +57,105 @@ module _ (s : List ℕ) (at : ℕ) where
 
   -- ---- the body
 
-  module _ (h : Header) where
+  module _ (code rows bw pc gw len : ℕ) where
     abbrev body : Parsed Description
-    body = body_at h s at
+    body = patched_body code rows bw pc gw len (drop (at + 4) s)
 
-    abbrev values : ℕ
-    values = values_at at h
+    -- the bytes of the values, and of the list
+    abbrev size : ℕ
+    size = bytes_for (rows * width code)
 
-    abbrev list : ℕ
-    list = list_at at h
+    abbrev list_size : ℕ
+    list_size = bytes_for (len * entry_width pc gw)
 
-    abbrev w : ℕ
-    w = width h.code
-
-    abbrev pw : ℕ
-    pw = width h.patch
-
-    abbrev rows : ℕ
-    rows = h.rows.rows
-
-    abbrev entry : ℕ
-    entry = entry_width h.patch h.gap
-
-    pub refused-2 : 64 < pw + h.gap → IsFound s at body (gone_by 2 0)
+    pub refused-2 : 64 < width pc + gw → refused_at 2 at ≡ answer_of at (length s - at) body
     unfolding patched_body
-    refused-2 l = gone body 2 (λ z. omega arith) (rw (lt-ltb 64 (pw + h.gap) l))
+    refused-2 h = answer-refused at (length s - at) body 2 (rw (lt-ltb 64 (width pc + gw) h))
 
-    module _ (not-2 : pw + h.gap ≤ 64) where
+    module _ (not-2 : width pc + gw ≤ 64) where
       -- the input ends in the base, in the values or in the list
-      pub broken-off : at + 4 ≤ length s → length s < end_at at h → IsFound s at body (cut_body (length s) at values list)
+      pub broken-off : at + 4 ≤ length s → length s < at + 4 + bw + size + list_size
+          → answer.Refused (cut_body (length s) at (at + 4 + bw) (at + 4 + bw + size)) ≡ answer_of at (length s - at) body
       unfolding patched_body cut_body
-      broken-off t k = by (dec_lt (length s) values) (dec_lt (length s) list)
+      broken-off t h = by (dec_lt (length s) (at + 4 + bw)) (dec_lt (length s) (at + 4 + bw + size))
         where
-          by : Dec (length s < values) → Dec (length s < list) → IsFound s at body (cut_body (length s) at values list)
+          by : Dec (length s < at + 4 + bw) → Dec (length s < at + 4 + bw + size) → answer.Refused (cut_body (length s) at (at + 4 + bw) (at + 4 + bw + size)) ≡ answer_of at (length s - at) body
           by (yes l) m =
-              rw (lt-ltb (length s) values l)
-              (gone-in body 6 (at + 4) (λ z. omega arith) (omega arith) t (rw (le-ltb 64 (pw + h.gap) not-2, bytes_cut s (at + 4) 6 h.base (omega arith))))
+              rw (lt-ltb (length s) (at + 4 + bw) l)
+              (answer-cut s at (at + 4) 6 body (omega arith) t
+              (rw (le-ltb 64 (width pc + gw) not-2, bytes_cut s (at + 4) 6 bw (omega arith))))
           by (no l) (yes m) =
-              rw (le-ltb (length s) values (omega arith), lt-ltb (length s) list m)
-              (gone-in body 13 values (λ z. omega arith) (omega arith) (omega arith)
-              (rw (le-ltb 64 (pw + h.gap) not-2, bytes-here s (at + 4) 6 h.base (omega arith), block-cut s values 13 w rows (omega arith))))
+              rw (le-ltb (length s) (at + 4 + bw) (omega arith), lt-ltb (length s) (at + 4 + bw + size) m)
+              (answer-cut s at (at + 4 + bw) 13 body (omega arith) (omega arith)
+              (rw (le-ltb 64 (width pc + gw) not-2, bytes-here s (at + 4) 6 bw (omega arith), block-cut s (at + 4 + bw) 13 (width code) rows (omega arith))))
           by (no l) (no m) =
-              rw (le-ltb (length s) values (omega arith), le-ltb (length s) list (omega arith))
-              (gone-in body 14 list (λ z. omega arith) (omega arith) (omega arith)
+              rw (le-ltb (length s) (at + 4 + bw) (omega arith), le-ltb (length s) (at + 4 + bw + size) (omega arith))
+              (answer-cut s at (at + 4 + bw + size) 14 body (omega arith) (omega arith)
               (rw (
-                le-ltb 64 (pw + h.gap) not-2,
-                bytes-here s (at + 4) 6 h.base (omega arith),
-                block_here s values 13 w rows (omega arith),
-                block-cut s list 14 entry h.entries (omega arith),
+                le-ltb 64 (width pc + gw) not-2,
+                bytes-here s (at + 4) 6 bw (omega arith),
+                block_here s (at + 4 + bw) 13 (width code) rows (omega arith),
+                block-cut s (at + 4 + bw + size) 14 (entry_width pc gw) len (omega arith),
               )))
 
-      module _ (there : end_at at h ≤ length s) where
-        pub all_there : InRange h → IsFound s at body (found_at at h)
-        all_there i = record {
-          heads = λ z. record { h = h; fields_fit = i; not-2 = not-2; there = there; found = refl; body = refl };
-          refusal = λ z. absurd (z refl);
-        }
-
-        pub listed : InRange h → Listed entry pw h.entries (drop list s)
-        listed i = record {
-          wide = entry-width _;
-          some = width-pos _;
-          few = omega (arith, i.some-gap);
-          entries = i.entries;
-          there = rw length-drop (omega arith);
-        }
-
-        abbrev entries : List ℕ
-        entries = fields entry h.entries (drop list s)
+      module _ (h : at + 4 + bw + size + list_size ≤ length s) where
+        abbrev pub entries : List ℕ
+        entries = (block_at s (at + 4 + bw + size) (entry_width pc gw) len).values
 
         abbrev number : ℕ
-        number = list_number w pw rows entries
+        number = list_number (width code) (width pc) rows entries
 
-        abbrev d : Description
-        d = patched h.code (take h.base (drop (at + 4) s)) h.patch h.gap (block_at s values w rows) (block_at s list entry h.entries)
+        abbrev all : Parsed Description
+        all =
+            got (patched code (take bw (drop (at + 4) s)) pc gw (block_at s (at + 4 + bw) (width code) rows) (block_at s (at + 4 + bw + size) (entry_width pc gw) len))
+            (drop (at + 4 + bw + size + list_size) s)
 
         -- all of the body but the tests of the list
-        but-list : body ≡ unless (too_large w (patches pw entries)) 3 (unless (out_of_place pw rows entries) 7 (got d (drop (end_at at h) s)))
+        all_there : body ≡ unless (too_large (width code) (patches (width pc) entries)) 3 (unless (out_of_place (width pc) rows entries) 7 all)
         unfolding patched_body
-        but-list =
+        all_there =
             rw (
-              le-ltb 64 (pw + h.gap) not-2,
-              bytes-here s (at + 4) 6 h.base (omega arith),
-              block_here s values 13 w rows (omega arith),
-              block_here s list 14 entry h.entries (omega arith),
+              le-ltb 64 (width pc + gw) not-2,
+              bytes-here s (at + 4) 6 bw (omega arith),
+              block_here s (at + 4 + bw) 13 (width code) rows (omega arith),
+              block_here s (at + 4 + bw + size) 14 (entry_width pc gw) len (omega arith),
             )
 
-        pub list-refused : number ≢ 0 → IsMeasured s at body (gone_by number 0)
+        pub refused-list : (number ≡ 0 → ⊥) → refused_at number at ≡ answer_of at (length s - at) body
         unfolding list_number
-        list-refused z = record {
-          tests = gone-plain number z
-              (answer-refused at (length s - at) body _ (but-list ∙ by (too_large w (patches pw entries)) (out_of_place pw rows entries) z));
-          ready = λ y. absurd (z y);
-        }
+        refused-list z = answer-refused at (length s - at) body _ (all_there ∙ by (too_large (width code) (patches (width pc) entries)) (out_of_place (width pc) rows entries) z)
           where
-            by : (t o : Bool) → (◌≡◌ {A = ℕ} (pick t 3 (pick o 7 0)) 0 → ⊥)
-                → unless t 3 (unless o 7 (got d (drop (end_at at h) s))) ≡ refused (plain (pick t 3 (pick o 7 0)))
+            by : (t o : Bool) → (◌≡◌ {A = ℕ} (pick t 3 (pick o 7 0)) 0 → ⊥) → unless t 3 (unless o 7 all) ≡ refused (plain (pick t 3 (pick o 7 0)))
             by true o z = refl
             by false true z = refl
             by false false z = absurd (z refl)
 
         module _ (z : number ≡ 0) where
-          run_is : running PatchedBase w rows (end_at at h - at) ≡ run_of d
+          is-run : body ≡ all
+          is-run =
+              let q = none-refused (width code) (width pc) rows entries z in
+              all_there ∙ rw (q.0, q.1)
+
+          pub run_is : ran PatchedBase (width code) rows (at + 4 + bw + size + list_size - at) ≡ answer_of at (length s - at) body
           run_is =
-              let n = block-count s values w rows in
-              let b : end_at at h - at ≡ length (layout d)
-              = sym (bytes_count d ∙ rw (length-take-le h.base (drop (at + 4) s) (rw length-drop (omega arith)), n, block-count s list entry h.entries)
-              (omega arith)) in
-              rw (b, n)
+              let n = block-count s (at + 4 + bw) (width code) rows in
+              answer-run at (length s - at) body _ _ is-run PatchedBase (width code) rows _ refl refl (sym n)
+              (sym (bytes_count _ ∙ rw (length-take-le bw (drop (at + 4) s) (rw length-drop (omega arith)), n, block-count s (at + 4 + bw + size) (entry_width pc gw) len) (omega arith)))
 
-          rows_are : (signed : Bool) (out : List ℤ) → patched_places s at (found_at at h) out ≡ i64_rows signed d ++ drop rows out
-          unfolding i64_rows rows_of
-          rows_are signed out =
-              let vs = (block_at s values w rows).values in
-              let base = base_value (take h.base (drop (at + 4) s)) in
-              rw (based-is base w 0 vs (block-patterns s values w rows (width-le h.code)))
-              (patched-is w pw base vs entries (drop rows out) (rw (block-count s values w rows) (none-refused w pw rows entries z).1))
+          module _ (signed : Bool) (out : List ℤ) where
+            pub refused-8 : length out < rows → Gives at (length s - at) signed body out out (refused_at 8 at)
+            refused-8 r = gives-8 at (length s - at) signed body out _ _ is-run (rw (block-count s (at + 4 + bw) (width code) rows) r)
 
-          pub list-passed : InRange h → IsMeasured s at body (found_at at h)
-          list-passed i = record {
-            tests = record {
-              passed = λ y. record {
-                d = d;
-                rest = drop (end_at at h) s;
-                read = let q = none-refused w pw rows entries z in but-list ∙ rw (q.0, q.1);
-                run_is = run_is;
-                rows_are = λ signed out l. rows_are signed out;
-              };
-              refusal = λ y. absurd (y refl);
-            };
-            ready = λ y. record {
-              some_bytes = i.some_bytes;
-              eight = i.eight;
-              base_there = omega arith;
-              wide = code-width h.code;
-              narrow = width-le h.code;
-              rows = i.rows;
-              values-in = omega arith;
-              values-there = omega arith;
-              list-in = omega arith;
-              list-there = listed i;
-              in_place = (none-refused w pw rows entries z).1;
-            };
-          }
-
--- ---- what was found, once its header and body have passed
-
-abbrev pub number_of : List ℕ → Found → ℕ
-number_of s f = list_number f.bits f.patch f.rows.rows (fields f.entry f.entries (drop f.list.bytes s))
-
-module _ {s : List ℕ} {at : ℕ} {m : Parsed Description} {f : Found} where
-  pub found-gone : IsFound s at m f → f.tested.number ≢ 0 → IsMeasured s at m f
-  found-gone i z = record { tests = record { passed = λ y. absurd (z y); refusal = i.refusal }; ready = λ y. absurd (z y) }
-
-module _ {s : List ℕ} {at : ℕ} {m : Parsed Description} {f : Found} (e : Headed s at m f) where
-  pub list-in : f.list.bytes ≤ length s
-  list-in = rw e.found (omega (arith, e.there))
-
-  pub list-there : Listed f.entry f.patch f.entries (drop f.list.bytes s)
-  list-there = rw e.found (listed s at e.h e.not-2 e.there e.fields_fit)
-
-  pub widths-fit : (0 < f.bits) × (f.bits ≤ 64) × (f.rows.rows ≤ 512)
-  widths-fit = rw e.found (width-pos _, width-le _, e.fields_fit.rows)
-
-  pub number-refused : number_of s f ≢ 0 → IsMeasured s at m (gone_by (number_of s f) 0)
-  number-refused z = rw (e.found, e.body) (list-refused s at e.h e.not-2 e.there (λ y. z (rw e.found y)))
-
-  pub number_passed : number_of s f ≡ 0 → IsMeasured s at m f
-  number_passed z = rw (e.found, e.body) (list-passed s at e.h e.not-2 e.there (rw e.found at z) e.fields_fit)
+            pub read_is : (one out' : List ℤ) → rows ≤ length out
+                → one ≡ based (base_value (take bw (drop (at + 4) s))) (map as_i64 (block_at s (at + 4 + bw) (width code) rows).values) ++ drop rows out
+                → out' ≡ patch_all (width code) (width pc) 0 one entries
+                → Gives at (length s - at) signed body out out' (ran PatchedBase (width code) rows (at + 4 + bw + size + list_size - at))
+            unfolding i64_rows rows_of
+            read_is one out' r e f =
+                let n = block-count s (at + 4 + bw) (width code) rows in
+                let vs = (block_at s (at + 4 + bw) (width code) rows).values in
+                let base = base_value (take bw (drop (at + 4) s)) in
+                let b : one ≡ map as_i64 (Rows.patched_rows base (width code) [] 0 vs) ++ drop rows out
+                = e ∙ ap (λ (x : List ℤ). x ++ drop rows out) (based-is base (width code) 0 vs (block-patterns s (at + 4 + bw) (width code) rows (width-le code))) in
+                gives-run at (length s - at) signed body out _ _ is-run out' _ run_is (rw n r)
+                (f ∙ rw (b, n) (patched-is (width code) (width pc) base vs entries (drop rows out) (rw n (none-refused (width code) (width pc) rows entries z).1)))

@@ -1,6 +1,14 @@
 -- What a short repeat gives, by the tests of its reader. Assumes nothing.
-use Rattle.format.proofs.Common.{◌≡◌, refl, sym, ap, ◌∙◌, ℕ, zero, suc, ◌+◌, ◌-◌, ◌*◌, ◌/◌, ◌%◌, ◌<◌, ◌≤◌, add-zero, mod-eq_of_lt, arith}
-use Rattle.format.proofs.Common.{dec_lt, Bool, List, ◌∷◌, ◌++◌, map, length, take, drop, get_or, replicate, length-drop, length-take-le, ℤ}
+use mathlib.Core.Path.{◌≡◌, refl, sym, ap, ◌∙◌}
+use Prim.Native.Nat.{ℕ, zero, suc, ◌+◌, ◌-◌, ◌*◌, ◌/◌, ◌%◌, ◌<◌, ◌≤◌}
+use native.Mathlib.Nat.{add-zero, mod-eq_of_lt}
+use native.Mathlib.Omega.{arith}
+use native.Mathlib.Decide.{dec_lt}
+use mathlib.Core.Bool.{Bool}
+use mathlib.Core.List.{List, ◌∷◌, ◌++◌}
+use lib.ListN.{length, take, drop, get_or, replicate, length-drop}
+use lib.Seq.{length-take-le}
+use lib.IntN.{ℤ}
 use Rattle.format.specs.Digits.{number}
 use Rattle.format.specs.Fields.{two64, row}
 use Rattle.format.specs.Runs.{Description, short}
@@ -8,14 +16,13 @@ use Rattle.format.specs.Rows as Rows
 use Rattle.format.specs.Rows.{plus, as_i64, i64_rows, rows_of}
 use Rattle.format.specs.Parse.{Parsed, got, short_run}
 use Rattle.format.specs.Promises.{answer_of, Gives}
-use Rattle.format.specs.Answers.{running, ran, cut_at}
+use Rattle.format.specs.Answers.{running, ran, refused_at, cut_at}
 use Rattle.format.specs.declared.Run.{Run}
 use Rattle.format.specs.declared.Answer.TheVariants as answer
 use Rattle.format.specs.declared.Kind.TheVariants.{ShortRepeat}
 use Rattle.format.proofs.Rows.{bytes_count}
-use Rattle.format.proofs.Reading.{bytes-here, bytes_cut, answer-cut, answer-run, run-inj, run-not-refused, gives-run}
+use Rattle.format.proofs.Reading.{bytes-here, bytes_cut, answer-cut, answer-run, run-inj, run-not-refused, gives-8, gives-run}
 use Rattle.rle_v2.specs.Pass.{stepped}
-use Rattle.rle_v2.specs.RunAt.{run_at}
 use Rattle.rle_v2.proofs.Pass.{stepped-is}
 
 -- steps of 0 repeat
@@ -34,7 +41,7 @@ module _ (s : List ℕ) (at : ℕ) where
   count = get_or s at 0 % 8 + 3
 
   abbrev pub run : Parsed Description
-  run = run_at short_run s at
+  run = short_run (get_or s at 0) (drop (at + 1) s)
 
   pub no_body : at < length s → length s - (at + 1) < size → cut_at 6 at (at + 1) ≡ answer_of at (length s - at) run
   unfolding short_run
@@ -59,7 +66,6 @@ module _ (s : List ℕ) (at : ℕ) where
     pub size_is : r.width / 8 ≡ size
     pub rows_are : r.rows.rows ≡ count
     pub bytes-are : r.consumed.bytes ≡ 1 + size
-    pub answered : answer.Run r ≡ answer_of at (length s - at) run
 
   pub measured : (r : Run) → at < length s → answer.Run r ≡ answer_of at (length s - at) run → Measured r
   measured r h e = by (dec_lt (length s - (at + 1)) size)
@@ -69,16 +75,19 @@ module _ (s : List ℕ) (at : ℕ) where
       by (no l) =
           let t : size ≤ length s - (at + 1) = omega arith in
           let q : r ≡ running ShortRepeat (8 * size) count (1 + size) = run-inj r _ (e ∙ sym (run_is t)) in
-          record { there = t; size_is = rw q (omega arith); rows_are = rw q; bytes-are = rw q; answered = e }
+          record { there = t; size_is = rw q (omega arith); rows_are = rw q; bytes-are = rw q }
 
-  -- the one value
-  abbrev value : Bool → Run → ℕ
-  value signed r = row signed (number 256 (take (r.width / 8) (drop (at + 1) s)))
+  module _ (signed : Bool) (out : List ℤ) (r : Run) (e : answer.Run r ≡ answer_of at (length s - at) run) (m : Measured r) where
+    -- the one value
+    abbrev value : ℕ
+    value = row signed (number 256 (take (r.width / 8) (drop (at + 1) s)))
 
-  pub read_is : {signed : Bool} {out out' : List ℤ} {r : Run} → Measured r → r.rows.rows ≤ length out → value signed r < two64
-      → out' ≡ stepped (value signed r) 0 (take r.rows.rows out) ++ drop r.rows.rows out
-      → Gives at (length s - at) signed run out out' (answer.Run r)
-  unfolding i64_rows rows_of
-  read_is {signed} {out} {r = r} m h v o =
-      gives-run at (length s - at) signed run out _ _ (is-run m.there) _ _ m.answered (rw m.rows_are at h)
-      (o ∙ rw (stepped-is (value signed r) 0 r.rows.rows out h, repeated r.rows.rows (value signed r) v, m.rows_are, m.size_is))
+    pub no_room : length out < r.rows.rows → Gives at (length s - at) signed run out out (refused_at 8 at)
+    no_room h = gives-8 at (length s - at) signed run out _ _ (is-run m.there) (rw m.rows_are at h)
+
+    pub read_is : (out' : List ℤ) → r.rows.rows ≤ length out → value < two64 → out' ≡ stepped value 0 (take r.rows.rows out) ++ drop r.rows.rows out
+        → Gives at (length s - at) signed run out out' (answer.Run r)
+    unfolding i64_rows rows_of
+    read_is out' h v o =
+        gives-run at (length s - at) signed run out _ _ (is-run m.there) out' (answer.Run r) e (rw m.rows_are at h)
+        (o ∙ rw (stepped-is value 0 r.rows.rows out h, repeated r.rows.rows value v, m.rows_are, m.size_is))

@@ -1,6 +1,12 @@
 -- A varint of one byte or two, by its bytes. Assumes nothing.
-use Rattle.format.proofs.Common.{◌≡◌, sym, ℕ, suc, ◌+◌, ◌*◌, ◌%◌, ◌<◌, ◌≤◌, arith, add-one, List, [], ◌∷◌, length, drop, get_or}
-use Rattle.format.proofs.Common.{drop_of_length-le, drop-cons, lt-ltb, le-ltb, lt-leb}
+use mathlib.Core.Path.{◌≡◌, sym}
+use Prim.Native.Nat.{ℕ, suc, ◌+◌, ◌*◌, ◌%◌, ◌<◌, ◌≤◌}
+use native.Mathlib.Omega.{arith}
+use native.Mathlib.Numerals.{add-one}
+use mathlib.Core.List.{List, [], ◌∷◌}
+use lib.ListN.{length, drop, get_or, drop_of_length-le}
+use lib.Seq.{drop-cons}
+use borrow.Author.Tests.{lt-ltb, le-ltb, lt-leb}
 use Rattle.format.specs.Fields.{last_below}
 use Rattle.format.specs.Parse.{Reason, got, cut, then, varint}
 use Rattle.util.specs.declared.varint.Varint.TheVariants.{Value, Cut}
@@ -15,8 +21,7 @@ last : (r : Reason) (b : ℕ) (rest : List ℕ) → b < 128 → varint r 9 (b �
 unfolding varint last_below
 last r b rest h = rw (lt-ltb b 128 h, lt-leb 128 b h)
 
-told-two : (at left b c : ℕ) (bs rest : List ℕ) → bs ≡ b ∷ c ∷ rest → 128 ≤ b → c < 128
-    → told at (varint (cut 12 left) 10 bs) ≡ Value (b % 128 + 128 * c) (at + 2)
+told-two : (at left b c : ℕ) (bs rest : List ℕ) → bs ≡ b ∷ c ∷ rest → 128 ≤ b → c < 128 → told at (varint (cut 12 left) 10 bs) ≡ Value (b % 128 + 128 * c) (at + 2)
 told-two at left b c bs rest q h g =
     let e : c % 128 + 128 * 0 ≡ c = omega arith in
     rw (q, more (cut 12 left) b (c ∷ rest) h, last (cut 12 left) c rest g, e)

@@ -1,6 +1,12 @@
 -- The stream reader's runs leave their rows in the first places. Assumes nothing.
-use Rattle.format.proofs.Common.{◌≡◌, refl, sym, ap, ◌∙◌, ℕ, ◌+◌, ◌-◌, ◌<◌, ◌≤◌, le_refl, arith, Bool, List, [], ◌++◌, append-nil, length}
-use Rattle.format.proofs.Common.{take, drop, length-drop, take-append-drop, drop_of_length-le, ℤ}
+use mathlib.Core.Path.{◌≡◌, refl, sym, ap, ◌∙◌}
+use Prim.Native.Nat.{ℕ, ◌+◌, ◌-◌, ◌<◌, ◌≤◌}
+use native.Mathlib.Nat.{le_refl}
+use native.Mathlib.Omega.{arith}
+use mathlib.Core.Bool.{Bool}
+use mathlib.Core.List.{List, [], ◌++◌, append-nil}
+use lib.ListN.{length, take, drop, length-drop, take-append-drop, drop_of_length-le}
+use lib.IntN.{ℤ}
 use Rattle.format.specs.Digits.{AllBelow}
 use Rattle.format.specs.Rows.{i64_rows}
 use Rattle.format.specs.Parse.{parse}
@@ -59,8 +65,7 @@ module _ {s : List ℕ} {from : ℕ} {signed : Bool} {out₀ out : List ℤ} {p 
       counted-rows : length (i64_rows signed o.run) ≡ rows
       counted-rows = i64-count signed o.run ∙ sym o.rows_are
 
-      pub walked-run : Walked s from signed out₀ (take k out ++ (part ++ drop (length out - k) (drop k out)))
-          (p + r.consumed.bytes) (k + rows) (last-run.Run r)
+      pub walked-run : Walked s from signed out₀ (take k out ++ (part ++ drop (length out - k) (drop k out))) (p + r.consumed.bytes) (k + rows) (last-run.Run r)
       unfolding back counted-run
       walked-run =
           let d = o.run in

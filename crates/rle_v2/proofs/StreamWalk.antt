@@ -1,7 +1,11 @@
 -- The turns of the walks over a stream: the runs so far are counted, and what is left is read in the places that are left.
 -- Assumes nothing.
-use Rattle.format.proofs.Common.{◌≡◌, refl, sym, ap, ◌∙◌, ℕ, suc, ◌+◌, ◌-◌, ◌<◌, ◌≤◌, sub-zero, le_refl, arith, List, [], ◌∷◌, ◌++◌, length}
-use Rattle.format.proofs.Common.{drop, length-append, length-drop}
+use mathlib.Core.Path.{◌≡◌, refl, sym, ap, ◌∙◌}
+use Prim.Native.Nat.{ℕ, suc, ◌+◌, ◌-◌, ◌<◌, ◌≤◌}
+use native.Mathlib.Nat.{sub-zero, le_refl}
+use native.Mathlib.Omega.{arith}
+use mathlib.Core.List.{List, [], ◌∷◌, ◌++◌}
+use lib.ListN.{length, drop, length-append, length-drop}
 use Rattle.format.specs.Runs.{Description, layout, joined}
 use Rattle.format.specs.Streams.{Reading, whole, broken, after, runs_from, read_all, total_rows}
 use Rattle.format.specs.Answers.{read_whole, broke_at}

@@ -1,5 +1,5 @@
 -- The two varints that a delta run's body begins with, and what the tests of the run found. Assumes nothing.
-use Rattle.std.specs.Prelude.{◌≡◌, ℕ, ◌+◌, ◌-◌, ◌*◌, ◌≤◌, Bool, List, ◌++◌, map, length, drop, ℤ, eqb}
+use Rattle.std.specs.Prelude.{◌≡◌, ℕ, ◌+◌, ◌-◌, ◌*◌, ◌≤◌, Bool, List, map, length, drop, ℤ, eqb}
 use Rattle.format.specs.Fields.{pick, zigzag, row, bytes_for, varint_value}
 use Rattle.format.specs.Runs.{Description}
 use Rattle.format.specs.Rows.{steps, as_i64, i64_rows}
@@ -10,19 +10,20 @@ use Rattle.format.specs.declared.Kind.TheVariants.{Delta}
 use Rattle.format.specs.declared.Answer.TheVariants as answer
 use Rattle.util.specs.Packed.{fields, Width}
 use Rattle.rle_v2.specs.Pass.{laid}
-use Rattle.rle_v2.specs.Tested as tested
-use Rattle.rle_v2.specs.Tested.{refused_by, IsTested}
+use Rattle.rle_v2.specs.RefusedBy.{refused_by}
 use Rattle.rle_v2.specs.declared.delta.Found.{Found}
 
 -- what is found of a run that is refused
 abbrev pub gone_by : ℕ → ℕ → Found
 gone_by number field = record {
-  tested = tested.gone_by number field;
+  number = number;
+  field = record { bytes = field };
   bits = 0;
   rows = record { rows = 0 };
   first = 0;
   base = 0;
   next = record { bytes = 0 };
+  end = record { bytes = 0 };
 }
 
 -- both varints of a body, and then the rest of it
@@ -40,19 +41,19 @@ pub record Started (s : List ℕ) (at : ℕ) (f : Found) : Type 0 where
   pub parsed : (body : List ℕ → List ℕ → List ℕ → Parsed Description)
       → both body (drop (at + 2) s) ≡ body first-bytes base-bytes (drop f.next.bytes s)
   pub bits_is : f.bits ≡ 0
-  pub bytes-are : f.tested.consumed.bytes ≡ f.next.bytes - at
+  pub end_is : f.end.bytes ≡ f.next.bytes
 
 -- one of them is refused, and so is the run
 pub record NotStarted (s : List ℕ) (at : ℕ) (f : Found) : Type 0 where
   pub reason : Reason
   pub parsed : (body : List ℕ → List ℕ → List ℕ → Parsed Description) → both body (drop (at + 2) s) ≡ refused reason
-  pub refusal_is : refused_by at f.tested ≡ answer.Refused (refusal at (length s - at) reason)
+  pub refusal_is : refused_by at f.number f.field.bytes ≡ answer.Refused (refusal at (length s - at) reason)
 
 -- of a run of so many rows
 pub record StartsAt (s : List ℕ) (at rows : ℕ) (f : Found) : Type 0 where
-  pub rows_is : f.tested.number ≡ 0 → f.rows.rows ≡ rows
-  pub started : f.tested.number ≡ 0 → Started s at f
-  pub refusal : (f.tested.number ≡ 0 → ⊥) → NotStarted s at f
+  pub rows_is : f.number ≡ 0 → f.rows.rows ≡ rows
+  pub started : f.number ≡ 0 → Started s at f
+  pub refusal : (f.number ≡ 0 → ⊥) → NotStarted s at f
 
 -- ---- a run that passed its tests
 
@@ -79,6 +80,15 @@ delta_rows s signed f =
     (laid (row signed f.first) (zigzag f.base) (map as_i64 (fields f.bits (f.rows.rows - 2) (drop f.next.bytes s))))
 
 -- reading gives m: the run at `at` that was found
+pub record Passed (s : List ℕ) (at : ℕ) (m : Parsed Description) (f : Found) : Type 0 where
+  pub d : Description
+  pub rest : List ℕ
+  pub read : m ≡ got d rest
+  pub from : at ≤ f.end.bytes
+  pub run_is : running Delta f.bits f.rows.rows (f.end.bytes - at) ≡ run_of d
+  pub ready : Ready s f
+  pub rows_are : (signed : Bool) → i64_rows signed d ≡ delta_rows s signed f
+
 pub record IsMeasured (s : List ℕ) (at : ℕ) (m : Parsed Description) (f : Found) : Type 0 where
-  pub tests : IsTested Delta s at m f.bits f.rows.rows (λ signed out. delta_rows s signed f ++ drop f.rows.rows out) f.tested
-  pub ready : f.tested.number ≡ 0 → Ready s f
+  pub passed : f.number ≡ 0 → Passed s at m f
+  pub refusal : (f.number ≡ 0 → ⊥) → refused_by at f.number f.field.bytes ≡ answer_of at (length s - at) m

@@ -1,7 +1,6 @@
 -- What the reader's inner functions are stated with. The promises themselves cite `format`.
 pub mod Pass
-pub mod Tested
-pub mod Window
+pub mod RefusedBy
 pub mod RunAt
 pub mod DeltaStart
 pub mod PatchedHead

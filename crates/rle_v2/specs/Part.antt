@@ -1,7 +1,7 @@
 -- A part of a direct run: its rows from a row on, as many as there are places. Assumes nothing.
 use Rattle.std.specs.Prelude.{◌≡◌, ℕ, ◌+◌, ◌*◌, ◌≤◌, Bool, List, [], ◌++◌, map, length, take, drop, ltb, ℤ}
 use Rattle.format.specs.Fields.{pick, bytes_for}
-use Rattle.format.specs.Runs.{Description, short, direct, fixed, delta, patched, row_count}
+use Rattle.format.specs.Runs.{Description, short, direct, fixed, delta, patched}
 use Rattle.format.specs.Rows.{as_i64, i64_rows}
 use Rattle.format.specs.Parse.{Parsed, end, got, refused, parse}
 use Rattle.format.specs.Promises.{run_of}

@@ -1,20 +1,23 @@
--- A patched base header's fields are in range; the widths that it names, the parts of the body after it, and where the input ends in these.
+-- A patched base header's fields are in range; the widths that it names, the parts of the body behind it, and where the input ends in these.
 -- Assumes nothing.
 use Rattle.std.specs.Prelude.{◌≡◌, ℕ, ◌+◌, ◌-◌, ◌*◌, ◌≤◌, ◌<◌, List, ◌++◌, map, length, take, drop, ℤ, false, ltb}
 use Rattle.format.specs.Fields.{pick, width, bytes_for}
+use Rattle.format.specs.Answers.{cutting}
 use Rattle.format.specs.Runs.{Description, entry_width, out_of_place}
 use Rattle.format.specs.Rows.{as_i64, base_value}
 use Rattle.format.specs.Parse.{Parsed, patched_body}
 use Rattle.format.specs.Promises.{answer_of}
-use Rattle.format.specs.declared.Kind.TheVariants.{PatchedBase}
+use Rattle.format.specs.declared.Refusal.{Refusal}
+use Rattle.format.specs.declared.CutField.{CutField}
+use Rattle.format.specs.declared.CutField.TheVariants as field
 use Rattle.util.specs.Packed.{fields, Width}
 use Rattle.rle_v2.specs.Pass.{based}
-use Rattle.rle_v2.specs.Tested as tested
-use Rattle.rle_v2.specs.Tested.{passed_by, refused_by, IsTested}
-use Rattle.rle_v2.specs.PatchList.{Listed, patch_all}
+use Rattle.rle_v2.specs.RefusedBy.{refused_by}
+use Rattle.rle_v2.specs.PatchList.{Listed, list_number, patch_all}
 use Rattle.rle_v2.specs.declared.patched_base.Found.{Found}
 use Rattle.rle_v2.specs.declared.patched_base.Header.{Header}
 use Rattle.rle_v2.specs.declared.patched_base.Widths.{Widths}
+use Rattle.rle_v2.specs.declared.patched_base.Parts.{Parts}
 
 pub record InRange (h : Header) : Type 0 where
   pub code : h.code < 32
@@ -26,8 +29,10 @@ pub record InRange (h : Header) : Type 0 where
   pub gap : h.gap ≤ 8
   pub entries : h.entries ≤ 31
 
-abbrev pub widths_of : Header → Widths
-widths_of h = record { bits = width h.code; patch = width h.patch; entry = entry_width h.patch h.gap }
+pub record IsWidths (h : Header) (w : Widths) : Type 0 where
+  pub bits_is : w.bits ≡ width h.code
+  pub patch-is : w.patch ≡ width h.patch
+  pub entry-is : w.entry ≡ entry_width h.patch h.gap
 
 -- the bytes of the values, and of the list
 abbrev pub value_bytes : Header → ℕ
@@ -36,34 +41,29 @@ value_bytes h = bytes_for (h.rows.rows * width h.code)
 abbrev pub list_bytes : Header → ℕ
 list_bytes h = bytes_for (h.entries * entry_width h.patch h.gap)
 
--- where the body's parts begin, and where it ends
-abbrev pub values_at : ℕ → Header → ℕ
-values_at at h = at + 4 + h.base
+pub record IsParts (at : ℕ) (h : Header) (q : Parts) : Type 0 where
+  pub values-is : q.values.bytes ≡ at + 4 + h.base
+  pub list-is : q.list.bytes ≡ at + 4 + h.base + value_bytes h
+  pub end_is : q.end.bytes ≡ at + 4 + h.base + value_bytes h + list_bytes h
 
-abbrev pub list_at : ℕ → Header → ℕ
-list_at at h = values_at at h + value_bytes h
+-- what stands behind the header's four bytes
+abbrev pub body_at : Header → List ℕ → ℕ → Parsed Description
+body_at h s at = patched_body h.code h.rows.rows h.base h.patch h.gap h.entries (drop (at + 4) s)
 
-abbrev pub end_at : ℕ → Header → ℕ
-end_at at h = list_at at h + list_bytes h
+-- of `len` bytes, the last stand in the base; or in the values, which begin at a byte; or in the list, which begins at another
+unfoldable pub cut_body : ℕ → ℕ → ℕ → ℕ → Refusal
+cut_body len at values list = pick (ltb len values) (cutting 6 at (at + 4)) (pick (ltb len list) (cutting 13 at values) (cutting 14 at list))
 
--- what is found of the run at `at` if it is all there ..
-abbrev pub found_at : ℕ → Header → Found
-found_at at h = record {
-  tested = passed_by (end_at at h - at);
-  rows = h.rows;
-  base = h.base;
-  entries = h.entries;
-  bits = width h.code;
-  patch = width h.patch;
-  entry = entry_width h.patch h.gap;
-  values = record { bytes = values_at at h };
-  list = record { bytes = list_at at h };
-}
+-- the field of a refusal, by the byte where it begins: 0 where there is none
+abbrev pub field_of : CutField → ℕ
+field_of field.None = 0
+field_of (field.At b) = b.bytes
 
--- .. and if it is refused
-abbrev pub gone_by : ℕ → ℕ → Found
-gone_by number field = record {
-  tested = tested.gone_by number field;
+-- what is found of a run that is refused
+abbrev pub gone_by : Refusal → Found
+gone_by f = record {
+  number = f.number;
+  field = record { bytes = field_of f.cut };
   rows = record { rows = 0 };
   base = 0;
   entries = 0;
@@ -72,29 +72,46 @@ gone_by number field = record {
   entry = 0;
   values = record { bytes = 0 };
   list = record { bytes = 0 };
+  end = record { bytes = 0 };
 }
 
--- what stands after the header's four bytes
-abbrev pub body_at : Header → List ℕ → ℕ → Parsed Description
-body_at h s at = patched_body h.code h.rows.rows h.base h.patch h.gap h.entries (drop (at + 4) s)
+-- the widths and parts of what was found, and the header, by its codes and its gap width
+abbrev pub head_of : ℕ → ℕ → ℕ → Found → Header
+head_of code patch gap f = record { code = code; rows = f.rows; base = f.base; patch = patch; gap = gap; entries = f.entries }
 
--- of `len` bytes, the last stand in the base; or in the values, which begin at a byte; or in the list, which begins at another
-unfoldable pub cut_body : ℕ → ℕ → ℕ → ℕ → Found
-cut_body len at values list = pick (ltb len values) (gone_by 6 (at + 4)) (pick (ltb len list) (gone_by 13 values) (gone_by 14 list))
+abbrev pub widths_of : Found → Widths
+widths_of f = record { bits = f.bits; patch = f.patch; entry = f.entry }
 
--- the run at `at` is all there, and f is found by its header h; m is what reading it gives
-pub record Headed (s : List ℕ) (at : ℕ) (m : Parsed Description) (f : Found) : Type 0 where
-  pub h : Header
+abbrev pub parts_of : Found → Parts
+parts_of f = record { values = f.values; list = f.list; end = f.end }
+
+-- the run at `at` is all there, and these are its fields, widths and parts; m is what reading it gives
+pub record Headed (s : List ℕ) (at : ℕ) (m : Parsed Description) (h : Header) (w : Widths) (q : Parts) : Type 0 where
   pub fields_fit : InRange h
-  pub not-2 : width h.patch + h.gap ≤ 64
-  pub there : end_at at h ≤ length s
-  pub found : f ≡ found_at at h
+  pub widths : IsWidths h w
+  pub not-2 : w.patch + h.gap ≤ 64
+  pub parts : IsParts at h q
+  pub there : q.end.bytes ≤ length s
   pub body : m ≡ body_at h s at
+
+abbrev pub number_of : List ℕ → Found → ℕ
+number_of s f = list_number f.bits f.patch f.rows.rows (fields f.entry f.entries (drop f.list.bytes s))
+
+-- it passed the tests of its list too
+pub record Passed (s : List ℕ) (at : ℕ) (m : Parsed Description) (h : Header) (w : Widths) (q : Parts) : Type 0 where
+  pub headed : Headed s at m h w q
+  pub list : list_number w.bits w.patch h.rows.rows (fields w.entry h.entries (drop q.list.bytes s)) ≡ 0
+
+pub record Heads (s : List ℕ) (at : ℕ) (m : Parsed Description) (f : Found) : Type 0 where
+  pub code : ℕ
+  pub patch : ℕ
+  pub gap : ℕ
+  pub headed : Headed s at m (head_of code patch gap f) (widths_of f) (parts_of f)
 
 -- what was found is so
 pub record IsFound (s : List ℕ) (at : ℕ) (m : Parsed Description) (f : Found) : Type 0 where
-  pub heads : f.tested.number ≡ 0 → Headed s at m f
-  pub refusal : (f.tested.number ≡ 0 → ⊥) → refused_by at f.tested ≡ answer_of at (length s - at) m
+  pub heads : f.number ≡ 0 → Heads s at m f
+  pub refusal : (f.number ≡ 0 → ⊥) → refused_by at f.number f.field.bytes ≡ answer_of at (length s - at) m
 
 -- what laying its rows down asks for
 pub record Ready (s : List ℕ) (at : ℕ) (f : Found) : Type 0 where
@@ -117,8 +134,3 @@ patched_places s at f out =
     (based (base_value (take f.base (drop (at + 4) s))) (map as_i64 (fields f.bits f.rows.rows (drop f.values.bytes s)))
     ++ drop f.rows.rows out)
     (fields f.entry f.entries (drop f.list.bytes s))
-
--- all tests of the run at `at`: m is what reading it gives
-pub record IsMeasured (s : List ℕ) (at : ℕ) (m : Parsed Description) (f : Found) : Type 0 where
-  pub tests : IsTested PatchedBase s at m f.bits f.rows.rows (λ signed out. patched_places s at f out) f.tested
-  pub ready : f.tested.number ≡ 0 → Ready s at f

@@ -9,22 +9,24 @@ ghost use Rattle.rle_v2.specs.Pass.{summed, laid};
 ghost use Rattle.rle_v2.specs.DeltaStart.{gone_by, Started, StartsAt, packed_at, IsMeasured, Ready, delta_rows};
 ghost use Rattle.rle_v2.specs.RunAt.{run_at, MeasuredAs, ReadAs};
 
-use crate::tested::Tested;
-use crate::{header, rows, tested};
+use crate::{header, refusal, rows};
 use format::{Answer, ByteOffset, Kind, RowNumber, TOP_BIT};
 use util::varint::Varint;
 use util::{packed, pattern, varint, width};
 
-// What the tests of a delta run found: the width of its magnitudes in bits, 0 if it has none; its rows; the bits of its two varints; and
-// the place after these.
-#[derive(Drop)]
+// What the tests of a delta run found: the width of its magnitudes in bits, 0 where it has none; its rows; the bits of its two varints, the place
+// after these, and the place after the run. Where the number is not 0, the run is refused with it instead, and the input ends in the field that
+// begins at a byte, or, where that is 0, in none. It is no enum: one with a struct in it goes through memory.
+#[derive(Clone, Copy)]
 struct Found {
-    tested: Tested,
+    number: u8,
+    field: ByteOffset,
     bits: usize,
     rows: RowNumber,
     first: u64,
     base: u64,
     next: ByteOffset,
+    end: ByteOffset,
 }
 
 // A run that is refused.
@@ -32,12 +34,14 @@ fn gone(number: u8, field: ByteOffset) -> Found
     ensures { result ≡ gone_by number field.bytes }
 {
     Found {
-        tested: tested::gone(number, field),
+        number,
+        field,
         bits: 0,
         rows: RowNumber { rows: 0 },
         first: 0,
         base: 0,
         next: ByteOffset { bytes: 0 },
+        end: ByteOffset { bytes: 0 },
     }
 }
 
@@ -68,7 +72,7 @@ fn varint_at(input: &[u8], at: ByteOffset) -> Varint
     varint::read(input, p)
 }
 
-// The two varints of a run of that many rows, as though nothing followed them: a fixed delta.
+// The two varints of a run of so many rows, as though nothing stood behind them: a fixed delta.
 fn starts_at(input: &[u8], at: ByteOffset, rows: RowNumber) -> Found
     requires { at.bytes + 2 ≤ length input.now }
     ensures { StartsAt input.now at.bytes rows.rows result }
@@ -85,18 +89,20 @@ fn starts_at(input: &[u8], at: ByteOffset, rows: RowNumber) -> Found
                 bits: base,
                 next: end,
             } => Found {
-                tested: tested::passed(ByteOffset { bytes: end - p }),
+                number: 0,
+                field: ByteOffset { bytes: 0 },
                 bits: 0, // no magnitudes
                 rows,
                 first,
                 base,
                 next: ByteOffset { bytes: end },
+                end: ByteOffset { bytes: end },
             },
         },
     }
 }
 
-// Packed magnitudes after the varints: one for each row but two.
+// Packed magnitudes behind the varints: one for each row but two.
 fn packed_rows(input: &[u8], at: ByteOffset, code: u8, f: Found) -> Found
     requires { Started input.now at.bytes f × (code < 32) × (2 ≤ f.rows.rows) × (f.rows.rows ≤ 512) }
     ensures { IsMeasured input.now at.bytes (packed_at code f input.now at.bytes) result }
@@ -110,18 +116,18 @@ fn packed_rows(input: &[u8], at: ByteOffset, code: u8, f: Found) -> Found
         return gone(13, next);
     }
     Found {
-        tested: tested::passed(ByteOffset {
-            bytes: p + block - at.bytes,
-        }),
+        number: 0,
+        field: ByteOffset { bytes: 0 },
         bits,
         rows,
         first: f.first,
         base: f.base,
         next,
+        end: ByteOffset { bytes: p + block },
     }
 }
 
-// Whether a run of that many rows has no room for magnitudes, which its code says it has: they begin with the third row.
+// Whether a run of so many rows has no room for magnitudes, which its code says it has: they begin with the third row.
 fn too_few(code: u8, rows: RowNumber) -> bool
     ensures { (result ≡ true → (code ≡ 0 → ⊥) × (rows.rows ≡ 1)) × (result ≡ false → rows.rows ≡ 1 → code ≡ 0) }
 {
@@ -131,7 +137,7 @@ fn too_few(code: u8, rows: RowNumber) -> bool
     rows.rows == 1
 }
 
-// The varints are read at one place, whatever follows them: half the code.
+// The varints are read at one place, whatever stands behind them: half the code.
 fn measured(input: &[u8], at: ByteOffset) -> Found
     requires { at.bytes < length input.now }
     ensures { IsMeasured input.now at.bytes (run_at delta_run input.now at.bytes) result }
@@ -147,12 +153,11 @@ fn measured(input: &[u8], at: ByteOffset) -> Found
         return gone(4, ByteOffset { bytes: 0 });
     }
     let f = starts_at(input, at, rows);
-    let t = f.tested;
-    if t.number != 0 {
+    if f.number != 0 {
         return f;
     }
     if code == 0 {
-        // a fixed delta: nothing follows the varints
+        // a fixed delta: nothing stands behind the varints
         return f;
     }
     packed_rows(input, at, code, f)
@@ -162,10 +167,16 @@ pub(crate) fn measure(input: &[u8], at: ByteOffset) -> Answer
     requires { at.bytes < length input.now }
     ensures { MeasuredAs delta_run input.now at.bytes result }
 {
+    let p = at.bytes;
     let f = measured(input, at);
-    let t = f.tested;
+    if f.number != 0 {
+        let field = f.field;
+        return refusal::answer(f.number, at, field);
+    }
     let rows = f.rows;
-    tested::answer(t, Kind::Delta, at, f.bits, rows)
+    let end = f.end;
+    let consumed = end.bytes - p;
+    Answer::run(Kind::Delta, f.bits, rows, ByteOffset { bytes: consumed })
 }
 
 // The rows after the second: n magnitudes unpacked into the places, and summed up from the row before them.
@@ -215,11 +226,18 @@ pub(crate) fn read(input: &[u8], at: ByteOffset, signed: bool, out: &mut [i64]) 
     requires { at.bytes < length input.now }
     ensures { ReadAs delta_run input.now at.bytes signed out.old out.new result }
 {
+    let p = at.bytes;
     let f = measured(input, at);
-    let rows = f.rows;
-    let t = tested::in_places(f.tested, rows, RowNumber { rows: out.len() });
-    if t.number == 0 {
-        lay(input, f, signed, out);
+    if f.number != 0 {
+        let field = f.field;
+        return refusal::answer(f.number, at, field);
     }
-    tested::answer(t, Kind::Delta, at, f.bits, rows)
+    let rows = f.rows;
+    if out.len() < rows.rows {
+        return Answer::refused(8, at);
+    }
+    lay(input, f, signed, out);
+    let end = f.end;
+    let consumed = end.bytes - p;
+    Answer::run(Kind::Delta, f.bits, rows, ByteOffset { bytes: consumed })
 }

@@ -4,7 +4,7 @@ ghost use Rattle.format.specs.Parse.{code_of, rows_less};
 
 use format::RowNumber;
 
-#[derive(Drop)]
+#[derive(Clone, Copy)]
 pub(crate) struct Head {
     pub code: u8,
     pub rows: RowNumber,

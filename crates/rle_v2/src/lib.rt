@@ -1,4 +1,6 @@
 // RLE version 2: the run reader, a module for each kind of run, the stream reader; and the measures, which give their answers and no rows.
+#![tactic(auto)]
+
 ghost use Rattle.std.specs.Prelude.{◌≡◌, ℕ};
 ghost use Rattle.format.specs.Runs.{Description};
 ghost use Rattle.format.specs.Parse.{Parsed, into};
@@ -12,9 +14,9 @@ mod header;
 pub mod part;
 mod patch_list;
 mod patched_base;
+mod refusal;
 mod rows;
 mod short_repeat;
-mod tested;
 
 // What the run reader answers with room enough, for callers that want no rows: a run's kind, width, rows and bytes, or its refusal.
 pub fn measure(input: &[u8], at: ByteOffset) -> Answer
@@ -61,8 +63,8 @@ pub fn read_run(input: &[u8], at: ByteOffset, signed: bool, out: &mut [i64]) -> 
     delta::read(input, at, signed, out)
 }
 
-// The run that the input begins with, as `read_run` reads it, for a caller that reads one run a call: a short repeat is read here, since
-// its rows, ten at most, are less work than a call.
+// The run that the input begins with, as `read_run` reads it, for a caller that reads one run a call: a short repeat is read here, since its
+// rows, ten at most, are less work than a call.
 pub fn read_first(input: &[u8], signed: bool, out: &mut [i64]) -> Answer
     ensures { RunRead input.now 0 signed out.old out.new result }
 {
@@ -74,7 +76,7 @@ pub fn read_first(input: &[u8], signed: bool, out: &mut [i64]) -> Answer
     read_run(input, ByteOffset { bytes: 0 }, signed, out)
 }
 
-// The same for a caller that asks again as bytes come in: if a direct run is still cut, its header says so, here.
+// The same for a caller that asks again as bytes come in: a direct run that is still cut is told by its header, here.
 pub fn read_gathered(input: &[u8], signed: bool, out: &mut [i64]) -> Answer
     ensures { RunRead input.now 0 signed out.old out.new result }
 {
@@ -88,8 +90,8 @@ pub fn read_gathered(input: &[u8], signed: bool, out: &mut [i64]) -> Answer
     read_run(input, ByteOffset { bytes: 0 }, signed, out)
 }
 
-// The runs from a position to the end of the input, their rows one after another in the places; the answer names the last of them. At the
-// first refusal it stops: the rows of the runs before it stay, and the places after them keep their content.
+// The runs from a position to the end of the input, their rows one after another in the places; the answer names the last of them. At the first
+// refusal it stops: the rows of the runs before it stay, and the places after them keep their content.
 pub fn read_stream(input: &[u8], at: ByteOffset, signed: bool, out: &mut [i64]) -> Stream
     ensures { StreamRead input.now at.bytes signed out.old out.new result }
 {
@@ -123,7 +125,7 @@ pub fn read_stream(input: &[u8], at: ByteOffset, signed: bool, out: &mut [i64]) 
     Stream::whole(RowNumber { rows: k }, ByteOffset { bytes: p - from }, last)
 }
 
-// What a measured run comes to in that many places: refusal 8 if it has more rows.
+// What a measured run comes to in so many places: refusal 8 if it has more rows.
 fn in_places(measured: Answer, at: ByteOffset, places: RowNumber) -> Answer
     ensures { (total : ℕ) (m : Parsed Description)
         → measured ≡ answer_of at.bytes total m → result ≡ answer_of at.bytes total (into places.rows m) }

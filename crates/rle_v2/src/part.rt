@@ -7,7 +7,7 @@ use format::{Answer, ByteOffset, RowNumber, Run};
 use util::packed;
 
 // What a call answers: the run, of which rows were read; or none was, since no direct run with such a row begins there.
-#[derive(Drop)]
+#[derive(Clone, Copy)]
 pub enum DirectPart {
     Read(Run),
     NotRead,

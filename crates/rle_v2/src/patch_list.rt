@@ -8,7 +8,7 @@ ghost use Rattle.rle_v2.specs.PatchList.{IsEntry, Listed, large, list_number, pa
 use format::RowNumber;
 use util::{packed, pattern};
 
-#[derive(Drop)]
+#[derive(Clone, Copy)]
 struct Entry {
     gap: usize,
     patch: u64,

@@ -5,17 +5,16 @@ ghost use Rattle.format.specs.Rows.{as_i64};
 ghost use Rattle.format.specs.Parse.{patched_run};
 ghost use Rattle.util.specs.Packed.{fields, Width};
 ghost use Rattle.rle_v2.specs.Pass.{based};
-ghost use Rattle.rle_v2.specs.PatchedHead.{InRange, widths_of, found_at, gone_by, body_at, cut_body, IsFound};
-ghost use Rattle.rle_v2.specs.PatchedHead.{Ready, patched_places, IsMeasured};
+ghost use Rattle.rle_v2.specs.PatchedHead.{InRange, IsWidths, IsParts, body_at, cut_body, field_of, gone_by, IsFound};
+ghost use Rattle.rle_v2.specs.PatchedHead.{Ready, patched_places};
 ghost use Rattle.rle_v2.specs.RunAt.{run_at, MeasuredAs, ReadAs};
 
-use crate::tested::Tested;
-use crate::{header, patch_list, rows, tested};
-use format::{Answer, ByteOffset, Kind, RowNumber};
+use crate::{header, patch_list, refusal, rows};
+use format::{Answer, ByteOffset, CutField, Kind, Refusal, RowNumber};
 use util::{big_endian, packed, width};
 
 // What the four header bytes say: width code, rows, base bytes, patch width code, gap width, list length.
-#[derive(Drop)]
+#[derive(Clone, Copy)]
 struct Header {
     code: u8,
     rows: RowNumber,
@@ -26,18 +25,28 @@ struct Header {
 }
 
 // The widths in bits: of the values, the patches, and the list's entries.
-#[derive(Drop)]
+#[derive(Clone, Copy)]
 struct Widths {
     bits: usize,
     patch: usize,
     entry: usize,
 }
 
-// What the tests of a patched base run found: its rows, base bytes and list length; the widths of its values, patches and list entries in
-// bits; and the first byte of the values and of the list.
-#[derive(Drop)]
+// The first byte of the values and of the list, and the byte after it.
+#[derive(Clone, Copy)]
+struct Parts {
+    values: ByteOffset,
+    list: ByteOffset,
+    end: ByteOffset,
+}
+
+// What the header of a patched base run says, and where its body stands: rows, base bytes and list length, the widths in bits, and the parts. Where
+// the number is not 0, the run is refused with it instead, and the input ends in the field that begins at a byte, or, where that is 0, in none. It is
+// no enum: one that a call gives back goes through memory twice.
+#[derive(Clone, Copy)]
 struct Found {
-    tested: Tested,
+    number: u8,
+    field: ByteOffset,
     rows: RowNumber,
     base: usize,
     entries: usize,
@@ -46,14 +55,28 @@ struct Found {
     entry: usize,
     values: ByteOffset,
     list: ByteOffset,
+    end: ByteOffset,
+}
+
+// The byte where the field begins that the input ends in; 0 where it ends in none.
+fn field_of(cut: CutField) -> ByteOffset
+    ensures { result.bytes ≡ field_of cut }
+{
+    match cut {
+        CutField::None => ByteOffset { bytes: 0 },
+        CutField::At(byte) => byte,
+    }
 }
 
 // A run that is refused.
-fn gone(number: u8, field: ByteOffset) -> Found
-    ensures { result ≡ gone_by number field.bytes }
+fn gone(f: Refusal) -> Found
+    ensures { result ≡ gone_by f }
 {
+    let cut = f.cut;
+    let field = field_of(cut);
     Found {
-        tested: tested::gone(number, field),
+        number: f.number,
+        field,
         rows: RowNumber { rows: 0 },
         base: 0,
         entries: 0,
@@ -62,63 +85,72 @@ fn gone(number: u8, field: ByteOffset) -> Found
         entry: 0,
         values: ByteOffset { bytes: 0 },
         list: ByteOffset { bytes: 0 },
+        end: ByteOffset { bytes: 0 },
     }
 }
 
-// What is found if the body is all there: its parts stand one after another.
-fn found_at(at: ByteOffset, h: Header, w: Widths) -> Found
-    requires { (at.bytes < 2 ^ 63) × InRange h × (w ≡ widths_of h) }
-    ensures { result ≡ found_at at.bytes h }
+// Where the body's parts begin, and where it ends.
+fn parts_of(at: ByteOffset, h: Header, w: Widths) -> Parts
+    requires { (at.bytes < 2 ^ 63) × InRange h × IsWidths h w }
+    ensures { IsParts at.bytes h result }
 {
     let p = at.bytes;
     let rows = h.rows;
     let values = p + 4 + h.base;
     let list = values + packed::block_size(w.bits, rows.rows);
     let end = list + packed::block_size(w.entry, h.entries);
+    Parts {
+        values: ByteOffset { bytes: values },
+        list: ByteOffset { bytes: list },
+        end: ByteOffset { bytes: end },
+    }
+}
+
+// The input ends in the body: in the base, in the values or in the list.
+fn broke_off(len: ByteOffset, at: ByteOffset, q: Parts) -> Refusal
+    requires { at.bytes + 4 ≤ len.bytes }
+    ensures { result ≡ cut_body len.bytes at.bytes q.values.bytes q.list.bytes }
+{
+    let all = len.bytes;
+    let p = at.bytes;
+    let values = q.values;
+    let list = q.list;
+    if all < values.bytes {
+        return Refusal::cut(6, at, ByteOffset { bytes: p + 4 });
+    }
+    if all < list.bytes {
+        return Refusal::cut(13, at, values);
+    }
+    Refusal::cut(14, at, list)
+}
+
+// The body: that it is there.
+fn body(input: &[u8], at: ByteOffset, h: Header, w: Widths) -> Found
+    requires { (at.bytes + 4 ≤ length input.now) × InRange h × IsWidths h w × (w.patch + h.gap ≤ 64) }
+    ensures { IsFound input.now at.bytes (body_at h input.now at.bytes) result }
+{
+    let q = parts_of(at, h, w);
+    let end = q.end;
+    if input.len() < end.bytes {
+        let len = ByteOffset { bytes: input.len() };
+        return gone(broke_off(len, at, q));
+    }
+    let rows = h.rows;
+    let values = q.values;
+    let list = q.list;
     Found {
-        tested: tested::passed(ByteOffset { bytes: end - p }),
+        number: 0,
+        field: ByteOffset { bytes: 0 },
         rows,
         base: h.base,
         entries: h.entries,
         bits: w.bits,
         patch: w.patch,
         entry: w.entry,
-        values: ByteOffset { bytes: values },
-        list: ByteOffset { bytes: list },
+        values,
+        list,
+        end,
     }
-}
-
-// The input ends in the body: in the base, in the values or in the list.
-fn broke_off(len: ByteOffset, at: ByteOffset, f: Found) -> Found
-    requires { at.bytes + 4 ≤ len.bytes }
-    ensures { result ≡ cut_body len.bytes at.bytes f.values.bytes f.list.bytes }
-{
-    let all = len.bytes;
-    let p = at.bytes;
-    let values = f.values;
-    let list = f.list;
-    if all < values.bytes {
-        return gone(6, ByteOffset { bytes: p + 4 });
-    }
-    if all < list.bytes {
-        return gone(13, values);
-    }
-    gone(14, list)
-}
-
-// The body: that it is there.
-fn body(input: &[u8], at: ByteOffset, h: Header, w: Widths) -> Found
-    requires { (at.bytes + 4 ≤ length input.now) × InRange h × (w ≡ widths_of h) × (w.patch + h.gap ≤ 64) }
-    ensures { IsFound input.now at.bytes (body_at h input.now at.bytes) result }
-{
-    let f = found_at(at, h, w);
-    let t = f.tested;
-    let all = t.consumed;
-    if input.len() - at.bytes < all.bytes {
-        let len = ByteOffset { bytes: input.len() };
-        return broke_off(len, at, f);
-    }
-    f
 }
 
 // What the header's widths refuse, before the body is read.
@@ -129,7 +161,7 @@ fn by_widths(input: &[u8], at: ByteOffset, h: Header) -> Found
     let bits = width::bits_of(h.code);
     let patch = width::bits_of(h.patch);
     if 64 < patch + h.gap {
-        return gone(2, ByteOffset { bytes: 0 });
+        return gone(Refusal::new(2, at));
     }
     let entry = width::entry_width(patch + h.gap);
     body(input, at, h, Widths { bits, patch, entry })
@@ -141,7 +173,7 @@ fn headed(input: &[u8], at: ByteOffset) -> Found
 {
     let p = at.bytes;
     if input.len() - p < 4 {
-        return gone(1, ByteOffset { bytes: 0 });
+        return gone(Refusal::new(1, at));
     }
     let h = header::two_bytes(input[p], input[p + 1]);
     let third = input[p + 2];
@@ -160,15 +192,15 @@ fn headed(input: &[u8], at: ByteOffset) -> Found
     by_widths(input, at, four)
 }
 
-// All tests of a run: the header's, the body's and the list's.
-fn measured(input: &[u8], at: ByteOffset) -> Found
+pub(crate) fn measure(input: &[u8], at: ByteOffset) -> Answer
     requires { at.bytes < length input.now }
-    ensures { IsMeasured input.now at.bytes (run_at patched_run input.now at.bytes) result }
+    ensures { MeasuredAs patched_run input.now at.bytes result }
 {
+    let p = at.bytes;
     let f = headed(input, at);
-    let t = f.tested;
-    if t.number != 0 {
-        return f;
+    if f.number != 0 {
+        let field = f.field;
+        return refusal::answer(f.number, at, field);
     }
     let rows = f.rows;
     let list = f.list;
@@ -182,19 +214,16 @@ fn measured(input: &[u8], at: ByteOffset) -> Found
         rows,
     );
     if number != 0 {
-        return gone(number, ByteOffset { bytes: 0 });
+        return Answer::refused(number, at);
     }
-    f
-}
-
-pub(crate) fn measure(input: &[u8], at: ByteOffset) -> Answer
-    requires { at.bytes < length input.now }
-    ensures { MeasuredAs patched_run input.now at.bytes result }
-{
-    let f = measured(input, at);
-    let t = f.tested;
-    let rows = f.rows;
-    tested::answer(t, Kind::PatchedBase, at, f.bits, rows)
+    let end = f.end;
+    let consumed = end.bytes - p;
+    Answer::run(
+        Kind::PatchedBase,
+        f.bits,
+        rows,
+        ByteOffset { bytes: consumed },
+    )
 }
 
 // The values with the base added, in their places.
@@ -237,11 +266,36 @@ pub(crate) fn read(input: &[u8], at: ByteOffset, signed: bool, out: &mut [i64]) 
     requires { at.bytes < length input.now }
     ensures { ReadAs patched_run input.now at.bytes signed out.old out.new result }
 {
-    let f = measured(input, at);
-    let rows = f.rows;
-    let t = tested::in_places(f.tested, rows, RowNumber { rows: out.len() });
-    if t.number == 0 {
-        put(input, at, f, out);
+    let p = at.bytes;
+    let f = headed(input, at);
+    if f.number != 0 {
+        let field = f.field;
+        return refusal::answer(f.number, at, field);
     }
-    tested::answer(t, Kind::PatchedBase, at, f.bits, rows)
+    let rows = f.rows;
+    let list = f.list;
+    let from = list.bytes;
+    let refusal = patch_list::refused_with(
+        &input[from..],
+        f.entry,
+        f.patch,
+        f.entries,
+        f.bits,
+        rows,
+    );
+    if refusal != 0 {
+        return Answer::refused(refusal, at);
+    }
+    if out.len() < rows.rows {
+        return Answer::refused(8, at);
+    }
+    put(input, at, f, out);
+    let end = f.end;
+    let consumed = end.bytes - p;
+    Answer::run(
+        Kind::PatchedBase,
+        f.bits,
+        rows,
+        ByteOffset { bytes: consumed },
+    )
 }

@@ -1,7 +1,6 @@
 -- An input in blocks, cut anywhere, is answered as the whole input is, though no more is held than 8,801 characters of a line.
 -- Assumes nothing.
-use Rattle.format.proofs.Common.{◌≡◌, refl, sym, ap, ◌∙◌, ℕ, ◌<◌, ◌%◌, arith, Bool, true, false, ◌||◌, not, List, [], ◌∷◌, ◌++◌, map}
-use Rattle.format.proofs.Common.{append_assoc, length, get_or, eqb, ltb, lt-ltb, ne_eqb}
+use Rattle.std.proofs.Common.{◌≡◌, ℕ, ◌%◌, ◌<◌, Bool, true, false, not, ◌||◌, eqb, ltb, List, [], ◌∷◌, ◌++◌, map, length, get_or, sym, refl, ap, ◌∙◌, append_assoc, arith, lt-ltb, ne_eqb}
 use Rattle.format.specs.Fields.{pick}
 use Rattle.text.specs.Ascii.{ascii}
 use Rattle.text.specs.Hexadecimal.{all_hex, hex_bytes}
@@ -36,8 +35,7 @@ block-turn held b bs = answers-join (lines_from [] (held ++ b)) (block_lines (ke
 
 long-bad : (line : List ℕ) → 8800 < length line → answer_text line ≡ ascii "bad line"
 unfolding answer_text frame_of frame_text bad_line
-long-bad line h = rw (ne_eqb (length line) 0 (omega arith), lt-ltb 8800 (length line) h)
-    (by (eqb (length line % 2) 1) (not (all_hex line)) (ltb 1 (get_or (hex_bytes line) 0 0)))
+long-bad line h = rw (ne_eqb (length line) 0 (omega arith), lt-ltb 8800 (length line) h) (by (eqb (length line % 2) 1) (not (all_hex line)) (ltb 1 (get_or (hex_bytes line) 0 0)))
   where
     by : (t u v : Bool) → frame_text (pick ((((false || t) || true) || u) || v) [] (hex_bytes line)) ≡ ascii "bad line"
     by true u v = refl

@@ -2,5 +2,5 @@
 pub mod Blocks
 pub mod Lines
 pub mod Pieces
-pub mod RunsTurns
+pub mod Turns
 pub mod TextSaid

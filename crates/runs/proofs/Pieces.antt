@@ -1,7 +1,6 @@
 -- What the program hands over to be written, piece by piece: the text of whole lines, and of the last line.
 -- Assumes nothing.
-use Rattle.format.proofs.Common.{◌≡◌, sym, ap, ◌∙◌, ℕ, ◌+◌, ◌≤◌, List, [], ◌++◌, append-nil, length, take, drop, take-add, take_at, eq-eqb}
-use Rattle.format.proofs.Common.{ne_eqb, le-ltb}
+use Rattle.std.proofs.Common.{◌≡◌, ℕ, ◌+◌, ◌≤◌, List, [], ◌++◌, length, take, drop, sym, ap, ◌∙◌, append-nil, take_at, take-add, le-ltb, eq-eqb, ne_eqb}
 use Rattle.lines.specs.Line.{answer_line, answer_room, Answered}
 use Rattle.blocks.specs.Blocks.{lines_from, begun_from, last_line, lines_in, NoNewline}
 use Rattle.runs.specs.Program.{answered, answers_to, answers_from, last_answer, program_text}
@@ -43,5 +42,4 @@ module _ (line out out' : List ℕ) (r : ℕ) (a : Answered line out out' r) (ro
   last-text h n =
       let e : out' ≡ answered line ++ drop (length (answered line)) out = rw answer-is at a.places in
       let k : r ≡ length (answered line) = rw answer-is at a.count in
-      ap (λ (l : List ℕ). take r l) e ∙ take_at (answered line) (drop (length (answered line)) out) r (sym k)
-      ∙ sym (open-text line h ∙ rw (ne_eqb (length line) 0 n) (append-nil (answered line)))
+      ap (λ (l : List ℕ). take r l) e ∙ take_at (answered line) (drop (length (answered line)) out) r (sym k) ∙ sym (open-text line h ∙ rw (ne_eqb (length line) 0 n) (append-nil (answered line)))

@@ -1,15 +1,13 @@
 -- What is handed over, piece by piece, is what comes next of the program's text for what was read. Assumes nothing.
-use Rattle.format.proofs.Common.{◌≡◌, refl, sym, ap, ◌∙◌, ℕ, zero, suc, ◌+◌, ◌<◌, arith, true, false, List, [], ◌∷◌, ◌++◌, append_assoc}
-use Rattle.format.proofs.Common.{append-nil, length, take, drop, take-append-drop, length-append, take_at, ℤ, pos, negsuc}
+use Rattle.std.proofs.Common.{◌≡◌, ℕ, zero, suc, ◌<◌, false, List, [], ◌∷◌, ◌++◌, length, take, drop, ℤ, pos, negsuc, sym, refl, ap, ◌∙◌, append_assoc, append-nil, arith, length-append, take-append-drop, take_at}
 use Rattle.blocks.specs.Blocks.{lines_from, begun_from, last_line, lines_in, NoNewline, kept, part, came, joined_blocks, block_lines}
 use Rattle.blocks.specs.Reading.{no_reads, ReadOnce, Brought, BroughtAll}
 use Rattle.blocks.specs.declared.reading.Reads.{Reads}
 use Rattle.blocks.specs.declared.reading.Read.{Read}
-use Rattle.blocks.proofs.Begun.{begun-append, begun-open, no-take}
-use Rattle.blocks.proofs.BlockReads.{block-long, input-whole, only-held}
+use Rattle.blocks.proofs.Begun.{begun-append, no-take}
+use Rattle.blocks.proofs.Turns.{block-long, input-whole, only-held}
 use Rattle.blocks.proofs.Brought.{none-brought, unread-only, brought-on}
-use Rattle.runs.specs.Program.{answers_to, answers_from, last_answer, program_text, block_text, nothing_said, SaidOn, SaidAs, Due, in_block, at-end, SaidAll}
-use Rattle.runs.specs.Program.{Reached, Pending, Last, ReadGave, Begins, Pieces, FinalSays, NoneUnread}
+use Rattle.runs.specs.Program.{answers_to, answers_from, last_answer, program_text, block_text, nothing_said, SaidOn, SaidAs, Due, in_block, at-end, SaidAll, Reached, Pending, Last, ReadGave, Begins, Pieces, FinalSays, NoneUnread}
 use Rattle.runs.specs.Program.Pieces.{nothing, piece}
 use Rattle.runs.specs.declared.saying.Said.{Said}
 use Rattle.runs.proofs.Blocks.{answers-append, no-open, block-turn, program-blocks}
@@ -108,8 +106,7 @@ module _ (reads : Reads) (said : Said) (s : List ℕ) (n : ℕ) (w : begun_from 
   pub lines-due : (text : List ℕ) → text ≡ answers_from [] (take n s) → Due reads said text
   lines-due text e = piece-due reads said (take n s) (drop n s) w split text e
 
-  pub lines-on : (said' : Said) (text : List ℕ) → text ≡ answers_from [] (take n s) → SaidOn said text said' → said'.cut ≡ false
-      → Pending reads said' (drop n s)
+  pub lines-on : (said' : Said) (text : List ℕ) → text ≡ answers_from [] (take n s) → SaidOn said text said' → said'.cut ≡ false → Pending reads said' (drop n s)
   lines-on said' text e o f = pending-on reads said (take n s) (drop n s) w split said' text e o f
 
 -- what is pending is the beginning of a line

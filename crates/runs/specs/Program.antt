@@ -15,7 +15,7 @@ use Rattle.runs.specs.declared.Left.TheVariants.{Begun, Ended, Failed, Unwritten
 abbrev pub answered : List ℕ → List ℕ
 answered line = ended (answer_text line)
 
--- the answers to lines, one after the other
+-- the answers to lines, one behind the other
 unfoldable pub answers_to : List (List ℕ) → List ℕ
 answers_to [] = []
 answers_to (line ∷ lines) = answered line ++ answers_to lines
@@ -24,7 +24,7 @@ answers_to (line ∷ lines) = answered line ++ answers_to lines
 unfoldable pub program_text : List ℕ → List ℕ
 program_text s = answers_to (lines_in s)
 
--- of an input that goes on after the beginning of a line: the answers to the lines that a newline ends, and to the last
+-- of an input that goes on behind the beginning of a line: the answers to the lines that a newline ends, and to the last
 abbrev pub answers_from : List ℕ → List ℕ → List ℕ
 answers_from line s = answers_to (lines_from line s)
 
@@ -33,8 +33,8 @@ last_answer line = answers_to (last_line line)
 
 -- ---- for the functions of the program
 
--- the first bytes taken are whole lines, and their answers stand in the first bytes written; it stops where no whole line is left or no
--- room for its answer
+-- the first bytes taken are whole lines, and their answers stand in the first bytes written; it stops where no whole line is left or no room for
+-- its answer
 pub record Cut (input out out' : List ℕ) (taken written : ℕ) : Type 0 where
   pub within : taken ≤ length input
   pub fits : written ≤ length out
@@ -50,9 +50,8 @@ pub record Cut (input out out' : List ℕ) (taken written : ℕ) : Type 0 where
 abbrev pub block_text : List ℕ → List (List ℕ) → List ℕ
 block_text held bs = answers_to (block_lines held bs)
 
--- WHAT THE PROGRAM HANDS OVER to be written from a line's beginning on, turn by turn. A turn keeps that beginning as far as it is kept,
--- its block is what came after it, and it hands over the text of the whole lines; what it leaves is the next turn's. Where the input
--- ends, it is the text of the last line.
+-- WHAT THE PROGRAM HANDS OVER to be written from a line's beginning on, turn by turn. A turn keeps that beginning as far as it is kept, its block is
+-- what came behind it, and it hands over the text of the whole lines; what it leaves is the next turn's. Where the input ends, it is the text of the last line.
 pub data HandsOver : List ℕ → List (List ℕ) → List ℕ → Type 0 where
   ends : {line : List ℕ} → HandsOver line [] (program_text (kept line))
   turns : {line input : List ℕ} {from end : ℕ} {blocks : List (List ℕ)} {later : List ℕ} → Carried line input from end
@@ -76,8 +75,8 @@ pub record SaidAs (said : Said) (text : List ℕ) : Type 0 where
 abbrev pub Begins : List ℕ → List ℕ → Type 0
 Begins begin all = (rest : List ℕ) × (all ≡ begin ++ rest)
 
--- WHAT MAY BE HANDED OVER, after some reads and after what was handed over before: what comes next of the program's text for the blocks
--- that the reads brought, whatever comes after them; or, where the last read found the end of the input, the rest of its text
+-- WHAT MAY BE HANDED OVER, after some reads and after what was handed over before: what comes next of the program's text for the blocks that the
+-- reads brought, whatever comes after them; or, where the last read found the end of the input, the rest of its text
 pub data Due (reads : Reads) (said : Said) (text : List ℕ) : Type 0 where
   in_block : (blocks : List (List ℕ)) (before : List ℕ) → Brought reads blocks → SaidAs said before
       → ((later : List (List ℕ)) → Begins (before ++ text) (program_text (joined_blocks (blocks ++ later)))) → Due reads said text
@@ -90,8 +89,8 @@ pub record SaidAll (reads : Reads) (said : Said) : Type 0 where
   pub brought : BroughtAll reads blocks
   pub all : SaidAs said (program_text (joined_blocks blocks))
 
--- WHERE A TURN STANDS: the text for the blocks that the reads brought and for what comes is what was handed over, and what follows from a
--- line's beginning on
+-- WHERE A TURN STANDS: the text for the blocks that the reads brought and for what comes is what was handed over, and what follows from a line's
+-- beginning on
 pub record Reached (reads : Reads) (said : Said) (line : List ℕ) : Type 0 where
   pub blocks : List (List ℕ)
   pub before : List ℕ
@@ -174,8 +173,8 @@ Ready input Ended reads said = SaidAll reads said
 Ready input Failed reads said = is_broken reads.got reads.error ≡ true
 Ready input Unwritten reads said = said.cut ≡ true
 
--- WHERE THE PROGRAM ENDS: at the end of its input, with all handed over; after a read that failed, or a text that the system did not
--- take; or after 2^64 - 1 reads, which no input takes
+-- WHERE THE PROGRAM ENDS: at the end of its input, with all handed over; after a read that failed, or a text that the system did not take; or
+-- after 2^64 - 1 reads, which no input takes
 abbrev pub Over : Left → Reads → Said → Type 0
 Over (Begun from end) reads said = reads.count ≡ 18446744073709551615
 Over Ended reads said = SaidAll reads said

@@ -2,7 +2,7 @@
 ghost use Rattle.runs.specs.Program.{Cut};
 
 // How many bytes of the input are answered, and how many bytes the answers take.
-#[derive(Drop)]
+#[derive(Clone, Copy)]
 pub(crate) struct Progress {
     pub taken: usize,
     pub written: usize,

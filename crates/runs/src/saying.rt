@@ -4,10 +4,9 @@ ghost use Rattle.std.specs.Prelude.{◌≡◌};
 ghost use Rattle.runs.specs.Program.{program_text, nothing_said, Due, SaidOn};
 
 use blocks::reading::Reads;
-use libc::STDOUT_FILENO;
 
 // How many bytes were handed over, and whether the system did not take the last of them.
-#[derive(Drop)]
+#[derive(Clone, Copy)]
 pub(crate) struct Said {
     bytes: u64,
     cut: bool,
@@ -29,16 +28,23 @@ pub(crate) fn is_cut(said: Said) -> bool
     said.cut
 }
 
-// Every byte that the program writes to its output goes through here, beside the bytes that it answers: it is what the definition writes
-// for them, and what comes next of the text for all that was read. No contract can say what the system writes, so that it is said here of
-// what is handed over.
-pub(crate) fn say(reads: Reads, before: Said, asked: &[u8], text: &[u8]) -> Said
+// Every byte that the program writes to its output goes through here, beside the bytes that it answers: it is what the definition writes for
+// them, and what comes next of the text for all that was read. No contract can say what the system writes, so that it is said here of what is
+// handed over.
+pub(crate) fn say(
+    rt: &(impl Print + Eprint),
+    reads: Reads,
+    before: Said,
+    asked: &[u8],
+    text: &[u8],
+) -> Said
     requires { (text.now ≡ program_text asked.now) × Due reads before text.now }
     ensures { SaidOn before text.now result }
 {
-    let is_written = io::write_all(STDOUT_FILENO, text);
-    if !is_written {
-        os::fail(b"runs: the output is cut, standard output cannot be written");
+    let wrote = rt.write_all(text);
+    let is_written = wrote.is_ok();
+    if let Err(e) = wrote {
+        let _ = eprintln!(rt; "runs: the output is cut, standard output cannot be written: {e}");
     }
     let bytes = std::num::wrapping_add_u64(before.bytes, text.len() as u64);
     Said {

@@ -1,7 +1,16 @@
 -- The call: each refusal exactly when, a whole stream with its true groups, and salvaging twice. Assumes nothing.
-use Rattle.format.proofs.Common.{◌≡◌, refl, ap, ◌↔◌, ℕ, suc, ◌+◌, ◌<◌, ◌≤◌, arith, Bool, true, false, not, ◌&&◌, ◌||◌, List, [], ◌∷◌, ◌++◌}
-use Rattle.format.proofs.Common.{length, length-append, T, ltb, eqb, eqb→eq, ltb→lt, le→leb, lt→ltb, ℤ, ltb-true, ltb-false, le-ltb, eq-eqb}
-use Rattle.format.proofs.Common.{w64, SFits}
+use mathlib.Core.Path.{◌≡◌, refl, ap}
+use mathlib.Core.Logic.{◌↔◌}
+use Prim.Native.Nat.{ℕ, suc, ◌+◌, ◌<◌, ◌≤◌}
+use native.Mathlib.Omega.{arith}
+use mathlib.Core.Bool.{Bool, true, false, not, ◌&&◌, ◌||◌}
+use mathlib.Core.List.{List, [], ◌∷◌, ◌++◌}
+use lib.ListN.{length, length-append}
+use lib.Dec.{T, ltb, eqb, eqb→eq, ltb→lt, le→leb, lt→ltb}
+use lib.IntN.{ℤ}
+use borrow.Author.Tests.{ltb-true, ltb-false, le-ltb, eq-eqb}
+use mir.Syntax.{w64}
+use mir.Val.{SFits}
 use Rattle.format.specs.Runs.{Description}
 use Rattle.format.specs.Streams.{total_rows}
 use Rattle.salvage.specs.Salvage
@@ -21,7 +30,7 @@ module _ (signed : Bool) (fill : ℤ) (fits : SFits w64 fill) where
   length-starts : (s : ℕ) (gs : List Group) → length (starts_from s gs) ≡ length (counts gs)
   unfolding starts_from
   length-starts s [] = refl
-  length-starts s (g ∷ gs) = ap suc (length-starts _ gs)
+  length-starts s (g ∷ gs) = ap suc (length-starts (s + length g.bytes) gs)
 
   pub call-holds : (bs starts ns : List ℕ) (places lines : ℕ)
       → CallHolds signed fill bs starts ns places lines (salvaging signed fill bs starts ns places lines)

@@ -1,5 +1,9 @@
 -- A call for each slip, by computation. The stream has five rows of 300 (of 150 if signed), and then a byte that is no run. Assumes nothing.
-use Rattle.format.proofs.Common.{◌≡◌, refl, ℕ, Bool, true, false, List, [], ◌∷◌, ℤ, pos, negsuc}
+use mathlib.Core.Path.{◌≡◌, refl}
+use Prim.Native.Nat.{ℕ}
+use mathlib.Core.Bool.{Bool, true, false}
+use mathlib.Core.List.{List, [], ◌∷◌}
+use lib.IntN.{ℤ, pos, negsuc}
 use Rattle.format.specs.Digits
 use Rattle.format.specs.Fields
 use Rattle.format.specs.Runs

@@ -1,7 +1,16 @@
 -- Fill runs: what the writer writes of the fill row, valid, of the fill row alone, and how many bytes they have. Assumes nothing.
-use Rattle.format.proofs.Common.{◌≡◌, refl, ap, ◌∙◌, ℕ, zero, suc, ◌+◌, ◌*◌, ◌/◌, ◌%◌, ◌≤◌, le_refl, arith, Bool, true, false, List, []}
-use Rattle.format.proofs.Common.{◌∷◌, ◌++◌, map, append-nil, length, replicate, length-append, length-replicate, replicate-append-replicate}
-use Rattle.format.proofs.Common.{eqb, ℤ, eqb-true, eqb-false, w64, SFits}
+use mathlib.Core.Path.{◌≡◌, refl, ap, ◌∙◌}
+use Prim.Native.Nat.{ℕ, zero, suc, ◌+◌, ◌*◌, ◌/◌, ◌%◌, ◌≤◌}
+use native.Mathlib.Nat.{le_refl}
+use native.Mathlib.Omega.{arith}
+use mathlib.Core.Bool.{Bool, true, false}
+use mathlib.Core.List.{List, [], ◌∷◌, ◌++◌, map, append-nil}
+use lib.ListN.{length, replicate, length-append, length-replicate, replicate-append-replicate}
+use lib.Dec.{eqb}
+use lib.IntN.{ℤ}
+use borrow.Author.Tests.{eqb-true, eqb-false}
+use mir.Syntax.{w64}
+use mir.Val.{SFits}
 use Rattle.format.specs.declared.Form.TheVariants.{FixedDelta}
 use Rattle.format.specs.Fields.{pick, zigzagged, shortest, shortest_in}
 use Rattle.format.specs.Runs.{Description, Valid, AllValid, layout, joined}

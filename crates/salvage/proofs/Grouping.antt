@@ -1,6 +1,17 @@
 -- A group kept or replaced, and all groups: what they become reads whole, with the listed rows. Assumes nothing.
-use Rattle.format.proofs.Common.{◌≡◌, refl, sym, ap, ◌∙◌, ◌↔◌, ℕ, ◌*◌, ◌≤◌, arith, Bool, true, false, List, [], ◌∷◌, ◌++◌, length, take}
-use Rattle.format.proofs.Common.{drop, length-append, length-replicate, take_at, drop-append-add, T, eqb→eq, ℤ, eq-eqb, w64, SFits}
+use mathlib.Core.Path.{◌≡◌, refl, sym, ap, ◌∙◌}
+use mathlib.Core.Logic.{◌↔◌}
+use Prim.Native.Nat.{ℕ, ◌*◌, ◌≤◌}
+use native.Mathlib.Omega.{arith}
+use mathlib.Core.Bool.{Bool, true, false}
+use mathlib.Core.List.{List, [], ◌∷◌, ◌++◌}
+use lib.ListN.{length, take, drop, length-append, length-replicate}
+use lib.Seq.{take_at, drop-append-add}
+use lib.Dec.{T, eqb→eq}
+use lib.IntN.{ℤ}
+use borrow.Author.Tests.{eq-eqb}
+use mir.Syntax.{w64}
+use mir.Val.{SFits}
 use Rattle.format.specs.Digits.{AllBelow, sum}
 use Rattle.format.specs.Runs.{Description, AllValid, layout, joined}
 use Rattle.format.specs.Streams.{Reading, whole, read_all, stream, total_rows, joined_rows}

@@ -1,15 +1,25 @@
 -- The bytes of fill runs, as the code lays them down, are those of the definition; how many they are, and runs written one after another.
 -- Assumes nothing.
-use Rattle.format.proofs.Common.{◌≡◌, refl, sym, ap, ◌∙◌, ◌≢◌, ℕ, zero, suc, ◌+◌, ◌-◌, ◌*◌, ◌/◌, ◌%◌, ◌<◌, ◌≤◌, mul-le-mul, arith, Bool}
-use Rattle.format.proofs.Common.{true, false, List, [], ◌∷◌, ◌++◌, append_assoc, append-nil, length, replicate, length-append, eqb, ℤ}
-use Rattle.format.proofs.Common.{eq-eqb, ne_eqb, eqb-false, w64, SFits}
+use mathlib.Core.Path.{◌≡◌, refl, sym, ap, ◌∙◌}
+use mathlib.Core.Logic.{◌≢◌}
+use Prim.Native.Nat.{ℕ, zero, suc, ◌+◌, ◌-◌, ◌*◌, ◌/◌, ◌%◌, ◌<◌, ◌≤◌}
+use native.Mathlib.Nat.{mul-le-mul}
+use native.Mathlib.Omega.{arith}
+use mathlib.Core.Bool.{Bool, true, false}
+use mathlib.Core.List.{List, [], ◌∷◌, ◌++◌, append_assoc, append-nil}
+use lib.ListN.{length, replicate, length-append}
+use lib.Dec.{eqb}
+use lib.IntN.{ℤ}
+use borrow.Author.Tests.{eq-eqb, ne_eqb, eqb-false}
+use mir.Syntax.{w64}
+use mir.Val.{SFits}
 use Rattle.format.specs.Fields.{pick, shortest, two64}
 use Rattle.format.specs.Rows.{as_u64}
 use Rattle.format.specs.Runs.{layout, joined}
 use Rattle.format.specs.Writing.{stored}
 use Rattle.format.proofs.Varints.{shortest-length}
 use Rattle.text.specs.Written.{TextWritten}
-use Rattle.text.proofs.Texts.{none_written, texts-join}
+use Rattle.text.proofs.Texts.{none_written, then-written}
 use Rattle.util.specs.Varint as Varint
 use Rattle.salvage.specs.Salvage.{Group, kept, fill_run, fill_runs, mended}
 use Rattle.salvage.specs.Steps.{run_of, runs_for, filled, made}
@@ -89,10 +99,10 @@ module _ {first n at : ℕ} {out₀ : List ℕ} where
   pub runs-room : {out : List ℕ} {place q : ℕ} → Runs first n out₀ at out place q → place + length (runs_for first q (n % 512)) ≤ length out
   runs-room {out} {place} {q} r = omega (arith, r.written.next, r.same, r.fits, length-append r.done (runs_for first q (n % 512)), ap length r.rest)
 
-  pub runs-full : {out : List ℕ} {place q : ℕ} → Runs first n out₀ at out place q → 0 < q → place + (3 + length (shortest first)) ≤ length out
+  pub runs-full : {out : List ℕ} {place q : ℕ} → Runs first n out₀ at out place q → 0 < q → place + length (run_of first 512) ≤ length out
   unfolding runs_for
   runs-full {out} {place} {q = zero} r h = absurd (omega arith)
-  runs-full {out} {place} {q = suc q} r h = omega (arith, runs-room r, length-append (run_of first 512) (runs_for first q (n % 512)), run_long first 512)
+  runs-full {out} {place} {q = suc q} r h = omega (arith, runs-room r, length-append (run_of first 512) (runs_for first q (n % 512)))
 
   pub runs-next : {out out' : List ℕ} {place place' q : ℕ} → Runs first n out₀ at out place q → 0 < q → TextWritten (run_of first 512) out place out' place'
       → length out' ≡ length out
@@ -103,7 +113,7 @@ module _ {first n at : ℕ} {out₀ : List ℕ} where
       let e : suc q - 1 ≡ q = omega arith in
       rw e (record {
         done = r.done ++ run_of first 512;
-        written = texts-join r.written w;
+        written = then-written (omega (arith, r.fits)) r.written w;
         rest = append_assoc r.done (run_of first 512) (runs_for first q (n % 512)) ∙ r.rest;
         same = s ∙ r.same;
         fits = r.fits;
@@ -118,9 +128,9 @@ module _ {first n at : ℕ} {out₀ : List ℕ} where
   runs_done {out} {place} {q = suc q} r z e = absurd (omega arith)
 
   pub runs-rest-room : {out : List ℕ} {place q : ℕ} → Runs first n out₀ at out place q → q ≡ 0 → n % 512 ≢ 0
-      → place + (3 + length (shortest first)) ≤ length out
+      → place + length (run_of first (n % 512)) ≤ length out
   unfolding runs_for
-  runs-rest-room {out} {place} {q = zero} r z e = omega (arith, rw (ne_eqb (n % 512) 0 e) at (runs-room r), run_long first (n % 512))
+  runs-rest-room {out} {place} {q = zero} r z e = rw (ne_eqb (n % 512) 0 e) at (runs-room r)
   runs-rest-room {out} {place} {q = suc q} r z e = absurd (omega arith)
 
   pub runs-rest : {out out' : List ℕ} {place place' q : ℕ} → Runs first n out₀ at out place q → q ≡ 0 → n % 512 ≢ 0
@@ -129,5 +139,5 @@ module _ {first n at : ℕ} {out₀ : List ℕ} where
   unfolding runs_for
   runs-rest {out} {out'} {place} {place'} {q = zero} r z e w =
       let d : r.done ++ run_of first (n % 512) ≡ filled first n = rw (ne_eqb (n % 512) 0 e) at r.rest in
-      rw (← d) (texts-join r.written w)
+      rw (← d) (then-written (omega (arith, r.fits)) r.written w)
   runs-rest {out} {out'} {place} {place'} {q = suc q} r z e w = absurd (omega arith)

@@ -1,5 +1,9 @@
 -- All that specs/Laws.antt states. Assumes nothing.
-use Rattle.format.proofs.Common.{◌≡◌, refl, sym, ap, ◌∙◌, ℕ, List, length, take, drop, take_at}
+use mathlib.Core.Path.{◌≡◌, refl, sym, ap, ◌∙◌}
+use Prim.Native.Nat.{ℕ}
+use mathlib.Core.List.{List}
+use lib.ListN.{length, take, drop}
+use lib.Seq.{take_at}
 use Rattle.format.specs.Runs.{Description}
 use Rattle.format.specs.Streams.{stream, whole, total_rows}
 use Rattle.format.proofs.Tests.{never}

@@ -1,7 +1,11 @@
 -- Groups by starts and counts: right starts cut a stream into groups that make it up, and damage stays in its group. Assumes nothing.
-use Rattle.format.proofs.Common.{◌≡◌, refl, sym, ap, ◌∙◌, ℕ, suc, ◌+◌, ◌-◌, arith, List, [], ◌∷◌, ◌++◌, append_assoc, append-nil, length}
-use Rattle.format.proofs.Common.{take, drop, length-append, take-append-drop, take-append_seam, drop-append_seam, drop-drop, T, ltb, eqb}
-use Rattle.format.proofs.Common.{eqb→eq, ltb→lt}
+use mathlib.Core.Path.{◌≡◌, refl, sym, ap, ◌∙◌}
+use Prim.Native.Nat.{ℕ, suc, ◌+◌, ◌-◌}
+use native.Mathlib.Omega.{arith}
+use mathlib.Core.List.{List, [], ◌∷◌, ◌++◌, append_assoc, append-nil}
+use lib.ListN.{length, take, drop, length-append, take-append-drop}
+use lib.Seq.{take-append_seam, drop-append_seam, drop-drop}
+use lib.Dec.{T, ltb, eqb, eqb→eq, ltb→lt}
 use Rattle.format.specs.Digits.{AllBelow}
 use Rattle.format.proofs.Below.{below-take, below-drop}
 use Rattle.format.proofs.Tests.{and-e}

@@ -1,7 +1,14 @@
 -- The starts one after another, and group i of those that starts and counts list. Assumes nothing.
-use Rattle.format.proofs.Common.{◌≡◌, refl, sym, ap, ◌∙◌, ◌≢◌, ℕ, zero, suc, ◌+◌, ◌-◌, ◌<◌, ◌≤◌, arith, false, ◌&&◌, List, [], ◌∷◌, length}
-use Rattle.format.proofs.Common.{drop, get_or, length-drop, drop_of_length-le, List·getD-eq-default, drop-cons, take_all, T, ltb, eqb, leb}
-use Rattle.format.proofs.Common.{ltb→lt, leb→le, ne_eqb, lt-ltb, le-ltb}
+use mathlib.Core.Path.{◌≡◌, refl, sym, ap, ◌∙◌}
+use mathlib.Core.Logic.{◌≢◌}
+use Prim.Native.Nat.{ℕ, zero, suc, ◌+◌, ◌-◌, ◌<◌, ◌≤◌}
+use native.Mathlib.Omega.{arith}
+use mathlib.Core.Bool.{false, ◌&&◌}
+use mathlib.Core.List.{List, [], ◌∷◌}
+use lib.ListN.{length, drop, get_or, length-drop, drop_of_length-le, get_or-eq_default}
+use lib.Seq.{drop-cons, take_all}
+use lib.Dec.{T, ltb, eqb, leb, ltb→lt, leb→le}
+use borrow.Author.Tests.{ne_eqb, lt-ltb, le-ltb}
 use Rattle.salvage.specs.Salvage.{groups, rising, starts_right}
 use Rattle.salvage.specs.Steps.{stop_of, bytes_of, group}
 use Rattle.salvage.proofs.Starting.{groups_none, groups-last, groups-cons}
@@ -60,7 +67,7 @@ stop-next end starts i h = let s : i + 1 ≡ suc i = omega arith in rw s (go sta
     go (x ∷ l) (suc j) h = go l j (omega arith)
 
 pub stop-end : (end : ℕ) (starts : List ℕ) (i : ℕ) → length starts ≤ i + 1 → end ≡ stop_of end starts i
-stop-end end starts i h = sym (List·getD-eq-default starts end (omega arith))
+stop-end end starts i h = sym (get_or-eq_default starts end (omega arith))
 
 rises-to : (end s : ℕ) (ss : List ℕ) → T (rising end s ss) → s ≤ end
 unfolding rising

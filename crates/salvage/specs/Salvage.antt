@@ -68,7 +68,7 @@ abbrev pub verdict : Bool → List ℕ
 verdict keep = pick keep (ascii "kept ") (ascii "replaced ")
 
 unfoldable pub line : Bool → ℕ → ℕ → List ℕ
-line keep i n = ((verdict keep ++ decimal i) ++ (ascii " " ++ decimal n)) ++ ascii "\n"
+line keep i n = verdict keep ++ (decimal i ++ (ascii " " ++ (decimal n ++ ascii "\n")))
 
 -- the first group's number is i
 unfoldable pub report : ℕ → List Group → List ℕ
@@ -108,7 +108,7 @@ abbrev pub outcome_of : Call → Outcome
 outcome_of (refused n) = refused_with n
 outcome_of (written new text) = written_of (length new) (length text)
 
--- the output bytes at exit: what is written in the first of them, and what stood in the others; a refused call leaves every byte unchanged
+-- the lent bytes at exit: what is written in the first of them, and what stood in the others; a refused call leaves every byte unchanged
 abbrev pub stream_in : List ℕ → Call → List ℕ
 stream_in out (refused n) = out
 stream_in out (written new text) = new ++ drop (length new) out
@@ -117,7 +117,7 @@ abbrev pub report_in : List ℕ → Call → List ℕ
 report_in out (refused n) = out
 report_in out (written new text) = text ++ drop (length text) out
 
--- ---- THE PROMISE, for every stream, all starts and counts, every fill row, both flags and all output bytes
+-- ---- THE PROMISE, for every stream, all starts and counts, every fill row, both flags and all lent bytes
 
 pub record Salvaged (input starts counts : List ℕ) (fill : ℤ) (signed : Bool) (out out' lines lines' : List ℕ) (r : Outcome) : Type 0 where
   pub answer : r ≡ outcome_of (salvaging signed fill input starts counts (length out) (length lines))

@@ -1,6 +1,5 @@
 // What stands for a group: its own bytes, or fixed delta runs of the fill row, 512 rows each and the remainder last.
 ghost use Rattle.std.specs.Prelude.{◌≡◌, ◌+◌, ◌≤◌, length};
-ghost use Rattle.format.specs.Fields.{shortest};
 ghost use Rattle.format.specs.Rows.{as_u64};
 ghost use Rattle.format.specs.Writing as Writing;
 ghost use Rattle.salvage.specs.Steps.{run_of, filled, made};
@@ -22,7 +21,7 @@ pub(crate) fn stored(fill: i64, signed: bool) -> u64
     }
 }
 
-// How many bytes the runs of these rows have, without writing them: one run for each 512 rows begun, all of one size.
+// How many bytes the runs of so many rows have, without writing them: one run for each 512 rows begun, all of one size.
 fn runs_size(rows: RowNumber, first: u64) -> ByteOffset
     ensures { result.bytes ≡ length (filled first rows.rows) }
 {
@@ -38,7 +37,7 @@ fn runs_size(rows: RowNumber, first: u64) -> ByteOffset
 
 // One run: the two bytes of its header (kind 3, width code 0, rows less 1), the first row, and delta 0.
 fn put_run(rows: RowNumber, first: u64, out: &mut [u8], at: ByteOffset) -> ByteOffset
-    requires { (1 ≤ rows.rows) × (rows.rows ≤ 512) × (at.bytes + (3 + length (shortest first)) ≤ length out.old) }
+    requires { (1 ≤ rows.rows) × (rows.rows ≤ 512) × (at.bytes + length (run_of first rows.rows) ≤ length out.old) }
     ensures { TextWritten (run_of first rows.rows) out.old at.bytes out.new result.bytes }
 {
     let less = rows.rows - 1;

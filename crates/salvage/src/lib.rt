@@ -1,5 +1,7 @@
 // Salvage of a damaged stream: its row groups, each kept byte for byte if it reads whole with its rows, or replaced by runs of a fill row;
 // and a report with a line for each.
+#![tactic(auto)]
+
 ghost use Rattle.std.specs.Prelude.{◌≡◌, Bool, length};
 ghost use Rattle.salvage.specs.Salvage.{written_of, refused_with, Salvaged};
 ghost use Rattle.salvage.specs.Laws.{RightStarts};
@@ -12,14 +14,14 @@ mod groups;
 mod line;
 
 // How many bytes were written: of the new stream, and of the report.
-#[derive(Drop)]
+#[derive(Clone, Copy)]
 pub struct Sizes {
     pub stream: ByteOffset,
     pub report: ByteOffset,
 }
 
 // What a call comes to.
-#[derive(Drop)]
+#[derive(Clone, Copy)]
 pub enum Outcome {
     Written(Sizes),
     Refused(Refusal),

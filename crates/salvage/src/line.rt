@@ -1,17 +1,15 @@
 // A line of the report: `kept` or `replaced`, the group's number, its rows.
-ghost use Rattle.std.specs.Prelude.{◌≡◌, ◌++◌, ◌+◌, ◌≤◌, length};
+ghost use Rattle.std.specs.Prelude.{◌≡◌, ◌+◌, ◌≤◌, length};
 ghost use Rattle.salvage.specs.Salvage as Salvage;
 ghost use Rattle.text.specs.Decimal.{decimal};
 ghost use Rattle.text.specs.Written.{TextWritten};
 
 use format::{ByteOffset, RowNumber};
-use text::{put, put_labelled};
+use text::{put, put_decimal, put_word};
 
 const KEPT: [u8; 5] = *b"kept ";
 
 const REPLACED: [u8; 9] = *b"replaced ";
-
-const SPACE: [u8; 1] = *b" ";
 
 // How many digits a number has.
 fn decimal_size(x: u64) -> ByteOffset
@@ -39,16 +37,15 @@ pub(crate) fn size(keep: bool, number: u64, rows: RowNumber) -> ByteOffset
     ByteOffset { bytes: 11 + digits }
 }
 
-// The verdict, and the group's number after it.
-fn put_verdict(keep: bool, number: u64, out: &mut [u8], at: ByteOffset) -> ByteOffset
-    requires { at.bytes + length (Salvage.verdict keep ++ decimal number) ≤ length out.old }
-    ensures { TextWritten (Salvage.verdict keep ++ decimal number) out.old at.bytes out.new result.bytes }
+fn put_verdict(keep: bool, out: &mut [u8], at: ByteOffset) -> ByteOffset
+    requires { at.bytes + length (Salvage.verdict keep) ≤ length out.old }
+    ensures { TextWritten (Salvage.verdict keep) out.old at.bytes out.new result.bytes }
 {
     if keep {
-        let end = put_labelled(&KEPT, number, out, at.bytes);
+        let end = put_word(&KEPT, out, at.bytes);
         return ByteOffset { bytes: end };
     }
-    let end = put_labelled(&REPLACED, number, out, at.bytes);
+    let end = put_word(&REPLACED, out, at.bytes);
     ByteOffset { bytes: end }
 }
 
@@ -59,11 +56,13 @@ pub(crate) fn put_line(
     out: &mut [u8],
     at: ByteOffset,
 ) -> ByteOffset
-    requires { at.bytes + (length (Salvage.verdict keep ++ decimal number) + (length (decimal rows.rows) + 2)) ≤ length out.old }
+    requires { at.bytes + length (Salvage.line keep number rows.rows) ≤ length out.old }
     ensures { TextWritten (Salvage.line keep number rows.rows) out.old at.bytes out.new result.bytes }
 {
-    let verdict = put_verdict(keep, number, out, at);
-    let mut next = put_labelled(&SPACE, rows.rows as u64, out, verdict.bytes);
+    let verdict = put_verdict(keep, out, at);
+    let mut next = put_decimal(number, out, verdict.bytes);
+    next = put(b' ', out, next);
+    next = put_decimal(rows.rows as u64, out, next);
     next = put(b'\n', out, next);
     ByteOffset { bytes: next }
 }

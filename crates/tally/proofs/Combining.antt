@@ -1,7 +1,6 @@
 -- Totals of two inputs, and of one line more. Assumes nothing.
-use Rattle.format.proofs.Common.{◌≡◌, refl, sym, ap, ◌∙◌, ℕ, ◌+◌, arith, Bool, List, [], ◌∷◌, ◌++◌, append_assoc, length, length-append, ℤ}
-use Rattle.format.proofs.Common.{◌+ℤ◌, +ℤ_idr}
-use lib.IntN.{+ℤ_idl, +ℤ_assoc}
+use Rattle.std.proofs.Common.{◌≡◌, ℕ, ◌+◌, Bool, List, [], ◌∷◌, ◌++◌, length, ℤ, ◌+ℤ◌, sym, refl, ap, ◌∙◌, append_assoc, arith, length-append}
+use lib.IntN.{+ℤ_idl, +ℤ_idr, +ℤ_assoc}
 use Rattle.format.specs.declared.Kind.{Kind}
 use Rattle.tally.specs.Totals.{Line, is_bad, is_end, is_refusal, is_run, rows_in, counted, rows_over, lower, higher, of_two, of_all, sum_of, Tally, totals}
 use Rattle.tally.specs.Totals.{empty, combine}

@@ -1,7 +1,8 @@
 -- The size of the whole number that two words stand for, and its last decimal digit. Assumes nothing.
-use Rattle.format.proofs.Common.{◌≡◌, refl, sym, ap, ◌∙◌, ℕ, suc, ◌+◌, ◌-◌, ◌*◌, ◌/◌, ◌%◌, ◌^◌, ◌<◌, ◌≤◌, arith, dec_lt, mod-lt, zero-lt-suc}
-use Rattle.format.proofs.Common.{div-add-mod', Bool, true, false, leb, pos, negsuc, nat_abs, lt-ltb, le-ltb, le-leb, lt-leb}
+use Rattle.std.proofs.Common.{◌≡◌, ℕ, suc, ◌+◌, ◌*◌, ◌/◌, ◌%◌, ◌^◌, ◌<◌, ◌≤◌, leb, pos, negsuc, nat_abs, sym, refl, ap, ◌∙◌, mod-lt, zero-lt-suc, div-add-mod', arith, le-ltb, lt-ltb, le-leb}
+use native.Mathlib.Decide.{dec_lt}
 use lib.Arith.{digits_div, digits_mod}
+use borrow.Author.Tests.{lt-leb}
 use Rattle.format.specs.Fields.{two64}
 use Rattle.tally.specs.declared.sums.Wide.{Wide}
 use Rattle.tally.specs.Wide.{turned, wide_value, add_wide, size_of, is_negative, IsTenth}

@@ -1,5 +1,5 @@
 -- The README's five lines and others, by computation. Assumes nothing.
-use Rattle.format.proofs.Common.{◌≡◌, refl, ℕ, List, [], ◌∷◌, map, ℤ, pos, negsuc}
+use Rattle.std.proofs.Common.{◌≡◌, ℕ, List, [], ◌∷◌, map, ℤ, pos, negsuc, refl}
 use Rattle.format.specs.declared.Kind.TheVariants.{ShortRepeat, Direct}
 use Rattle.format.proofs.Examples.{told}
 use Rattle.tally.specs.Totals.{run, answered, counted, rows_over, of_all, sum_of, Tally, totals}

@@ -5,9 +5,10 @@ pub mod Limits
 pub mod Sizes
 pub mod WideSums
 pub mod Decimal
-pub mod HeldTotals
+pub mod Held
 pub mod Taking
 pub mod Lines
 pub mod TextDigits
+pub mod TextLengths
 pub mod Examples
 pub mod Outcomes

@@ -1,6 +1,6 @@
 -- 20 exactly when a line would pass a limit. Assumes nothing.
-use Rattle.format.proofs.Common.{◌≡◌, refl, sym, ap, subst, ◌∙◌, ℕ, ◌+◌, arith, Bool, true, false, ◌||◌, List, [], ◌∷◌, ◌++◌, append-nil}
-use Rattle.format.proofs.Common.{length, length-append, append_snoc, ltb, ltb-true, ltb-false}
+use Rattle.std.proofs.Common.{◌≡◌, ℕ, ◌+◌, Bool, true, false, ◌||◌, ltb, List, [], ◌∷◌, ◌++◌, length, sym, refl, ap, ◌∙◌, subst, append-nil, arith, length-append, ltb-false, ltb-true}
+use lib.Seq.{append_snoc}
 use Rattle.format.specs.Fields.{pick}
 use Rattle.tally.specs.Totals.{Line, rows_in, rows_over, totals, empty, step, limit, passes, Outcome, all, twenty, take_lines}
 use Rattle.tally.specs.Laws.{Within, Reads, reads_all, stops, LimitsHold, TwoInputs}

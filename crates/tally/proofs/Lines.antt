@@ -1,7 +1,5 @@
 -- A line is answered as the run reader answers its bytes, and refused with numbers below 15 alone. Assumes nothing.
-use Rattle.format.proofs.Common.{◌≡◌, refl, sym, ap, ◌∙◌, ℕ, ◌<◌, arith, Bool, List, [], ◌∷◌, ◌++◌, length, take, drop, take_at, eqb, ℤ}
-use Rattle.format.proofs.Common.{lt-ltb}
-use Rattle.format.specs.Digits.{AllBelow}
+use Rattle.std.proofs.Common.{◌≡◌, ℕ, ◌<◌, Bool, eqb, List, length, take, drop, ℤ, refl, arith, take_at, lt-ltb}
 use Rattle.format.specs.Runs.{Description, row_count}
 use Rattle.format.specs.Rows.{i64_rows}
 use Rattle.format.specs.Answers.{answer_rows}
@@ -13,8 +11,8 @@ use Rattle.promises.specs.Refusals.{Table, refusal-1, refusal-2, refusal-3, refu
 use Rattle.promises.specs.Refusals.{in-first-row, in-base-delta, in_rows, in-magnitudes, in-values, in_list, TableGives, by_number, by_field}
 use Rattle.promises.proofs.Refusals.{refusals}
 use Rattle.tally.specs.Totals.{number_of, refusal, line_of, answered}
-use Rattle.tally.specs.HeldTotals.{slot, line_with, reply_to}
-use Rattle.tally.specs.Laws.{Listed, from-1, from-12, LineRead, LinesRead}
+use Rattle.tally.specs.Held.{line_with, reply_to}
+use Rattle.tally.specs.Laws.{Listed, from-1, from-12, LinesRead}
 
 table-listed : {bs : List ℕ} {n : ℕ} → Table 512 bs n → Listed n
 table-listed (refusal-1 h) = from-1 1 (omega arith) (omega arith)

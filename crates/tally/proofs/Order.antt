@@ -1,8 +1,7 @@
 -- The order of whole numbers, and the smallest and the largest of a list. Assumes nothing.
-use Rattle.format.proofs.Common.{◌≡◌, refl, sym, ap, ◌∙◌, ◌↔◌, ◌⊎◌, inl, inr, ℕ, ◌+◌, ◌<◌, add-one, arith, Bool, true, false, List, [], ◌∷◌}
-use Rattle.format.proofs.Common.{◌++◌, List-as-Memᴰ, List·Memᴰ·head, List·Memᴰ·tail, List·Memᴰ·not-nil, length, take, get_or, take-suc, T}
-use Rattle.format.proofs.Common.{leb→le, le→leb, ℤ, pos, negsuc, w64, SFits, to_z, of_z, to_z-of_z, leb-false}
-use Rattle.std.proofs.Common.{◌≤ℤ◌}
+use Rattle.std.proofs.Common.{◌≡◌, ℕ, ◌+◌, ◌<◌, Bool, true, false, T, ◌⊎◌, ◌↔◌, List, [], ◌∷◌, ◌++◌, length, get_or, take, ℤ, pos, negsuc, ◌≤ℤ◌, sym, refl, ap, ◌∙◌, inl, inr, add-one, arith, le→leb, leb→le, take-suc, to_z-of_z, w64, SFits, to_z, of_z, leb-false}
+use mathlib.Core.List.Memᴰ
+use mathlib.Core.List.{Memᴰ}
 use lib.Signed.{le_z, ≤ℤ_refl}
 use Rattle.format.specs.Fields.{pick}
 use Rattle.format.proofs.Tests.{never}
@@ -95,22 +94,22 @@ module _ (R : ℤ → ℤ → Type 0) (choice : ℤ → ℤ → ℤ) (o : Choice
   best-cons : (z m : ℤ) (zs : List ℤ) → Best R zs m → Best R (z ∷ zs) (choice z m)
   best-cons z m zs b = record { row = at (o.chooses z m); all-rows = to }
     where
-      at : ((choice z m ≡ z) × R z m) ⊎ ((choice z m ≡ m) × R m z) → List-as-Memᴰ (choice z m) (z ∷ zs)
-      at (inl (e, r)) = List·Memᴰ·head e
-      at (inr (e, r)) = List·Memᴰ·tail {xs = zs} (rw e b.row)
+      at : ((choice z m ≡ z) × R z m) ⊎ ((choice z m ≡ m) × R m z) → Memᴰ (choice z m) (z ∷ zs)
+      at (inl (e, r)) = Memᴰ.head e
+      at (inr (e, r)) = Memᴰ.tail {xs = zs} (rw e b.row)
 
-      to : (y : ℤ) → List-as-Memᴰ y (z ∷ zs) → R (choice z m) y
-      to y (List·Memᴰ·head e) = rw e (chosen-left z m)
-      to y (List·Memᴰ·tail k) = o.R-trans (chosen-right z m) (b.all-rows y k)
+      to : (y : ℤ) → Memᴰ y (z ∷ zs) → R (choice z m) y
+      to y (Memᴰ.head e) = rw e (chosen-left z m)
+      to y (Memᴰ.tail k) = o.R-trans (chosen-right z m) (b.all-rows y k)
 
   -- none of no rows, or the best
   data Holds (zs : List ℤ) : Extreme → Type 0 where
     holds-none : zs ≡ [] → Holds zs None
     holds-best : {z : ℤ} → Best R zs z → Holds zs (Row z)
 
-  only : (z y : ℤ) (zs : List ℤ) → zs ≡ [] → List-as-Memᴰ y (z ∷ zs) → R z y
-  only z y zs e (List·Memᴰ·head h) = rw h (o.R-refl z)
-  only z y zs e (List·Memᴰ·tail k) = absurd (List·Memᴰ·not-nil (rw e at k))
+  only : (z y : ℤ) (zs : List ℤ) → zs ≡ [] → Memᴰ y (z ∷ zs) → R z y
+  only z y zs e (Memᴰ.head h) = rw h (o.R-refl z)
+  only z y zs e (Memᴰ.tail k) = absurd (Memᴰ.not-nil (rw e at k))
 
   holds : (zs : List ℤ) → Holds zs (of_all choice zs)
   unfolding of_all
@@ -118,7 +117,7 @@ module _ (R : ℤ → ℤ → Type 0) (choice : ℤ → ℤ → ℤ) (o : Choice
   holds (z ∷ zs) = go (holds zs)
     where
       go : {e : Extreme} → Holds zs e → Holds (z ∷ zs) (of_two choice (Row z) e)
-      go (holds-none e) = holds-best (record { row = List·Memᴰ·head refl; all-rows = λ y k. only z y zs e k })
+      go (holds-none e) = holds-best (record { row = Memᴰ.head refl; all-rows = λ y k. only z y zs e k })
       go (holds-best b) = holds-best (best-cons z _ zs b)
 
   of_none : {zs : List ℤ} → Holds zs None → zs ≡ []
@@ -135,7 +134,7 @@ module _ (R : ℤ → ℤ → Type 0) (choice : ℤ → ℤ → ℤ) (o : Choice
   best-exactly zs z = (λ e. of-best (rw e at (holds zs)), λ b. same b (holds zs))
     where
       same : {e : Extreme} → Best R zs z → Holds zs e → e ≡ Row z
-      same b (holds-none e) = absurd (List·Memᴰ·not-nil (rw e at b.row))
+      same b (holds-none e) = absurd (Memᴰ.not-nil (rw e at b.row))
       same b (holds-best c) = ap Row (o.R-antisym (c.all-rows z b.row) (b.all-rows _ c.row))
 
 -- ---- the lower and the higher

@@ -1,5 +1,5 @@
 -- Each promise is an equation for the answer, but two: a size is that of one pair of words only. Assumes nothing.
-use Rattle.format.proofs.Common.{◌≡◌, sym, ◌∙◌, ℕ, ◌+◌, ◌*◌, ◌<◌, arith}
+use Rattle.std.proofs.Common.{◌≡◌, ℕ, ◌+◌, ◌*◌, ◌<◌, sym, ◌∙◌, arith}
 use Rattle.format.specs.Fields.{two64}
 use Rattle.tally.specs.declared.sums.Wide.{Wide}
 use Rattle.tally.specs.declared.sums.Tenth.{Tenth}

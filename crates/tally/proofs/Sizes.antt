@@ -1,6 +1,7 @@
 -- The sum of at most 2^32 rows is at most 2^95 in size. Assumes nothing.
-use Rattle.format.proofs.Common.{◌≡◌, ℕ, suc, ◌+◌, ◌-◌, ◌*◌, ◌^◌, ◌<◌, ◌≤◌, arith, dec_lt, List, [], ◌∷◌, ◌++◌, map, length, eqb, ℤ, pos}
-use Rattle.format.proofs.Common.{negsuc, nat_abs, sub_ℕ, ◌+ℤ◌, w64, SFits, lt-ltb, le-ltb}
+use Rattle.std.proofs.Common.{◌≡◌, ℕ, suc, ◌+◌, ◌-◌, ◌*◌, ◌^◌, ◌<◌, ◌≤◌, eqb, List, [], ◌∷◌, ◌++◌, map, length, ℤ, pos, negsuc, ◌+ℤ◌, nat_abs, arith, w64, SFits, le-ltb, lt-ltb}
+use native.Mathlib.Decide.{dec_lt}
+use lib.IntN.{sub_ℕ}
 use Rattle.format.specs.Fields.{two64}
 use Rattle.format.specs.Digits.{AllBelow}
 use Rattle.format.specs.Runs.{Description}

@@ -1,7 +1,6 @@
 -- What the code holds is that of the lines that were taken: line by line, and combined. Assumes nothing.
-use Rattle.format.proofs.Common.{◌≡◌, refl, sym, ap, ◌∙◌, ℕ, zero, suc, ◌+◌, ◌*◌, ◌^◌, ◌<◌, ◌≤◌, arith, mod-eq_of_lt, Bool, true, false}
-use Rattle.format.proofs.Common.{◌||◌, List, [], ◌∷◌, ◌++◌, map, append-nil, length, get_or, length-append, append_snoc, ltb, ℤ, nat_abs}
-use Rattle.format.proofs.Common.{ltb-false}
+use Rattle.std.proofs.Common.{◌≡◌, ℕ, zero, suc, ◌+◌, ◌^◌, ◌<◌, ◌≤◌, Bool, true, false, ◌||◌, ltb, List, [], ◌∷◌, ◌++◌, map, length, get_or, ℤ, nat_abs, sym, refl, ap, ◌∙◌, mod-eq_of_lt, arith, length-append, ltb-false}
+use lib.Seq.{append_snoc}
 use Rattle.format.specs.declared.Kind.{Kind}
 use Rattle.format.specs.declared.Kind.TheVariants.{ShortRepeat, Direct, PatchedBase, Delta, Booleans, ByteValues}
 use Rattle.format.specs.Answers.{kind_number}
@@ -10,15 +9,15 @@ use Rattle.format.specs.Rows.{plus}
 use Rattle.format.specs.Writing.{AllI64}
 use Rattle.tally.specs.declared.totals.Totals.{Totals}
 use Rattle.tally.specs.declared.totals.Taken.{Taken}
-use Rattle.tally.specs.Totals.{Line, is_bad, is_end, is_refusal, is_run, counted, rows_over, sum_of, totals, empty, step, limit, too_many, passes, twenty}
+use Rattle.tally.specs.Totals.{Line, is_bad, is_end, is_refusal, is_run, counted, rows_over, sum_of, totals, step, limit, too_many, passes, twenty}
 use Rattle.tally.specs.Totals.{take_lines}
-use Rattle.tally.specs.HeldTotals.{numbers, kinds, held, each_plus, together, going, stopped, combined, take_line, unless_stopped, take_all, held_outcome}
+use Rattle.tally.specs.Held.{numbers, kinds, held, each_plus, together, going, stopped, combined, take_line, unless_stopped, take_all, held_outcome}
 use Rattle.tally.specs.Laws.{Within, I64, CodeHolds, CodeTells}
 use Rattle.tally.proofs.Combining.{rows-over-append, joined, counted-append}
 use Rattle.tally.proofs.Limits.{count-append, Passing, passing, staying, passing-is}
 use Rattle.tally.proofs.Sizes.{rows-size}
 use Rattle.tally.proofs.WideSums.{value, added}
-use Rattle.tally.proofs.HeldTotals.{from}
+use Rattle.tally.proofs.Held.{from}
 
 -- two structs are the same where each part is
 same : {a b : Totals} → a.lines ≡ b.lines → a.bads ≡ b.bads → a.ends ≡ b.ends → a.refusals ≡ b.refusals → a.runs ≡ b.runs

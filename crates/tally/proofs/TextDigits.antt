@@ -1,8 +1,6 @@
--- The digits of a number of any size: its last after those of its tenth, and how many they are. Assumes nothing.
-use Rattle.format.proofs.Common.{◌≡◌, refl, sym, ap, ◌∙◌, ℕ, zero, suc, ◌+◌, ◌-◌, ◌*◌, ◌/◌, ◌%◌, ◌^◌, ◌<◌, ◌≤◌, arith, dec_lt, pow-suc}
-use Rattle.format.proofs.Common.{div-add-mod', mod-lt, zero-lt-suc, le_refl, le_trans, lt_of_le_of_lt, Bool, true, false, List, [], ◌∷◌}
-use Rattle.format.proofs.Common.{◌++◌, map, length, length-append, ltb, leb→le, ℤ, pos, negsuc, nat_abs, lt-ltb}
-use Rattle.std.proofs.Common.{lt_trans}
+-- The digits of a number of any size: its last behind those of its tenth, and how many they are. Assumes nothing.
+use Rattle.std.proofs.Common.{◌≡◌, ℕ, zero, suc, ◌+◌, ◌-◌, ◌*◌, ◌/◌, ◌%◌, ◌^◌, ◌<◌, ◌≤◌, Bool, true, false, ltb, List, [], ◌∷◌, ◌++◌, map, length, ℤ, pos, negsuc, nat_abs, sym, refl, ap, ◌∙◌, le_trans, lt_trans, le_refl, lt_of_le_of_lt, mod-lt, zero-lt-suc, pow-suc, div-add-mod', arith, leb→le, length-append, lt-ltb}
+use native.Mathlib.Decide.{dec_lt}
 use lib.Arith.{digits_lt}
 use Rattle.format.specs.Fields.{pick, two64}
 use Rattle.format.specs.Digits.{number}
@@ -41,13 +39,16 @@ pub one_word : (x : ℕ) → x < two64 → number_text x ≡ decimal x
 unfolding number_text decimal
 one_word x h = sym (enough 19 x x (omega arith) (omega arith))
 
--- the last digit stands after those of the tenth
+-- the last digit stands behind those of the tenth
 pub next-digit : (x : ℕ) → 10 ≤ x → number_text x ≡ number_text (x / 10) ++ ((48 + x % 10) ∷ [])
 unfolding number_text
 next-digit zero h = absurd (omega arith)
 next-digit (suc x) h =
     decimal-more (suc x) (suc x) h
     ∙ ap (λ (ds : List ℕ). ds ++ ((48 + suc x % 10) ∷ [])) (sym (enough (suc x / 10) x (suc x / 10) (below_power (suc x / 10)) (omega arith)))
+
+pub digits-longer : (x : ℕ) → 10 ≤ x → length (number_text x) ≡ length (number_text (x / 10)) + 1
+digits-longer x h = ap length (next-digit x h) ∙ length-append (number_text (x / 10)) ((48 + x % 10) ∷ [])
 
 -- ---- two words have at most 39 digits
 

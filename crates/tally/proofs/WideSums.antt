@@ -1,9 +1,9 @@
 -- The sum of at most 2^32 rows stands in two words. Assumes nothing.
-use Rattle.format.proofs.Common.{◌≡◌, refl, sym, ap, ◌∙◌, ℕ, suc, ◌+◌, ◌-◌, ◌*◌, ◌/◌, ◌%◌, ◌^◌, ◌<◌, ◌≤◌, arith, dec_lt, mod-lt, mod-add-mod}
-use Rattle.format.proofs.Common.{add-zero, div-add-mod', add-one, pow_pos, List, [], ◌∷◌, length, take, get_or, take-suc, ℤ, pos, negsuc}
-use Rattle.format.proofs.Common.{nat_abs, sub_ℕ, ◌+ℤ◌, +ℤ_idr, w64, SFits, lt-ltb, le-ltb}
-use native.Mathlib.Nat.{div-le_of_le-mul}
+use Rattle.std.proofs.Common.{◌≡◌, ℕ, suc, ◌+◌, ◌-◌, ◌*◌, ◌/◌, ◌%◌, ◌^◌, ◌<◌, ◌≤◌, List, [], ◌∷◌, length, get_or, take, ℤ, pos, negsuc, ◌+ℤ◌, nat_abs, sym, refl, ap, ◌∙◌, add-zero, mod-lt, div-add-mod', add-one, arith, take-suc, pow_pos, w64, SFits, le-ltb, lt-ltb}
+use native.Mathlib.Decide.{dec_lt}
+use native.Mathlib.Nat.{mod-add-mod, div-le_of_le-mul}
 use lib.Arith.{digits_div, digits_mod}
+use lib.IntN.{sub_ℕ, +ℤ_idr}
 use Rattle.format.specs.Fields.{two64}
 use Rattle.tally.specs.Totals.{sum_of, limit}
 use Rattle.tally.specs.declared.sums.Wide.{Wide}

@@ -1,5 +1,5 @@
 -- What the totals' definitions say. Assumes nothing.
-use Rattle.std.specs.Prelude.{◌≡◌, ℕ, ◌*◌, ◌^◌, ◌<◌, ◌≤◌, ◌↔◌, List, [], ◌∷◌, ◌++◌, map, length, take, ℤ, ◌+ℤ◌, ◌≤ℤ◌, ◌==◌, slice_index, unsigned_abs}
+use Rattle.std.specs.Prelude.{◌≡◌, ℕ, ◌^◌, ◌<◌, ◌≤◌, ◌↔◌, List, [], ◌∷◌, ◌++◌, map, length, take, ℤ, ◌+ℤ◌, ◌≤ℤ◌, ◌==◌, slice_index, unsigned_abs}
 use mathlib.Core.List.{Memᴰ}
 use Rattle.format.specs.Digits.{AllBelow}
 use Rattle.format.specs.Fields.{pick}
@@ -12,7 +12,7 @@ use Rattle.tally.specs.Totals.{Line, refusal, answered, rows_over, lower, higher
 use Rattle.tally.specs.Totals.{passes, limit, Outcome, all, twenty, take_lines}
 use Rattle.tally.specs.declared.totals.Extreme.TheVariants.{None, Row}
 use Rattle.tally.specs.Wide.{wide_of, wide_value, add_wide}
-use Rattle.tally.specs.HeldTotals.{line_with, reply_to, held, going, stopped, combined, take_line, take_all, held_outcome}
+use Rattle.tally.specs.Held.{line_with, reply_to, held, going, stopped, combined, take_line, take_all, held_outcome}
 
 -- ---- COMBINING: totals over two inputs, the second's lines after the first's,
 -- are the totals of each combined; associative, with the empty totals as its unit
@@ -44,7 +44,7 @@ abbrev pub TwoInputs : Type 0
 TwoInputs = (first second : List Line) → Within (first ++ second)
     → take_lines empty (first ++ second) ≡ all (combine (totals first) (totals second))
 
--- ---- EXTREMES: none if there are no rows, and else a row that no row is below, or above
+-- ---- EXTREMES: none where there are no rows, and else a row that no row is below, or above
 
 -- z is a row, and R holds from it to every row
 pub record Best (R : ℤ → ℤ → Type 0) (zs : List ℤ) (z : ℤ) : Type 0 where

@@ -2,7 +2,7 @@
 -- code holds them, their text, the laws, and that any two outcomes are equal.
 pub mod Totals
 pub mod Wide
-pub mod HeldTotals
+pub mod Held
 pub mod Laws
 pub mod Text
 pub mod Outcomes

@@ -1,7 +1,7 @@
 -- Any two answers that a promise of `sums` or `totals` allows are equal: no
 -- function there lends a place. (Of `text`: `ShowDetermined` in specs/Text.antt.)
 -- Assumes nothing.
-use Rattle.std.specs.Prelude.{◌≡◌, ℕ, ◌<◌, Bool, List, ℤ, unsigned_abs}
+use Rattle.std.specs.Prelude.{◌≡◌, ◌<◌, Bool, List, ℤ, unsigned_abs}
 use Rattle.format.specs.declared.Answer.{Answer}
 use Rattle.format.specs.Fields.{two64}
 use Rattle.tally.specs.declared.sums.Wide.{Wide}
@@ -12,7 +12,7 @@ use Rattle.tally.specs.declared.totals.Totals.{Totals}
 use Rattle.tally.specs.declared.totals.Taken.{Taken}
 use Rattle.tally.specs.Totals.{lower, higher, of_two, empty}
 use Rattle.tally.specs.Wide.{wide_of, wide_value, size_of, is_negative, IsTenth, add_wide}
-use Rattle.tally.specs.HeldTotals.{line_with, reply_to, held, combined, take_line}
+use Rattle.tally.specs.Held.{line_with, reply_to, held, combined, take_line}
 
 -- both words are of 64 bits, as every u64 is
 pub record OfWide (w : Wide) : Type 0 where

@@ -1,6 +1,6 @@
 -- A WHOLE NUMBER IN DECIMAL, of any size.
 -- Assumes nothing.
-use Rattle.std.specs.Prelude.{◌≡◌, ℕ, zero, suc, ◌+◌, ◌-◌, List, [], ◌∷◌, ◌++◌, map, length, drop, ℤ, pos, negsuc, nat_lt, slice_index}
+use Rattle.std.specs.Prelude.{◌≡◌, ℕ, suc, ◌-◌, List, [], ◌∷◌, ◌++◌, map, length, drop, ℤ, pos, negsuc, nat_lt, slice_index}
 use Prim.Native.Char.{code}
 use Rattle.format.specs.Digits.{number}
 use Rattle.format.specs.Fields.{pick}
@@ -9,7 +9,7 @@ use Rattle.tally.specs.declared.totals.Extreme.{Extreme}
 use Rattle.tally.specs.declared.totals.Extreme.TheVariants.{None, Row}
 use Rattle.tally.specs.Totals.{Line, totals}
 use Rattle.tally.specs.Wide.{wide_value}
-use Rattle.tally.specs.HeldTotals.{held}
+use Rattle.tally.specs.Held.{held}
 use Rattle.tally.specs.Laws.{I64, Within}
 use Rattle.text.specs.Ascii.{ascii}
 use Rattle.text.specs.Decimal.{decimal_in, decimal, rows_text}
@@ -37,33 +37,25 @@ extreme_text (Row z) = rows_text (z ∷ [])
 unfoldable pub extreme_line : List ℕ → Extreme → List ℕ
 extreme_line word e = (word ++ extreme_text e) ++ ascii "\n"
 
--- the lines, and how many of them were bad or an end
-unfoldable pub lines_text : ℕ → ℕ → ℕ → List ℕ
-lines_text lines bads ends = (count_line (ascii "lines ") lines ++ count_line (ascii "bad ") bads) ++ count_line (ascii "end ") ends
-
 -- a refusal's number, and its count
 unfoldable pub refusal_line : ℕ → ℕ → List ℕ
-refusal_line number count = (ascii "refused " ++ decimal number) ++ count_line (ascii " ") count
+refusal_line number count = (((ascii "refused " ++ decimal number) ++ ascii " ") ++ decimal count) ++ ascii "\n"
 
--- n lines, by number from the first on
-unfoldable pub refusals_from : List ℕ → ℕ → ℕ → List ℕ
-refusals_from counts first zero = []
-refusals_from counts first (suc n) = refusals_from counts first n ++ refusal_line (first + n) (slice_index counts (first + n))
+-- by number, as the table of numbers goes
+abbrev pub numbered : List ℕ → ℕ → List ℕ
+numbered counts k = refusal_line k (slice_index counts k)
 
--- as the table of numbers goes: 1 to 7, and 12 to 14
 unfoldable pub refusals_text : List ℕ → List ℕ
-refusals_text counts = refusals_from counts 1 7 ++ refusals_from counts 12 3
+refusals_text counts =
+    let line : ℕ → List ℕ = numbered counts in
+    ((((((((line 1 ++ line 2) ++ line 3) ++ line 4) ++ line 5) ++ line 6) ++ line 7) ++ line 12) ++ line 13) ++ line 14
 
--- by kind
-unfoldable pub runs_text : List ℕ → List ℕ
-runs_text runs =
-    ((count_line (ascii "short ") (slice_index runs 0) ++ count_line (ascii "direct ") (slice_index runs 1))
-    ++ count_line (ascii "patched ") (slice_index runs 2)) ++ count_line (ascii "delta ") (slice_index runs 3)
-
--- the rows: how many, the smallest and the largest
-unfoldable pub range_text : ℕ → Extreme → Extreme → List ℕ
-range_text rows smallest largest =
-    (count_line (ascii "rows ") rows ++ extreme_line (ascii "smallest") smallest) ++ extreme_line (ascii "largest") largest
+-- by kind, and the rows
+unfoldable pub runs_text : List ℕ → ℕ → List ℕ
+runs_text runs rows =
+    (((count_line (ascii "short ") (slice_index runs 0) ++ count_line (ascii "direct ") (slice_index runs 1))
+    ++ count_line (ascii "patched ") (slice_index runs 2))
+    ++ count_line (ascii "delta ") (slice_index runs 3)) ++ count_line (ascii "rows ") rows
 
 unfoldable pub sum_line : ℤ → List ℕ
 sum_line z = (ascii "sum " ++ whole_text z) ++ ascii "\n"
@@ -71,10 +63,12 @@ sum_line z = (ascii "sum " ++ whole_text z) ++ ascii "\n"
 -- all lines
 unfoldable pub totals_text : Totals → List ℕ
 totals_text t =
-    (((lines_text t.lines t.bads t.ends ++ refusals_text t.refusals) ++ runs_text t.runs)
-    ++ range_text t.rows t.smallest t.largest) ++ sum_line (wide_value t.sum)
+    ((((((count_line (ascii "lines ") t.lines ++ count_line (ascii "bad ") t.bads) ++ count_line (ascii "end ") t.ends)
+    ++ refusals_text t.refusals)
+    ++ runs_text t.runs t.rows) ++ extreme_line (ascii "smallest") t.smallest) ++ extreme_line (ascii "largest") t.largest)
+    ++ sum_line (wide_value t.sum)
 
--- none if there is less room than any totals need
+-- none where there is less room than any totals need
 unfoldable pub shown_in : ℕ → Totals → List ℕ
 shown_in room t = pick (nat_lt room 1024) [] (totals_text t)
 

@@ -31,7 +31,7 @@ line_of signed end = ended
 line_of signed (got d rest) = run (kind_of d) (i64_rows signed d)
 line_of signed (refused r) = refusal (number_of r)
 
--- the answer to a line's bytes, which are none if the line is bad: the
+-- the answer to a line's bytes, which are none where the line is bad: the
 -- first is the flag, the rest one run, and 512 places are room for any
 unfoldable pub answered : List ℕ → Line
 answered [] = bad
@@ -82,7 +82,7 @@ unfoldable pub rows_over : List Line → List ℤ
 rows_over [] = []
 rows_over (l ∷ ls) = rows_in l ++ rows_over ls
 
--- the smallest or largest row, or none if there are no rows
+-- the smallest or largest row, or none where there are no rows
 
 abbrev pub lower : ℤ → ℤ → ℤ
 lower a b = pick (int_le a b) a b
@@ -159,7 +159,7 @@ step t l = combine t (totals (l ∷ []))
 abbrev pub limit : ℕ
 limit = 2 ^ 32
 
--- this many lines, or this many rows, are too many
+-- so many lines or so many rows are too many
 abbrev pub too_many : ℕ → ℕ → Bool
 too_many lines rows = nat_lt limit lines || nat_lt limit rows
 
@@ -167,7 +167,7 @@ too_many lines rows = nat_lt limit lines || nat_lt limit rows
 abbrev pub passes : Tally → Line → Bool
 passes t l = too_many (t.lines + 1) (t.rows + length (rows_in l))
 
--- all lines were taken; or refusal 20 if a line would pass a limit: reading stops there, with the totals as before that line
+-- all lines were taken; or refusal 20 where a line would pass a limit: reading stops there, with the totals as before that line
 pub data Outcome : Type 0 where
   all : Tally → Outcome
   twenty : Tally → Outcome

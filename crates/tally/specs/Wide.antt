@@ -13,7 +13,7 @@ unfoldable pub wide_of : ℤ → Wide
 wide_of (pos n) = record { high = n / two64; low = n % two64 }
 wide_of (negsuc n) = record { high = turned (n / two64); low = turned (n % two64) }
 
--- the whole number that two words stand for: below 0 if the top bit is set
+-- the whole number that two words stand for: below 0 where the top bit is set
 unfoldable pub wide_value : Wide → ℤ
 wide_value w = pick (nat_lt w.high (2 ^ 63)) (pos (w.high * two64 + w.low)) (negsuc (turned w.high * two64 + turned w.low))
 

@@ -1,13 +1,13 @@
 // The text of totals: a line for each count, for the smallest and the largest row, and for the sum as a whole number.
-ghost use Rattle.std.specs.Prelude.{◌≡◌, ◌+◌, ◌*◌, ◌≤◌, length};
+ghost use Rattle.std.specs.Prelude.{◌≡◌, ◌+◌, ◌≤◌, length};
 ghost use Rattle.text.specs.Written.{TextWritten};
 ghost use Rattle.tally.specs.Wide.{wide_value, size_of};
-ghost use Rattle.tally.specs.Text.{number_text, whole_text, count_line, extreme_text, extreme_line, refusal_line, sum_line};
-ghost use Rattle.tally.specs.Text.{lines_text, refusals_from, refusals_text, runs_text, range_text, totals_text, Shown};
+ghost use Rattle.tally.specs.Text.{number_text, whole_text, count_line, extreme_line, refusal_line, refusals_text, runs_text, sum_line};
+ghost use Rattle.tally.specs.Text.{totals_text, Shown};
 
 use crate::sums::{Tenth, Wide};
 use crate::totals::{Extreme, Totals};
-use text::{put, put_decimal, put_labelled, put_rows, put_word};
+use text::{put, put_decimal, put_rows, put_word};
 
 // The fixed words.
 const LINES: [u8; 6] = *b"lines ";
@@ -36,8 +36,6 @@ const SUM: [u8; 4] = *b"sum ";
 pub const ROOM: usize = 1024;
 
 const REFUSED: [u8; 8] = *b"refused ";
-
-const SPACE: [u8; 1] = *b" ";
 
 const NONE: [u8; 5] = *b" none";
 
@@ -74,34 +72,29 @@ fn put_count(word: &[u8], count: u64, out: &mut [u8], at: usize) -> usize
     ensures text_written { TextWritten (count_line word.now count) out.old at out.new result }
     ensures upper_bound { result ≤ at + (length word.now + 21) }
 {
-    let place = put_labelled(word, count, out, at);
+    let mut place = put_word(word, out, at);
+    place = put_decimal(count, out, place);
     put(b'\n', out, place)
 }
 
-// A space, and a row or `none`.
-fn put_row(extreme: Extreme, out: &mut [u8], at: usize) -> usize
-    requires { at + 22 ≤ length out.old }
-    ensures text_written { TextWritten (extreme_text extreme) out.old at out.new result }
-    ensures upper_bound { result ≤ at + 22 }
-{
-    match extreme {
-        Extreme::None => put_word(&NONE, out, at),
-        Extreme::Row(row) => {
-            let rows = [row];
-            put_rows(&rows, 1, out, at)
-        }
-    }
-}
-
-// A word, and a row or `none`, on a line.
+// A word, and a row or none, on a line.
 fn put_extreme(word: &[u8], extreme: Extreme, out: &mut [u8], at: usize) -> usize
     requires { at + (length word.now + 23) ≤ length out.old }
     ensures text_written { TextWritten (extreme_line word.now extreme) out.old at out.new result }
     ensures upper_bound { result ≤ at + (length word.now + 23) }
 {
-    let mut place = put_word(word, out, at);
-    place = put_row(extreme, out, place);
-    put(b'\n', out, place)
+    let place = put_word(word, out, at);
+    match extreme {
+        Extreme::None => {
+            let next = put_word(&NONE, out, place);
+            put(b'\n', out, next)
+        }
+        Extreme::Row(row) => {
+            let rows = [row];
+            let next = put_rows(&rows, 1, out, place);
+            put(b'\n', out, next)
+        }
+    }
 }
 
 // A refusal's number and its count, on a line.
@@ -110,23 +103,11 @@ fn put_refusal(number: u64, count: u64, out: &mut [u8], at: usize) -> usize
     ensures text_written { TextWritten (refusal_line number count) out.old at out.new result }
     ensures upper_bound { result ≤ at + 50 }
 {
-    let place = put_labelled(&REFUSED, number, out, at);
-    put_count(&SPACE, count, out, place)
-}
-
-// The refusals with n numbers, from the first on: a line each.
-fn put_numbers(counts: [u64; 15], first: usize, n: usize, out: &mut [u8], at: usize) -> usize
-    requires { (first + n ≤ 15) × (at + 50 * n ≤ length out.old) }
-    ensures text_written { TextWritten (refusals_from counts first n) out.old at out.new result }
-    ensures upper_bound { result ≤ at + 50 * n }
-{
-    let mut place = at;
-    let mut i = 0;
-    while i < n {
-        place = put_refusal((first + i) as u64, counts[first + i], out, place);
-        i += 1;
-    }
-    place
+    let mut place = put_word(&REFUSED, out, at);
+    place = put_decimal(number, out, place);
+    place = put(b' ', out, place);
+    place = put_decimal(count, out, place);
+    put(b'\n', out, place)
 }
 
 // The refusals by number.
@@ -135,8 +116,16 @@ fn put_refusals(counts: [u64; 15], out: &mut [u8], at: usize) -> usize
     ensures text_written { TextWritten (refusals_text counts) out.old at out.new result }
     ensures upper_bound { result ≤ at + 500 }
 {
-    let place = put_numbers(counts, 1, 7, out, at);
-    put_numbers(counts, 12, 3, out, place)
+    let mut place = put_refusal(1, counts[1], out, at);
+    place = put_refusal(2, counts[2], out, place);
+    place = put_refusal(3, counts[3], out, place);
+    place = put_refusal(4, counts[4], out, place);
+    place = put_refusal(5, counts[5], out, place);
+    place = put_refusal(6, counts[6], out, place);
+    place = put_refusal(7, counts[7], out, place);
+    place = put_refusal(12, counts[12], out, place);
+    place = put_refusal(13, counts[13], out, place);
+    put_refusal(14, counts[14], out, place)
 }
 
 // The sum, on a line.
@@ -153,38 +142,17 @@ fn put_sum(sum: Wide, out: &mut [u8], at: usize) -> usize
     put(b'\n', out, place)
 }
 
-// The runs by kind.
-fn put_runs(runs: [u64; 6], out: &mut [u8], at: usize) -> usize
-    requires { at + 111 ≤ length out.old }
-    ensures text_written { TextWritten (runs_text runs) out.old at out.new result }
-    ensures upper_bound { result ≤ at + 111 }
+// The runs by kind, and their rows.
+fn put_runs(runs: [u64; 6], rows: u64, out: &mut [u8], at: usize) -> usize
+    requires { at + 140 ≤ length out.old }
+    ensures text_written { TextWritten (runs_text runs rows) out.old at out.new result }
+    ensures upper_bound { result ≤ at + 140 }
 {
     let mut place = put_count(&SHORT, runs[0], out, at);
     place = put_count(&DIRECT, runs[1], out, place);
     place = put_count(&PATCHED, runs[2], out, place);
-    put_count(&DELTA, runs[3], out, place)
-}
-
-// The lines, and how many of them were bad or an end.
-fn put_lines(lines: u64, bads: u64, ends: u64, out: &mut [u8], at: usize) -> usize
-    requires { at + 77 ≤ length out.old }
-    ensures text_written { TextWritten (lines_text lines bads ends) out.old at out.new result }
-    ensures upper_bound { result ≤ at + 77 }
-{
-    let mut place = put_count(&LINES, lines, out, at);
-    place = put_count(&BAD, bads, out, place);
-    put_count(&END, ends, out, place)
-}
-
-// The rows: how many, the smallest and the largest.
-fn put_range(rows: u64, smallest: Extreme, largest: Extreme, out: &mut [u8], at: usize) -> usize
-    requires { at + 87 ≤ length out.old }
-    ensures text_written { TextWritten (range_text rows smallest largest) out.old at out.new result }
-    ensures upper_bound { result ≤ at + 87 }
-{
-    let mut place = put_count(&ROWS, rows, out, at);
-    place = put_extreme(&SMALLEST, smallest, out, place);
-    put_extreme(&LARGEST, largest, out, place)
+    place = put_count(&DELTA, runs[3], out, place);
+    put_count(&ROWS, rows, out, place)
 }
 
 fn put_totals(totals: Totals, out: &mut [u8]) -> usize
@@ -196,14 +164,18 @@ fn put_totals(totals: Totals, out: &mut [u8]) -> usize
     let smallest = totals.smallest;
     let largest = totals.largest;
     let sum = totals.sum;
-    let mut at = put_lines(totals.lines, totals.bads, totals.ends, out, 0);
+    let mut at = put_count(&LINES, totals.lines, out, 0);
+    at = put_count(&BAD, totals.bads, out, at);
+    at = put_count(&END, totals.ends, out, at);
     at = put_refusals(refusals, out, at);
-    at = put_runs(runs, out, at);
-    at = put_range(totals.rows, smallest, largest, out, at);
+    at = put_runs(runs, totals.rows, out, at);
+    at = put_extreme(&SMALLEST, smallest, out, at);
+    at = put_extreme(&LARGEST, largest, out, at);
     put_sum(sum, out, at)
 }
 
-// The lines of totals, in the first bytes of `out`: how many bytes they are. Nothing is written if `out` has less room than totals need.
+// The lines of totals, in the first bytes of `out`: how many bytes they
+// are. Nothing is written where `out` has less room than any totals need.
 pub fn show(totals: Totals, out: &mut [u8]) -> usize
     ensures { Shown totals out.old out.new result }
 {

@@ -6,14 +6,14 @@ ghost use Rattle.tally.specs.Wide.{wide_of, wide_value, size_of, is_negative, Is
 use format::{ALL_BITS, TOP_BIT};
 
 // A whole number in two words of 64 bits, two's complement.
-#[derive(Drop)]
+#[derive(Clone, Copy)]
 pub struct Wide {
     pub high: u64,
     pub low: u64,
 }
 
 // A number in two words, divided by ten.
-#[derive(Drop)]
+#[derive(Clone, Copy)]
 pub struct Tenth {
     pub quotient: Wide,
     pub digit: u8,
@@ -37,7 +37,7 @@ impl Wide {
         }
     }
 
-    // The low words wrap if their sum is below either of them: then one is carried into the high words.
+    // The low words wrap where their sum is below either of them: then one is carried into the high words.
     pub fn plus(self, more: Wide) -> Self
         ensures { result ≡ add_wide self more }
     {

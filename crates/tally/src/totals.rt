@@ -3,8 +3,7 @@
 ghost use Rattle.std.specs.Prelude.{◌≡◌, ◌+◌, ◌≤◌, [], ◌∷◌, length, nat_lt};
 ghost use Rattle.format.specs.Fields.{pick};
 ghost use Rattle.tally.specs.Totals.{run, rows_in, lower, higher, of_two, of_all, totals, empty, limit};
-ghost use Rattle.tally.specs.HeldTotals.{slot, line_with, reply_to, held, counting, each_plus, together, going, stopped, combined};
-ghost use Rattle.tally.specs.HeldTotals.{take_line};
+ghost use Rattle.tally.specs.Held.{slot, line_with, reply_to, held, counting, each_plus, together, going, stopped, combined, take_line};
 
 use crate::sums::{Wide, sum_of};
 use format::{Answer, ByteOffset, Kind, Refusal};
@@ -13,15 +12,15 @@ use util::number;
 // At most 2^32 lines, and at most 2^32 rows.
 pub const LIMIT: u64 = 4294967296;
 
-// The smallest or the largest of some rows, or none if there are no rows.
-#[derive(Drop)]
+// The smallest or the largest of some rows: none where there are none.
+#[derive(Clone, Copy)]
 pub enum Extreme {
     None,
     Row(i64),
 }
 
 // How a line was answered, without its rows: a bad line, the end, a refusal by its number, or a run by its kind.
-#[derive(Drop)]
+#[derive(Clone, Copy)]
 pub enum Reply {
     Bad,
     End,
@@ -30,7 +29,7 @@ pub enum Reply {
 }
 
 // Totals: refusals by number, runs by the number of their kind.
-#[derive(Drop)]
+#[derive(Clone, Copy)]
 pub struct Totals {
     pub lines: u64,
     pub bads: u64,
@@ -44,21 +43,21 @@ pub struct Totals {
 }
 
 // Whether taking stopped: not, or by refusal 20.
-#[derive(Drop)]
+#[derive(Clone, Copy)]
 pub enum Stop {
     None,
     Refused(Refusal),
 }
 
-// The totals after taking a line: as before, if it stopped.
-#[derive(Drop)]
+// The totals after taking: as before, where it stopped.
+#[derive(Clone, Copy)]
 pub struct Taken {
     pub totals: Totals,
     pub stop: Stop,
 }
 
 // Both extremes of some rows.
-#[derive(Drop)]
+#[derive(Clone, Copy)]
 struct Range {
     smallest: Extreme,
     largest: Extreme,
@@ -88,14 +87,14 @@ fn row_of_two(least: bool, a: i64, b: i64) -> i64
 }
 
 impl Extreme {
-    // The smaller of two, if there are two.
+    // The smaller of two, where there are two.
     pub fn lower(self, other: Extreme) -> Self
         ensures { result ≡ of_two lower self other }
     {
         self.of_two(true, other)
     }
 
-    // The larger of two, if there are two.
+    // The larger of two, where there are two.
     pub fn higher(self, other: Extreme) -> Self
         ensures { result ≡ of_two higher self other }
     {
@@ -139,7 +138,7 @@ fn range_of(rows: &[i64]) -> Range
     }
 }
 
-// Adds to each count the one at its place, if there is one, modulo 2^64: no lines lead to that many.
+// Each count and the one at its place, where there is one, modulo 2^64: no lines lead to so many.
 fn add_each(counts: &mut [u64], more: &[u64])
     ensures { counts.new ≡ each_plus counts.old more.now }
 {
@@ -224,7 +223,7 @@ impl Totals {
         Totals::counting(0, 0, 0)
     }
 
-    // The totals of lines without rows, given how many of them are bad or an end.
+    // Of lines without rows, so many of them bad, and so many ends.
     fn counting(lines: u64, bads: u64, ends: u64) -> Self
         ensures { result ≡ counting lines bads ends }
     {
@@ -312,7 +311,7 @@ impl Totals {
     }
 
     // Two inputs, the second's lines after the first's. Refusal 20, with
-    // the first's totals, if they are more lines or rows than the limit.
+    // the first's totals, where they are more lines or rows than the limit.
     pub fn combine(self, more: Totals) -> Taken
         ensures { result ≡ combined self more }
     {
@@ -326,7 +325,7 @@ impl Totals {
     }
 
     // One line more: its reply, and its rows, which count for a run alone.
-    // Refusal 20, with the totals as before, if it would pass a limit.
+    // Refusal 20, with the totals as before, where it would pass a limit.
     pub fn take(self, reply: Reply, rows: &[i64]) -> Taken
         ensures { result ≡ take_line self (line_with reply rows.now) }
     {

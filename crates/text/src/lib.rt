@@ -1,4 +1,6 @@
 // Text written at a place of the caller's buffer: each function returns the place after it.
+#![tactic(auto)]
+
 pub mod hexadecimal;
 
 ghost use Rattle.std.specs.Prelude.{◌≡◌, ◌∷◌, [], ◌++◌, ◌+◌, ◌*◌, ◌%◌, ◌<◌, ◌≤◌, length, take};

@@ -1,7 +1,13 @@
 -- A line's answer, as `lines` reads it. Assumes nothing.
-use Rattle.format.proofs.Common.{◌≡◌, refl, sym, ap, ◌∙◌, ℕ, ◌<◌, ◌≤◌, ◌%◌, arith, Bool, true, false, ◌||◌, not, List, [], ◌∷◌, map, length}
-use Rattle.format.proofs.Common.{take, drop, get_or, length-append, eqb, ltb, ℤ, lt-ltb, ne_eqb, ltb-true}
-use mathlib.Core.List.{map-map}
+use mathlib.Core.Path.{◌≡◌, refl, sym, ap, ◌∙◌}
+use Prim.Native.Nat.{ℕ, ◌<◌, ◌≤◌, ◌%◌}
+use native.Mathlib.Omega.{arith}
+use mathlib.Core.Bool.{Bool, true, false, ◌||◌, not}
+use mathlib.Core.List.{List, [], ◌∷◌, map, map-map}
+use lib.ListN.{length, take, drop, get_or, length-append}
+use lib.Dec.{eqb, ltb}
+use lib.IntN.{ℤ}
+use borrow.Author.Tests.{lt-ltb, ne_eqb, ltb-true}
 use Rattle.format.specs.Digits.{AllBelow}
 use Rattle.format.specs.Fields.{pick}
 use Rattle.format.specs.Answers.{answer_rows}
@@ -16,7 +22,7 @@ use Rattle.text.specs.Hexadecimal.{hex_value, all_hex, hex_bytes}
 use Rattle.lines.specs.declared.Reading.TheVariants.{Bad, Answered}
 use Rattle.lines.specs.Line.{bad_line, frame_of, frame_reading, frame_places, LineRead}
 use Rattle.tally.specs.Totals.{Line, bad, answered}
-use Rattle.tally.specs.HeldTotals.{line_with, reply_to, take_line}
+use Rattle.tally.specs.Held.{line_with, reply_to, take_line}
 use Rattle.tally.specs.declared.totals.Totals.{Totals}
 use Rattle.tally.specs.declared.totals.Taken.{Taken}
 use Rattle.tally.specs.Laws.{AllBytes, I64}
@@ -48,8 +54,7 @@ frame_below line = by (eqb (length line) 0 || eqb (length line % 2) 1 || ltb 880
 -- a line over 8,800 characters has none
 pub frame-none : (line : List ℕ) → 8800 < length line → frame_of line ≡ []
 unfolding frame_of bad_line
-frame-none line h = rw (ne_eqb (length line) 0 (omega arith), lt-ltb 8800 (length line) h)
-    (by (eqb (length line % 2) 1) (not (all_hex line)) (ltb 1 (get_or (hex_bytes line) 0 0)))
+frame-none line h = rw (ne_eqb (length line) 0 (omega arith), lt-ltb 8800 (length line) h) (by (eqb (length line % 2) 1) (not (all_hex line)) (ltb 1 (get_or (hex_bytes line) 0 0)))
   where
     by : (t u v : Bool) → pick ((((false || t) || true) || u) || v) [] (hex_bytes line) ≡ []
     by true u v = refl
@@ -76,8 +81,7 @@ bad-is n (flag ∷ run) e = never (cc)
 read-bad : (line : List ℕ) (out out' : List ℤ) → LineRead line out out' Bad → bad ≡ answer_to line
 read-bad line out out' r = sym (bad-is (length out) (frame_of line) r.answer)
 
-answer-is : (f : List ℕ) (out out' : List ℤ) (a : Answer) → AllBelow 256 f → length out ≡ 512 → Answered a ≡ frame_reading (length out) f
-    → out' ≡ frame_places out f
+answer-is : (f : List ℕ) (out out' : List ℤ) (a : Answer) → AllBelow 256 f → length out ≡ 512 → Answered a ≡ frame_reading (length out) f → out' ≡ frame_places out f
     → line_with (reply_to a) (take (answer_rows a) out') ≡ answered f
 unfolding frame_reading frame_places
 answer-is [] out out' a b l e p = never (cc)

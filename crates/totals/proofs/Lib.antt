@@ -1,6 +1,6 @@
 -- The laws that the proofs cite.
 pub mod Answers
 pub mod Onward
-pub mod TotalsTurns
+pub mod Turns
 pub mod Whole
-pub mod TotalsText
+pub mod Room

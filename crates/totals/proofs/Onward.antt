@@ -1,6 +1,11 @@
 -- Lines taken one after another. Assumes nothing.
-use Rattle.format.proofs.Common.{◌≡◌, refl, sym, ap, ◌∙◌, ℕ, ◌+◌, ◌-◌, ◌≤◌, arith, Bool, true, false, List, [], ◌∷◌, ◌++◌, map-append}
-use Rattle.format.proofs.Common.{length, take, drop, take-append-drop, length-drop, eq-eqb, ne_eqb}
+use mathlib.Core.Path.{◌≡◌, refl, sym, ap, ◌∙◌}
+use Prim.Native.Nat.{ℕ, ◌+◌, ◌-◌, ◌≤◌}
+use native.Mathlib.Omega.{arith}
+use mathlib.Core.Bool.{Bool, true, false}
+use mathlib.Core.List.{List, [], ◌∷◌, ◌++◌, map-append}
+use lib.ListN.{length, take, drop, take-append-drop, length-drop}
+use borrow.Author.Tests.{eq-eqb, ne_eqb}
 use Rattle.format.specs.Fields.{pick}
 use Rattle.format.proofs.Tests.{never}
 use Rattle.blocks.specs.Blocks.{lines_from, begun_from, last_line, line_length}
@@ -10,8 +15,8 @@ use Rattle.tally.specs.declared.totals.Taken.{Taken}
 use Rattle.tally.specs.declared.totals.Stop.{Stop}
 use Rattle.tally.specs.declared.totals.Stop.TheVariants.{None, Refused}
 use Rattle.tally.specs.Totals.{Line, totals, rows_in, too_many}
-use Rattle.tally.specs.HeldTotals.{held, together, going, stopped, take_line, unless_stopped, take_all}
-use Rattle.totals.specs.Program.{answer_to, answers_to, is_stopped, over, Rest}
+use Rattle.tally.specs.Held.{held, together, going, stopped, take_line, unless_stopped, take_all}
+use Rattle.totals.specs.Program.{answer_to, answers_to, is_stopped, Rest}
 
 -- ---- one after another
 
@@ -51,15 +56,23 @@ module _ (t t' : Totals) (xs : List Line) where
 
 -- ---- one line: stopped, or going
 
-pub line-over : (t : Totals) (l : Line) (r : Taken) {halted : Bool} → r ≡ take_line t l → is_stopped r.stop ≡ halted
-    → take_line t l ≡ over r.totals halted
+pub line-stopped : (t : Totals) (l : Line) (r : Taken) → r ≡ take_line t l → is_stopped r.stop ≡ true → take_line t l ≡ stopped r.totals
 unfolding take_line
-line-over t l r {halted} e h = by (too_many (t.lines + 1) (t.rows + length (rows_in l))) e
+line-stopped t l r e h = by (too_many (t.lines + 1) (t.rows + length (rows_in l))) e
   where
     by : (b : Bool) → r ≡ pick b (stopped t) (going (together t (held (totals (l ∷ [])))))
-        → pick b (stopped t) (going (together t (held (totals (l ∷ []))))) ≡ over r.totals halted
-    by true e = rw (← h, e)
-    by false e = rw (← h, e)
+        → pick b (stopped t) (going (together t (held (totals (l ∷ []))))) ≡ stopped r.totals
+    by true e = ap (λ (x : Taken). stopped x.totals) (sym e)
+    by false e = never (cc)
+
+pub line-going : (t : Totals) (l : Line) (r : Taken) → r ≡ take_line t l → is_stopped r.stop ≡ false → take_line t l ≡ going r.totals
+unfolding take_line
+line-going t l r e h = by (too_many (t.lines + 1) (t.rows + length (rows_in l))) e
+  where
+    by : (b : Bool) → r ≡ pick b (stopped t) (going (together t (held (totals (l ∷ [])))))
+        → pick b (stopped t) (going (together t (held (totals (l ∷ []))))) ≡ going r.totals
+    by true e = never (cc)
+    by false e = ap (λ (x : Taken). going x.totals) (sym e)
 
 -- ---- the whole lines of a block
 
@@ -73,7 +86,7 @@ pub onward-first : (before : Totals) (input : List ℕ) → Onward before input 
 unfolding take_all lines_from begun_from
 onward-first before input = record { within = omega arith; whole = refl; taken = refl }
 
-module _ {before t : Totals} {input : List ℕ} {from end : ℕ} (o : Onward before input t from) (is : end ≡ from + line_length (drop from input)) where
+module _ (before t : Totals) (input : List ℕ) (from end : ℕ) (o : Onward before input t from) (is : end ≡ from + line_length (drop from input)) where
   pub ends-le : end ≤ length input
   ends-le = end-le input from end o.within is
 
@@ -87,7 +100,7 @@ module _ {before t : Totals} {input : List ℕ} {from end : ℕ} (o : Onward bef
     taken = o.taken;
   }
 
-  module _ {r : Taken} (more : end ≡ length input → ⊥) (e : r ≡ take_line t (answer_to (take (end - from) (drop from input)))) where
+  module _ (more : end ≡ length input → ⊥) (r : Taken) (e : r ≡ take_line t (answer_to (take (end - from) (drop from input)))) where
     abbrev line : List ℕ
     line = take (end - from) (drop from input)
 
@@ -100,7 +113,7 @@ module _ {before t : Totals} {input : List ℕ} {from end : ℕ} (o : Onward bef
     onward-on h = record {
       within = omega (arith, ends-le, more);
       whole = next-whole input from end o.within is o.whole more;
-      taken = next-taken ∙ line-over t (answer_to line) r e h;
+      taken = next-taken ∙ line-going t (answer_to line) r e h;
     }
 
     -- the lines after the one that would pass a limit are not taken
@@ -108,8 +121,7 @@ module _ {before t : Totals} {input : List ℕ} {from end : ℕ} (o : Onward bef
     onward-stop h =
         let p = take (end + 1) input in
         let q = drop (end + 1) input in
-        let s = all-stopped before r.totals (answers_to (lines_from [] p)) (next-taken ∙ line-over t (answer_to line) r e h)
-        (answers_to (lines_from (begun_from [] p) q)) in
+        let s = all-stopped before r.totals (answers_to (lines_from [] p)) (next-taken ∙ line-stopped t (answer_to line) r e h) (answers_to (lines_from (begun_from [] p) q)) in
         ap (λ (i : List ℕ). take_all before (answers_to (lines_from [] i))) (sym (take-append-drop (end + 1) input))
         ∙ rw (lines-append [] p q, map-append answer_to (lines_from [] p) (lines_from (begun_from [] p) q)) s
 

@@ -1,19 +1,22 @@
 -- All turns: that what is taken is what the whole input's lines give. Assumes nothing.
-use Rattle.format.proofs.Common.{◌≡◌, refl, sym, ap, ◌∙◌, ℕ, zero, suc, ◌+◌, arith, Bool, true, false, List, [], ◌∷◌, ◌++◌, map-append}
-use Rattle.format.proofs.Common.{append-nil, length, take, length-append}
+use mathlib.Core.Path.{◌≡◌, refl, sym, ap, ◌∙◌}
+use Prim.Native.Nat.{ℕ}
+use native.Mathlib.Omega.{arith}
+use mathlib.Core.Bool.{Bool, true, false}
+use mathlib.Core.List.{List, [], ◌∷◌, ◌++◌, map-append, append-nil}
+use lib.ListN.{length, take, length-append}
 use Rattle.format.proofs.Tests.{never}
 use Rattle.blocks.specs.Blocks.{lines_from, begun_from, last_line, lines_in, kept, part, Carried, block_lines, joined_blocks}
 use Rattle.blocks.proofs.Lines.{lines-append, lines-open}
-use Rattle.blocks.proofs.BlockReads.{cut-is, left_is}
+use Rattle.blocks.proofs.Turns.{cut-is, left_is}
 use Rattle.blocks.proofs.Joined.{blocks-joined}
 use Rattle.blocks.proofs.Brought.{unread-only}
 use Rattle.tally.specs.declared.totals.Totals.{Totals}
 use Rattle.tally.specs.declared.totals.Taken.{Taken}
 use Rattle.tally.specs.Totals.{Line, empty, take_lines}
-use Rattle.tally.specs.HeldTotals.{held, going, stopped, take_all, held_outcome}
+use Rattle.tally.specs.Held.{held, stopped, take_all, held_outcome}
 use Rattle.tally.proofs.Taking.{code_holds}
-use Rattle.totals.specs.Program.{answer_to, answers_to, is_stopped, written_for, taken_text, program_text, Takes, over, at-end, in_block, of-input}
-use Rattle.totals.specs.Program.{whatever-comes, FinalSays, NoneUnread}
+use Rattle.totals.specs.Program.{answer_to, answers_to, is_stopped, written_for, taken_text, program_text, Takes, over, at-end, in_block, of-input, whatever-comes, FinalSays, NoneUnread}
 use Rattle.totals.specs.Program.Takes.{ends, stops, turns}
 use Rattle.totals.proofs.Answers.{long-alike, all-i64}
 use Rattle.totals.proofs.Onward.{all-going, all-stopped}
@@ -27,8 +30,7 @@ lines_are line input from end c =
     ap (λ (s : List ℕ). lines_from [] s) (cut-is line input from end c)
     ∙ lines-append [] p q ∙ rw (c.whole, lines-open [] q c.begun) (append-nil (lines_from [] p))
 
-takes-lines : (line : List ℕ) (blocks : List (List ℕ)) (t : Totals) (r : Taken) → Takes line blocks t r
-    → r ≡ take_all t (answers_to (block_lines (kept line) blocks))
+takes-lines : (line : List ℕ) (blocks : List (List ℕ)) (t : Totals) (r : Taken) → Takes line blocks t r → r ≡ take_all t (answers_to (block_lines (kept line) blocks))
 unfolding block_lines
 takes-lines line _ t _ ends = refl
 takes-lines line _ t _ (stops {block = block} {blocks = blocks} {t' = t'} e) =
@@ -46,8 +48,7 @@ pub lines-taken : (lines : List (List ℕ)) → take_all (held empty) (answers_t
 lines-taken lines = code_holds.lines (answers_to lines) (all-i64 lines)
 
 -- ALL THAT IS TAKEN, by turns that each meet their contract, is what the program's definition takes of the whole input, and so is the text
-pub turns-take : (blocks : List (List ℕ)) (r : Taken) → Takes [] blocks (held empty) r
-    → r ≡ held_outcome (take_lines empty (answers_to (lines_in (joined_blocks blocks))))
+pub turns-take : (blocks : List (List ℕ)) (r : Taken) → Takes [] blocks (held empty) r → r ≡ held_outcome (take_lines empty (answers_to (lines_in (joined_blocks blocks))))
 turns-take blocks r h =
     takes-lines [] blocks (held empty) r h
     ∙ ap (λ (ls : List Line). take_all (held empty) ls) (blocks-joined Line answer_to long-alike blocks)

@@ -1,6 +1,6 @@
 -- THE PROGRAM totals (FORMAT.md, "The programs"): what it writes for its input, and the same for an input that comes in blocks.
 -- Assumes nothing.
-use Rattle.std.specs.Prelude.{◌≡◌, ℕ, zero, suc, ◌+◌, ◌≤◌, Bool, true, false, List, [], ◌∷◌, ◌++◌, map, length, take, drop, ℤ, pos, negsuc}
+use Rattle.std.specs.Prelude.{◌≡◌, ℕ, zero, suc, ◌≤◌, Bool, true, false, List, [], ◌∷◌, ◌++◌, map, length, take, drop, ℤ, pos, negsuc}
 use Rattle.format.specs.Fields.{pick}
 use Rattle.text.specs.Ascii.{ascii}
 use Rattle.lines.specs.Line.{frame_of}
@@ -9,7 +9,7 @@ use Rattle.blocks.specs.Reading.{no_reads, is_broken, ReadOnce, Brought, Brought
 use Rattle.blocks.specs.declared.reading.Reads.{Reads}
 use Rattle.blocks.specs.declared.reading.Read.{Read}
 use Rattle.tally.specs.Totals.{Line, answered, empty, take_lines}
-use Rattle.tally.specs.HeldTotals.{held, going, stopped, take_all, held_outcome}
+use Rattle.tally.specs.Held.{held, going, stopped, take_all, held_outcome}
 use Rattle.tally.specs.declared.totals.Totals.{Totals}
 use Rattle.tally.specs.declared.totals.Taken.{Taken}
 use Rattle.tally.specs.declared.totals.Stop.{Stop}
@@ -18,7 +18,7 @@ use Rattle.tally.specs.Text.{totals_text}
 use Rattle.totals.specs.declared.taking.Next.{Next}
 use Rattle.totals.specs.declared.taking.Next.TheVariants.{Begun, Ended, Stopped, Failed}
 
--- a line's answer, as the program `runs` reads it: it has no bytes if it is bad
+-- a line's answer, as the program `runs` reads it: its bytes are none where it is bad
 abbrev pub answer_to : List ℕ → Line
 answer_to line = answered (frame_of line)
 
@@ -90,18 +90,17 @@ pub record Going (before : Totals) (line input : List ℕ) (t : Totals) (from en
   pub carried : Carried line input from end
   pub taken : take_all before (answers_to (lines_from [] (take from (take end input)))) ≡ going t
 
--- WHAT IS TAKEN from a line's beginning on, turn by turn: each turn's whole lines, and where the input ends the last line; where a turn
--- stops, what comes after its block is not read
+-- WHAT IS TAKEN from a line's beginning on, turn by turn: each turn's whole lines, and where the input ends the last line; where a turn stops, what comes
+-- after its block is not read
 pub data Takes : List ℕ → List (List ℕ) → Totals → Taken → Type 0 where
   ends : {line : List ℕ} {t : Totals} → Takes line [] t (take_all t (answers_to (last_line (kept line))))
-  stops : {line block : List ℕ} {blocks : List (List ℕ)} {t t' : Totals}
-      → take_all t (answers_to (lines_from [] (kept line ++ block))) ≡ stopped t' → Takes line (block ∷ blocks) t (stopped t')
+  stops : {line block : List ℕ} {blocks : List (List ℕ)} {t t' : Totals} → take_all t (answers_to (lines_from [] (kept line ++ block))) ≡ stopped t'
+      → Takes line (block ∷ blocks) t (stopped t')
   turns : {line input : List ℕ} {from end : ℕ} {blocks : List (List ℕ)} {t t' : Totals} {r : Taken} → Going t line input t' from end
       → Takes (part from end input) blocks t' r
       → Takes line (part (length (kept line)) end input ∷ blocks) t r
 
--- WHERE A TURN STANDS, after some reads: whatever is taken from its line on is what is taken of the blocks that they brought and of what
--- comes
+-- WHERE A TURN STANDS, after some reads: whatever is taken from its line on is what is taken of the blocks that they brought and of what comes
 pub record Reached (reads : Reads) (t : Totals) (line : List ℕ) : Type 0 where
   pub blocks : List (List ℕ)
   pub brought : Brought reads blocks
@@ -111,8 +110,8 @@ abbrev pub over : Totals → Bool → Taken
 over t false = going t
 over t true = stopped t
 
--- THE TOTALS THAT ARE TOLD are those of the blocks that all reads brought: the last read found the end of the input; or a line of the
--- last block would pass a limit, whatever comes after it
+-- THE TOTALS THAT ARE TOLD are those of the blocks that all reads brought: the last read found the end of the input; or a line of the last block
+-- would pass a limit, whatever comes after it
 pub data Final (reads : Reads) (t : Totals) (halted : Bool) : Type 0 where
   at-end : (blocks : List (List ℕ)) → BroughtAll reads blocks → Takes [] blocks (held empty) (over t halted) → Final reads t halted
   in_block : (blocks : List (List ℕ)) → halted ≡ true → Brought reads blocks
@@ -125,8 +124,8 @@ Ready input Ended reads t = Final reads t false
 Ready input Stopped reads t = Final reads t true
 Ready input Failed reads t = is_broken reads.got reads.error ≡ true
 
--- WHERE READING ENDS: at the end of the input; at a line that would pass a limit; after a read that failed; or after 2^64 - 1 reads,
--- which no input takes
+-- WHERE READING ENDS: at the end of the input; at a line that would pass a limit; after a read that failed; or after 2^64 - 1 reads, which no
+-- input takes
 abbrev pub Over : Next → Reads → Totals → Type 0
 Over (Begun from end) reads t = reads.count ≡ 18446744073709551615
 Over Ended reads t = Final reads t false
@@ -135,8 +134,8 @@ Over Failed reads t = is_broken reads.got reads.error ≡ true
 
 -- ---- what follows
 
--- so all that is written is the program's text for what came by all reads: the whole input; or as much of it that nothing that comes
--- after it changes the text
+-- so all that is told is the program's text for what came by all reads: the whole input; or as much of it that nothing that comes after it
+-- changes the text
 pub data Told (reads : Reads) (text : List ℕ) : Type 0 where
   of-input : (blocks : List (List ℕ)) → BroughtAll reads blocks → text ≡ program_text (joined_blocks blocks) → Told reads text
   whatever-comes : (blocks : List (List ℕ)) → Brought reads blocks

@@ -1,5 +1,7 @@
-// Standard input to standard output: lines of hexadecimal, one frame a line, and at the end the totals over all of them. Reading goes in
-// large blocks, so that an input of any length takes no more room. A line that would pass a limit ends the reading.
+// Standard input to standard output: lines of hexadecimal, one frame a line, and at the end the totals over all of them. Reading goes in large
+// blocks, so that an input of any length takes no more room. A line that would pass a limit ends the reading.
+#![tactic(auto)]
+
 mod taking;
 
 ghost use Rattle.std.specs.Prelude.{◌≡◌, ◌+◌, ◌≤◌, length, take};
@@ -9,28 +11,41 @@ ghost use Rattle.totals.specs.Program.{written_for, After, Turned, Final, Over};
 
 use blocks::reading;
 use blocks::reading::Reads;
-use libc::STDOUT_FILENO;
+use std::{io, thread};
 use taking::{Next, Turn};
 use tally::totals::Totals;
 
 const REFUSED_20: [u8; 11] = *b"refused 20\n";
 
-// The totals and how it goes on, after some reads.
-#[derive(Drop)]
+// The totals and how it goes on, after so many reads.
+#[derive(Clone, Copy)]
 struct Standing {
     totals: Totals,
     next: Next,
     reads: Reads,
 }
 
-// Every byte that the program writes to its output goes through here, and is what the definition writes for the totals of all that was
-// read. No contract can say what the system writes, so that it is said here of what is handed over.
-fn say(totals: Totals, stopped: bool, reads: Reads, text: &[u8])
+// Every byte that the program writes to its output goes through here, and is what the definition writes for the totals of all that was read.
+// No contract can say what the system writes, so that it is said here of what is handed over.
+fn say(rt: &(impl Print + Eprint), totals: Totals, stopped: bool, reads: Reads, text: &[u8])
     requires { Final reads totals stopped × (text.now ≡ written_for totals stopped) }
 {
-    if !io::write_all(STDOUT_FILENO, text) {
-        os::fail(b"totals: the output is cut, standard output cannot be written");
+    if let Err(e) = rt.write_all(text) {
+        let _ = eprintln!(rt; "totals: the output is cut, standard output cannot be written: {e}");
     }
+}
+
+// Places for the lines of the totals, and for all that is written.
+fn line_places() -> [u8; 4096]
+    ensures { 4096 ≡ length result }
+{
+    [0; 4096]
+}
+
+fn text_places() -> [u8; 65536]
+    ensures { 65536 ≡ length result }
+{
+    [0; 65536]
 }
 
 // The lines of the totals, and the refusal last where one stopped the reading, in the first bytes of `out`: how many bytes they are.
@@ -38,7 +53,7 @@ fn put_text(totals: Totals, stopped: bool, out: &mut [u8]) -> usize
     requires { 8192 ≤ length out.old }
     ensures { TextWritten (written_for totals stopped) out.old 0 out.new result }
 {
-    let mut lines = io::buffer();
+    let mut lines = line_places();
     let n = tally::report::show(totals, &mut lines);
     let end = text::put_word(&lines[..n], out, 0);
     if stopped {
@@ -47,17 +62,18 @@ fn put_text(totals: Totals, stopped: bool, out: &mut [u8]) -> usize
     end
 }
 
-fn tell(totals: Totals, stopped: bool, reads: Reads)
+fn tell(rt: &(impl Print + Eprint), totals: Totals, stopped: bool, reads: Reads)
     requires { Final reads totals stopped }
 {
-    let mut out = io::large_buffer();
+    let mut out = text_places();
     let end = put_text(totals, stopped, &mut out);
-    say(totals, stopped, reads, &out[..end]);
+    say(rt, totals, stopped, reads, &out[..end]);
 }
 
 // What to do with what is held and what came after it, by what the system answered. The error is handed in, so that the answer is
 // determined.
 fn take_came(
+    rt: &impl Eprint,
     before: Totals,
     input: &[u8],
     held: usize,
@@ -75,14 +91,15 @@ fn take_came(
         return taking::take_last(before, input, rows);
     }
     if !blocks::is_not_ready(error) {
-        os::fail(b"totals: nothing is written, standard input cannot be read");
+        let e = io::Error::from_raw_os_error(error);
+        let _ = eprintln!(rt; "totals: nothing is written, standard input cannot be read: {e}");
         return Turn {
             totals: before,
             next: Next::Failed,
         };
     }
-    if error == libc::EAGAIN {
-        libc::sched_yield();
+    if error == blocks::EAGAIN {
+        thread::yield_now();
     }
     Turn {
         totals: before,
@@ -92,6 +109,7 @@ fn take_came(
 
 // One block, after what is left of the one before.
 fn turn(
+    rt: &(impl Input + Eprint),
     before: Totals,
     reads: Reads,
     input: &mut [u8],
@@ -102,9 +120,10 @@ fn turn(
     requires { NoNewline (part from end input.old) × (length rows.old ≡ 512) }
     ensures { Turned before reads (part from end input.old) input.new result.totals result.next result.reads }
 {
-    let block = reading::one_more(reads, input, from, end);
+    let block = reading::one_more(rt, reads, input, from, end);
     let stop = block.stop;
     let taken = take_came(
+        rt,
         before,
         &input[..stop],
         block.held,
@@ -124,7 +143,7 @@ fn turn(
 
 // Reads and takes to the end. A proved loop has to end, and nothing says that the input does: the loop counts its turns down, from a number
 // that no input uses up.
-fn take_all() -> Standing
+fn take_all(rt: &(impl Input + Eprint)) -> Standing
     ensures { Over result.next result.reads result.totals }
 {
     let mut input = blocks::input_places();
@@ -141,7 +160,7 @@ fn take_all() -> Standing
                 reads,
             };
         };
-        let taken = turn(totals, reads, &mut input, from, end, &mut rows);
+        let taken = turn(rt, totals, reads, &mut input, from, end, &mut rows);
         totals = taken.totals;
         next = taken.next;
         reads = taken.reads;
@@ -154,15 +173,15 @@ fn take_all() -> Standing
     }
 }
 
-// Writes the totals, unless reading failed.
-fn main() {
-    let all = take_all();
+// The totals are told, unless reading failed.
+fn main(rt: HostRuntime) {
+    let all = take_all(&rt);
     let totals = all.totals;
     let next = all.next;
     let reads = all.reads;
     match next {
-        Next::Ended => tell(totals, false, reads),
-        Next::Stopped => tell(totals, true, reads),
+        Next::Ended => tell(&rt, totals, false, reads),
+        Next::Stopped => tell(&rt, totals, true, reads),
         Next::Failed => {}
         Next::Begun(_, _) => {}
     }

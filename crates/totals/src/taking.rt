@@ -1,6 +1,6 @@
 // Lines taken into the totals: the part of the program that neither reads nor writes.
 ghost use Rattle.std.specs.Prelude.{◌≡◌, length};
-ghost use Rattle.tally.specs.HeldTotals.{take_line};
+ghost use Rattle.tally.specs.Held.{take_line};
 ghost use Rattle.blocks.specs.Blocks.{NoNewline};
 ghost use Rattle.totals.specs.Program.{answer_to, is_stopped, AfterBlock, AfterEnd};
 
@@ -9,7 +9,7 @@ use lines::Reading;
 use tally::totals::{Reply, Stop, Taken, Totals};
 
 // From where to where in the input a line has begun; that the input has ended; that refusal 20 ended the reading; or that reading failed.
-#[derive(Drop)]
+#[derive(Clone, Copy)]
 pub(crate) enum Next {
     Begun(usize, usize),
     Ended,
@@ -18,7 +18,7 @@ pub(crate) enum Next {
 }
 
 // The totals after some lines, and how it goes on.
-#[derive(Drop)]
+#[derive(Clone, Copy)]
 pub(crate) struct Turn {
     pub totals: Totals,
     pub next: Next,

@@ -1,8 +1,8 @@
 -- The code of the least width: what a computed test over all codes says of it.
 -- Assumes nothing.
-use Rattle.format.proofs.Common.{◌≡◌, Bool, ◌&&◌, ◌||◌, not, ℕ, ◌+◌, ◌-◌, ◌*◌, ◌/◌, ◌^◌, ◌<◌, ◌≤◌, arith, dec_lt, lt_of_lt_of_le, T, leb}
+use Rattle.format.proofs.Common.{Bool, ◌&&◌, ◌||◌, not, ℕ, ◌+◌, ◌*◌, ◌^◌, ◌<◌, ◌≤◌, arith, dec_lt, lt_of_lt_of_le, T, leb}
 use Rattle.format.proofs.Common.{ltb, eqb, eqb→eq, ltb→lt, leb→le, pow-add, pow_mono, le-leb}
-use Rattle.format.specs.Fields.{pick, widths, width, least_of, least_width, Narrowest}
+use Rattle.format.specs.Fields.{width, least_width, Narrowest}
 use Rattle.format.proofs.Widths.{all_b, all-at, least-holds}
 use Rattle.format.proofs.Tests.{and_left, and_right}
 use Rattle.util.specs.Width.{LeastCode}

@@ -1,4 +1,6 @@
 // What the readers and the writer share: the fields of the layouts (docs/FORMAT.md), a module each, and copies into places.
+#![tactic(auto)]
+
 pub mod big_endian;
 pub mod bytes;
 pub mod number;

@@ -1,9 +1,9 @@
 // Packed fields: a block of n fields of width w, highest bit of each byte first, both ways.
 ghost use Rattle.std.specs.Prelude.{◌≡◌, ◌+◌, ◌-◌, ◌*◌, ◌/◌, ◌%◌, ◌^◌, ◌<◌, ◌≤◌, ◌++◌, map, length, take, drop};
 ghost use Rattle.format.specs.Digits.{AllBelow, number};
-ghost use Rattle.format.specs.Fields.{bytes_for};
+ghost use Rattle.format.specs.Fields.{bytes_for, block_bytes};
 ghost use Rattle.format.specs.Rows.{as_i64};
-ghost use Rattle.util.specs.Packed.{fields, bits, field_at, Width, Room, FieldsLaid, Lays, packed_at, low_two, low_four, low_first, swap};
+ghost use Rattle.util.specs.Packed.{fields, bits, field_at, Width, Room, FieldsLaid, Lays, low_two, low_four, low_first, swap};
 
 use crate::{big_endian, number, pattern};
 
@@ -317,7 +317,8 @@ pub fn pack(vals: &[u64], n: usize, w: usize, out: &mut [u8], at: usize)
     requires width { Width w }
     requires n_bound { (n ≤ 65536) × (n ≤ length vals.now) × (at + bytes_for (n * w) ≤ length out.old) }
     requires all_below { AllBelow (2 ^ w) (take n vals.now) }
-    ensures { out.new ≡ packed_at w n (take n vals.now) at out.old }
+    ensures { out.new ≡ take at out.old ++ block_bytes w n (record { values = take n vals.now; pad = 0 })
+        ++ drop (at + bytes_for (n * w)) out.old }
 {
     let mut x = 0;
     let mut t = 0;

@@ -5,7 +5,7 @@ ghost use Rattle.util.specs.Varint.{varint_at, VarintWritten};
 
 use crate::pattern;
 
-#[derive(Drop)]
+#[derive(Clone, Copy)]
 pub enum Varint {
     // The value, and the place after it.
     Value { bits: u64, next: usize },

@@ -1,4 +1,6 @@
 // Byte values: a value of length n is the first n bytes of the rest, handed back as a part of it.
+#![tactic(auto)]
+
 ghost use Rattle.std.specs.Prelude.{◌≡◌, ◌≤◌, length, drop};
 ghost use Rattle.format.specs.ByteValues.{ValueRead, ValueGiven};
 

@@ -1,6 +1,6 @@
 -- The fixed delta, and what both deltas begin with. Assumes nothing.
-use Rattle.format.proofs.Common.{◌≡◌, refl, sym, ap, ◌∙◌, ℕ, ◌+◌, ◌<◌, ◌≤◌, arith, Bool, true, false, not, List, ◌++◌, map, eqb, ℤ, length}
-use Rattle.format.proofs.Common.{drop, length-map, length-append, le-leb, not-true, not-false}
+use Rattle.format.proofs.Common.{◌≡◌, refl, sym, ap, ◌∙◌, ℕ, ◌+◌, ◌<◌, ◌≤◌, arith, Bool, true, false, List, ◌++◌, map, eqb, ℤ, length}
+use Rattle.format.proofs.Common.{drop, length-map, length-append, le-leb}
 use Rattle.format.specs.declared.Form.TheVariants.{FixedDelta}
 use Rattle.format.specs.declared.Kind.TheVariants as kind
 use Rattle.format.specs.declared.Answer.{Answer}
@@ -66,14 +66,14 @@ module _ {rows : List ℤ} {signed : Bool} {code : ℕ} (k : Fixed rows signed c
     unfolding have_form
     form-is = t ∙ rw s
 
-    pub uneven : not same ≡ true → Sized signed FixedDelta code rs 0
-    uneven h = unfit (rw (← form-is, not-true same h))
+    pub uneven : same ≡ false → Sized signed FixedDelta code rs 0
+    uneven h = unfit (rw (← form-is, h))
 
-    pub even : not same ≡ false → {n : ℕ} → StartSize (first_of signed rs) (zigzagged (base_delta rs)) n → Sized signed FixedDelta code rs n
+    pub even : same ≡ true → {n : ℕ} → StartSize (first_of signed rs) (zigzagged (base_delta rs)) n → Sized signed FixedDelta code rs n
     even h {n} z =
         let e : n ≡ length (layout (described signed FixedDelta code rs)) =
         z.bytes ∙ sym (start-length 0 (length rows) (first_of signed rs) (zigzagged (base_delta rs))) ∙ sym laid-size in
-        fit (sym form-is ∙ not-false same h) k.fits e (omega (arith, z.bytes)) (omega (arith, z.few))
+        fit (sym form-is ∙ h) k.fits e (omega (arith, z.bytes)) (omega (arith, z.few))
 
   pub uneven-refused : {n : ℕ} → Sized signed FixedDelta code rs n → n ≡ 0 → (out : List ℕ) (r : Answer) → r ≡ refused_at 10 0
       → Written rows signed FixedDelta code out out r

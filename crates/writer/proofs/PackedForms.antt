@@ -1,7 +1,6 @@
 -- The two forms that end in a packed block, direct and packed delta. Assumes nothing.
-use Rattle.format.proofs.Common.{◌≡◌, refl, sym, ap, ◌∙◌, ℕ, ◌+◌, ◌-◌, ◌*◌, ◌^◌, ◌<◌, ◌≤◌, arith, Bool, true, false, not, List, [], ◌∷◌}
+use Rattle.format.proofs.Common.{◌≡◌, refl, sym, ap, ◌∙◌, ℕ, ◌+◌, ◌-◌, ◌*◌, ◌^◌, ◌<◌, ◌≤◌, arith, Bool, true, false, List, [], ◌∷◌}
 use Rattle.format.proofs.Common.{◌++◌, map, append_assoc, leb, ltb, ℤ, length, drop, take, length-map, length-append, take_at, le-leb}
-use Rattle.format.proofs.Common.{not-true, not-false}
 use Rattle.format.specs.declared.Form.{Form}
 use Rattle.format.specs.declared.Form.TheVariants.{Direct, PackedDelta}
 use Rattle.format.specs.declared.Kind.{Kind}
@@ -49,12 +48,12 @@ module _ {rows : List ℤ} {signed : Bool} {f : Form} {kind : Kind} {code : ℕ}
       ∙ ap (λ (n : ℕ). length p + n) (length-block bits m (padded vs))
 
   -- its size, by the test of the values
-  pub too_wide : (t : Bool) → t ≡ every (λ x. ltb x (2 ^ bits)) vs → not t ≡ true → Sized signed f code rs 0
-  too_wide t e h = unfit (rw (k.form, k.tests, ← e) (not-true t h))
+  pub too_wide : (t : Bool) → t ≡ every (λ x. ltb x (2 ^ bits)) vs → t ≡ false → Sized signed f code rs 0
+  too_wide t e h = unfit (rw (k.form, k.tests, ← e) h)
 
-  pub measured : (t : Bool) → t ≡ every (λ x. ltb x (2 ^ bits)) vs → not t ≡ false → {n : ℕ} → n ≡ length p + bytes_for (m * bits) → 1 ≤ n
+  pub measured : (t : Bool) → t ≡ every (λ x. ltb x (2 ^ bits)) vs → t ≡ true → {n : ℕ} → n ≡ length p + bytes_for (m * bits) → 1 ≤ n
       → n ≤ 4356 → Sized signed f code rs n
-  measured t e h s a b = fit k.form (k.tests ∙ sym e ∙ not-false t h) (s ∙ sym laid-length) a b
+  measured t e h s a b = fit k.form (k.tests ∙ sym e ∙ h) (s ∙ sym laid-length) a b
 
   -- what is refused
   pub unfitting : {n : ℕ} → Sized signed f code rs n → n ≡ 0 → (out : List ℕ) (r : Answer) → r ≡ refused_at 11 0 → Written rows signed f code out out r

@@ -73,7 +73,7 @@ module _ {h : Header} {base : ℕ} {vals list : List ℕ} {bits entry v l : ℕ}
   laid out o₁ o₂ o₃ o₄ r f e e₁ e₂ e₃ e₄ =
       let t = le-ltb (length out) (length (layout (run d))) (rw lay-size f) in
       let n₁ : 4 + h.base.bytes ≡ length (head_bytes h ++ base-is) =
-      simp (length-append, length_digits 256 h.base.bytes (sign_magnitude base h.base.bytes)) (omega arith) in
+      simp (length_digits 256 h.base.bytes (sign_magnitude base h.base.bytes)) (omega arith) in
       let n₂ : 4 + h.base.bytes + v ≡ length ((head_bytes h ++ base-is) ++ values-block) =
       simp (
         length-append,

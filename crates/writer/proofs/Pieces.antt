@@ -1,6 +1,6 @@
 -- Bytes written one piece after another, the size of a block, and what a form allows. Assumes nothing.
-use Rattle.format.proofs.Common.{◌≡◌, refl, sym, ◌∙◌, ℕ, ◌+◌, ◌≤◌, arith, Bool, true, false, not, ◌&&◌, List, [], ◌∷◌, ◌++◌, leb, leb→le}
-use Rattle.format.proofs.Common.{not-false, eqb-true, length, drop, take, set, length-append, take_at, drop-append-add, drop-drop}
+use Rattle.format.proofs.Common.{◌≡◌, refl, sym, ◌∙◌, ℕ, ◌+◌, ◌≤◌, arith, Bool, true, ◌&&◌, List, [], ◌∷◌, ◌++◌, leb, leb→le}
+use Rattle.format.proofs.Common.{eqb-true, length, drop, take, set, length-append, take_at, drop-append-add, drop-drop}
 use Rattle.format.specs.declared.Form.{Form}
 use Rattle.format.specs.declared.Form.TheVariants.{ShortRepeat, Direct, FixedDelta, PackedDelta}
 use Rattle.format.specs.Fields.{width}
@@ -63,8 +63,8 @@ pub record Allowed (f : Form) (n w : ℕ) : Type 0 where
   pub count : count_allowed f n ≡ true
   pub width : width_allowed f w ≡ true
 
-pub allowed : {f : Form} {n w : ℕ} {a b : Bool} → a ≡ count_allowed f n → not a ≡ false → b ≡ width_allowed f w → not b ≡ false → Allowed f n w
-allowed {a = a} {b = b} c y d z = record { count = sym c ∙ not-false a y; width = sym d ∙ not-false b z }
+pub allowed : {f : Form} {n w : ℕ} {a b : Bool} → a ≡ count_allowed f n → a ≡ true → b ≡ width_allowed f w → b ≡ true → Allowed f n w
+allowed c y d z = record { count = sym c ∙ y; width = sym d ∙ z }
 
 module _ {f : Form} {n w : ℕ} (a : Allowed f n w) where
   pub short-allowed : f ≡ ShortRepeat → (3 ≤ n) × (n ≤ 10) × (1 ≤ w) × (w ≤ 8)

@@ -1,7 +1,6 @@
 -- The short repeat. Assumes nothing.
-use Rattle.format.proofs.Common.{◌≡◌, refl, sym, ap, ◌∙◌, ℕ, zero, suc, ◌+◌, ◌-◌, ◌*◌, ◌^◌, ◌<◌, ◌≤◌, arith, Bool, true, false, not}
+use Rattle.format.proofs.Common.{◌≡◌, refl, sym, ap, ◌∙◌, ℕ, zero, suc, ◌+◌, ◌-◌, ◌*◌, ◌^◌, ◌<◌, ◌≤◌, arith, Bool, true, false}
 use Rattle.format.proofs.Common.{and-true, List, [], ◌∷◌, ◌++◌, map, ltb, ℤ, length, get_or, replicate, drop, take, length-map, le-leb}
-use Rattle.format.proofs.Common.{not-true, not-false}
 use mathlib.Core.Bool.{and_self}
 use Rattle.format.specs.declared.Form.TheVariants.{ShortRepeat}
 use Rattle.format.specs.declared.Kind.TheVariants as kind
@@ -67,18 +66,18 @@ module _ {rows : List ℤ} {signed : Bool} {w : ℕ} (k : Short rows signed w) w
 
   -- its size, by the tests of the rows and of the value
   module _ (same : Bool) (e : same ≡ have_form ShortRepeat rs) where
-    pub unlike : not same ≡ true → Sized signed ShortRepeat w rs 0
-    unlike t = unfit (rw (← e, not-true same t))
+    pub unlike : same ≡ false → Sized signed ShortRepeat w rs 0
+    unlike t = unfit (rw (← e, t))
 
-    module _ (t : not same ≡ false) (small : Bool) (g : small ≡ ltb value (2 ^ (8 * w))) where
+    module _ (t : same ≡ true) (small : Bool) (g : small ≡ ltb value (2 ^ (8 * w))) where
       form-is : have_form ShortRepeat rs ≡ true
-      form-is = sym e ∙ not-false same t
+      form-is = sym e ∙ t
 
-      pub too_large : not small ≡ true → Sized signed ShortRepeat w rs 0
-      too_large y = unfit (rw (form-is, ← (k.fits form-is), ← g) (not-true small y))
+      pub too_large : small ≡ false → Sized signed ShortRepeat w rs 0
+      too_large y = unfit (rw (form-is, ← (k.fits form-is), ← g) y)
 
-      pub alike : not small ≡ false → w ≤ 8 → Sized signed ShortRepeat w rs (1 + w)
-      alike y h = fit form-is (sym (k.fits form-is) ∙ sym g ∙ not-false small y) (sym short-size) (omega arith) (omega arith)
+      pub alike : small ≡ true → w ≤ 8 → Sized signed ShortRepeat w rs (1 + w)
+      alike y h = fit form-is (sym (k.fits form-is) ∙ sym g ∙ y) (sym short-size) (omega arith) (omega arith)
 
   pub refused-form : (same : Bool) → same ≡ have_form ShortRepeat rs → same ≡ false → (out : List ℕ) (r : Answer) → r ≡ refused_at 10 0
       → Written rows signed ShortRepeat w out out r

@@ -1,4 +1,6 @@
 // The run writer: takes rows, flag, form and width, and writes one run. All tests come before the first store.
+#![tactic(auto)]
+
 ghost use Rattle.std.specs.Prelude.{◌≡◌, map};
 ghost use Rattle.format.specs.Kept.{NarrowestKept};
 ghost use Rattle.format.specs.Rows.{as_u64};

@@ -11,7 +11,7 @@ use format::{ALL_BITS, Answer, ByteOffset, Kind, RowNumber, TOP_BIT};
 use util::{big_endian, packed, pattern, width};
 
 // What the four header bytes say: width code, rows, base bytes, patch width code, gap width, list length.
-#[derive(Drop)]
+#[derive(Clone, Copy)]
 struct Header {
     code: u8,
     rows: RowNumber,
@@ -22,7 +22,7 @@ struct Header {
 }
 
 // The header for some rows, or none if no header describes them.
-#[derive(Drop)]
+#[derive(Clone, Copy)]
 enum Found {
     None,
     Header(Header),

@@ -17,14 +17,15 @@ pub fn find_totals() -> Result<PathBuf, String> {
 }
 
 fn found(name: &str, variable: &str) -> Result<PathBuf, String> {
-    let own = PathBuf::from(concat!(env!("CARGO_MANIFEST_DIR"), "/../../target/bin")).join(name);
+    let crates = concat!(env!("CARGO_MANIFEST_DIR"), "/../../crates");
+    let own = [crates, name, "out", name].iter().collect();
     let program = env::var_os(variable).map_or(own, PathBuf::from);
     if program.is_file() {
         return Ok(program);
     }
     Err(format!(
-        "the program {} is missing: build it with `rt check {name}` in the repository's root, \
-         or set {variable} to its path",
+        "the program {} is missing: `rt ci` leaves it there, and so does `rt run </dev/null` in \
+         crates/{name}; or set {variable} to its path",
         program.display()
     ))
 }

@@ -88,3 +88,14 @@ fn the_page_counts_what_the_rust_answers_otherwise() {
     }
     assert!(PAGE.contains(&table), "docs/VECTORS.md must have these rows:\n{table}");
 }
+
+/// The page has how many lines each part of a family has.
+#[test]
+fn the_page_counts_the_lines() {
+    for family in &FAMILIES {
+        let parts = family.parts.iter();
+        let rows: String =
+            parts.map(|part| format!("| {} | {} |\n", part.what, number((part.frames)().count()))).collect();
+        assert!(PAGE.contains(&rows), "docs/VECTORS.md must have these rows:\n{rows}");
+    }
+}

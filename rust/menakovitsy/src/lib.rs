@@ -49,10 +49,9 @@
 //!
 //! In a release's folder the build script takes the library for cargo's target that stands there: x86-64, x86-64-v3
 //! (if the target has all of its features) or Arm. In a checkout, for x86-64, it
-//! takes what `rt staticlib exports` left in `target/staticlib`, if no source has changed since; otherwise it proves
-//! and builds the library in its own output folder, over what `target` has proved, and cargo shows that it does. If
-//! `MENAKOVITSY_LIB_DIR` is set, it takes what that folder holds, of a release or of `target/staticlib`, and runs
-//! nothing. Programs in C link the same library, by `menakovitsy.h`.
+//! proves and builds the library in its own output folder by `rt lib`, over what `rt` has kept on this machine, and
+//! cargo shows that it does. If `MENAKOVITSY_LIB_DIR` is set, it takes what that folder holds, of a release or of what
+//! `rt lib` left in `crates/exports/out`, and runs nothing. Programs in C link the same library, by `menakovitsy.h`.
 #![warn(missing_docs, clippy::missing_errors_doc)]
 
 // Which processor the library is for, the build script finds in it.

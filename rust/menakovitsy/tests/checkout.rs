@@ -1,43 +1,30 @@
-//! The build script in a checkout: what it takes of `target`, and that a source that has changed is never linked from
-//! an old proof. `rt` is a script here that keeps stamps, logs and times as `rt` does, proves nothing and notes each
-//! call; what is linked is the library that these tests are linked with.
+//! The build script in a checkout: that what is linked is made of the sources as they stand, by `rt`, and that nothing
+//! is left of the copy in which that runs. `rt` is a script here that proves nothing and notes each call, with the
+//! sources that it sees; what is linked is the library that these tests are linked with.
 #![cfg(target_arch = "x86_64")]
 mod project;
 
 use std::path::{Path, PathBuf};
 use std::process::{Command, Output};
-use std::time::Duration;
-use std::{env, fs, thread};
+use std::{env, fs};
 
 use project::Project;
 
 const HERE: &str = env!("CARGO_MANIFEST_DIR");
 
 const RT: &str = r#"#!/bin/sh
-say() { echo "$1" >>"$RT_CALLS"; }
-stamp_of() { find "crates/$1" -type f -exec sha256sum {} + | sort | sha256sum; }
-prove() {
-    mkdir -p target/stamp target/log
-    echo failed >"target/log/$1.res"
-    if [ "$(cat "target/stamp/$1" 2>/dev/null)" != "$(stamp_of "$1")" ]; then
-        say "proved $1"
-        mkdir -p "target/rlib/$1.rlib"
-        echo "of $1" >"target/rlib/$1.rlib/format"
-        stamp_of "$1" >"target/stamp/$1"
-    fi
-    echo proved >"target/log/$1.res"
-}
-say "$1"
 case $1 in
-check) shift; for room; do prove "$room"; done ;;
-staticlib)
-    prove low
-    # over the room below it, which must be there
-    grep -q 'of low' target/rlib/low.rlib/format || exit 1
-    mkdir -p target/staticlib
-    cp "$RT_LIBRARY" target/staticlib/libexports.a
-    echo "$PWD/crates/exports/proofs/A.antt: note: a note" >target/log/exports.say
-    echo 'logic=proved functions=1 target=x86_64-unknown-linux-gnu sum=0' >>target/log/exports.say
+version) echo version >>"$RT_CALLS" ;;
+lib)
+    # in a room of a copy that nothing was built in, beside the room below it
+    grep -q '^exports' ../../crates.txt && [ ! -e out ] && [ ! -e ../low/out ] || exit 1
+    echo "$* of $(cat src/lib.rt ../low/src/lib.rt | tr '\n' ' ')" >>"$RT_CALLS"
+    if grep -q wrong src/lib.rt; then
+        echo 'this is not proved'
+        exit 1
+    fi
+    mkdir -p out ../low/out
+    cp "$RT_LIBRARY" out/libexports.a
     ;;
 esac
 "#;
@@ -62,53 +49,49 @@ impl Checkout {
             .current_dir(HERE)
             .status();
         assert!(copied.unwrap().success());
-        fs::write(root.join("crates.txt"), "# two rooms: one low\nlow:\nexports: low # and: nothing else\n")
-            .unwrap();
+        fs::write(root.join("crates.txt"), "# two rooms: one low\nlow:\nexports staticlib: low\n").unwrap();
         fs::write(root.join("tools/rt"), RT).unwrap();
         assert!(Command::new("chmod").arg("+x").arg(root.join("tools/rt")).status().unwrap().success());
         let checkout = Checkout { project: Project::new(name, &wrapper), root };
-        checkout.change("low", "1");
-        checkout.change("exports", "1");
+        checkout.change("low", "low 1");
+        checkout.change("exports", "top 1");
         checkout
     }
 
     /// Writes a room's source.
     fn change(&self, room: &str, text: &str) {
-        fs::write(self.root.join("crates").join(room).join("src/lib.rt"), text).unwrap();
+        fs::write(self.root.join("crates").join(room).join("src/lib.rt"), format!("{text}\n")).unwrap();
     }
 
-    fn with_rt(&self, mut command: Command) -> Output {
+    /// A cargo command with this `rt` on the PATH: what that was called for, and what cargo said.
+    fn cargo(&self, mut command: Command) -> (Vec<String>, Output) {
         let path = env::var_os("PATH").unwrap_or_default();
         let tools = [self.root.join("tools")].into_iter().chain(env::split_paths(&path));
         let library = Path::new(env!("MENAKOVITSY_LINKED")).join("libmenakovitsy.a");
+        let _ = fs::remove_file(self.root.join("calls"));
         command.env("PATH", env::join_paths(tools).unwrap());
         command.env("RT_CALLS", self.root.join("calls")).env("RT_LIBRARY", library);
         let output = command.output().unwrap();
-        assert!(output.status.success(), "{}", String::from_utf8_lossy(&output.stderr));
-        output
+        assert_eq!(sources(&self.project.0), [""; 0], "a copy of the crates was left");
+        let calls = fs::read_to_string(self.root.join("calls")).unwrap_or_default();
+        (calls.lines().map(String::from).collect(), output)
     }
 
-    /// `rt staticlib exports`, by the user, some time after the last change.
-    fn staticlib(&self) {
-        thread::sleep(Duration::from_millis(2_100));
-        let mut rt = Command::new(self.root.join("tools/rt"));
-        rt.args(["staticlib", "exports"]).current_dir(&self.root);
-        self.with_rt(rt);
+    /// The next command: what `rt` was called for.
+    fn next(&self) -> Vec<String> {
+        let (calls, output) = self.cargo(self.project.cargo());
+        assert!(output.status.success(), "{}", said(&output));
+        calls
     }
 
-    /// The first cargo command of somebody: what `rt` was called for, and whether cargo showed a warning.
-    fn cargo(&self) -> (Vec<String>, bool) {
-        // what the script made before is gone; that it is compiled does no harm
+    /// The first command of somebody: what the script made before is gone. That it is compiled does no harm.
+    fn first(&self) -> Vec<String> {
         let named = Path::new("target").join(env::var_os("CARGO_BUILD_TARGET").unwrap_or_default());
         let made = fs::read_dir(self.project.0.join(named).join("debug/build")).into_iter().flatten();
         for folder in made.map(|entry| entry.unwrap().path()).filter(|folder| folder.join("out").is_dir()) {
             fs::remove_dir_all(folder).unwrap();
         }
-        let _ = fs::remove_file(self.root.join("calls"));
-        let output = self.with_rt(self.project.cargo());
-        let calls = fs::read_to_string(self.root.join("calls")).unwrap();
-        let said = String::from_utf8_lossy(&output.stderr).into_owned();
-        (calls.lines().map(String::from).collect(), said.contains("proves exports"))
+        self.next()
     }
 }
 
@@ -118,60 +101,98 @@ impl Drop for Checkout {
     }
 }
 
-/// Nothing is proved: all is, in the output folder, and cargo shows it.
+fn said(output: &Output) -> String {
+    String::from_utf8_lossy(&output.stderr).into_owned()
+}
+
+/// The files below a folder that `rt ci` wants nowhere but in a checkout's own crates.
+fn sources(folder: &Path) -> Vec<String> {
+    let mut found = Vec::new();
+    for entry in fs::read_dir(folder).unwrap() {
+        let path = entry.unwrap().path();
+        let name = path.file_name().unwrap().to_string_lossy().into_owned();
+        if path.is_dir() {
+            found.extend(sources(&path));
+        } else if name == "crates.txt" || [".rt", ".antt"].iter().any(|kind| name.ends_with(kind)) {
+            found.push(name);
+        }
+    }
+    found
+}
+
+/// What `rt` is called for where these sources are made.
+fn made(top: &str, low: &str) -> [String; 2] {
+    ["version".into(), format!("lib --cpu x86-64 of {top} {low} ")]
+}
+
+/// All is made in the output folder, and cargo shows it.
 #[test]
 fn a_fresh_checkout() {
     let checkout = Checkout::new("fresh");
-    let (calls, shown) = checkout.cargo();
-    assert_eq!((calls, shown), (["version", "staticlib", "proved low"].map(String::from).into(), true));
-    assert!(!checkout.root.join("target").exists(), "the checkout was written to");
+    let (calls, output) = checkout.cargo(checkout.project.cargo());
+    assert!(output.status.success(), "{}", said(&output));
+    assert_eq!(calls, made("top 1", "low 1"));
+    assert!(said(&output).contains("proves exports and "), "{}", said(&output));
+    for folder in ["target", "crates/exports/out", "crates/low/out"] {
+        assert!(!checkout.root.join(folder).exists(), "the checkout was written to: {folder}");
+    }
 }
 
-/// The library that stands there is taken; and no longer once a source has changed, whatever its time says.
+/// It is made again if a source has changed, of whichever room, and only then.
 #[test]
-fn after_a_static_library() {
+fn after_a_change() {
     let checkout = Checkout::new("after");
-    checkout.staticlib();
-    let taken = (["version", "check"].map(String::from).to_vec(), false);
-    // over the proof of the room below
-    let over_proof = (["version", "staticlib"].map(String::from).to_vec(), true);
-    assert_eq!(checkout.cargo(), taken);
+    assert_eq!(checkout.next(), made("top 1", "low 1"));
+    assert_eq!(checkout.next(), [""; 0]);
+    checkout.change("exports", "top 2");
+    assert_eq!(checkout.next(), made("top 2", "low 1"));
+    checkout.change("low", "low 2");
+    assert_eq!(checkout.next(), made("top 2", "low 2"));
+    assert_eq!(checkout.next(), [""; 0]);
 
+    // whatever its time says
     let source = checkout.root.join("crates/exports/src/lib.rt");
     let before = fs::metadata(&source).unwrap().modified().unwrap();
-    checkout.change("exports", "2");
+    checkout.change("exports", "top 3");
     fs::File::options().append(true).open(&source).unwrap().set_modified(before).unwrap();
-    assert_eq!(checkout.cargo(), over_proof);
-    checkout.staticlib();
-    assert_eq!(checkout.cargo(), taken);
-
-    // a room below it: its proof isn't taken either
-    checkout.change("low", "2");
-    let (calls, shown) = checkout.cargo();
-    assert_eq!((calls, shown), (["version", "staticlib", "proved low"].map(String::from).into(), true));
+    assert_eq!(checkout.first(), made("top 3", "low 2"));
 }
 
-/// A library that may be of other sources is built anew.
+/// A library that stands in the checkout may be of other sources: it is linked only where it is named.
 #[test]
 fn a_library_of_an_unknown_origin() {
     let checkout = Checkout::new("unknown");
-    checkout.staticlib();
-    let target = checkout.root.join("target");
-    let over_proof = (["version", "staticlib"].map(String::from).to_vec(), true);
+    let out = checkout.root.join("crates/exports/out");
+    fs::create_dir_all(&out).unwrap();
+    fs::write(out.join("libexports.a"), "!<arch>\n").unwrap();
+    assert_eq!(checkout.first(), made("top 1", "low 1"));
 
-    // the log is of a check, or of another folder
-    let log = target.join("log/exports.say");
-    let said = fs::read_to_string(&log).unwrap();
-    for other in [said.replace(" target=x86_64-unknown-linux-gnu", ""), said.replace("checkout", "elsewhere")]
-    {
-        assert_ne!(other, said);
-        fs::write(&log, other).unwrap();
-        assert_eq!(checkout.cargo(), over_proof);
-    }
-    fs::write(&log, said).unwrap();
-    assert!(!checkout.cargo().1);
+    let named = || {
+        let mut cargo = checkout.project.cargo();
+        cargo.env("MENAKOVITSY_LIB_DIR", &out);
+        checkout.cargo(cargo)
+    };
+    let (calls, output) = named();
+    assert!(calls.is_empty() && !output.status.success(), "{calls:?}");
+    assert!(said(&output).contains("libexports.a is for no processor that an ELF"), "{}", said(&output));
+    fs::copy(Path::new(env!("MENAKOVITSY_LINKED")).join("libmenakovitsy.a"), out.join("libexports.a"))
+        .unwrap();
+    let (calls, output) = named();
+    assert!(calls.is_empty() && output.status.success(), "{calls:?} {}", said(&output));
+}
 
-    // a room below was looked at since
-    fs::write(target.join("log/low.res"), "proved\n").unwrap();
-    assert_eq!(checkout.cargo(), over_proof);
+/// Nothing is linked of sources that are not proved, and what `rt` says is shown.
+#[test]
+fn what_is_not_proved() {
+    let checkout = Checkout::new("wrong");
+    checkout.change("exports", "wrong");
+    let (calls, output) = checkout.cargo(checkout.project.cargo());
+    assert_eq!(calls, made("wrong", "low 1"));
+    let expected = format!(
+        "error: `rt lib` failed in a copy of the crates: see above what it said, and run it in {}.",
+        fs::canonicalize(checkout.root.join("crates/exports")).unwrap().display()
+    );
+    let said = said(&output);
+    assert!(!output.status.success() && said.contains("this is not proved"), "{said}");
+    assert!(said.contains(&expected), "{said}");
 }

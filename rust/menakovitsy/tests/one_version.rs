@@ -22,8 +22,8 @@ fn the_same_version_in_every_place() {
     assert_eq!(said("rust/Cargo.toml", "\nversion = \"", "\""), release);
     assert_eq!(menakovitsy::library_version(), VERSION, "the library that is linked");
     for (file, before, behind) in [
-        ("crates/exports/specs/Version.antt", "\nfaceVersion = ", "\n"),
-        ("crates/exports/src/lib.rt", "⌜ r ≡ faceVersion ⌝ }\n{\n", "\n}"),
+        ("crates/exports/specs/Version.antt", "\nface_version = ", "\n"),
+        ("crates/exports/src/lib.rt", "result ≡ face_version }\n{\n", "\n}"),
         ("rust/menakovitsy/menakovitsy.h", "#define ORC_VERSION UINT64_C(", ")"),
         ("docs/PROMISES.md", "| `exports::orc_version` | the number of the face: ", " |"),
     ] {

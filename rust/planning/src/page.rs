@@ -14,7 +14,7 @@ const FEW: usize = 60;
 
 /// The proposals are the linked library's.
 #[cfg(feature = "ours")]
-const PLANNER: &str = "the library's, `orc_plan`";
+const PLANNER: &str = "The planner is the library's, `orc_plan`.";
 
 /// What the planner that the page shows proposes.
 #[cfg(feature = "ours")]
@@ -25,7 +25,8 @@ pub fn planned(rows: &[i64], signed: bool) -> Vec<Segment> {
 
 /// They are those of the planner in Rust: the library is not linked.
 #[cfg(not(feature = "ours"))]
-const PLANNER: &str = "the one in `rust/planning`, an oracle of the tests: the library's is not linked";
+const PLANNER: &str =
+    "The planner is the one in `rust/planning`, an oracle of the tests: the library's is not linked.";
 
 /// What the planner that the page shows proposes.
 #[cfg(not(feature = "ours"))]
@@ -80,10 +81,9 @@ pub fn sums(figures: &[Figures]) -> ([usize; 4], [usize; 4]) {
     (all, std::array::from_fn(|k| sum(&|column| column.few[k])))
 }
 
-fn line(text: &mut String, name: &str, flag: &str, all: [usize; 4], few: [usize; 4]) {
-    let ([planner, _, narrowest, apache], [planner_few, apache_few, optimum, _]) = (all, few);
-    let cells = [planner, narrowest, apache, planner_few, apache_few, optimum].map(|size| size.to_string());
-    writeln!(text, "| {name} | {flag} | {} |", cells.join(" | ")).expect("a string takes it");
+fn line(text: &mut String, name: &str, flag: &str, numbers: [usize; 4]) {
+    let cells = numbers.map(|number| number.to_string()).join(" | ");
+    writeln!(text, "| {name} | {flag} | {cells} |").expect("a string takes it");
 }
 
 fn flag(column: &Figures) -> &'static str {
@@ -97,41 +97,50 @@ fn flag(column: &Figures) -> &'static str {
 /// The page.
 pub fn text(figures: &[Figures]) -> String {
     let (all, few) = sums(figures);
-    let columns = figures.len();
     let mut text = format!(
-        "# What the planner makes of {columns} columns\n\n\
-         Bytes of the columns in `rust/planning/src/columns.rs`, which are the same on every machine. The rules \
-         are in [FORMAT.md](FORMAT.md), \"Planner\". `cargo run --release --offline -p planning` in `rust/` \
-         writes this page, and a test says when it is stale. The model of the check accepts each proposal, and \
-         the model of the writer makes the bytes.\n\n\
-         - **Planner**: {PLANNER}.\n\
+        "# What the planner makes of {} columns\n\n\
+         The rules are in [FORMAT.md](FORMAT.md), \"Column writer\" and \"Planner\". {PLANNER} `cargo run --release --offline -p planning` in `rust/` writes this \
+         page; a test of that crate says when it is stale. The columns are those of \
+         `rust/planning/src/columns.rs`, the same on every machine. Each proposal is one \
+         that the model of the check accepts, and the bytes are those that the model of the writer makes.\n\n\
+         - **Direct 64**: direct runs of 64 bits, 512 rows each, which are written where a proposal is not \
+         accepted.\n\
          - **Narrowest direct**: direct runs of 512 rows, each at the narrowest kept width.\n\
-         - **Apache**: a model of the Apache ORC writer's choices, by its public algorithm, at kept widths \
-         (`rust/planning/src/apache.rs`).\n\
-         - **Optimum**: the least over all cuts, forms, widths and bases (`rust/model/src/optimum.rs`).\n\n\
-         Direct runs of 64 bits, which are written if a proposal is not accepted, take {} bytes for each column \
-         of {ROWS} rows.\n\n\
-         | Column | Flag | {ROWS} rows: planner | Narrowest direct | Apache | First {FEW} rows: planner | Apache | Optimum |\n\
-         |---|---|---:|---:|---:|---:|---:|---:|\n",
-        all[1] / columns
+         - **Apache model**: the Apache ORC writer's own choices, by its public algorithm, at kept widths \
+         (`rust/planning/src/apache.rs`).\n\n\
+         ## Bytes of {ROWS} rows\n\n\
+         | Column | Flag | Planner | Direct 64 | Narrowest direct | Apache model |\n\
+         |---|---|---:|---:|---:|---:|\n",
+        figures.len()
     );
     for column in figures {
-        line(&mut text, column.name, flag(column), column.all, column.few);
+        line(&mut text, column.name, flag(column), column.all);
     }
-    line(&mut text, "**Sum**", "", all, few);
+    line(&mut text, "**Sum**", "", all);
     let above = figures.iter().filter(|column| column.all[0] > column.all[3]).count();
+    write!(
+        text,
+        "\nThe planner is above the Apache model on {above} of {} columns, and at {:.3} of it on the sum.\n\n\
+         ## Bytes of the first {FEW} rows, against the optimum\n\n\
+         The optimum is the least over all cuts, forms, widths and bases (`rust/model/src/optimum.rs`). In the \
+         last column it is that without patched runs that have an empty list, which other readers do not read \
+         (docs/DIFFERENCES.md, `empty-list`) and the planner does not propose.\n\n\
+         | Column | Flag | Planner | Apache model | Optimum | Without empty lists |\n\
+         |---|---|---:|---:|---:|---:|\n",
+        figures.len(),
+        all[0] as f64 / all[3] as f64,
+    )
+    .expect("a string takes it");
+    for column in figures {
+        line(&mut text, column.name, flag(column), column.few);
+    }
+    line(&mut text, "**Sum**", "", few);
     let over = |which: usize| few[which] as f64 / few[2] as f64;
     writeln!(
         text,
-        "\n- {ROWS} rows: the planner is above the Apache model on {above} of {columns} columns, and at {:.3} of it \
-         on the sum.\n\
-         - First {FEW} rows: on the sum the planner takes {:.3} times the optimum, and the Apache model {:.3} \
-         times. Without patched runs that have an empty list the optimum's sum is {}. Other readers do not read \
-         such runs (docs/DIFFERENCES.md, `empty-list`), and the planner does not propose them.",
-        all[0] as f64 / all[3] as f64,
+        "\nOn the sum the planner takes {:.3} times the optimum, and the Apache model {:.3} times.",
         over(0),
-        over(1),
-        few[3]
+        over(1)
     )
     .expect("a string takes it");
     text

@@ -44,7 +44,7 @@ fn the_wrapper_declares_the_library() {
 /// How each kind of parameter passes, on a function that is made up.
 #[test]
 fn rattle_as_c_sees_it() {
-    let source = "// #[no_mangle]\n#[no_mangle]\npub extern \"C\" fn orc_all(a: &[u8], b: &mut [i64], c: u64,\n    \
+    let source = "// #[unsafe(no_mangle)]\n#[unsafe(no_mangle)]\npub extern \"C\" fn orc_all(a: &[u8], b: &mut [i64], c: u64,\n    \
                   d: i64,\n) -> u64\n    ensures { x }\n{\n    inner(a)\n}\n\npub extern \"C\" fn inner(a: u64) -> u64";
     let header =
         "uint64_t orc_all(const uint8_t *a, size_t a_len, int64_t *b, size_t b_len, uint64_t c, int64_t d);";

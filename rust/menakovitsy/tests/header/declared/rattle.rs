@@ -10,7 +10,7 @@ use super::{enclosed, listed, number, tokens, without_line_comments, Function, P
 pub const RENAMED: [(&str, &str, &str); 1] = [("orc_label_column", "block", "block_len")];
 
 /// What marks an exported function.
-const EXPORTED: [&str; 8] = ["#", "[", "no_mangle", "]", "pub", "extern", "\"C\"", "fn"];
+const EXPORTED: [&str; 11] = ["#", "[", "unsafe", "(", "no_mangle", ")", "]", "pub", "extern", "\"C\"", "fn"];
 
 /// Those of all crates of the checkout that these tests stand in.
 pub fn exported() -> Vec<Function> {

@@ -1,0 +1,65 @@
+-- The run's own part fills the places, or the batch of the runs after it follows in those that are left. Assumes nothing.
+use mathlib.Core.Logic.{◌≢◌}
+use Prim.Native.Nat.{◌≤◌}
+use native.Mathlib.Omega.{arith}
+use lib.ListN.{length, drop}
+use Rattle.format.specs.Digits.{AllBelow}
+use Rattle.format.proofs.Below.{below_all}
+use Rattle.util.proofs.Grow.{rest-is}
+use Rattle.batches.specs.BatchSteps.{BatchFrom}
+use Rattle.batches.proofs.RowPositions.{position}
+use Rattle.batches.proofs.WithinRun.{none-wanted, all-filled, some_left, rest-few, rest_read}
+use Rattle.batches.proofs.read_within.Goals as goal
+
+-- ---- no places, or the part fills them
+pub returns-then-out-eq0 : goal.returns-then-out-eq0
+returns-then-out-eq0 c =
+    rw c.new.ensures (none-wanted c.args.signed c.args.out.now c.requires (omega arith))
+
+pub returns-then-n-out : goal.returns-then-n-out
+returns-then-n-out c =
+    let bytes : AllBelow 256 c.args.input.now = below_all 256 c.args.input.now (λ i. (c.shared_slice_known-1.given i).fits) in
+    all-filled (bytes) c.requires c.read_part-first.ensures (omega (arith, c.read_part-first.auto.out))
+
+pub offset_bounds-out-n : goal.offset_bounds-out-n
+offset_bounds-out-n c =
+    let bytes : AllBelow 256 c.args.input.now = below_all 256 c.args.input.now (λ i. (c.shared_slice_known-1.given i).fits) in
+    let unfilled : c.read_part-first.result.rows.rows ≢ length c.args.out.now = λ e. omega (arith, e, c.read_part-first.auto.out) in
+    let some : c.read_part-first.result.rows.rows ≤ length c.read_part-first.new.out = some_left (bytes) c.requires c.read_part-first.ensures (unfilled) in
+    omega (arith, some, c.read_part-first.auto.out)
+
+pub after-requires : goal.after-requires
+after-requires c =
+    let bytes : AllBelow 256 c.args.input.now = below_all 256 c.args.input.now (λ i. (c.shared_slice_known-1.given i).fits) in
+    let unfilled : c.read_part-first.result.rows.rows ≢ length c.args.out.now = λ e. omega (arith, e, c.read_part-first.auto.out) in
+    let rest : (let a = c.args in
+    BatchFrom a.input.now (position c.read_part-first.result.next.run.bytes 0) a.signed
+    (drop c.read_part-first.result.rows.rows c.read_part-first.new.out) c.read_runs-rest.new.out c.read_runs-rest.result) = rw (rest-is c.read_part-first.new.out c.read_part-first.result.rows.rows) at c.read_runs-rest.ensures in
+    omega (
+      arith,
+      rest-few (bytes) c.requires c.read_part-first.ensures (unfilled) (rest),
+      c.read_part-first.auto.out,
+    )
+
+pub returns : goal.returns
+returns c =
+    let bytes : AllBelow 256 c.args.input.now = below_all 256 c.args.input.now (λ i. (c.shared_slice_known-1.given i).fits) in
+    let unfilled : c.read_part-first.result.rows.rows ≢ length c.args.out.now = λ e. omega (arith, e, c.read_part-first.auto.out) in
+    let rest : (let a = c.args in
+    BatchFrom a.input.now (position c.read_part-first.result.next.run.bytes 0) a.signed
+    (drop c.read_part-first.result.rows.rows c.read_part-first.new.out) c.read_runs-rest.new.out c.read_runs-rest.result) = rw (rest-is c.read_part-first.new.out c.read_part-first.result.rows.rows) at c.read_runs-rest.ensures in
+    rw c.after.ensures (rest_read (bytes) c.requires c.read_part-first.ensures (unfilled) (rest))
+
+pub slice_bounds-read_runs-count : goal.slice_bounds-read_runs-count
+slice_bounds-read_runs-count c =
+    let bytes : AllBelow 256 c.args.input.now = below_all 256 c.args.input.now (λ i. (c.shared_slice_known-1.given i).fits) in
+    let unfilled : c.read_part-first.result.rows.rows ≢ length c.args.out.now = λ e. omega (arith, e, c.read_part-first.auto.out) in
+    let some : c.read_part-first.result.rows.rows ≤ length c.read_part-first.new.out = some_left (bytes) c.requires c.read_part-first.ensures (unfilled) in
+    omega (arith, some)
+
+pub slice_bounds-read_runs-start : goal.slice_bounds-read_runs-start
+slice_bounds-read_runs-start c =
+    let bytes : AllBelow 256 c.args.input.now = below_all 256 c.args.input.now (λ i. (c.shared_slice_known-1.given i).fits) in
+    let unfilled : c.read_part-first.result.rows.rows ≢ length c.args.out.now = λ e. omega (arith, e, c.read_part-first.auto.out) in
+    let some : c.read_part-first.result.rows.rows ≤ length c.read_part-first.new.out = some_left (bytes) c.requires c.read_part-first.ensures (unfilled) in
+    omega (arith, some)

@@ -1,0 +1,39 @@
+use mathlib.Core.List.{append_assoc}
+use mathlib.Core.Path.{◌≡◌, refl, ◌∙◌}
+use Prim.Native.Nat.{◌-◌, ◌+◌, ◌*◌}
+use native.Mathlib.Nat.{sub-zero}
+use native.Mathlib.Omega.{arith}
+use Rattle.format.specs.Digits.{lowest_first}
+use Rattle.exports.specs.RowBytes.{row_bytes}
+use Rattle.util.proofs.Grow.{front-is, kept_by, long-by, filled}
+use Rattle.exports.proofs.RowBytes.{repeat-more, bytes-long}
+use Rattle.exports.proofs.bytes.put_repeat.Goals as goal
+
+pub loop-i-preserved : goal.loop-i-preserved
+loop-i-preserved c =
+    let l = c.loop-i in
+    let a = c.args in
+    let x = a.x in
+    let e = c.put_row.ensures in
+    let n : 8 * (l.i + 1) ≡ 8 * l.i + 8 = omega arith in (
+      omega arith,
+      long-by l.out c.put_row.new.out (lowest_first 8 x) (8 * l.i) 8 (omega arith) (bytes-long 8 x) e (omega arith) ∙ l.invariant.1,
+      rw (n, front-is l.out c.put_row.new.out (lowest_first 8 x) (8 * l.i) 8 (omega arith) (bytes-long 8 x) e, append_assoc)
+          (rw (repeat-more a.count.rows l.i x (omega arith) c.ranges.x.fits) at l.invariant.2),
+      rw n (kept_by l.out c.put_row.new.out (lowest_first 8 x) (8 * l.i) 8 (omega arith) (bytes-long 8 x) e a.out.now l.invariant.3),
+    )
+
+pub returns : goal.returns
+unfolding row_bytes
+returns c =
+    let l = c.loop-i in
+    let a = c.args in
+    let d : l.i ≡ a.count.rows = omega arith in
+    let z : a.count.rows - l.i ≡ 0 = omega arith in
+    filled l.out a.out.now _ (8 * a.count.rows) (rw d at (simp (z, row_bytes) at l.invariant.2)) (rw d at l.invariant.3)
+
+pub loop-i-init : goal.loop-i-init
+loop-i-init c = (omega arith, refl, simp sub-zero, refl)
+
+pub shape_of-out : goal.shape_of-out
+shape_of-out c = c.loop-i.invariant.1

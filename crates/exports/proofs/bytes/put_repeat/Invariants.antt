@@ -1,0 +1,19 @@
+-- `put_repeat` meets its contract. The loop's invariant: what stands so far, then the bytes of the rows that are left, is the whole.
+-- Assumes nothing.
+use mathlib.Core.List.{◌++◌, map}
+use mathlib.Core.Path.{◌≡◌}
+use Prim.Native.Nat.{◌≤◌, ◌-◌, ◌*◌}
+use lib.ListN.{length, take, drop, replicate}
+use Rattle.format.specs.Rows.{as_i64}
+use Rattle.exports.specs.RowBytes.{row_bytes}
+use Rattle.exports.proofs.bytes.put_repeat.Given as goal
+
+abbrev pub invariant-loop-i : goal.invariant-loop-i
+invariant-loop-i l =
+    (l.i ≤ l.n)
+    × (length l.out ≡ length l.initial.out)
+    × (take (8 * l.i) l.out ++ row_bytes (map as_i64 (replicate (l.n - l.i) l.x)) ≡ row_bytes (map as_i64 (replicate l.n l.x)))
+    × (drop (8 * l.i) l.out ≡ drop (8 * l.i) l.initial.out)
+
+abbrev pub decreases-loop-i : goal.decreases-loop-i
+decreases-loop-i l = l.n - l.i

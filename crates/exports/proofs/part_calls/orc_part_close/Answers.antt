@@ -1,0 +1,20 @@
+-- The closing call's answer and state are put into the words, or there are too few of them. Assumes nothing.
+use mathlib.Core.Path.{refl}
+use Rattle.answer_words.proofs.PartWords.{few-state, few_words, is-enough}
+use Rattle.exports.proofs.PartWords.{close-few, close-done}
+use Rattle.exports.proofs.part_calls.orc_part_close.Goals as goal
+
+pub returns-then-state-lt-STATE_COUNT : goal.returns-then-state-lt-STATE_COUNT
+returns-then-state-lt-STATE_COUNT c =
+    let a = c.args in
+    close-few (few-state a.state.now a.words.now c.if-state-lt-STATE_COUNT.true)
+
+pub returns-then-words-lt-COUNT : goal.returns-then-words-lt-COUNT
+returns-then-words-lt-COUNT c =
+    let a = c.args in
+    close-few (few_words a.state.now a.words.now c.if-state-lt-STATE_COUNT.false c.if-words-lt-COUNT.true)
+
+pub returns : goal.returns
+returns c =
+    let a = c.args in
+    close-done c.close-step.result (is-enough a.state.now a.words.now c.if-state-lt-STATE_COUNT.false c.if-words-lt-COUNT.false) c.put_step.ensures refl (rw c.reader_of-reader.ensures at c.close-step.ensures)

@@ -1,0 +1,120 @@
+// Batches as words: the case, the refusal's number and place, how many rows, flags or bytes were read, the position after them, and the field that was cut.
+ghost use Rattle.std.specs.Prelude.{◌≡◌};
+ghost use Rattle.exports.specs.Batches.{rows_words, flags_words, bytes_words};
+
+use answer_words::{cut_byte, cut_case};
+use batches::Batch;
+use boolean_rle::bytes::ByteBatch;
+use boolean_rle::flags::FlagBatch;
+
+// How many words each has.
+pub const ROWS_COUNT: usize = 8;
+
+pub const FLAGS_COUNT: usize = 9;
+
+pub const BYTES_COUNT: usize = 8;
+
+// Of rows.
+pub(crate) fn of_rows(batch: Batch) -> [u64; ROWS_COUNT]
+    ensures { result ≡ rows_words batch }
+{
+    match batch {
+        Batch::Rows(b) => {
+            let next = b.next;
+            [
+                1,
+                0,
+                0,
+                b.rows.rows as u64,
+                next.run.bytes as u64,
+                next.skip.rows as u64,
+                0,
+                0,
+            ]
+        }
+        Batch::End => [0, 0, 0, 0, 0, 0, 0, 0],
+        Batch::Refused(f) => {
+            let cut = f.cut;
+            [
+                2,
+                f.number as u64,
+                f.place.bytes as u64,
+                0,
+                0,
+                0,
+                cut_case(cut),
+                cut_byte(cut).bytes as u64,
+            ]
+        }
+    }
+}
+
+// Of flags.
+pub(crate) fn of_flags(batch: FlagBatch) -> [u64; FLAGS_COUNT]
+    ensures { result ≡ flags_words batch }
+{
+    match batch {
+        FlagBatch::Read(b) => {
+            let next = b.next;
+            [
+                1,
+                0,
+                0,
+                b.rows.rows as u64,
+                next.run.bytes as u64,
+                next.bytes.bytes as u64,
+                next.bits as u64,
+                0,
+                0,
+            ]
+        }
+        FlagBatch::Refused(f) => {
+            let cut = f.cut;
+            [
+                2,
+                f.number as u64,
+                f.place.bytes as u64,
+                0,
+                0,
+                0,
+                0,
+                cut_case(cut),
+                cut_byte(cut).bytes as u64,
+            ]
+        }
+    }
+}
+
+// Of bytes.
+pub(crate) fn of_bytes(batch: ByteBatch) -> [u64; BYTES_COUNT]
+    ensures { result ≡ bytes_words batch }
+{
+    match batch {
+        ByteBatch::Read(b) => {
+            let next = b.next;
+            [
+                1,
+                0,
+                0,
+                b.rows.rows as u64,
+                next.run.bytes as u64,
+                next.bytes.bytes as u64,
+                0,
+                0,
+            ]
+        }
+        ByteBatch::Refused(f) => {
+            let cut = f.cut;
+            [
+                2,
+                f.number as u64,
+                f.place.bytes as u64,
+                0,
+                0,
+                0,
+                cut_case(cut),
+                cut_byte(cut).bytes as u64,
+            ]
+        }
+    }
+}

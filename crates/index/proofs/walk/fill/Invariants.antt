@@ -1,0 +1,11 @@
+-- Each turn fills one place of each column: what stands there so far, then what is still to come, are the stream's columns. Assumes nothing.
+use Prim.Native.Nat.{◌-◌}
+use lib.ListN.{length}
+use Rattle.index.proofs.Fills.{Filling}
+use Rattle.index.proofs.walk.fill.Given as goal
+
+abbrev pub invariant-loop-place : goal.invariant-loop-place
+invariant-loop-place l = Filling l.input l.initial.first l.initial.at l.initial.counts l.first l.at l.counts l.place l.row l.i
+
+abbrev pub decreases-loop-place : goal.decreases-loop-place
+decreases-loop-place l = length l.input - l.place

@@ -1,0 +1,11 @@
+-- Each turn counts one run more, or ends with what the stream is: the count so far, and what is still to come, are the whole's. Assumes nothing.
+use Prim.Native.Nat.{◌-◌}
+use lib.ListN.{length}
+use Rattle.index.proofs.Walks.{Surveyed}
+use Rattle.index.proofs.walk.whole_of.Given as goal
+
+abbrev pub invariant-loop-place : goal.invariant-loop-place
+invariant-loop-place l = Surveyed l.input l.place l.runs l.total
+
+abbrev pub decreases-loop-place : goal.decreases-loop-place
+decreases-loop-place l = length l.input - l.place

@@ -1,7 +1,0 @@
--- The words of the refusal, and nothing else. Assumes nothing.
-use borrow.Author.Rules.{rules}
-use Rattle.rle_v2.proofs.delta.gone.Statement.{statement}
-use Rattle.rle_v2.proofs.delta.gone.Tie as tie
-
-pub gone-spec : {M : Type 1} → statement M
-gone-spec = tie.close (tie.spec (λ c κs. search rules) (λ c. rw c.gone.ensures))

@@ -1,0 +1,17 @@
+-- The magnitudes are laid down as patterns and then summed up in their places. Assumes nothing.
+use mathlib.Core.List.{map}
+use lib.ListN.{length-map}
+use mathlib.Core.Path.{◌∙◌}
+use Rattle.format.specs.Rows.{as_i64}
+use Rattle.util.specs.Packed.{fields}
+use Rattle.util.proofs.Window.{length_fields}
+use Rattle.rle_v2.specs.Pass.{summed}
+use Rattle.rle_v2.proofs.Pass.{then-pass}
+use Rattle.rle_v2.proofs.delta.magnitudes.Goals as goal
+
+pub returns : goal.returns
+returns c =
+    let a = c.args in
+    let vs = fields a.bits a.n.rows a.block.now in
+    then-pass (summed a.falling a.second) (map as_i64 vs) a.out.now c.unpack.new.out c.sum.new.out a.n.rows
+    (length-map vs as_i64 ∙ length_fields a.bits a.n.rows a.block.now) c.unpack.ensures c.sum.ensures

@@ -1,0 +1,39 @@
+-- There are places enough, a few for a short run and 512 for any. Assumes nothing.
+use Rattle.format.proofs.Common.{refl, List, map, ℕ, ◌-◌, arith, length, rules}
+use Rattle.format.specs.declared.Form.TheVariants.{PackedDelta}
+use Rattle.format.specs.declared.Kind.TheVariants as kind
+use Rattle.format.specs.Fields.{width, zigzagged}
+use Rattle.format.specs.Rows.{as_u64}
+use Rattle.format.specs.Writing.{first_of, base_delta}
+use Rattle.writer.specs.Start.{start}
+use Rattle.writer.proofs.PackedForms.{Packed, delta-packed, unfitting, too_few}
+use Rattle.writer.proofs.delta.write_packed.Goals as goal
+
+pub returns-then-size-eq0 : goal.returns-then-size-eq0
+returns-then-size-eq0 c =
+    let rs : List ℕ = map as_u64 c.args.rows.now in
+    let known : Packed c.args.rows.now c.args.signed PackedDelta kind.Delta c.args.code
+    (start c.args.code (length c.args.rows.now) (first_of c.args.signed (rs)) (zigzagged (base_delta (rs))))
+    (length c.args.rows.now - 2) (width c.args.code) = delta-packed c.args.rows.now c.args.signed (omega arith) c.args.code (omega arith) (omega arith) c.requires.code_value refl in
+    unfitting (known) c.size_packed-bytes.ensures c.if-size-eq0.true c.args.out.now
+    c.refused.result c.refused.ensures
+
+pub returns-then-out-size : goal.returns-then-out-size
+returns-then-out-size c =
+    let rs : List ℕ = map as_u64 c.args.rows.now in
+    let known : Packed c.args.rows.now c.args.signed PackedDelta kind.Delta c.args.code
+    (start c.args.code (length c.args.rows.now) (first_of c.args.signed (rs)) (zigzagged (base_delta (rs))))
+    (length c.args.rows.now - 2) (width c.args.code) = delta-packed c.args.rows.now c.args.signed (omega arith) c.args.code (omega arith) (omega arith) c.requires.code_value refl in
+    too_few (known) c.size_packed-bytes.ensures (omega arith) c.args.out.now c.refused-then-out-size.result c.if-out-size.true c.refused-then-out-size.ensures
+
+pub write_packed_over-requires : goal.write_packed_over-requires
+write_packed_over-requires c = record { in_bounds = search rules; code_value = c.requires.code_value; sized = c.size_packed-bytes.ensures }
+
+pub returns-then-rows-le-FEW : goal.returns-then-rows-le-FEW
+returns-then-rows-le-FEW c = c.write_packed_over.ensures c.answer.result c.answer.ensures
+
+pub write_packed_over-requires-2 : goal.write_packed_over-requires-2
+write_packed_over-requires-2 c = record { in_bounds = search rules; code_value = c.requires.code_value; sized = c.size_packed-bytes.ensures }
+
+pub returns : goal.returns
+returns c = c.write_packed_over-2.ensures c.answer-2.result c.answer-2.ensures

@@ -1,0 +1,18 @@
+use Rattle.format.proofs.Common.{◌∙◌, arith}
+use Rattle.format.specs.Writing.{minus}
+use Rattle.writer.proofs.Turns.{fill-first, store-next, store-end}
+use Rattle.writer.proofs.values.differences.Goals as goal
+
+pub loop-i-init : goal.loop-i-init
+loop-i-init c = fill-first _ _ _
+
+pub loop-i-preserved : goal.loop-i-preserved
+loop-i-preserved c = let a = c.args in
+    store-next (λ r. minus r a.base) a.rows.now c.loop-i.invariant (omega arith) (omega arith)
+    (c.sub.ensures ∙ rw c.pattern_of.ensures)
+
+pub shape_of-vals : goal.shape_of-vals
+shape_of-vals c = c.loop-i.invariant.long
+
+pub returns : goal.returns
+returns c = let a = c.args in store-end (λ r. minus r a.base) a.rows.now c.loop-i.invariant (omega arith)
