@@ -8,7 +8,7 @@ ghost use Rattle.format.specs.Answers.{stream_number, stream_place, stream_cut, 
 ghost use Rattle.answer_words.specs.Words.{answer_case, answer_kind, answer_words, cut_case, cut_byte, stream_case, last_answer, stream_words, word_count, stream_word_count, Put, Told};
 ghost use Rattle.format.specs.Answers.{answer_number};
 
-use format::{ALL_BITS, Answer, ByteOffset, CutField, LastRun, RowNumber, Stream};
+use format::{ALL_BITS, Answer, ByteOffset, RowNumber, Stream};
 
 pub mod parts;
 
@@ -24,9 +24,9 @@ fn case(answer: Answer) -> u64
     ensures { result ≡ answer_case answer }
 {
     match answer {
-        Answer::End => 0,
-        Answer::Run(_) => 1,
-        Answer::Refused(_) => 2,
+        Ok(None) => 0,
+        Ok(Some(_)) => 1,
+        Err(_) => 2,
     }
 }
 
@@ -34,31 +34,31 @@ pub(crate) fn kind(answer: Answer) -> u8
     ensures { result ≡ answer_kind answer }
 {
     match answer {
-        Answer::Run(r) => {
+        Ok(Some(r)) => {
             let kind = r.kind;
             kind.number()
         }
-        Answer::Refused(_) => 0,
-        Answer::End => 0,
+        Err(_) => 0,
+        Ok(None) => 0,
     }
 }
 
 // Whether a field was cut, and the byte where it begins: 0 where none was.
-pub fn cut_case(field: CutField) -> u64
+pub fn cut_case(field: Option<ByteOffset>) -> u64
     ensures { result ≡ cut_case field }
 {
     match field {
-        CutField::None => 0,
-        CutField::At(_) => 1,
+        None => 0,
+        Some(_) => 1,
     }
 }
 
-pub fn cut_byte(field: CutField) -> ByteOffset
+pub fn cut_byte(field: Option<ByteOffset>) -> ByteOffset
     ensures { result.bytes ≡ cut_byte field }
 {
     match field {
-        CutField::None => ByteOffset { bytes: 0 },
-        CutField::At(b) => b,
+        None => ByteOffset { bytes: 0 },
+        Some(b) => b,
     }
 }
 
@@ -107,8 +107,8 @@ fn stream_case(stream: Stream) -> u64
     ensures { result ≡ stream_case stream }
 {
     match stream {
-        Stream::Whole(_) => 1,
-        Stream::Refused(_, _) => 2,
+        Ok(_) => 1,
+        Err(_) => 2,
     }
 }
 
@@ -116,8 +116,8 @@ fn stream_number(stream: Stream) -> u8
     ensures { result ≡ stream_number stream }
 {
     match stream {
-        Stream::Whole(_) => 0,
-        Stream::Refused(f, _) => f.number,
+        Ok(_) => 0,
+        Err(s) => f.number,
     }
 }
 
@@ -125,17 +125,17 @@ fn stream_place(stream: Stream) -> ByteOffset
     ensures { result.bytes ≡ stream_place stream }
 {
     match stream {
-        Stream::Whole(_) => ByteOffset { bytes: 0 },
-        Stream::Refused(f, _) => f.place,
+        Ok(_) => ByteOffset { bytes: 0 },
+        Err(s) => f.place,
     }
 }
 
-fn stream_cut(stream: Stream) -> CutField
+fn stream_cut(stream: Stream) -> Option<ByteOffset>
     ensures { result ≡ stream_cut stream }
 {
     match stream {
-        Stream::Whole(_) => CutField::None,
-        Stream::Refused(f, _) => f.cut,
+        Ok(_) => None,
+        Err(s) => f.cut,
     }
 }
 
@@ -143,8 +143,8 @@ fn stream_rows(stream: Stream) -> RowNumber
     ensures { result.rows ≡ stream_rows stream }
 {
     match stream {
-        Stream::Whole(c) => c.rows,
-        Stream::Refused(_, c) => c.rows,
+        Ok(c) => c.rows,
+        Err(s) => c.rows,
     }
 }
 
@@ -152,27 +152,27 @@ fn stream_consumed(stream: Stream) -> ByteOffset
     ensures { result.bytes ≡ stream_bytes stream }
 {
     match stream {
-        Stream::Whole(c) => c.consumed,
-        Stream::Refused(_, c) => c.consumed,
+        Ok(c) => c.consumed,
+        Err(s) => c.consumed,
     }
 }
 
-fn stream_last(stream: Stream) -> LastRun
+fn stream_last(stream: Stream) -> Option<Run>
     ensures { result ≡ stream_last stream }
 {
     match stream {
-        Stream::Whole(c) => c.last,
-        Stream::Refused(_, c) => c.last,
+        Ok(c) => c.last,
+        Err(s) => c.last,
     }
 }
 
 // The last run as the answer that it would have by itself: end where there is none.
-fn last_answer(last: LastRun) -> Answer
+fn last_answer(last: Option<Run>) -> Answer
     ensures { result ≡ last_answer last }
 {
     match last {
-        LastRun::None => Answer::End,
-        LastRun::Run(r) => Answer::Run(r),
+        None => Ok(None),
+        Some(r) => Ok(Some(r)),
     }
 }
 

@@ -4,22 +4,20 @@ ghost use Rattle.answer_words.specs.Words.{Put, Told};
 ghost use Rattle.answer_words.specs.Parts.{repeated, standing_case, standing_of, cut_of, state_words, state_word_count, refusal_of, reader_of, plain_answer, part_case, part_start, part_number, part_words, part_word_count, PartPut, StepTold};
 
 use crate::{TOO_FEW, cut_byte, cut_case, kind};
-use format::{
-    Answer, ByteOffset, CutField, PartAnswer, PartReader, PartStep, Refusal, RowNumber, Standing,
-};
+use format::{Answer, ByteOffset, PartAnswer, PartReader, PartStep, Refusal, RowNumber, Run, Standing};
 
 // How many words a state has, and a call's answer.
 pub const STATE_COUNT: usize = 7;
 
 pub const COUNT: usize = 11;
 
-fn cut_of(flag: u64, byte: ByteOffset) -> CutField
+fn cut_of(flag: u64, byte: ByteOffset) -> Option<ByteOffset>
     ensures { result ≡ cut_of flag byte.bytes }
 {
     if flag == 0 {
-        return CutField::None;
+        return None;
     }
-    CutField::At(byte)
+    Some(byte)
 }
 
 // The refusal that the words stand for.
@@ -101,9 +99,9 @@ fn repeats(standing: Standing) -> Answer
     ensures { result ≡ repeated standing }
 {
     match standing {
-        Standing::Broken(f) => Answer::Refused(f),
-        Standing::Opened => Answer::End,
-        Standing::Closed => Answer::End,
+        Standing::Broken(f) => Err(f),
+        Standing::Opened => Ok(None),
+        Standing::Closed => Ok(None),
     }
 }
 
@@ -152,11 +150,11 @@ fn plain(answer: PartAnswer) -> Answer
             let kind = r.kind;
             let rows = r.rows;
             let consumed = r.consumed;
-            Answer::run(kind, r.width, rows, consumed)
+            Ok(Some(Run::new(kind, r.width, rows, consumed)))
         }
-        PartAnswer::Refused(f) => Answer::Refused(f),
-        PartAnswer::More => Answer::End,
-        PartAnswer::End => Answer::End,
+        PartAnswer::Refused(f) => Err(f),
+        PartAnswer::More => Ok(None),
+        PartAnswer::End => Ok(None),
     }
 }
 

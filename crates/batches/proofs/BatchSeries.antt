@@ -11,9 +11,8 @@ use lib.Seq.{take-add, take-nil}
 use lib.Dec.{ltb}
 use lib.IntN.{ℤ}
 use borrow.Author.Tests.{ltb-false, le-ltb, lt-ltb}
-use Rattle.format.specs.declared.LastRun.{LastRun}
 use Rattle.format.specs.declared.Refusal.{Refusal}
-use Rattle.format.specs.Answers.{refusing, broke_at}
+use Rattle.format.specs.Answers.{LastRun, refusing, broke_at}
 use Rattle.format.specs.Digits.{AllBelow, sum}
 use Rattle.format.specs.Fields.{pick}
 use Rattle.format.specs.Promises.{stream_answer}

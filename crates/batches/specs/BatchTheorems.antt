@@ -1,9 +1,8 @@
 -- What is proved of batches: statements over every input of bytes, every position and every number of places. Assumes nothing.
 use Rattle.std.specs.Prelude.{◌≡◌, ◌↔◌, ℕ, ◌+◌, ◌-◌, ◌<◌, ◌≤◌, min, Bool, length, take, drop, ℤ}
 use mathlib.Core.List.{List, [], ◌∷◌, ◌++◌, Memᴰ}
-use Rattle.format.specs.declared.LastRun.{LastRun}
 use Rattle.format.specs.declared.Refusal.{Refusal}
-use Rattle.format.specs.Answers.{refusing, broke_at}
+use Rattle.format.specs.Answers.{LastRun, refusing, broke_at}
 use Rattle.format.specs.Digits.{AllBelow, sum}
 use Rattle.format.specs.Promises.{stream_answer}
 use Rattle.format.specs.Runs.{Description, row_count}

@@ -7,7 +7,7 @@ ghost use Rattle.format.specs.Fields.{two64};
 ghost use Rattle.batches.specs.BatchPromise.{position_in, batch_read_as, RowsRead};
 ghost use Rattle.batches.specs.BatchSteps.{RunHolds, Finds, more, HeldRun, PartLaid, RunPart, BatchFrom};
 
-use format::{Answer, ByteOffset, Kind, Refusal, RowNumber, Run};
+use format::{ByteOffset, Kind, Refusal, RowNumber, Run};
 use rle_v2::part;
 use rle_v2::part::DirectPart;
 use util::rows;
@@ -84,7 +84,7 @@ fn seek(input: &[u8], from: RowPosition) -> Sought
     while 0 < left {
         let a = rle_v2::measure(input, ByteOffset { bytes: place });
         match a {
-            Answer::Run(r) => {
+            Ok(Some(r)) => {
                 let rows = r.rows;
                 let consumed = r.consumed;
                 if left < rows.rows {
@@ -96,11 +96,11 @@ fn seek(input: &[u8], from: RowPosition) -> Sought
                 left -= rows.rows;
                 place += consumed.bytes;
             }
-            Answer::Refused(f) => {
+            Err(f) => {
                 return Sought::Refused(f);
             }
             // more rows to skip than there are
-            Answer::End => {
+            Ok(None) => {
                 return Sought::Refused(Refusal::new(16, ByteOffset { bytes: 0 }));
             }
         }
@@ -148,16 +148,16 @@ fn read_aside(input: &[u8], from: RowPosition, signed: bool, out: &mut [i64]) ->
     let at = from.run;
     let mut few = short_scratch();
     let a = rle_v2::read_run(input, at, signed, &mut few);
-    if let Answer::Run(run) = a {
+    if let Ok(Some(run)) = a {
         return lay_part(run, &few, from, out);
     }
     let mut held = rows::scratch();
     let b = rle_v2::read_run(input, at, signed, &mut held);
     match b {
-        Answer::Run(run) => lay_part(run, &held, from, out),
+        Ok(Some(run)) => lay_part(run, &held, from, out),
         // neither is: a run begins there
-        Answer::Refused(_) => BatchRead::up_to(RowNumber { rows: 0 }, at),
-        Answer::End => BatchRead::up_to(RowNumber { rows: 0 }, at),
+        Err(_) => BatchRead::up_to(RowNumber { rows: 0 }, at),
+        Ok(None) => BatchRead::up_to(RowNumber { rows: 0 }, at),
     }
 }
 
@@ -200,13 +200,13 @@ fn read_runs(input: &[u8], at: ByteOffset, signed: bool, out: &mut [i64]) -> Bat
     while k < out.len() {
         let a = rle_v2::read_run(input, ByteOffset { bytes: p }, signed, &mut out[k..]);
         match a {
-            Answer::Run(r) => {
+            Ok(Some(r)) => {
                 let rows = r.rows;
                 let consumed = r.consumed;
                 k += rows.rows;
                 p += consumed.bytes;
             }
-            Answer::Refused(f) => {
+            Err(f) => {
                 // the run has more rows than there are places left
                 if f.number == 8 {
                     let from = RowPosition {
@@ -218,7 +218,7 @@ fn read_runs(input: &[u8], at: ByteOffset, signed: bool, out: &mut [i64]) -> Bat
                 }
                 return BatchRead::up_to(RowNumber { rows: k }, ByteOffset { bytes: p });
             }
-            Answer::End => {
+            Ok(None) => {
                 return BatchRead::up_to(RowNumber { rows: k }, ByteOffset { bytes: p });
             }
         }
@@ -256,9 +256,9 @@ fn read_begun(input: &[u8], at: ByteOffset, signed: bool, out: &mut [i64]) -> Ba
         return Batch::Rows(read);
     }
     match rle_v2::measure(input, at) {
-        Answer::Run(_) => Batch::Rows(read),
-        Answer::Refused(f) => Batch::Refused(f),
-        Answer::End => Batch::End,
+        Ok(Some(_)) => Batch::Rows(read),
+        Err(f) => Batch::Refused(f),
+        Ok(None) => Batch::End,
     }
 }
 

@@ -1,12 +1,10 @@
 -- The statements of the theorems on batches: however a column is cut into them they are its values, where they end and why, and what a
 -- batch has to do with the boolean reader. Assumes nothing.
-use Rattle.std.specs.Prelude.{◌≡◌, ℕ, ◌+◌, ◌<◌, ◌≤◌, List, [], ◌∷◌, ◌++◌, length, take, drop, leb}
+use Rattle.std.specs.Prelude.{◌≡◌, ℕ, ◌+◌, ◌<◌, ◌≤◌, List, [], ◌∷◌, ◌++◌, length, take, drop, leb, Err}
 use Rattle.format.specs.Fields.{pick}
-use Rattle.format.specs.Answers.{ran}
+use Rattle.format.specs.Answers.{Answer, ran}
 use Rattle.format.specs.Booleans.{bits, BooleansRead}
 use Rattle.format.specs.declared.Kind.TheVariants.{Booleans}
-use Rattle.format.specs.declared.Answer.{Answer}
-use Rattle.format.specs.declared.Answer.TheVariants as answer
 use Rattle.boolean_rle.specs.declared.positions.BytePosition.{BytePosition}
 use Rattle.boolean_rle.specs.declared.positions.FlagPosition.{FlagPosition}
 use Rattle.boolean_rle.specs.declared.bytes.ByteBatch.{ByteBatch}
@@ -72,7 +70,7 @@ NextIsPlain input =
 -- A batch from the byte where a run begins is what the boolean reader gives there: it is refused alike, and else n are read.
 abbrev pub Alike : ℕ → FlagBatch → Answer → Type 0
 Alike n (flag.Read x) r = (x.rows.rows ≡ n) × ((consumed : ℕ) × (r ≡ ran Booleans 1 n consumed))
-Alike n (flag.Refused f) r = r ≡ answer.Refused f
+Alike n (flag.Refused f) r = r ≡ Err f
 
 abbrev pub FromRun : Type 0
 FromRun = (input : List ℕ) (at n : ℕ) (out places places' : List ℕ) (batch : FlagBatch) (r : Answer)
@@ -84,7 +82,7 @@ FromRun = (input : List ℕ) (at n : ℕ) (out places places' : List ℕ) (batch
 abbrev pub LastOf : ℕ → ℕ → List ℕ → List ℕ → FlagBatch → Answer → Type 0
 LastOf k n places places' (flag.Read x) r =
     (x.rows.rows ≡ n) × ((consumed : ℕ) × (r ≡ ran Booleans 1 (k + n) consumed)) × (take n places ≡ drop k (take (k + n) places'))
-LastOf k n places places' (flag.Refused f) r = r ≡ answer.Refused f
+LastOf k n places places' (flag.Refused f) r = r ≡ Err f
 
 abbrev pub AsBooleans : Type 0
 AsBooleans = (input : List ℕ) (p : FlagPosition) (n : ℕ) (out places out' places' : List ℕ) (batch : FlagBatch) (r : Answer)

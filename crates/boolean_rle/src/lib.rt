@@ -9,7 +9,7 @@ ghost use Rattle.format.specs.Booleans.{booleans, bits, BooleansRead};
 ghost use Rattle.boolean_rle.specs.Column.{column};
 ghost use Rattle.boolean_rle.specs.Found.{found_at, bytes_at, span_of, Wrote};
 
-use format::{Answer, ByteOffset, Kind, RowNumber};
+use format::{Answer, ByteOffset, Kind, Refusal, RowNumber, Run};
 use util::number;
 
 pub mod bytes;
@@ -271,12 +271,12 @@ pub fn read_booleans(input: &[u8], at: ByteOffset, n: RowNumber, out: &mut [u8])
         Span::Whole(consumed) => consumed,
         Span::Cut(number, field) => {
             let cut = later(position, field);
-            return Answer::cut(number, at, ByteOffset { bytes: cut });
+            return Err(Refusal::cut(number, at, ByteOffset { bytes: cut }));
         }
     };
     if out.len() < rows {
-        return Answer::refused(8, at);
+        return Err(Refusal::new(8, at));
     }
     put_booleans(input, position, 0, rows, out, 0);
-    Answer::run(Kind::Booleans, 1, n, ByteOffset { bytes: consumed })
+    Ok(Some(Run::new(Kind::Booleans, 1, n, ByteOffset { bytes: consumed })))
 }

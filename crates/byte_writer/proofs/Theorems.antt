@@ -2,8 +2,7 @@
 use Rattle.format.proofs.Common.{◌≡◌, refl, sym, ap, ◌∙◌, ℕ, zero, suc, ◌<◌, ◌≤◌, arith, ◌↔◌, le_refl, dec_lt, List, [], ◌∷◌, ◌++◌, map}
 use Rattle.format.proofs.Common.{length, drop, length-drop, drop-append_seam, lt-ltb, le-ltb}
 use Rattle.format.specs.declared.Kind.TheVariants.{Booleans}
-use Rattle.format.specs.declared.Answer.{Answer}
-use Rattle.format.specs.Answers.{ran, refused_at, answer_number}
+use Rattle.format.specs.Answers.{Answer, ran, refused_at, answer_number}
 use Rattle.format.specs.Fields.{bytes_for}
 use Rattle.format.specs.Parse.{got}
 use Rattle.format.specs.Booleans.{Needed, byte_count, booleans, booleans_into, booleans_of, BooleansRead}

@@ -2,8 +2,7 @@
 -- what was written. Assumes nothing.
 use Rattle.std.specs.Prelude.{◌≡◌, ◌↔◌, ℕ, ◌+◌, ◌/◌, ◌<◌, ◌≤◌, List, ◌++◌, map, length, drop}
 use Rattle.format.specs.declared.Kind.TheVariants.{Booleans}
-use Rattle.format.specs.declared.Answer.{Answer}
-use Rattle.format.specs.Answers.{ran, refused_at}
+use Rattle.format.specs.Answers.{Answer, ran, refused_at}
 use Rattle.format.specs.Digits.{AllBelow}
 use Rattle.format.specs.Fields.{bytes_for}
 use Rattle.format.specs.Parse.{got}

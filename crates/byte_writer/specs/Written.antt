@@ -2,8 +2,7 @@
 -- changes no place. Assumes nothing.
 use Rattle.std.specs.Prelude.{◌≡◌, ℕ, List, ◌++◌, length, drop, ltb}
 use Rattle.format.specs.declared.Kind.TheVariants.{Booleans}
-use Rattle.format.specs.declared.Answer.{Answer}
-use Rattle.format.specs.Answers.{ran, refusing, refused_at}
+use Rattle.format.specs.Answers.{Answer, ran, refusing, refused_at}
 use Rattle.format.specs.Fields.{pick}
 use Rattle.byte_writer.specs.Choice.{written}
 use Rattle.byte_writer.specs.Flags.{flag_bytes}

@@ -7,7 +7,7 @@ ghost use Rattle.byte_writer.specs.Choice.{written};
 ghost use Rattle.byte_writer.specs.Flags.{flag_bytes, source};
 ghost use Rattle.byte_writer.specs.Written.{wrote_bytes, refused_with, in_front, BytesWritten, BooleansWritten};
 
-use format::{Answer, ByteOffset, Kind, Refusal, RowNumber};
+use format::{Answer, ByteOffset, Kind, Refusal, RowNumber, Run};
 
 mod run;
 mod source;
@@ -100,13 +100,13 @@ pub fn write_booleans(flags: &[u8], out: &mut [u8]) -> Answer
 {
     let size = measure(flags, true);
     if out.len() < size {
-        return Answer::refused(8, ByteOffset { bytes: 0 });
+        return Err(Refusal::new(8, ByteOffset { bytes: 0 }));
     }
     lay(flags, true, out);
-    Answer::run(
+    Ok(Some(Run::new(
         Kind::Booleans,
         1,
         RowNumber { rows: flags.len() },
         ByteOffset { bytes: size },
-    )
+    )))
 }

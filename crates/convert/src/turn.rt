@@ -77,7 +77,7 @@ pub(crate) fn convert_run(input: &[u8], at: ByteOffset, signed: bool, run: &mut 
     let mut rows = rows_room();
     let a = rle_v2::read_run(input, at, signed, &mut rows);
     match a {
-        Answer::Run(r) => {
+        Ok(Some(r)) => {
             let count = r.rows;
             let taken = r.consumed;
             let first = input[p];
@@ -97,7 +97,7 @@ pub(crate) fn convert_run(input: &[u8], at: ByteOffset, signed: bool, run: &mut 
                 odd: false,
             })
         }
-        Answer::Refused(f) => Step::Refused(f),
-        Answer::End => Step::End,
+        Err(f) => Step::Refused(f),
+        Ok(None) => Step::End,
     }
 }

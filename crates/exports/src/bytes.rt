@@ -5,7 +5,7 @@ ghost use Rattle.format.specs.Rows.{as_i64};
 ghost use Rattle.format.specs.Digits.{lowest_first};
 ghost use Rattle.exports.specs.RowBytes.{row_bytes, LoadedAs};
 
-use format::{Answer, ByteOffset, Kind, RowNumber};
+use format::{ByteOffset, Kind, RowNumber};
 use util::{big_endian, number, pattern};
 
 // The eight bytes of x at a place, lowest first: the eight stores become one.
@@ -58,7 +58,7 @@ pub(crate) fn read_repeat(input: &[u8], signed: bool, out: &mut [u8]) -> u64
 {
     let measured = rle_v2::measure(input, ByteOffset { bytes: 0 });
     match measured {
-        Answer::Run(r) => {
+        Ok(Some(r)) => {
             let count = r.rows;
             if out.len() / 8 < count.rows {
                 return 8;
@@ -67,8 +67,8 @@ pub(crate) fn read_repeat(input: &[u8], signed: bool, out: &mut [u8]) -> u64
             put_repeat(x, count, out);
             measured.packed()
         }
-        Answer::Refused(_) => measured.packed(),
-        Answer::End => measured.packed(),
+        Err(_) => measured.packed(),
+        Ok(None) => measured.packed(),
     }
 }
 

@@ -9,7 +9,7 @@ use Rattle.format.specs.Streams.{broken, stream}
 use Rattle.format.specs.Promises.{RunMeasured}
 use Rattle.format.specs.declared.Refusal.{Refusal}
 use Rattle.format.specs.declared.Run.{Run}
-use Rattle.format.specs.declared.Answer.{Answer}
+use Rattle.format.specs.Answers.{Answer}
 use Rattle.format.proofs.Below.{below-drop}
 use Rattle.format.proofs.Runs.{outcome}
 use Rattle.format.proofs.StreamRoom.{stream-refused}

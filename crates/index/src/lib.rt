@@ -8,7 +8,7 @@ ghost use Rattle.index.specs.Promises.{built_with, not_built, found_at, not_foun
 ghost use Rattle.index.specs.Walk.{place_of, left_of, Ready, RowsLaid};
 
 use crate::walk::{Survey, Total};
-use format::{Answer, ByteOffset, Kind, Refusal, RowNumber};
+use format::{ByteOffset, Kind, Refusal, RowNumber};
 use util::rows;
 
 mod walk;
@@ -224,7 +224,7 @@ fn lay(input: &[u8], at: ByteOffset, skip: RowNumber, signed: bool, out: &mut [i
     let mut held = rows::scratch();
     let a = rle_v2::read_run(input, at, signed, &mut held);
     match a {
-        Answer::Run(run) => {
+        Ok(Some(run)) => {
             let count = run.rows;
             let consumed = run.consumed;
             let n = count.rows - skip.rows;
@@ -235,8 +235,8 @@ fn lay(input: &[u8], at: ByteOffset, skip: RowNumber, signed: bool, out: &mut [i
             rle_v2::read_stream(input, next, signed, &mut out[n..]);
         }
         // neither is: the stream is whole
-        Answer::Refused(_) => {}
-        Answer::End => {}
+        Err(_) => {}
+        Ok(None) => {}
     }
 }
 

@@ -3,7 +3,7 @@ ghost use Rattle.std.specs.Prelude.{◌≡◌, ℕ, ◌+◌, length};
 ghost use Rattle.format.specs.Streams.{stream};
 ghost use Rattle.index.specs.Walk.{total_of, survey_from, right_from, same_three, Roomy, Filled};
 
-use format::{Answer, ByteOffset, Refusal, RowNumber};
+use format::{ByteOffset, Refusal, RowNumber};
 
 // A count of rows, while it is at most 2^64 - 1.
 #[derive(Clone, Copy)]
@@ -44,17 +44,17 @@ pub(crate) fn whole_of(input: &[u8]) -> Survey
     while place < input.len() {
         let a = rle_v2::measure(input, ByteOffset { bytes: place });
         match a {
-            Answer::Run(run) => {
+            Ok(Some(run)) => {
                 let rows = run.rows;
                 let consumed = run.consumed;
                 total = more(total, rows);
                 place += consumed.bytes;
                 runs += 1;
             }
-            Answer::Refused(f) => {
+            Err(f) => {
                 return Survey::Refused(f);
             }
-            Answer::End => {
+            Ok(None) => {
                 return Survey::Whole(runs, total);
             }
         }
@@ -98,7 +98,7 @@ pub(crate) fn right(input: &[u8], first: &[u64], at: &[u64], counts: &[u64]) -> 
     while place < input.len() {
         let a = rle_v2::measure(input, ByteOffset { bytes: place });
         match a {
-            Answer::Run(run) => {
+            Ok(Some(run)) => {
                 let rows = run.rows;
                 let consumed = run.consumed;
                 if first.len() <= i {
@@ -112,10 +112,10 @@ pub(crate) fn right(input: &[u8], first: &[u64], at: &[u64], counts: &[u64]) -> 
                 place += consumed.bytes;
                 i += 1;
             }
-            Answer::Refused(_) => {
+            Err(_) => {
                 return false;
             }
-            Answer::End => {
+            Ok(None) => {
                 return i == first.len();
             }
         }
@@ -135,7 +135,7 @@ pub(crate) fn fill(input: &[u8], first: &mut [u64], at: &mut [u64], counts: &mut
     while place < input.len() {
         let a = rle_v2::measure(input, ByteOffset { bytes: place });
         match a {
-            Answer::Run(run) => {
+            Ok(Some(run)) => {
                 let rows = run.rows;
                 let consumed = run.consumed;
                 first[i] = row as u64;
@@ -146,10 +146,10 @@ pub(crate) fn fill(input: &[u8], first: &mut [u64], at: &mut [u64], counts: &mut
                 i += 1;
             }
             // neither is: the stream is whole
-            Answer::Refused(_) => {
+            Err(_) => {
                 return;
             }
-            Answer::End => {
+            Ok(None) => {
                 return;
             }
         }

@@ -1,5 +1,6 @@
 -- A line's frame by the tests that the code makes, and what the run reader gives on it, in words.
 -- Assumes nothing.
+use Rattle.std.specs.Prelude.{Some, None, Ok, Err}
 use mathlib.Core.Path.{◌≡◌, refl, sym, ap, ◌∙◌}
 use Prim.Native.Nat.{ℕ, suc, ◌+◌, ◌-◌, ◌*◌, ◌/◌, ◌%◌, ◌<◌, ◌≤◌}
 use native.Mathlib.Omega.{arith}
@@ -13,10 +14,8 @@ use borrow.Author.Tests.{lt-ltb, le-ltb, eq-eqb, ne_eqb, ltb-false}
 use Rattle.format.specs.Runs.{Description, row_count}
 use Rattle.format.specs.Rows.{i64_rows}
 use Rattle.format.specs.Parse.{Parsed, end, got, refused, unless, into, parse}
-use Rattle.format.specs.Answers.{answer_rows}
+use Rattle.format.specs.Answers.{Answer, answer_rows}
 use Rattle.format.specs.Promises.{RunRead, answer_of, run_places}
-use Rattle.format.specs.declared.Answer.{Answer}
-use Rattle.format.specs.declared.Answer.TheVariants.{End, Run, Refused}
 use Rattle.format.proofs.Rows.{i64-count}
 use Rattle.format.proofs.Tests.{never}
 use Rattle.text.specs.Ascii.{ascii}
@@ -163,9 +162,9 @@ rows-length (z ∷ zs) = omega (arith, length-append (32 ∷ row_text z) (rows_t
 
 reply-room : (r : Answer) (rows : List ℤ) → length rows ≤ 512 → length (reply_text r rows) ≤ 11309
 unfolding reply_text
-reply-room End rows h = omega arith
-reply-room (Run run) rows h = simp length-append (omega (arith, decimal-length run.rows.rows, decimal-length run.consumed.bytes, rows-length rows))
-reply-room (Refused f) rows h = simp length-append (omega (arith, decimal-length f.number))
+reply-room (Ok None) rows h = omega arith
+reply-room (Ok (Some run)) rows h = simp length-append (omega (arith, decimal-length run.rows.rows, decimal-length run.consumed.bytes, rows-length rows))
+reply-room (Err f) rows h = simp length-append (omega (arith, decimal-length f.number))
 
 pub reply-length : (r : Answer) (n : ℕ) (rows : List ℤ) → n ≤ 512 → length (reply_text r (take n rows)) ≤ 11309
 reply-length r n rows h = reply-room r (take n rows) (rw length-take (omega arith))

@@ -7,7 +7,7 @@ use lib.ListN.{length, take, get_or}
 use lib.Dec.{eqb}
 use lib.IntN.{ℤ}
 use Rattle.format.specs.Promises.{RunRead}
-use Rattle.format.specs.declared.Answer.{Answer}
+use Rattle.format.specs.Answers.{Answer}
 use Rattle.lines.specs.declared.Reading.TheVariants.{Bad, Answered}
 use Rattle.lines.specs.Line.{frame_of, Framed, frame_reading, frame_places, LineRead}
 use Rattle.lines.proofs.Frames.{frame-long}

@@ -1,13 +1,12 @@
 -- THE PROGRAM'S ANSWER to a line (FORMAT.md, "The programs"), and what `answer_line` promises.
 -- Assumes nothing.
-use Rattle.std.specs.Prelude.{◌≡◌, ℕ, ◌%◌, Bool, ◌||◌, not, List, [], ◌∷◌, ◌++◌, length, take, drop, get_or, ltb, eqb, ℤ}
+use Rattle.std.specs.Prelude.{◌≡◌, ℕ, ◌%◌, Bool, ◌||◌, not, List, [], ◌∷◌, ◌++◌, length, take, drop, get_or, ltb, eqb, ℤ, Some, None, Ok, Err}
 use Rattle.format.specs.Fields.{pick}
 use Rattle.format.specs.Runs.{Description}
 use Rattle.format.specs.Rows.{i64_rows}
 use Rattle.format.specs.Parse.{Parsed, end, got, refused, parse, into}
 use Rattle.format.specs.Promises.{answer_of, run_places}
-use Rattle.format.specs.declared.Answer.{Answer}
-use Rattle.format.specs.declared.Answer.TheVariants.{End, Run, Refused}
+use Rattle.format.specs.Answers.{Answer}
 use Rattle.lines.specs.declared.Reading.{Reading}
 use Rattle.lines.specs.declared.Reading.TheVariants as reading
 use Rattle.text.specs.Ascii.{ascii}
@@ -29,9 +28,9 @@ run_text rows bytes values = ascii "run " ++ decimal rows ++ (ascii " " ++ decim
 
 -- the run reader's answer as text
 unfoldable pub reply_text : Answer → List ℤ → List ℕ
-reply_text End values = ascii "end"
-reply_text (Run r) values = run_text r.rows.rows r.consumed.bytes values
-reply_text (Refused f) values = ascii "refused " ++ decimal f.number
+reply_text (Ok None) values = ascii "end"
+reply_text (Ok (Some r)) values = run_text r.rows.rows r.consumed.bytes values
+reply_text (Err f) values = ascii "refused " ++ decimal f.number
 
 -- the rows of what was read
 abbrev pub rows_in : Bool → Parsed Description → List ℤ

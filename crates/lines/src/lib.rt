@@ -55,12 +55,12 @@ fn put_answer(answer: Answer, values: &[i64], out: &mut [u8]) -> ByteOffset
         out.old 0 out.new result.bytes }
 {
     match answer {
-        Answer::End => {
+        Ok(None) => {
             let end = put_word(&END, out, 0);
             ByteOffset { bytes: end }
         }
-        Answer::Run(run) => put_run(run.rows, run.consumed, values, out),
-        Answer::Refused(refusal) => {
+        Ok(Some(run)) => put_run(run.rows, run.consumed, values, out),
+        Err(refusal) => {
             let at = put_word(&REFUSED, out, 0);
             let end = put_decimal(refusal.number as u64, out, at);
             ByteOffset { bytes: end }

@@ -1,7 +1,7 @@
 -- The lent bytes of a call with a part, if none is held: a run is read from the part, and what is held afterwards is copied. Assumes nothing.
 use Rattle.std.proofs.Common.{◌≡◌, ℕ, ◌+◌, ◌<◌, ◌≤◌, Bool, true, false, List, [], length, take, ℤ, sym, refl, ap, ◌∙◌, le_refl, arith}
 use lib.Seq.{paste, paste-zero, take-length}
-use Rattle.format.specs.declared.Answer.{Answer}
+use Rattle.format.specs.Answers.{Answer}
 use Rattle.format.specs.Digits.{AllBelow}
 use Rattle.format.specs.Runs.{Description}
 use Rattle.format.specs.Parse.{unfinished, Parsed, refused, parse}

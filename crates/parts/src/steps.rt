@@ -4,10 +4,7 @@ ghost use Rattle.std.specs.Prelude.{◌≡◌, ◌-◌};
 ghost use Rattle.parts.specs.Steps.{still, too_few, holds, stops, refuses, hands, from_first, cut_short, is_cut, is_whole, is_refused};
 ghost use Rattle.parts.specs.Steps.{by_answer, by_last};
 
-use format::{
-    Answer, ByteOffset, CutField, PartAnswer, PartReader, PartStep, Refusal, RowNumber, Run,
-    Standing,
-};
+use format::{Answer, ByteOffset, PartAnswer, PartReader, PartStep, Refusal, RowNumber, Run, Standing};
 
 // Nothing is taken, and nothing changes.
 pub(crate) fn idle(reader: PartReader, answer: PartAnswer) -> PartStep
@@ -107,8 +104,8 @@ pub(crate) fn from_first(at: ByteOffset, f: Refusal) -> Refusal
     let number = f.number;
     let cut = f.cut;
     match cut {
-        CutField::None => Refusal::new(number, at),
-        CutField::At(field) => {
+        None => Refusal::new(number, at),
+        Some(field) => {
             let byte = std::num::wrapping_add_usize(at.bytes, field.bytes);
             Refusal::cut(number, at, ByteOffset { bytes: byte })
         }
@@ -122,8 +119,8 @@ pub(crate) fn cut_short(f: Refusal) -> bool
     let number = f.number;
     let cut = f.cut;
     match cut {
-        CutField::None => number == 1,
-        CutField::At(_) => true,
+        None => number == 1,
+        Some(_) => true,
     }
 }
 
@@ -151,19 +148,19 @@ pub(crate) fn on_part(
 {
     let at = reader.at;
     match a {
-        Answer::Run(r) => {
+        Ok(Some(r)) => {
             let consumed = r.consumed;
             let taken = beyond(consumed, held);
             hand(reader, taken, r)
         }
-        Answer::Refused(f) => {
+        Err(f) => {
             if cut_short(f) {
                 hold(reader, seen, part)
             } else {
                 refuse(reader, from_first(at, f))
             }
         }
-        Answer::End => hold(reader, seen, part),
+        Ok(None) => hold(reader, seen, part),
     }
 }
 
@@ -172,9 +169,9 @@ pub(crate) fn is_cut(a: Answer) -> bool
     ensures { result ≡ is_cut a }
 {
     match a {
-        Answer::Run(_) => false,
-        Answer::Refused(f) => cut_short(f),
-        Answer::End => false,
+        Ok(Some(_)) => false,
+        Err(f) => cut_short(f),
+        Ok(None) => false,
     }
 }
 
@@ -183,9 +180,9 @@ pub(crate) fn is_whole(a: Answer) -> bool
     ensures { result ≡ is_whole a }
 {
     match a {
-        Answer::Run(_) => true,
-        Answer::Refused(_) => false,
-        Answer::End => false,
+        Ok(Some(_)) => true,
+        Err(_) => false,
+        Ok(None) => false,
     }
 }
 
@@ -208,8 +205,8 @@ pub(crate) fn on_close(reader: PartReader, a: Answer) -> PartStep
 {
     let at = reader.at;
     match a {
-        Answer::Run(r) => hand(reader, ByteOffset { bytes: 0 }, r),
-        Answer::Refused(f) => refuse(reader, from_first(at, f)),
-        Answer::End => stop(reader, Standing::Closed, PartAnswer::End),
+        Ok(Some(r)) => hand(reader, ByteOffset { bytes: 0 }, r),
+        Err(f) => refuse(reader, from_first(at, f)),
+        Ok(None) => stop(reader, Standing::Closed, PartAnswer::End),
     }
 }

@@ -2,13 +2,10 @@
 -- of the joined bytes, however they are cut. Stated of the calls as format defines them;
 -- the code's promises are equations with these calls.
 -- Assumes nothing.
-use Rattle.std.specs.Prelude.{◌≡◌, ◌↔◌, ℕ, zero, suc, ◌+◌, ◌*◌, ◌%◌, ◌<◌, ◌≤◌, Bool, List, [], ◌∷◌, ◌++◌, length, drop, T, ℤ}
-use Rattle.format.specs.declared.CutField.{CutField}
-use Rattle.format.specs.declared.CutField.TheVariants as field
+use Rattle.std.specs.Prelude.{◌≡◌, ◌↔◌, ℕ, zero, suc, ◌+◌, ◌*◌, ◌%◌, ◌<◌, ◌≤◌, Bool, List, [], ◌∷◌, ◌++◌, length, drop, T, ℤ, Some, None}
 use Rattle.format.specs.declared.Refusal.{Refusal}
 use Rattle.format.specs.declared.Standing.{Standing}
 use Rattle.format.specs.declared.Standing.TheVariants.{Opened, Broken}
-use Rattle.format.specs.declared.Stream.{Stream}
 use Rattle.format.specs.declared.Stream.TheVariants.{Whole, Refused}
 use Rattle.format.specs.declared.PartReader.{PartReader}
 use Rattle.format.specs.declared.PartAnswer.{PartAnswer}
@@ -18,7 +15,7 @@ use Rattle.format.specs.Digits.{AllBelow}
 use Rattle.format.specs.Fields.{two64}
 use Rattle.format.specs.Runs.{Description, row_count, Valid, layout}
 use Rattle.format.specs.Parse.{Reason, unfinished, refused, parse}
-use Rattle.format.specs.Answers.{refusing}
+use Rattle.format.specs.Answers.{CutField, Stream, refusing}
 use Rattle.format.specs.Streams.{Reading, read_all, runs_of}
 use Rattle.format.specs.Promises.{stream_answer}
 use Rattle.format.specs.Parts.{refusal_from, Handed, Reply, handed, more, broke, ended, State, start, Call, idle, hand_out, take_part, close}
@@ -75,8 +72,8 @@ starting at (d ∷ ds) = record { at = at; run = d } ∷ starting ((at + length 
 
 -- the stream's answer: its place and the byte of a cut field count modulo 2^64
 abbrev pub cut_modulo : CutField → CutField
-cut_modulo field.None = field.None
-cut_modulo (field.At b) = field.At (record { bytes = b.bytes % two64 })
+cut_modulo None = None
+cut_modulo (Some b) = Some (record { bytes = b.bytes % two64 })
 
 abbrev pub last_answer : Stream → Reply
 last_answer (Whole c) = ended

@@ -6,7 +6,7 @@ ghost use Rattle.rescue.specs.RescueSteps.{plain_at, plain_in, GroupRead, GroupR
 
 use crate::Plain;
 use batches::{Batch, RowPosition};
-use format::{Answer, ByteOffset};
+use format::ByteOffset;
 
 // Makes a position plain: whole runs are passed while there are at least as many rows to skip. With none left, no run is looked at.
 pub(crate) fn make_plain(input: &[u8], from: RowPosition) -> Plain
@@ -19,7 +19,7 @@ pub(crate) fn make_plain(input: &[u8], from: RowPosition) -> Plain
     while 0 < left {
         let a = rle_v2::measure(input, ByteOffset { bytes: place });
         match a {
-            Answer::Run(r) => {
+            Ok(Some(r)) => {
                 let rows = r.rows;
                 let consumed = r.consumed;
                 if left < rows.rows {
@@ -28,10 +28,10 @@ pub(crate) fn make_plain(input: &[u8], from: RowPosition) -> Plain
                 left -= rows.rows;
                 place += consumed.bytes;
             }
-            Answer::Refused(_) => {
+            Err(_) => {
                 return Plain::Nowhere;
             }
-            Answer::End => {
+            Ok(None) => {
                 return Plain::Nowhere;
             }
         }

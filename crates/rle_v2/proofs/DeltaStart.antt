@@ -1,4 +1,5 @@
 -- The two varints of a delta run's body, by what the varint reader answered. Assumes nothing.
+use Rattle.std.specs.Prelude.{Err}
 use mathlib.Core.Path.{◌≡◌, refl, sym, ap, ◌∙◌}
 use Prim.Native.Nat.{ℕ, ◌+◌, ◌<◌, ◌≤◌}
 use native.Mathlib.Omega.{arith}
@@ -6,7 +7,6 @@ use mathlib.Core.List.{List}
 use lib.ListN.{length, drop, get_or}
 use Rattle.format.specs.Parse.{Parsed, plain, cut_in, refused}
 use Rattle.format.specs.Runs.{Description}
-use Rattle.format.specs.declared.Answer.TheVariants as answer
 use Rattle.format.proofs.Reading.{field-at}
 use Rattle.util.specs.declared.varint.Varint.TheVariants.{Value, Cut, TooLong}
 use Rattle.util.specs.Varint.{varint_at}
@@ -24,7 +24,7 @@ module _ (s : List ℕ) (at rows : ℕ) (below : (i : ℕ) → get_or s i 0 < 25
     refusal = λ z. record {
       reason = cut_in 12 (drop x s);
       parsed = p;
-      refusal_is = by_field at 12 x (λ e. omega (arith, e)) ∙ ap answer.Refused (sym (field-at s at x 12 (omega arith) l));
+      refusal_is = by_field at 12 x (λ e. omega (arith, e)) ∙ ap Err (sym (field-at s at x 12 (omega arith) l));
     };
   }
 

@@ -1,5 +1,6 @@
 -- What a part of a direct run gives, by the tests of its reader: a run whose first byte names another kind is not direct, and the fields laid,
 -- decoded, are the run's own rows from `skip` on. Assumes nothing.
+use Rattle.std.specs.Prelude.{Some, Ok}
 use mathlib.Core.Path.{◌≡◌, refl, sym, ap, ◌∙◌}
 use mathlib.Core.Logic.{◌≢◌}
 use Prim.Native.Nat.{ℕ, zero, suc, ◌+◌, ◌-◌, ◌/◌, ◌<◌, ◌≤◌, min}
@@ -17,8 +18,7 @@ use Rattle.format.specs.Runs.{Description, short, direct, fixed, delta, patched,
 use Rattle.format.specs.Rows.{as_i64, i64_rows, rows_of}
 use Rattle.format.specs.Parse.{Parsed, end, got, refused, code_of, parse}
 use Rattle.format.specs.Promises.{run_of, answer_of}
-use Rattle.format.specs.declared.Answer.{Answer}
-use Rattle.format.specs.declared.Answer.TheVariants as answer
+use Rattle.format.specs.Answers.{Answer}
 use Rattle.format.specs.declared.Run.{Run}
 use Rattle.format.proofs.Below.{below-take, below-drop}
 use Rattle.format.proofs.Reading.{NoRun, block_at, byte-here, run-inj}
@@ -93,7 +93,7 @@ first-laid rows out n e = by (dec_le (length out) (length rows))
 -- ---- the run that its measure names
 
 module _ (s : List ℕ) (at skip : ℕ) (signed : Bool) (out : List ℤ) (r : Run)
-    (e : answer.Run r ≡ answer_of at (length s - at) (direct-run.run s at)) (m : Measured s at r) where
+    (e : Ok (Some r) ≡ answer_of at (length s - at) (direct-run.run s at)) (m : Measured s at r) where
   abbrev values : List ℕ
   values = (block_at s (at + 2) r.width r.rows.rows).values
 

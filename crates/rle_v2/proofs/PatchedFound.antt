@@ -1,4 +1,5 @@
 -- What was found of a patched base run: it is refused, or it is all there; where its list stands, and what the run gives once its list has passed. Assumes nothing.
+use Rattle.std.specs.Prelude.{Err}
 use mathlib.Core.Path.{◌≡◌, ◌∙◌}
 use mathlib.Core.Logic.{◌≢◌}
 use Prim.Native.Nat.{ℕ, ◌+◌, ◌-◌, ◌*◌, ◌<◌, ◌≤◌}
@@ -14,7 +15,6 @@ use Rattle.format.specs.Runs.{Description, entry_width}
 use Rattle.format.specs.Rows.{as_i64, base_value}
 use Rattle.format.specs.Parse.{Parsed}
 use Rattle.format.specs.Promises.{answer_of, Gives}
-use Rattle.format.specs.declared.Answer.TheVariants as answer
 use Rattle.format.specs.Answers.{ran, refusing, cutting, refused_at}
 use Rattle.format.specs.declared.Kind.TheVariants.{PatchedBase}
 use Rattle.format.proofs.Widths.{width-pos}
@@ -39,15 +39,15 @@ module _ (s : List ℕ) (at : ℕ) (m : Parsed Description) where
   pub gone-plain : (n : ℕ) → n ≢ 0 → refused_at n at ≡ answer_of at (length s - at) m → IsFound s at m (gone_by (refusing n at))
   gone-plain n z e = record { heads = λ y. absurd (z y); refusal = λ y. e }
 
-  gone-cut : (n x : ℕ) → n ≢ 0 → x ≢ 0 → answer.Refused (cutting n at x) ≡ answer_of at (length s - at) m → IsFound s at m (gone_by (cutting n at x))
+  gone-cut : (n x : ℕ) → n ≢ 0 → x ≢ 0 → Err (cutting n at x) ≡ answer_of at (length s - at) m → IsFound s at m (gone_by (cutting n at x))
   gone-cut n x z y e = record { heads = λ o. absurd (z o); refusal = λ o. rw (ne_eqb x 0 y) e }
 
-  pub gone-body : (values list : ℕ) → values ≢ 0 → list ≢ 0 → answer.Refused (cut_body (length s) at values list) ≡ answer_of at (length s - at) m
+  pub gone-body : (values list : ℕ) → values ≢ 0 → list ≢ 0 → Err (cut_body (length s) at values list) ≡ answer_of at (length s - at) m
       → IsFound s at m (gone_by (cut_body (length s) at values list))
   unfolding cut_body
   gone-body values list v l e = by (ltb (length s) values) (ltb (length s) list) e
     where
-      by : (t o : Bool) → answer.Refused (pick t (cutting 6 at (at + 4)) (pick o (cutting 13 at values) (cutting 14 at list))) ≡ answer_of at (length s - at) m
+      by : (t o : Bool) → Err (pick t (cutting 6 at (at + 4)) (pick o (cutting 13 at values) (cutting 14 at list))) ≡ answer_of at (length s - at) m
           → IsFound s at m (gone_by (pick t (cutting 6 at (at + 4)) (pick o (cutting 13 at values) (cutting 14 at list))))
       by true o e = gone-cut 6 (at + 4) (λ z. omega arith) (λ z. omega arith) e
       by false true e = gone-cut 13 values (λ z. omega arith) v e

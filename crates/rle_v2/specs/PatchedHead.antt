@@ -1,15 +1,13 @@
 -- A patched base header's fields are in range; the widths that it names, the parts of the body behind it, and where the input ends in these.
 -- Assumes nothing.
-use Rattle.std.specs.Prelude.{◌≡◌, ℕ, ◌+◌, ◌-◌, ◌*◌, ◌≤◌, ◌<◌, List, ◌++◌, map, length, take, drop, ℤ, false, ltb}
+use Rattle.std.specs.Prelude.{◌≡◌, ℕ, ◌+◌, ◌-◌, ◌*◌, ◌≤◌, ◌<◌, List, ◌++◌, map, length, take, drop, ℤ, false, ltb, Some, None}
 use Rattle.format.specs.Fields.{pick, width, bytes_for}
-use Rattle.format.specs.Answers.{cutting}
+use Rattle.format.specs.Answers.{CutField, cutting}
 use Rattle.format.specs.Runs.{Description, entry_width, out_of_place}
 use Rattle.format.specs.Rows.{as_i64, base_value}
 use Rattle.format.specs.Parse.{Parsed, patched_body}
 use Rattle.format.specs.Promises.{answer_of}
 use Rattle.format.specs.declared.Refusal.{Refusal}
-use Rattle.format.specs.declared.CutField.{CutField}
-use Rattle.format.specs.declared.CutField.TheVariants as field
 use Rattle.util.specs.Packed.{fields, Width}
 use Rattle.rle_v2.specs.Pass.{based}
 use Rattle.rle_v2.specs.RefusedBy.{refused_by}
@@ -56,8 +54,8 @@ cut_body len at values list = pick (ltb len values) (cutting 6 at (at + 4)) (pic
 
 -- the field of a refusal, by the byte where it begins: 0 where there is none
 abbrev pub field_of : CutField → ℕ
-field_of field.None = 0
-field_of (field.At b) = b.bytes
+field_of None = 0
+field_of (Some b) = b.bytes
 
 -- what is found of a run that is refused
 abbrev pub gone_by : Refusal → Found

@@ -3,7 +3,7 @@ use Rattle.std.specs.Prelude.{◌≡◌, ℕ, ◌+◌, ◌-◌, Bool, List, leng
 use Rattle.format.specs.Runs.{Description}
 use Rattle.format.specs.Parse.{Parsed}
 use Rattle.format.specs.Promises.{answer_of, Gives}
-use Rattle.format.specs.declared.Answer.{Answer}
+use Rattle.format.specs.Answers.{Answer}
 
 abbrev pub run_at : (ℕ → List ℕ → Parsed Description) → List ℕ → ℕ → Parsed Description
 run_at kind s at = kind (get_or s at 0) (drop (at + 1) s)

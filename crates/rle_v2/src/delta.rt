@@ -10,7 +10,7 @@ ghost use Rattle.rle_v2.specs.DeltaStart.{gone_by, Started, StartsAt, packed_at,
 ghost use Rattle.rle_v2.specs.RunAt.{run_at, MeasuredAs, ReadAs};
 
 use crate::{header, refusal, rows};
-use format::{Answer, ByteOffset, Kind, RowNumber, TOP_BIT};
+use format::{Answer, ByteOffset, Kind, Refusal, RowNumber, Run, TOP_BIT};
 use util::varint::Varint;
 use util::{packed, pattern, varint, width};
 
@@ -176,7 +176,7 @@ pub(crate) fn measure(input: &[u8], at: ByteOffset) -> Answer
     let rows = f.rows;
     let end = f.end;
     let consumed = end.bytes - p;
-    Answer::run(Kind::Delta, f.bits, rows, ByteOffset { bytes: consumed })
+    Ok(Some(Run::new(Kind::Delta, f.bits, rows, ByteOffset { bytes: consumed })))
 }
 
 // The rows after the second: n magnitudes unpacked into the places, and summed up from the row before them.
@@ -234,10 +234,10 @@ pub(crate) fn read(input: &[u8], at: ByteOffset, signed: bool, out: &mut [i64]) 
     }
     let rows = f.rows;
     if out.len() < rows.rows {
-        return Answer::refused(8, at);
+        return Err(Refusal::new(8, at));
     }
     lay(input, f, signed, out);
     let end = f.end;
     let consumed = end.bytes - p;
-    Answer::run(Kind::Delta, f.bits, rows, ByteOffset { bytes: consumed })
+    Ok(Some(Run::new(Kind::Delta, f.bits, rows, ByteOffset { bytes: consumed })))
 }

@@ -6,7 +6,7 @@ ghost use Rattle.format.specs.Runs.{Description};
 ghost use Rattle.format.specs.Parse.{Parsed, into};
 ghost use Rattle.format.specs.Promises.{answer_of, RunRead, RunMeasured, StreamRead, StreamMeasured};
 
-use format::{Answer, ByteOffset, LastRun, RowNumber, Stream};
+use format::{Answer, ByteOffset, Counts, Refusal, RowNumber, Stopped, Stream};
 
 mod delta;
 mod direct;
@@ -24,7 +24,7 @@ pub fn measure(input: &[u8], at: ByteOffset) -> Answer
 {
     let p = at.bytes;
     if input.len() <= p {
-        return Answer::end();
+        return Ok(None);
     }
     // the top two bits are the kind
     let kind = input[p] / 64;
@@ -47,7 +47,7 @@ pub fn read_run(input: &[u8], at: ByteOffset, signed: bool, out: &mut [i64]) -> 
 {
     let p = at.bytes;
     if input.len() <= p {
-        return Answer::end();
+        return Ok(None);
     }
     // the top two bits are the kind
     let kind = input[p] / 64;
@@ -82,8 +82,8 @@ pub fn read_gathered(input: &[u8], signed: bool, out: &mut [i64]) -> Answer
 {
     if 0 < input.len() {
         if input[0] / 64 == 1 {
-            if let Answer::Refused(f) = direct::measure(input, ByteOffset { bytes: 0 }) {
-                return Answer::Refused(f);
+            if let Err(f) = direct::measure(input, ByteOffset { bytes: 0 }) {
+                return Err(f);
             }
         }
     }
@@ -98,31 +98,28 @@ pub fn read_stream(input: &[u8], at: ByteOffset, signed: bool, out: &mut [i64]) 
     let from = at.bytes;
     let mut p = from;
     let mut k: usize = 0;
-    let mut last = LastRun::None;
+    let mut last = None;
     while p < input.len() {
         let a = read_run(input, ByteOffset { bytes: p }, signed, &mut out[k..]);
         match a {
-            Answer::Run(r) => {
+            Ok(Some(r)) => {
                 let rows = r.rows;
                 let consumed = r.consumed;
                 k += rows.rows;
                 p += consumed.bytes;
-                last = LastRun::Run(r);
+                last = Some(r);
             }
-            Answer::Refused(f) => {
-                return Stream::refused(
-                    f,
-                    RowNumber { rows: k },
+            Err(f) => {
+                return Err(Stopped { by: f, before: Counts::new(RowNumber { rows: k },
                     ByteOffset { bytes: p - from },
-                    last,
-                );
+                    last,) });
             }
-            Answer::End => {
-                return Stream::whole(RowNumber { rows: k }, ByteOffset { bytes: p - from }, last);
+            Ok(None) => {
+                return Ok(Counts::new(RowNumber { rows: k }, ByteOffset { bytes: p - from }, last));
             }
         }
     }
-    Stream::whole(RowNumber { rows: k }, ByteOffset { bytes: p - from }, last)
+    Ok(Counts::new(RowNumber { rows: k }, ByteOffset { bytes: p - from }, last))
 }
 
 // What a measured run comes to in so many places: refusal 8 if it has more rows.
@@ -132,15 +129,15 @@ fn in_places(measured: Answer, at: ByteOffset, places: RowNumber) -> Answer
 {
     let room = places.rows;
     match measured {
-        Answer::Run(r) => {
+        Ok(Some(r)) => {
             let count = r.rows;
             if room < count.rows {
-                return Answer::refused(8, at);
+                return Err(Refusal::new(8, at));
             }
-            Answer::Run(r)
+            Ok(Some(r))
         }
-        Answer::Refused(f) => Answer::Refused(f),
-        Answer::End => Answer::End,
+        Err(f) => Err(f),
+        Ok(None) => Ok(None),
     }
 }
 
@@ -151,35 +148,32 @@ pub fn measure_stream(input: &[u8], at: ByteOffset) -> Stream
     let from = at.bytes;
     let mut place = from;
     let mut count: usize = 0;
-    let mut last = LastRun::None;
+    let mut last = None;
     while place < input.len() {
         let here = ByteOffset { bytes: place };
         let m = measure(input, here);
         let left = usize::MAX - count;
         let a = in_places(m, here, RowNumber { rows: left });
         match a {
-            Answer::Run(run) => {
+            Ok(Some(run)) => {
                 let rows = run.rows;
                 let consumed = run.consumed;
                 count += rows.rows;
                 place += consumed.bytes;
-                last = LastRun::Run(run);
+                last = Some(run);
             }
-            Answer::Refused(f) => {
+            Err(f) => {
                 let taken = place - from;
-                return Stream::refused(
-                    f,
-                    RowNumber { rows: count },
+                return Err(Stopped { by: f, before: Counts::new(RowNumber { rows: count },
                     ByteOffset { bytes: taken },
-                    last,
-                );
+                    last,) });
             }
-            Answer::End => {
+            Ok(None) => {
                 let taken = place - from;
-                return Stream::whole(RowNumber { rows: count }, ByteOffset { bytes: taken }, last);
+                return Ok(Counts::new(RowNumber { rows: count }, ByteOffset { bytes: taken }, last));
             }
         }
     }
     let taken = place - from;
-    Stream::whole(RowNumber { rows: count }, ByteOffset { bytes: taken }, last)
+    Ok(Counts::new(RowNumber { rows: count }, ByteOffset { bytes: taken }, last))
 }

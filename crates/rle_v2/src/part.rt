@@ -3,7 +3,7 @@ ghost use Rattle.std.specs.Prelude.{◌+◌, ◌%◌, ◌≤◌, min, ◌≡◌,
 ghost use Rattle.rle_v2.specs.Part.{PartThere, PartPut, DirectPartRead};
 
 use crate::{direct, rows};
-use format::{Answer, ByteOffset, RowNumber, Run};
+use format::{ByteOffset, RowNumber, Run};
 use util::packed;
 
 // What a call answers: the run, of which rows were read; or none was, since no direct run with such a row begins there.
@@ -73,7 +73,7 @@ pub fn read(
         return DirectPart::NotRead;
     }
     match direct::measure(input, at) {
-        Answer::Run(r) => {
+        Ok(Some(r)) => {
             let count = r.rows;
             if count.rows <= skip.rows {
                 return DirectPart::NotRead;
@@ -83,7 +83,7 @@ pub fn read(
             rows::decode(signed, RowNumber { rows: n }, out);
             DirectPart::Read(r)
         }
-        Answer::Refused(_) => DirectPart::NotRead,
-        Answer::End => DirectPart::NotRead,
+        Err(_) => DirectPart::NotRead,
+        Ok(None) => DirectPart::NotRead,
     }
 }

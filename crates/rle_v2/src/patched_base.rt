@@ -10,7 +10,7 @@ ghost use Rattle.rle_v2.specs.PatchedHead.{Ready, patched_places};
 ghost use Rattle.rle_v2.specs.RunAt.{run_at, MeasuredAs, ReadAs};
 
 use crate::{header, patch_list, refusal, rows};
-use format::{Answer, ByteOffset, CutField, Kind, Refusal, RowNumber};
+use format::{Answer, ByteOffset, Kind, Refusal, RowNumber, Run};
 use util::{big_endian, packed, width};
 
 // What the four header bytes say: width code, rows, base bytes, patch width code, gap width, list length.
@@ -59,12 +59,12 @@ struct Found {
 }
 
 // The byte where the field begins that the input ends in; 0 where it ends in none.
-fn field_of(cut: CutField) -> ByteOffset
+fn field_of(cut: Option<ByteOffset>) -> ByteOffset
     ensures { result.bytes ≡ field_of cut }
 {
     match cut {
-        CutField::None => ByteOffset { bytes: 0 },
-        CutField::At(byte) => byte,
+        None => ByteOffset { bytes: 0 },
+        Some(byte) => byte,
     }
 }
 
@@ -214,16 +214,16 @@ pub(crate) fn measure(input: &[u8], at: ByteOffset) -> Answer
         rows,
     );
     if number != 0 {
-        return Answer::refused(number, at);
+        return Err(Refusal::new(number, at));
     }
     let end = f.end;
     let consumed = end.bytes - p;
-    Answer::run(
+    Ok(Some(Run::new(
         Kind::PatchedBase,
         f.bits,
         rows,
         ByteOffset { bytes: consumed },
-    )
+    )))
 }
 
 // The values with the base added, in their places.
@@ -284,18 +284,18 @@ pub(crate) fn read(input: &[u8], at: ByteOffset, signed: bool, out: &mut [i64]) 
         rows,
     );
     if refusal != 0 {
-        return Answer::refused(refusal, at);
+        return Err(Refusal::new(refusal, at));
     }
     if out.len() < rows.rows {
-        return Answer::refused(8, at);
+        return Err(Refusal::new(8, at));
     }
     put(input, at, f, out);
     let end = f.end;
     let consumed = end.bytes - p;
-    Answer::run(
+    Ok(Some(Run::new(
         Kind::PatchedBase,
         f.bits,
         rows,
         ByteOffset { bytes: consumed },
-    )
+    )))
 }

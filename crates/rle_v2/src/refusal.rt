@@ -2,7 +2,7 @@
 ghost use Rattle.std.specs.Prelude.{◌≡◌};
 ghost use Rattle.rle_v2.specs.RefusedBy.{refused_by};
 
-use format::{Answer, ByteOffset};
+use format::{Answer, ByteOffset, Refusal};
 
 // The answer to the run at a place that is refused. No field begins at byte 0, where the first header does: 0 stands for none.
 pub(crate) fn answer(number: u8, at: ByteOffset, field: ByteOffset) -> Answer
@@ -10,7 +10,7 @@ pub(crate) fn answer(number: u8, at: ByteOffset, field: ByteOffset) -> Answer
 {
     let first = field.bytes;
     if first == 0 {
-        return Answer::refused(number, at);
+        return Err(Refusal::new(number, at));
     }
-    Answer::cut(number, at, field)
+    Err(Refusal::cut(number, at, field))
 }

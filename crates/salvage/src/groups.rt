@@ -63,10 +63,10 @@ pub(crate) fn is_kept(bytes: &[u8], rows: RowNumber) -> bool
     }
     let said = rle_v2::measure_stream(bytes, ByteOffset { bytes: 0 });
     match said {
-        Stream::Whole(counts) => {
+        Ok(counts) => {
             let read = counts.rows;
             read.rows == rows.rows
         }
-        Stream::Refused(_, _) => false,
+        Err(_) => false,
     }
 }

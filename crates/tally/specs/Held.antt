@@ -1,12 +1,10 @@
 -- HOW THE CODE HOLDS TOTALS: a struct of counts below 2^64, refusals by number, runs by kind, and the sum in two words; and what each
 -- function answers, for every struct that a caller makes.
 -- Assumes nothing.
-use Rattle.std.specs.Prelude.{ℕ, ◌+◌, List, [], ◌∷◌, map, length, replicate, ℤ, nat_lt}
+use Rattle.std.specs.Prelude.{ℕ, ◌+◌, List, [], ◌∷◌, map, length, replicate, ℤ, nat_lt, Some, Ok, Err}
 use Rattle.format.specs.declared.Kind.{Kind}
 use Rattle.format.specs.declared.Kind.TheVariants as kind
-use Rattle.format.specs.declared.Answer.{Answer}
-use Rattle.format.specs.declared.Answer.TheVariants as answer
-use Rattle.format.specs.Answers.{refusing}
+use Rattle.format.specs.Answers.{Answer, refusing}
 use Rattle.format.specs.Fields.{pick}
 use Rattle.format.specs.Rows.{plus}
 use Rattle.tally.specs.declared.totals.Reply.{Reply}
@@ -34,9 +32,9 @@ line_with (Run kind) rows = run kind rows
 
 -- the run reader's answer as a reply
 abbrev pub reply_to : Answer → Reply
-reply_to answer.End = End
-reply_to (answer.Run r) = Run r.kind
-reply_to (answer.Refused f) = Refused f.number
+reply_to (Ok None) = End
+reply_to (Ok (Some r)) = Run r.kind
+reply_to (Err f) = Refused f.number
 
 -- ---- THE STRUCT that holds totals
 

@@ -2,7 +2,7 @@
 -- function there lends a place. (Of `text`: `ShowDetermined` in specs/Text.antt.)
 -- Assumes nothing.
 use Rattle.std.specs.Prelude.{◌≡◌, ◌<◌, Bool, List, ℤ, unsigned_abs}
-use Rattle.format.specs.declared.Answer.{Answer}
+use Rattle.format.specs.Answers.{Answer}
 use Rattle.format.specs.Fields.{two64}
 use Rattle.tally.specs.declared.sums.Wide.{Wide}
 use Rattle.tally.specs.declared.sums.Tenth.{Tenth}

@@ -185,12 +185,12 @@ impl Reply {
         ensures { result ≡ reply_to answer }
     {
         match answer {
-            Answer::End => Reply::End,
-            Answer::Run(run) => {
+            Ok(None) => Reply::End,
+            Ok(Some(run)) => {
                 let kind = run.kind;
                 Reply::Run(kind)
             }
-            Answer::Refused(f) => Reply::Refused(f.number),
+            Err(f) => Reply::Refused(f.number),
         }
     }
 }

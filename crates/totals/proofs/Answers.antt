@@ -10,13 +10,12 @@ use lib.IntN.{ℤ}
 use borrow.Author.Tests.{lt-ltb, ne_eqb, ltb-true}
 use Rattle.format.specs.Digits.{AllBelow}
 use Rattle.format.specs.Fields.{pick}
-use Rattle.format.specs.Answers.{answer_rows}
+use Rattle.format.specs.Answers.{Answer, answer_rows}
 use Rattle.format.specs.Runs.{Description, row_count}
 use Rattle.format.specs.Rows.{i64_rows}
 use Rattle.format.specs.Parse.{plain, cut, Parsed, end, got, refused, parse, into}
 use Rattle.format.proofs.Rows.{i64-count}
 use Rattle.format.specs.Promises.{answer_of, run_places}
-use Rattle.format.specs.declared.Answer.{Answer}
 use Rattle.format.proofs.Tests.{both, never}
 use Rattle.text.specs.Hexadecimal.{hex_value, all_hex, hex_bytes}
 use Rattle.lines.specs.declared.Reading.TheVariants.{Bad, Answered}

@@ -4,7 +4,7 @@
 ghost use Rattle.std.specs.Prelude.{◌≡◌, ◌≤◌, length, drop};
 ghost use Rattle.format.specs.ByteValues.{ValueRead, ValueGiven};
 
-use format::{Answer, ByteOffset, Kind, RowNumber};
+use format::{Answer, ByteOffset, Kind, Refusal, RowNumber, Run};
 
 // Where the rest begins: a position past the end is empty input.
 fn rest(input: &[u8], at: ByteOffset) -> ByteOffset
@@ -27,9 +27,9 @@ pub fn read_value(input: &[u8], at: ByteOffset, n: ByteOffset) -> Answer
     let start = rest(input, at).bytes;
     let size = n.bytes;
     if size <= input.len() - start {
-        Answer::run(Kind::ByteValues, 8, RowNumber { rows: size }, n)
+        Ok(Some(Run::new(Kind::ByteValues, 8, RowNumber { rows: size }, n)))
     } else {
-        Answer::cut(6, at, at)
+        Err(Refusal::cut(6, at, at))
     }
 }
 

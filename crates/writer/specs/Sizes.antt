@@ -1,9 +1,8 @@
 -- How many bytes a run has, without writing it. Assumes nothing.
 use Rattle.std.specs.Prelude.{◌≡◌, ℕ, ◌≤◌, Bool, true, false, ◌&&◌, List, map, length, ℤ}
-use Rattle.format.specs.declared.Answer.{Answer}
 use Rattle.format.specs.declared.Form.{Form}
 use Rattle.format.specs.declared.Kind.{Kind}
-use Rattle.format.specs.Answers.{ran}
+use Rattle.format.specs.Answers.{Answer, ran}
 use Rattle.format.specs.Fields.{width}
 use Rattle.format.specs.Runs.{Description, layout}
 use Rattle.format.specs.Rows.{as_u64}

@@ -8,7 +8,7 @@ ghost use Rattle.writer.specs.Sizes.{Sized, Lays};
 ghost use Rattle.writer.specs.Start.{start, Started, StartSize};
 
 use crate::{head, values};
-use format::{Answer, ByteOffset, Form, Kind, RowNumber, TOP_BIT};
+use format::{Answer, ByteOffset, Form, Kind, RowNumber, Run, TOP_BIT};
 use util::{packed, pattern, varint, width};
 
 // Row 1 less row 0; a single row has delta 0.
@@ -85,7 +85,7 @@ pub(crate) fn write_fixed(rows: &[i64], signed: bool, code: u8, out: &mut [u8]) 
     let first = first_of(rows, signed);
     let base = base_of(rows);
     write_start(0, n, first, base, out);
-    Answer::run(Kind::Delta, 0, n, bytes)
+    Ok(Some(Run::new(Kind::Delta, 0, n, bytes)))
 }
 
 // The bytes of a packed delta, or 0 if a magnitude does not fit the width.

@@ -5,7 +5,7 @@ ghost use Rattle.format.specs.Answers.{ran, refused_at};
 ghost use Rattle.format.specs.Fields as Fields;
 ghost use Rattle.format.specs.Runs as Runs;
 
-use format::{Answer, ByteOffset, Kind, RowNumber};
+use format::{Answer, ByteOffset, Kind, Refusal, RowNumber, Run};
 use util::width;
 
 pub(crate) fn write(kind: u8, code: u8, rows: RowNumber, out: &mut [u8])
@@ -24,12 +24,12 @@ pub(crate) fn answer(kind: Kind, code: u8, rows: RowNumber, bytes: ByteOffset) -
     ensures { result ≡ ran kind (Fields.width code) rows.rows bytes.bytes }
 {
     let bits = width::bits_of(code);
-    Answer::run(kind, bits, rows, bytes)
+    Ok(Some(Run::new(kind, bits, rows, bytes)))
 }
 
 // A writer's refusal: its run would begin at the first byte.
 pub(crate) fn refused(number: u8) -> Answer
     ensures { result ≡ refused_at number 0 }
 {
-    Answer::refused(number, ByteOffset { bytes: 0 })
+    Err(Refusal::new(number, ByteOffset { bytes: 0 }))
 }

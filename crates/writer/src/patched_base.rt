@@ -7,7 +7,7 @@ ghost use Rattle.format.specs.PatchedWriting.{code_for, base_size, PatchedWritte
 ghost use Rattle.writer.specs.PatchedBase.{sign_magnitude, headed, head_bytes, Ready, HeaderOf, PatchedLaid};
 
 use crate::{head, patch_list, values};
-use format::{ALL_BITS, Answer, ByteOffset, Kind, RowNumber, TOP_BIT};
+use format::{ALL_BITS, Answer, ByteOffset, Kind, RowNumber, Run, TOP_BIT};
 use util::{big_endian, packed, pattern, width};
 
 // What the four header bytes say: width code, rows, base bytes, patch width code, gap width, list length.
@@ -147,7 +147,7 @@ fn lay(h: Header, base: u64, vals: &[u64], list: &[u64], out: &mut [u8]) -> Answ
     big_endian::write(sign_magnitude(base, h.base), h.base.bytes, out, 4);
     packed::pack(vals, h.rows.rows, bits, out, values);
     packed::pack(list, h.entries, entry, out, patches);
-    Answer::run(Kind::PatchedBase, bits, h.rows, ByteOffset { bytes: end })
+    Ok(Some(Run::new(Kind::PatchedBase, bits, h.rows, ByteOffset { bytes: end })))
 }
 
 // Writes a run of a kept width. The caller's buffer holds its values on the way.

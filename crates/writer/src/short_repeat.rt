@@ -5,7 +5,7 @@ ghost use Rattle.format.specs.Writing.{have_form, Written};
 ghost use Rattle.writer.specs.Sizes.{Sized};
 
 use crate::{head, values};
-use format::{Answer, ByteOffset, Form, Kind, RowNumber};
+use format::{Answer, ByteOffset, Form, Kind, RowNumber, Run};
 use util::big_endian;
 
 fn write_head(bytes: ByteOffset, rows: RowNumber, out: &mut [u8])
@@ -60,5 +60,5 @@ pub(crate) fn write(rows: &[i64], signed: bool, width: u8, out: &mut [u8]) -> An
     let value = values::stored(signed, values::pattern_of(rows, 0));
     write_head(ByteOffset { bytes: w }, n, out);
     big_endian::write(value, w, out, 1);
-    Answer::run(Kind::ShortRepeat, 8 * w, n, bytes)
+    Ok(Some(Run::new(Kind::ShortRepeat, 8 * w, n, bytes)))
 }

@@ -1,5 +1,5 @@
 -- The last run is the answer's run as it stands. Assumes nothing.
 use Rattle.answer_words.proofs.last_answer.Goals as goal
 
-pub returns-in-Run : goal.returns-in-Run
-returns-in-Run c = rw c.in-Run.is
+pub returns-in-Ok-Some : goal.returns-in-Ok-Some
+returns-in-Ok-Some c = rw c.in-Ok-Some.is

@@ -1,7 +1,7 @@
 -- If rows were read there is a batch; or else what stands at the byte says which answer it is. Assumes nothing.
 use mathlib.Core.Path.{◌≡◌, subst}
 use native.Mathlib.Omega.{arith}
-use Rattle.format.specs.declared.Answer.{Answer}
+use Rattle.format.specs.Answers.{Answer}
 use Rattle.format.proofs.Below.{below_all}
 use Rattle.batches.proofs.RunAtByte.{Step, step}
 use Rattle.batches.proofs.BatchAnswers.{begun-some, begun-run, begun-refused, begun-ended}

@@ -1,11 +1,11 @@
+use Rattle.std.specs.Prelude.{Some, None, Ok, Err}
 use mathlib.Core.Path.{◌≡◌, ◌∙◌, ap, subst}
 use Prim.Native.Nat.{◌-◌, ◌≤◌}
 use native.Mathlib.Omega.{arith}
 use mathlib.Core.List.{List, ◌++◌}
 use lib.ListN.{length, take, drop}
 use lib.IntN.{ℤ}
-use Rattle.format.specs.declared.Answer.{Answer}
-use Rattle.format.specs.declared.Answer.TheVariants as answer
+use Rattle.format.specs.Answers.{Answer}
 use Rattle.format.specs.Digits.{AllBelow}
 use Rattle.format.specs.Promises.{RunRead}
 use Rattle.format.proofs.Below.{below_all}
@@ -27,7 +27,7 @@ overflow_add-k c =
     let given : (let l = c.loop-k in let a = c.args in
     RunRead a.input.now l.p a.signed (drop l.k l.out) c.read_run-a.new.out c.read_run-a.result) = let l = c.loop-k in rw (rest-is l.out l.k) at c.read_run-a.ensures in
     let there : TurnAt c.read_run-a.result = turn_is c.loop-k.invariant (given) (bytes) in
-    let ran-is : TurnAt (answer.Run c.in-Run.r) = subst (TurnAt) c.in-Run.is (there) in
+    let ran-is : TurnAt (Ok (Some c.in-Ok-Some.r)) = subst (TurnAt) c.in-Ok-Some.is (there) in
     omega (arith, ran-is.fits, ran-is.ran.rows_are, c.loop-k.invariant.few)
 
 pub overflow_add-p : goal.overflow_add-p
@@ -37,7 +37,7 @@ overflow_add-p c =
     let given : (let l = c.loop-k in let a = c.args in
     RunRead a.input.now l.p a.signed (drop l.k l.out) c.read_run-a.new.out c.read_run-a.result) = let l = c.loop-k in rw (rest-is l.out l.k) at c.read_run-a.ensures in
     let there : TurnAt c.read_run-a.result = turn_is c.loop-k.invariant (given) (bytes) in
-    let ran-is : TurnAt (answer.Run c.in-Run.r) = subst (TurnAt) c.in-Run.is (there) in
+    let ran-is : TurnAt (Ok (Some c.in-Ok-Some.r)) = subst (TurnAt) c.in-Ok-Some.is (there) in
     let o = ran-is.ran in
     omega (arith, o.bytes-are, o.stands.within)
 
@@ -48,7 +48,7 @@ loop-k-smaller c =
     let given : (let l = c.loop-k in let a = c.args in
     RunRead a.input.now l.p a.signed (drop l.k l.out) c.read_run-a.new.out c.read_run-a.result) = let l = c.loop-k in rw (rest-is l.out l.k) at c.read_run-a.ensures in
     let there : TurnAt c.read_run-a.result = turn_is c.loop-k.invariant (given) (bytes) in
-    let ran-is : TurnAt (answer.Run c.in-Run.r) = subst (TurnAt) c.in-Run.is (there) in
+    let ran-is : TurnAt (Ok (Some c.in-Ok-Some.r)) = subst (TurnAt) c.in-Ok-Some.is (there) in
     let o = ran-is.ran in
     omega (arith, o.bytes-are, o.stands.within, o.stands.some_bytes)
 
@@ -59,7 +59,7 @@ loop-k-preserved c =
     let TurnAt : Answer → Type 0 = let a = c.args in Turn a.input.now c.loop-k.p (length a.out.now - c.loop-k.k) in
     let bytes : AllBelow 256 c.args.input.now = below_all 256 c.args.input.now (λ i. (c.shared_slice_known-1.given i).fits) in
     let there : TurnAt c.read_run-a.result = turn_is c.loop-k.invariant (given) (bytes) in
-    let ran-is : TurnAt (answer.Run c.in-Run.r) = subst (TurnAt) c.in-Run.is (there) in
+    let ran-is : TurnAt (Ok (Some c.in-Ok-Some.r)) = subst (TurnAt) c.in-Ok-Some.is (there) in
     walked-run c.loop-k.invariant (given) (ran-is)
 
 pub offset_bounds-out-k-then-f-eq8 : goal.offset_bounds-out-k-then-f-eq8
@@ -72,7 +72,7 @@ read_part-last-requires c =
     let given : (let l = c.loop-k in let a = c.args in
     RunRead a.input.now l.p a.signed (drop l.k l.out) c.read_run-a.new.out c.read_run-a.result) = let l = c.loop-k in rw (rest-is l.out l.k) at c.read_run-a.ensures in
     let there : TurnAt c.read_run-a.result = turn_is c.loop-k.invariant (given) (bytes) in
-    let refused-is : TurnAt (answer.Refused c.in-Refused.f) = subst (TurnAt) c.in-Refused.is (there) in
+    let refused-is : TurnAt (Err c.in-Err.f) = subst (TurnAt) c.in-Err.is (there) in
     cut_holds c.loop-k.invariant (refused-is.cut (omega arith))
 
 pub after-requires : goal.after-requires
@@ -82,11 +82,11 @@ after-requires c =
     let given : (let l = c.loop-k in let a = c.args in
     RunRead a.input.now l.p a.signed (drop l.k l.out) c.read_run-a.new.out c.read_run-a.result) = let l = c.loop-k in rw (rest-is l.out l.k) at c.read_run-a.ensures in
     let there : TurnAt c.read_run-a.result = turn_is c.loop-k.invariant (given) (bytes) in
-    let refused-is : TurnAt (answer.Refused c.in-Refused.f) = subst (TurnAt) c.in-Refused.is (there) in
+    let refused-is : TurnAt (Err c.in-Err.f) = subst (TurnAt) c.in-Err.is (there) in
     let back : List ℤ → List ℤ = λ part. let l = c.loop-k in take l.k l.out ++ (part ++ drop (length l.out - l.k) (drop l.k l.out)) in
     let Unchanged : Type 0 = back c.read_run-a.new.out ≡ c.loop-k.out in
     let unchanged : NoRun c.read_run-a.result → Unchanged = λ u. same-places c.loop-k.invariant (given) u in
-    let refused-same : Unchanged = unchanged (rw c.in-Refused.is tt) in
+    let refused-same : Unchanged = unchanged (rw c.in-Err.is tt) in
     let part-is : (let l = c.loop-k in
     let a = c.args in
     RunPart a.input.now (row_position l.p 0) a.signed (drop l.k l.out) c.read_part-last.new.out
@@ -102,11 +102,11 @@ shape_of-out-then-f-eq8 c =
     let back : List ℤ → List ℤ = λ part. let l = c.loop-k in take l.k l.out ++ (part ++ drop (length l.out - l.k) (drop l.k l.out)) in
     let Unchanged : Type 0 = back c.read_run-a.new.out ≡ c.loop-k.out in
     let unchanged : NoRun c.read_run-a.result → Unchanged = λ u. same-places c.loop-k.invariant (given) u in
-    let refused-same : Unchanged = unchanged (rw c.in-Refused.is tt) in
+    let refused-same : Unchanged = unchanged (rw c.in-Err.is tt) in
     let TurnAt : Answer → Type 0 = let a = c.args in Turn a.input.now c.loop-k.p (length a.out.now - c.loop-k.k) in
     let bytes : AllBelow 256 c.args.input.now = below_all 256 c.args.input.now (λ i. (c.shared_slice_known-1.given i).fits) in
     let there : TurnAt c.read_run-a.result = turn_is c.loop-k.invariant (given) (bytes) in
-    let refused-is : TurnAt (answer.Refused c.in-Refused.f) = subst (TurnAt) c.in-Refused.is (there) in
+    let refused-is : TurnAt (Err c.in-Err.f) = subst (TurnAt) c.in-Err.is (there) in
     let part-is : (let l = c.loop-k in
     let a = c.args in
     RunPart a.input.now (row_position l.p 0) a.signed (drop l.k l.out) c.read_part-last.new.out
@@ -124,11 +124,11 @@ returns-then-f-eq8 c =
     let back : List ℤ → List ℤ = λ part. let l = c.loop-k in take l.k l.out ++ (part ++ drop (length l.out - l.k) (drop l.k l.out)) in
     let Unchanged : Type 0 = back c.read_run-a.new.out ≡ c.loop-k.out in
     let unchanged : NoRun c.read_run-a.result → Unchanged = λ u. same-places c.loop-k.invariant (given) u in
-    let refused-same : Unchanged = unchanged (rw c.in-Refused.is tt) in
+    let refused-same : Unchanged = unchanged (rw c.in-Err.is tt) in
     let TurnAt : Answer → Type 0 = let a = c.args in Turn a.input.now c.loop-k.p (length a.out.now - c.loop-k.k) in
     let bytes : AllBelow 256 c.args.input.now = below_all 256 c.args.input.now (λ i. (c.shared_slice_known-1.given i).fits) in
     let there : TurnAt c.read_run-a.result = turn_is c.loop-k.invariant (given) (bytes) in
-    let refused-is : TurnAt (answer.Refused c.in-Refused.f) = subst (TurnAt) c.in-Refused.is (there) in
+    let refused-is : TurnAt (Err c.in-Err.f) = subst (TurnAt) c.in-Err.is (there) in
     let part-is : (let l = c.loop-k in
     let a = c.args in
     RunPart a.input.now (row_position l.p 0) a.signed (drop l.k l.out) c.read_part-last.new.out
@@ -140,34 +140,34 @@ returns-then-f-eq8 c =
     rw (c.after.ensures, refused-same) (laid)
 
 -- ---- the batch ends: at a refused run, at the end, or because every place is filled
-pub returns-in-Refused : goal.returns-in-Refused
-returns-in-Refused c =
+pub returns-in-Err : goal.returns-in-Err
+returns-in-Err c =
     let TurnAt : Answer → Type 0 = let a = c.args in Turn a.input.now c.loop-k.p (length a.out.now - c.loop-k.k) in
     let bytes : AllBelow 256 c.args.input.now = below_all 256 c.args.input.now (λ i. (c.shared_slice_known-1.given i).fits) in
     let given : (let l = c.loop-k in let a = c.args in
     RunRead a.input.now l.p a.signed (drop l.k l.out) c.read_run-a.new.out c.read_run-a.result) = let l = c.loop-k in rw (rest-is l.out l.k) at c.read_run-a.ensures in
     let there : TurnAt c.read_run-a.result = turn_is c.loop-k.invariant (given) (bytes) in
-    let refused-is : TurnAt (answer.Refused c.in-Refused.f) = subst (TurnAt) c.in-Refused.is (there) in
+    let refused-is : TurnAt (Err c.in-Err.f) = subst (TurnAt) c.in-Err.is (there) in
     let back : List ℤ → List ℤ = λ part. let l = c.loop-k in take l.k l.out ++ (part ++ drop (length l.out - l.k) (drop l.k l.out)) in
     let Unchanged : Type 0 = back c.read_run-a.new.out ≡ c.loop-k.out in
     let unchanged : NoRun c.read_run-a.result → Unchanged = λ u. same-places c.loop-k.invariant (given) u in
-    let refused-same : Unchanged = unchanged (rw c.in-Refused.is tt) in
-    let z : c.in-Refused.f.number ≡ 8 → ⊥ = λ e. omega (arith, e) in
+    let refused-same : Unchanged = unchanged (rw c.in-Err.is tt) in
+    let z : c.in-Err.f.number ≡ 8 → ⊥ = λ e. omega (arith, e) in
     rw (c.up_to.ensures, refused-same) (walked-broken c.loop-k.invariant (refused-is) z)
 
-pub returns-in-End : goal.returns-in-End
-returns-in-End c =
+pub returns-in-Ok-None : goal.returns-in-Ok-None
+returns-in-Ok-None c =
     let TurnAt : Answer → Type 0 = let a = c.args in Turn a.input.now c.loop-k.p (length a.out.now - c.loop-k.k) in
     let bytes : AllBelow 256 c.args.input.now = below_all 256 c.args.input.now (λ i. (c.shared_slice_known-1.given i).fits) in
     let given : (let l = c.loop-k in let a = c.args in
     RunRead a.input.now l.p a.signed (drop l.k l.out) c.read_run-a.new.out c.read_run-a.result) = let l = c.loop-k in rw (rest-is l.out l.k) at c.read_run-a.ensures in
     let there : TurnAt c.read_run-a.result = turn_is c.loop-k.invariant (given) (bytes) in
-    let ended_is : TurnAt answer.End = subst (TurnAt) c.in-End.is (there) in
+    let ended_is : TurnAt (Ok None) = subst (TurnAt) c.in-Ok-None.is (there) in
     let back : List ℤ → List ℤ = λ part. let l = c.loop-k in take l.k l.out ++ (part ++ drop (length l.out - l.k) (drop l.k l.out)) in
     let Unchanged : Type 0 = back c.read_run-a.new.out ≡ c.loop-k.out in
     let unchanged : NoRun c.read_run-a.result → Unchanged = λ u. same-places c.loop-k.invariant (given) u in
-    let ended_same : Unchanged = unchanged (rw c.in-End.is tt) in
-    rw (c.up_to-in-End.ensures, ended_same) (walked_end c.loop-k.invariant (ended_is))
+    let ended_same : Unchanged = unchanged (rw c.in-Ok-None.is tt) in
+    rw (c.up_to-in-Ok-None.ensures, ended_same) (walked_end c.loop-k.invariant (ended_is))
 
 pub returns : goal.returns
 returns c =
@@ -184,7 +184,7 @@ slice_bounds-read_part-count c =
     let back : List ℤ → List ℤ = λ part. let l = c.loop-k in take l.k l.out ++ (part ++ drop (length l.out - l.k) (drop l.k l.out)) in
     let Unchanged : Type 0 = back c.read_run-a.new.out ≡ c.loop-k.out in
     let unchanged : NoRun c.read_run-a.result → Unchanged = λ u. same-places c.loop-k.invariant (given) u in
-    let refused-same : Unchanged = unchanged (rw c.in-Refused.is tt) in
+    let refused-same : Unchanged = unchanged (rw c.in-Err.is tt) in
     let within : c.loop-k.k ≤ length (back c.read_run-a.new.out) = let w = c.loop-k.invariant in omega (arith, ap length (refused-same), w.few, w.long) in
     within
 
@@ -195,28 +195,28 @@ slice_bounds-read_part-start c =
     let back : List ℤ → List ℤ = λ part. let l = c.loop-k in take l.k l.out ++ (part ++ drop (length l.out - l.k) (drop l.k l.out)) in
     let Unchanged : Type 0 = back c.read_run-a.new.out ≡ c.loop-k.out in
     let unchanged : NoRun c.read_run-a.result → Unchanged = λ u. same-places c.loop-k.invariant (given) u in
-    let refused-same : Unchanged = unchanged (rw c.in-Refused.is tt) in
+    let refused-same : Unchanged = unchanged (rw c.in-Err.is tt) in
     let within : c.loop-k.k ≤ length (back c.read_run-a.new.out) = let w = c.loop-k.invariant in omega (arith, ap length (refused-same), w.few, w.long) in
     within
 
-pub shape_of-out-in-Refused : goal.shape_of-out-in-Refused
-shape_of-out-in-Refused c =
+pub shape_of-out-in-Err : goal.shape_of-out-in-Err
+shape_of-out-in-Err c =
     let given : (let l = c.loop-k in let a = c.args in
     RunRead a.input.now l.p a.signed (drop l.k l.out) c.read_run-a.new.out c.read_run-a.result) = let l = c.loop-k in rw (rest-is l.out l.k) at c.read_run-a.ensures in
     let back : List ℤ → List ℤ = λ part. let l = c.loop-k in take l.k l.out ++ (part ++ drop (length l.out - l.k) (drop l.k l.out)) in
     let Unchanged : Type 0 = back c.read_run-a.new.out ≡ c.loop-k.out in
     let unchanged : NoRun c.read_run-a.result → Unchanged = λ u. same-places c.loop-k.invariant (given) u in
-    let refused-same : Unchanged = unchanged (rw c.in-Refused.is tt) in
+    let refused-same : Unchanged = unchanged (rw c.in-Err.is tt) in
     ap length (refused-same) ∙ c.loop-k.invariant.long
 
-pub shape_of-out-in-End : goal.shape_of-out-in-End
-shape_of-out-in-End c =
+pub shape_of-out-in-Ok-None : goal.shape_of-out-in-Ok-None
+shape_of-out-in-Ok-None c =
     let given : (let l = c.loop-k in let a = c.args in
     RunRead a.input.now l.p a.signed (drop l.k l.out) c.read_run-a.new.out c.read_run-a.result) = let l = c.loop-k in rw (rest-is l.out l.k) at c.read_run-a.ensures in
     let back : List ℤ → List ℤ = λ part. let l = c.loop-k in take l.k l.out ++ (part ++ drop (length l.out - l.k) (drop l.k l.out)) in
     let Unchanged : Type 0 = back c.read_run-a.new.out ≡ c.loop-k.out in
     let unchanged : NoRun c.read_run-a.result → Unchanged = λ u. same-places c.loop-k.invariant (given) u in
-    let ended_same : Unchanged = unchanged (rw c.in-End.is tt) in
+    let ended_same : Unchanged = unchanged (rw c.in-Ok-None.is tt) in
     ap length (ended_same) ∙ c.loop-k.invariant.long
 
 pub shape_of-out : goal.shape_of-out

@@ -1,7 +1,7 @@
+use Rattle.std.specs.Prelude.{Some, None, Ok, Err}
 use mathlib.Core.Path.{◌≡◌, refl, subst}
 use native.Mathlib.Omega.{arith}
-use Rattle.format.specs.declared.Answer.{Answer}
-use Rattle.format.specs.declared.Answer.TheVariants as answer
+use Rattle.format.specs.Answers.{Answer}
 use Rattle.format.proofs.Below.{below_all}
 use Rattle.batches.proofs.RunAtByte.{Step, step}
 use Rattle.batches.proofs.SeekWalk.{passed, refused-there, no-such-row}
@@ -13,7 +13,7 @@ returns-then-left-rows c =
     let StepAt : Answer → Type 0 = Step c.args.input.now c.loop-left.place in
     let there : StepAt c.measure-a.result = step c.args.input.now c.loop-left.place _
     (below_all 256 c.args.input.now (λ i. (c.shared_slice_known-1.given i).fits)) c.measure-a.ensures in
-    let ran-is : StepAt (answer.Run c.in-Run.r) = subst (StepAt) c.in-Run.is (there) in
+    let ran-is : StepAt (Ok (Some c.in-Ok-Some.r)) = subst (StepAt) c.in-Ok-Some.is (there) in
     let o = ran-is in
     (record { run = o.run; stands = o.stands; skips = omega (arith, o.rows_are) }, c.loop-left.invariant)
 
@@ -22,7 +22,7 @@ overflow_add-place c =
     let StepAt : Answer → Type 0 = Step c.args.input.now c.loop-left.place in
     let there : StepAt c.measure-a.result = step c.args.input.now c.loop-left.place _
     (below_all 256 c.args.input.now (λ i. (c.shared_slice_known-1.given i).fits)) c.measure-a.ensures in
-    let ran-is : StepAt (answer.Run c.in-Run.r) = subst (StepAt) c.in-Run.is (there) in
+    let ran-is : StepAt (Ok (Some c.in-Ok-Some.r)) = subst (StepAt) c.in-Ok-Some.is (there) in
     let o = ran-is in
     omega (arith, o.bytes-are, o.stands.within)
 
@@ -31,7 +31,7 @@ loop-left-smaller c =
     let StepAt : Answer → Type 0 = Step c.args.input.now c.loop-left.place in
     let there : StepAt c.measure-a.result = step c.args.input.now c.loop-left.place _
     (below_all 256 c.args.input.now (λ i. (c.shared_slice_known-1.given i).fits)) c.measure-a.ensures in
-    let ran-is : StepAt (answer.Run c.in-Run.r) = subst (StepAt) c.in-Run.is (there) in
+    let ran-is : StepAt (Ok (Some c.in-Ok-Some.r)) = subst (StepAt) c.in-Ok-Some.is (there) in
     let o = ran-is in
     omega (arith, o.rows_are, o.stands.some)
 
@@ -40,23 +40,23 @@ loop-left-preserved c =
     let StepAt : Answer → Type 0 = Step c.args.input.now c.loop-left.place in
     let there : StepAt c.measure-a.result = step c.args.input.now c.loop-left.place _
     (below_all 256 c.args.input.now (λ i. (c.shared_slice_known-1.given i).fits)) c.measure-a.ensures in
-    let ran-is : StepAt (answer.Run c.in-Run.r) = subst (StepAt) c.in-Run.is (there) in
+    let ran-is : StepAt (Ok (Some c.in-Ok-Some.r)) = subst (StepAt) c.in-Ok-Some.is (there) in
     passed c.loop-left.invariant (ran-is) (omega arith)
 
-pub returns-in-Refused : goal.returns-in-Refused
-returns-in-Refused c =
+pub returns-in-Err : goal.returns-in-Err
+returns-in-Err c =
     let StepAt : Answer → Type 0 = Step c.args.input.now c.loop-left.place in
     let there : StepAt c.measure-a.result = step c.args.input.now c.loop-left.place _
     (below_all 256 c.args.input.now (λ i. (c.shared_slice_known-1.given i).fits)) c.measure-a.ensures in
-    let refused-is : StepAt (answer.Refused c.in-Refused.f) = subst (StepAt) c.in-Refused.is (there) in
+    let refused-is : StepAt (Err c.in-Err.f) = subst (StepAt) c.in-Err.is (there) in
     refused-there c.loop-left.invariant (refused-is)
 
-pub returns-in-End : goal.returns-in-End
-returns-in-End c =
+pub returns-in-Ok-None : goal.returns-in-Ok-None
+returns-in-Ok-None c =
     let StepAt : Answer → Type 0 = Step c.args.input.now c.loop-left.place in
     let there : StepAt c.measure-a.result = step c.args.input.now c.loop-left.place _
     (below_all 256 c.args.input.now (λ i. (c.shared_slice_known-1.given i).fits)) c.measure-a.ensures in
-    let ended_is : StepAt answer.End = subst (StepAt) c.in-End.is (there) in
+    let ended_is : StepAt (Ok None) = subst (StepAt) c.in-Ok-None.is (there) in
     rw c.new.ensures (no-such-row c.loop-left.invariant (ended_is) c.loop-left-test.true)
 
 -- ---- no row is left to skip

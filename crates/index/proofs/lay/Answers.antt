@@ -12,16 +12,16 @@ use Rattle.index.proofs.lay.Goals as goal
 
 pub overflow_sub-n : goal.overflow_sub-n
 overflow_sub-n c =
-    let rows : c.in-Run.run'.rows.rows ≡ row_count c.requires.run = let a = c.args in
+    let rows : c.in-Ok-Some.run'.rows.rows ≡ row_count c.requires.run = let a = c.args in
     rows_are a.input.now a.at.bytes a.skip.rows a.signed a.out.now c.requires _ _ _ c.scratch-held.ensures
-    c.read_run-a.ensures _ c.in-Run.is in
+    c.read_run-a.ensures _ c.in-Ok-Some.is in
     omega (arith, rows, c.requires.skips)
 
 pub copy-requires : goal.copy-requires
 copy-requires c =
-    let rows : c.in-Run.run'.rows.rows ≡ row_count c.requires.run = let a = c.args in
+    let rows : c.in-Ok-Some.run'.rows.rows ≡ row_count c.requires.run = let a = c.args in
     rows_are a.input.now a.at.bytes a.skip.rows a.signed a.out.now c.requires _ _ _ c.scratch-held.ensures
-    c.read_run-a.ensures _ c.in-Run.is in
+    c.read_run-a.ensures _ c.in-Ok-Some.is in
     let held : c.read_run-a.new.out ≡ i64_rows c.args.signed c.requires.run ++ drop (row_count c.requires.run) c.scratch-held.result = let a = c.args in
     held-is a.input.now a.at.bytes a.skip.rows a.signed a.out.now c.requires _ _ _ c.scratch-held.ensures
     c.read_run-a.ensures in
@@ -33,25 +33,25 @@ copy-requires c =
 
 pub overflow_add-next : goal.overflow_add-next
 overflow_add-next c =
-    let consumed : c.in-Run.run'.consumed.bytes ≡ length (layout c.requires.run) = let a = c.args in
+    let consumed : c.in-Ok-Some.run'.consumed.bytes ≡ length (layout c.requires.run) = let a = c.args in
     bytes-are a.input.now a.at.bytes a.skip.rows a.signed a.out.now c.requires _ _ _ c.scratch-held.ensures
-    c.read_run-a.ensures _ c.in-Run.is in
+    c.read_run-a.ensures _ c.in-Ok-Some.is in
     let a = c.args in
     omega (arith, consumed, bytes-within a.input.now a.at.bytes a.skip.rows a.signed a.out.now c.requires)
 
 pub offset_bounds-out-n : goal.offset_bounds-out-n
 offset_bounds-out-n c =
-    let rows : c.in-Run.run'.rows.rows ≡ row_count c.requires.run = let a = c.args in
+    let rows : c.in-Ok-Some.run'.rows.rows ≡ row_count c.requires.run = let a = c.args in
     rows_are a.input.now a.at.bytes a.skip.rows a.signed a.out.now c.requires _ _ _ c.scratch-held.ensures
-    c.read_run-a.ensures _ c.in-Run.is in
+    c.read_run-a.ensures _ c.in-Ok-Some.is in
     let a = c.args in
     omega (arith, rows, rows-within a.input.now a.at.bytes a.skip.rows a.signed a.out.now c.requires)
 
 pub slice_bounds-read_stream-count : goal.slice_bounds-read_stream-count
 slice_bounds-read_stream-count c =
-    let rows : c.in-Run.run'.rows.rows ≡ row_count c.requires.run = let a = c.args in
+    let rows : c.in-Ok-Some.run'.rows.rows ≡ row_count c.requires.run = let a = c.args in
     rows_are a.input.now a.at.bytes a.skip.rows a.signed a.out.now c.requires _ _ _ c.scratch-held.ensures
-    c.read_run-a.ensures _ c.in-Run.is in
+    c.read_run-a.ensures _ c.in-Ok-Some.is in
     let a = c.args in
     omega (
       arith,
@@ -62,9 +62,9 @@ slice_bounds-read_stream-count c =
 
 pub slice_bounds-read_stream-start : goal.slice_bounds-read_stream-start
 slice_bounds-read_stream-start c =
-    let rows : c.in-Run.run'.rows.rows ≡ row_count c.requires.run = let a = c.args in
+    let rows : c.in-Ok-Some.run'.rows.rows ≡ row_count c.requires.run = let a = c.args in
     rows_are a.input.now a.at.bytes a.skip.rows a.signed a.out.now c.requires _ _ _ c.scratch-held.ensures
-    c.read_run-a.ensures _ c.in-Run.is in
+    c.read_run-a.ensures _ c.in-Ok-Some.is in
     let a = c.args in
     omega (
       arith,
@@ -73,35 +73,35 @@ slice_bounds-read_stream-start c =
       c.copy.auto.out,
     )
 
-pub returns-in-Run : goal.returns-in-Run
-returns-in-Run c =
-    let rows : c.in-Run.run'.rows.rows ≡ row_count c.requires.run = let a = c.args in
+pub returns-in-Ok-Some : goal.returns-in-Ok-Some
+returns-in-Ok-Some c =
+    let rows : c.in-Ok-Some.run'.rows.rows ≡ row_count c.requires.run = let a = c.args in
     rows_are a.input.now a.at.bytes a.skip.rows a.signed a.out.now c.requires _ _ _ c.scratch-held.ensures
-    c.read_run-a.ensures _ c.in-Run.is in
-    let consumed : c.in-Run.run'.consumed.bytes ≡ length (layout c.requires.run) = let a = c.args in
+    c.read_run-a.ensures _ c.in-Ok-Some.is in
+    let consumed : c.in-Ok-Some.run'.consumed.bytes ≡ length (layout c.requires.run) = let a = c.args in
     bytes-are a.input.now a.at.bytes a.skip.rows a.signed a.out.now c.requires _ _ _ c.scratch-held.ensures
-    c.read_run-a.ensures _ c.in-Run.is in
+    c.read_run-a.ensures _ c.in-Ok-Some.is in
     let held : c.read_run-a.new.out ≡ i64_rows c.args.signed c.requires.run ++ drop (row_count c.requires.run) c.scratch-held.result = let a = c.args in
     held-is a.input.now a.at.bytes a.skip.rows a.signed a.out.now c.requires _ _ _ c.scratch-held.ensures
     c.read_run-a.ensures in
     let a = c.args in
-    let n = c.in-Run.run'.rows.rows - a.skip.rows in
+    let n = c.in-Ok-Some.run'.rows.rows - a.skip.rows in
     laid-is a.input.now a.at.bytes a.skip.rows a.signed a.out.now c.requires _ _ (held) _
     (ap (λ (k : ℕ). k - a.skip.rows) (rows))
     c.copy.new.out
     c.read_stream.new.out c.copy.ensures _ (ap (λ (k : ℕ). a.at.bytes + k) (consumed)) _
     (rw (rest-is c.copy.new.out n) at c.read_stream.ensures)
 
-pub returns-in-Refused : goal.returns-in-Refused
-returns-in-Refused c =
+pub returns-in-Err : goal.returns-in-Err
+returns-in-Err c =
     let a = c.args in
     absurd (not-refused a.input.now a.at.bytes a.skip.rows a.signed a.out.now c.requires _ _ _
     c.scratch-held.ensures
-    c.read_run-a.ensures _ c.in-Refused.is)
+    c.read_run-a.ensures _ c.in-Err.is)
 
-pub returns-in-End : goal.returns-in-End
-returns-in-End c =
+pub returns-in-Ok-None : goal.returns-in-Ok-None
+returns-in-Ok-None c =
     let a = c.args in
     absurd (not-ended a.input.now a.at.bytes a.skip.rows a.signed a.out.now c.requires _ _ _
     c.scratch-held.ensures
-    c.read_run-a.ensures c.in-End.is)
+    c.read_run-a.ensures c.in-Ok-None.is)

@@ -1,12 +1,12 @@
 -- The run reader keeps its promise: "end" where nothing is left, and else the answer of the kind that the first byte names. Assumes nothing.
+use Rattle.std.specs.Prelude.{None, Ok}
 use native.Mathlib.Omega.{arith}
-use Rattle.format.specs.declared.Answer.TheVariants as answer
 use Rattle.format.proofs.Reading.{gives_none}
 use Rattle.rle_v2.proofs.ByKind.{nothing-there, is-short, is-direct, is-patched, is-delta}
 use Rattle.rle_v2.proofs.read_run.Goals as goal
 
 pub returns-then-input-p : goal.returns-then-input-p
-returns-then-input-p c = let a = c.args in rw c.end.ensures (gives_none a.at.bytes _ a.signed _ a.out.now answer.End tt (rw (nothing-there a.input.now a.at.bytes c.if-input-p.true)))
+returns-then-input-p c = let a = c.args in rw c.end.ensures (gives_none a.at.bytes _ a.signed _ a.out.now (Ok None) tt (rw (nothing-there a.input.now a.at.bytes c.if-input-p.true)))
 
 pub returns-then-kind-eq0 : goal.returns-then-kind-eq0
 returns-then-kind-eq0 c =

@@ -1,8 +1,8 @@
 -- The run or the refusal as it stands. Assumes nothing.
 use Rattle.answer_words.proofs.parts.plain.Goals as goal
 
-pub returns-in-Run : goal.returns-in-Run
-returns-in-Run c = rw (c.run.ensures, c.in-Run.is)
+pub returns-in-Ok-Some : goal.returns-in-Ok-Some
+returns-in-Ok-Some c = rw (c.run.ensures, c.in-Ok-Some.is)
 
-pub returns-in-Refused : goal.returns-in-Refused
-returns-in-Refused c = rw c.in-Refused.is
+pub returns-in-Err : goal.returns-in-Err
+returns-in-Err c = rw c.in-Err.is

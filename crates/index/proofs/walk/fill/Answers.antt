@@ -14,7 +14,7 @@ pub offset_bounds-first-i : goal.offset_bounds-first-i
 offset_bounds-first-i c =
     let step : Step c.args.input.now c.loop-place.place c.measure-a.result = let input = c.args.input.now in
     step_is input c.loop-place.place _ (below_all 256 input (λ i. (c.shared_slice_known-1.given i).fits)) c.measure-a.ensures in
-    let ran-is : OneRun c.args.input.now c.loop-place.place c.in-Run.run' = rw c.in-Run.is at (step) in
+    let ran-is : OneRun c.args.input.now c.loop-place.place c.in-Ok-Some.run' = rw c.in-Ok-Some.is at (step) in
     let roomy : Room c.loop-place.invariant (ran-is) = has_room c.loop-place.invariant (ran-is) in
     let y = roomy in omega (arith, y.in-first₀)
 
@@ -22,7 +22,7 @@ pub bounds-first-i : goal.bounds-first-i
 bounds-first-i c =
     let step : Step c.args.input.now c.loop-place.place c.measure-a.result = let input = c.args.input.now in
     step_is input c.loop-place.place _ (below_all 256 input (λ i. (c.shared_slice_known-1.given i).fits)) c.measure-a.ensures in
-    let ran-is : OneRun c.args.input.now c.loop-place.place c.in-Run.run' = rw c.in-Run.is at (step) in
+    let ran-is : OneRun c.args.input.now c.loop-place.place c.in-Ok-Some.run' = rw c.in-Ok-Some.is at (step) in
     let roomy : Room c.loop-place.invariant (ran-is) = has_room c.loop-place.invariant (ran-is) in
     roomy.in-first
 
@@ -30,7 +30,7 @@ pub offset_bounds-at-i : goal.offset_bounds-at-i
 offset_bounds-at-i c =
     let step : Step c.args.input.now c.loop-place.place c.measure-a.result = let input = c.args.input.now in
     step_is input c.loop-place.place _ (below_all 256 input (λ i. (c.shared_slice_known-1.given i).fits)) c.measure-a.ensures in
-    let ran-is : OneRun c.args.input.now c.loop-place.place c.in-Run.run' = rw c.in-Run.is at (step) in
+    let ran-is : OneRun c.args.input.now c.loop-place.place c.in-Ok-Some.run' = rw c.in-Ok-Some.is at (step) in
     let roomy : Room c.loop-place.invariant (ran-is) = has_room c.loop-place.invariant (ran-is) in
     let y = roomy in omega (arith, y.in-at₀)
 
@@ -38,7 +38,7 @@ pub offset_bounds-counts-i : goal.offset_bounds-counts-i
 offset_bounds-counts-i c =
     let step : Step c.args.input.now c.loop-place.place c.measure-a.result = let input = c.args.input.now in
     step_is input c.loop-place.place _ (below_all 256 input (λ i. (c.shared_slice_known-1.given i).fits)) c.measure-a.ensures in
-    let ran-is : OneRun c.args.input.now c.loop-place.place c.in-Run.run' = rw c.in-Run.is at (step) in
+    let ran-is : OneRun c.args.input.now c.loop-place.place c.in-Ok-Some.run' = rw c.in-Ok-Some.is at (step) in
     let roomy : Room c.loop-place.invariant (ran-is) = has_room c.loop-place.invariant (ran-is) in
     let y = roomy in omega (arith, y.in-counts₀)
 
@@ -46,7 +46,7 @@ pub bounds-counts-i : goal.bounds-counts-i
 bounds-counts-i c =
     let step : Step c.args.input.now c.loop-place.place c.measure-a.result = let input = c.args.input.now in
     step_is input c.loop-place.place _ (below_all 256 input (λ i. (c.shared_slice_known-1.given i).fits)) c.measure-a.ensures in
-    let ran-is : OneRun c.args.input.now c.loop-place.place c.in-Run.run' = rw c.in-Run.is at (step) in
+    let ran-is : OneRun c.args.input.now c.loop-place.place c.in-Ok-Some.run' = rw c.in-Ok-Some.is at (step) in
     let roomy : Room c.loop-place.invariant (ran-is) = has_room c.loop-place.invariant (ran-is) in
     roomy.in-counts
 
@@ -54,7 +54,7 @@ pub overflow_add-row : goal.overflow_add-row
 overflow_add-row c =
     let step : Step c.args.input.now c.loop-place.place c.measure-a.result = let input = c.args.input.now in
     step_is input c.loop-place.place _ (below_all 256 input (λ i. (c.shared_slice_known-1.given i).fits)) c.measure-a.ensures in
-    let ran-is : OneRun c.args.input.now c.loop-place.place c.in-Run.run' = rw c.in-Run.is at (step) in
+    let ran-is : OneRun c.args.input.now c.loop-place.place c.in-Ok-Some.run' = rw c.in-Ok-Some.is at (step) in
     let roomy : Room c.loop-place.invariant (ran-is) = has_room c.loop-place.invariant (ran-is) in
     let y = roomy in omega (arith, y.rows-small)
 
@@ -62,14 +62,14 @@ pub overflow_add-place : goal.overflow_add-place
 overflow_add-place c =
     let step : Step c.args.input.now c.loop-place.place c.measure-a.result = let input = c.args.input.now in
     step_is input c.loop-place.place _ (below_all 256 input (λ i. (c.shared_slice_known-1.given i).fits)) c.measure-a.ensures in
-    let ran-is : OneRun c.args.input.now c.loop-place.place c.in-Run.run' = rw c.in-Run.is at (step) in
+    let ran-is : OneRun c.args.input.now c.loop-place.place c.in-Ok-Some.run' = rw c.in-Ok-Some.is at (step) in
     omega (arith, ran-is.within)
 
 pub overflow_add-i : goal.overflow_add-i
 overflow_add-i c =
     let step : Step c.args.input.now c.loop-place.place c.measure-a.result = let input = c.args.input.now in
     step_is input c.loop-place.place _ (below_all 256 input (λ i. (c.shared_slice_known-1.given i).fits)) c.measure-a.ensures in
-    let ran-is : OneRun c.args.input.now c.loop-place.place c.in-Run.run' = rw c.in-Run.is at (step) in
+    let ran-is : OneRun c.args.input.now c.loop-place.place c.in-Ok-Some.run' = rw c.in-Ok-Some.is at (step) in
     let roomy : Room c.loop-place.invariant (ran-is) = has_room c.loop-place.invariant (ran-is) in
     let y = roomy in omega (arith, y.in-first₀)
 
@@ -77,46 +77,46 @@ pub loop-place-smaller : goal.loop-place-smaller
 loop-place-smaller c =
     let step : Step c.args.input.now c.loop-place.place c.measure-a.result = let input = c.args.input.now in
     step_is input c.loop-place.place _ (below_all 256 input (λ i. (c.shared_slice_known-1.given i).fits)) c.measure-a.ensures in
-    let ran-is : OneRun c.args.input.now c.loop-place.place c.in-Run.run' = rw c.in-Run.is at (step) in
+    let ran-is : OneRun c.args.input.now c.loop-place.place c.in-Ok-Some.run' = rw c.in-Ok-Some.is at (step) in
     let o = ran-is in omega (arith, o.within, o.some_bytes)
 
 pub loop-place-preserved : goal.loop-place-preserved
 loop-place-preserved c =
     let step : Step c.args.input.now c.loop-place.place c.measure-a.result = let input = c.args.input.now in
     step_is input c.loop-place.place _ (below_all 256 input (λ i. (c.shared_slice_known-1.given i).fits)) c.measure-a.ensures in
-    let ran-is : OneRun c.args.input.now c.loop-place.place c.in-Run.run' = rw c.in-Run.is at (step) in
+    let ran-is : OneRun c.args.input.now c.loop-place.place c.in-Ok-Some.run' = rw c.in-Ok-Some.is at (step) in
     filling-run c.loop-place.invariant (ran-is)
 
-pub shape_of-first-in-Refused : goal.shape_of-first-in-Refused
-shape_of-first-in-Refused c = c.loop-place.invariant.long-first
+pub shape_of-first-in-Err : goal.shape_of-first-in-Err
+shape_of-first-in-Err c = c.loop-place.invariant.long-first
 
-pub shape_of-at-in-Refused : goal.shape_of-at-in-Refused
-shape_of-at-in-Refused c = c.loop-place.invariant.long-at
+pub shape_of-at-in-Err : goal.shape_of-at-in-Err
+shape_of-at-in-Err c = c.loop-place.invariant.long-at
 
-pub shape_of-counts-in-Refused : goal.shape_of-counts-in-Refused
-shape_of-counts-in-Refused c = c.loop-place.invariant.long-counts
+pub shape_of-counts-in-Err : goal.shape_of-counts-in-Err
+shape_of-counts-in-Err c = c.loop-place.invariant.long-counts
 
-pub returns-in-Refused : goal.returns-in-Refused
-returns-in-Refused c =
+pub returns-in-Err : goal.returns-in-Err
+returns-in-Err c =
     let step : Step c.args.input.now c.loop-place.place c.measure-a.result = let input = c.args.input.now in
     step_is input c.loop-place.place _ (below_all 256 input (λ i. (c.shared_slice_known-1.given i).fits)) c.measure-a.ensures in
-    let q : NoRun c.args.input.now c.loop-place.place c.in-Refused.field-0 = rw c.in-Refused.is at (step) in
+    let q : NoRun c.args.input.now c.loop-place.place c.in-Err.field-0 = rw c.in-Err.is at (step) in
     absurd (filling-refused c.loop-place.invariant q)
 
-pub shape_of-first-in-End : goal.shape_of-first-in-End
-shape_of-first-in-End c = c.loop-place.invariant.long-first
+pub shape_of-first-in-Ok-None : goal.shape_of-first-in-Ok-None
+shape_of-first-in-Ok-None c = c.loop-place.invariant.long-first
 
-pub shape_of-at-in-End : goal.shape_of-at-in-End
-shape_of-at-in-End c = c.loop-place.invariant.long-at
+pub shape_of-at-in-Ok-None : goal.shape_of-at-in-Ok-None
+shape_of-at-in-Ok-None c = c.loop-place.invariant.long-at
 
-pub shape_of-counts-in-End : goal.shape_of-counts-in-End
-shape_of-counts-in-End c = c.loop-place.invariant.long-counts
+pub shape_of-counts-in-Ok-None : goal.shape_of-counts-in-Ok-None
+shape_of-counts-in-Ok-None c = c.loop-place.invariant.long-counts
 
-pub returns-in-End : goal.returns-in-End
-returns-in-End c =
+pub returns-in-Ok-None : goal.returns-in-Ok-None
+returns-in-Ok-None c =
     let step : Step c.args.input.now c.loop-place.place c.measure-a.result = let input = c.args.input.now in
     step_is input c.loop-place.place _ (below_all 256 input (λ i. (c.shared_slice_known-1.given i).fits)) c.measure-a.ensures in
-    let z : drop c.loop-place.place c.args.input.now ≡ [] = rw c.in-End.is at (step) in
+    let z : drop c.loop-place.place c.args.input.now ≡ [] = rw c.in-Ok-None.is at (step) in
     filling-end c.loop-place.invariant z
 
 pub returns : goal.returns
@@ -126,7 +126,7 @@ pub bounds-at-i : goal.bounds-at-i
 bounds-at-i c =
     let step : Step c.args.input.now c.loop-place.place c.measure-a.result = let input = c.args.input.now in
     step_is input c.loop-place.place _ (below_all 256 input (λ i. (c.shared_slice_known-1.given i).fits)) c.measure-a.ensures in
-    let ran-is : OneRun c.args.input.now c.loop-place.place c.in-Run.run' = rw c.in-Run.is at (step) in
+    let ran-is : OneRun c.args.input.now c.loop-place.place c.in-Ok-Some.run' = rw c.in-Ok-Some.is at (step) in
     let roomy : Room c.loop-place.invariant (ran-is) = has_room c.loop-place.invariant (ran-is) in
     roomy.in-at
 

@@ -2,14 +2,14 @@
 use Rattle.parts.specs.Steps.{is_whole}
 use Rattle.parts.proofs.steps.is_whole.Goals as goal
 
-pub returns-in-Run : goal.returns-in-Run
+pub returns-in-Ok-Some : goal.returns-in-Ok-Some
 unfolding is_whole
-returns-in-Run c = rw c.in-Run.is
+returns-in-Ok-Some c = rw c.in-Ok-Some.is
 
-pub returns-in-Refused : goal.returns-in-Refused
+pub returns-in-Err : goal.returns-in-Err
 unfolding is_whole
-returns-in-Refused c = rw c.in-Refused.is
+returns-in-Err c = rw c.in-Err.is
 
-pub returns-in-End : goal.returns-in-End
+pub returns-in-Ok-None : goal.returns-in-Ok-None
 unfolding is_whole
-returns-in-End c = rw c.in-End.is
+returns-in-Ok-None c = rw c.in-Ok-None.is

@@ -1,9 +1,9 @@
+use Rattle.std.specs.Prelude.{Some, None, Ok, Err}
 use mathlib.Core.Path.{◌≡◌, refl, sym, ap, ◌∙◌, subst}
 use native.Mathlib.Omega.{arith}
 use Rattle.format.specs.Digits.{AllBelow}
 use Rattle.format.specs.Streams.{runs_of}
-use Rattle.format.specs.declared.Answer.{Answer}
-use Rattle.format.specs.declared.Answer.TheVariants as answer
+use Rattle.format.specs.Answers.{Answer}
 use Rattle.format.proofs.Below.{below_all}
 use Rattle.batches.proofs.RunAtByte.{Step, step}
 use Rattle.rescue.specs.RescueSteps.{plain_in}
@@ -16,7 +16,7 @@ returns-then-left-rows c =
     let StepAt : Answer → Type 0 = Step c.args.input.now c.loop-left.place in
     let bytes : AllBelow 256 c.args.input.now = below_all 256 c.args.input.now (λ i. (c.shared_slice_known-1.given i).fits) in
     let there : StepAt c.measure-a.result = step c.args.input.now c.loop-left.place _ (bytes) c.measure-a.ensures in
-    let ran-is : StepAt (answer.Run c.in-Run.r) = subst (StepAt) c.in-Run.is (there) in
+    let ran-is : StepAt (Ok (Some c.in-Ok-Some.r)) = subst (StepAt) c.in-Ok-Some.is (there) in
     let l = c.loop-left in
     let o = ran-is in
     rw c.row_position.ensures
@@ -27,7 +27,7 @@ overflow_add-place c =
     let StepAt : Answer → Type 0 = Step c.args.input.now c.loop-left.place in
     let bytes : AllBelow 256 c.args.input.now = below_all 256 c.args.input.now (λ i. (c.shared_slice_known-1.given i).fits) in
     let there : StepAt c.measure-a.result = step c.args.input.now c.loop-left.place _ (bytes) c.measure-a.ensures in
-    let ran-is : StepAt (answer.Run c.in-Run.r) = subst (StepAt) c.in-Run.is (there) in
+    let ran-is : StepAt (Ok (Some c.in-Ok-Some.r)) = subst (StepAt) c.in-Ok-Some.is (there) in
     let o = ran-is in
     omega (arith, o.bytes-are, o.stands.within)
 
@@ -36,7 +36,7 @@ loop-left-smaller c =
     let StepAt : Answer → Type 0 = Step c.args.input.now c.loop-left.place in
     let bytes : AllBelow 256 c.args.input.now = below_all 256 c.args.input.now (λ i. (c.shared_slice_known-1.given i).fits) in
     let there : StepAt c.measure-a.result = step c.args.input.now c.loop-left.place _ (bytes) c.measure-a.ensures in
-    let ran-is : StepAt (answer.Run c.in-Run.r) = subst (StepAt) c.in-Run.is (there) in
+    let ran-is : StepAt (Ok (Some c.in-Ok-Some.r)) = subst (StepAt) c.in-Ok-Some.is (there) in
     let o = ran-is in
     omega (arith, o.rows_are, o.stands.some)
 
@@ -45,25 +45,25 @@ loop-left-preserved c =
     let StepAt : Answer → Type 0 = Step c.args.input.now c.loop-left.place in
     let bytes : AllBelow 256 c.args.input.now = below_all 256 c.args.input.now (λ i. (c.shared_slice_known-1.given i).fits) in
     let there : StepAt c.measure-a.result = step c.args.input.now c.loop-left.place _ (bytes) c.measure-a.ensures in
-    let ran-is : StepAt (answer.Run c.in-Run.r) = subst (StepAt) c.in-Run.is (there) in
+    let ran-is : StepAt (Ok (Some c.in-Ok-Some.r)) = subst (StepAt) c.in-Ok-Some.is (there) in
     let l = c.loop-left in
     l.invariant ∙ plain-passed _ l.place l.left _ (ran-is) (omega arith)
 
-pub returns-in-Refused : goal.returns-in-Refused
-returns-in-Refused c =
+pub returns-in-Err : goal.returns-in-Err
+returns-in-Err c =
     let StepAt : Answer → Type 0 = Step c.args.input.now c.loop-left.place in
     let bytes : AllBelow 256 c.args.input.now = below_all 256 c.args.input.now (λ i. (c.shared_slice_known-1.given i).fits) in
     let there : StepAt c.measure-a.result = step c.args.input.now c.loop-left.place _ (bytes) c.measure-a.ensures in
-    let refused-is : StepAt (answer.Refused c.in-Refused.field-0) = subst (StepAt) c.in-Refused.is (there) in
+    let refused-is : StepAt (Err c.in-Err.field-0) = subst (StepAt) c.in-Err.is (there) in
     let l = c.loop-left in
     sym (ap plain_in (l.invariant ∙ plain-none _ l.place l.left (ap runs_of refused-is.read) (omega arith)))
 
-pub returns-in-End : goal.returns-in-End
-returns-in-End c =
+pub returns-in-Ok-None : goal.returns-in-Ok-None
+returns-in-Ok-None c =
     let StepAt : Answer → Type 0 = Step c.args.input.now c.loop-left.place in
     let bytes : AllBelow 256 c.args.input.now = below_all 256 c.args.input.now (λ i. (c.shared_slice_known-1.given i).fits) in
     let there : StepAt c.measure-a.result = step c.args.input.now c.loop-left.place _ (bytes) c.measure-a.ensures in
-    let ended_is : StepAt answer.End = subst (StepAt) c.in-End.is (there) in
+    let ended_is : StepAt (Ok None) = subst (StepAt) c.in-Ok-None.is (there) in
     let l = c.loop-left in
     sym (ap plain_in (l.invariant ∙ plain-none _ l.place l.left (ap runs_of (ended_is)) (omega arith)))
 

@@ -1,10 +1,10 @@
 -- Each answer is that of the law for the tests that led there; the fields that are laid are decoded into the run's rows. Assumes nothing.
+use Rattle.std.specs.Prelude.{Some, Ok}
 use Prim.Native.Nat.{◌+◌, ◌-◌}
 use mathlib.Core.Path.{◌≡◌, sym, ◌∙◌}
 use native.Mathlib.Omega.{arith}
 use lib.ListN.{length, length-drop}
 use Rattle.format.specs.Promises.{answer_of}
-use Rattle.format.specs.declared.Answer.TheVariants as answer
 use Rattle.format.proofs.Below.{below_all}
 use Rattle.util.proofs.Grow.{rest-is}
 use Rattle.rle_v2.proofs.Blocks.{code-width}
@@ -28,7 +28,7 @@ returns-then-input-p-ne1 c =
 pub returns-then-count-skip : goal.returns-then-count-skip
 returns-then-count-skip c =
     let named : (let a = c.args in
-    answer.Run c.in-Run.r ≡ answer_of a.at.bytes (length a.input.now - a.at.bytes) (run a.input.now a.at.bytes)) = sym c.in-Run.is ∙ c.measure.ensures in
+    Ok (Some c.in-Run.r) ≡ answer_of a.at.bytes (length a.input.now - a.at.bytes) (run a.input.now a.at.bytes)) = sym c.in-Run.is ∙ c.measure.ensures in
     let measured-is : (let a = c.args in Measured a.input.now a.at.bytes c.in-Run.r) = measured c.args.input.now c.args.at.bytes _ c.if-input-p.false (named) in
     let a = c.args in
     rw (is-direct a.input.now a.at.bytes c.if-input-p.false c.if-input-p-ne1.false)
@@ -50,21 +50,21 @@ returns-in-End c =
 pub slice_bounds-lay-count : goal.slice_bounds-lay-count
 slice_bounds-lay-count c =
     let named : (let a = c.args in
-    answer.Run c.in-Run.r ≡ answer_of a.at.bytes (length a.input.now - a.at.bytes) (run a.input.now a.at.bytes)) = sym c.in-Run.is ∙ c.measure.ensures in
+    Ok (Some c.in-Run.r) ≡ answer_of a.at.bytes (length a.input.now - a.at.bytes) (run a.input.now a.at.bytes)) = sym c.in-Run.is ∙ c.measure.ensures in
     let measured-is : (let a = c.args in Measured a.input.now a.at.bytes c.in-Run.r) = measured c.args.input.now c.args.at.bytes _ c.if-input-p.false (named) in
     let m = measured-is in omega (arith, m.head)
 
 pub slice_bounds-lay-start : goal.slice_bounds-lay-start
 slice_bounds-lay-start c =
     let named : (let a = c.args in
-    answer.Run c.in-Run.r ≡ answer_of a.at.bytes (length a.input.now - a.at.bytes) (run a.input.now a.at.bytes)) = sym c.in-Run.is ∙ c.measure.ensures in
+    Ok (Some c.in-Run.r) ≡ answer_of a.at.bytes (length a.input.now - a.at.bytes) (run a.input.now a.at.bytes)) = sym c.in-Run.is ∙ c.measure.ensures in
     let measured-is : (let a = c.args in Measured a.input.now a.at.bytes c.in-Run.r) = measured c.args.input.now c.args.at.bytes _ c.if-input-p.false (named) in
     let m = measured-is in omega (arith, m.head)
 
 pub lay-requires : goal.lay-requires
 lay-requires c =
     let named : (let a = c.args in
-    answer.Run c.in-Run.r ≡ answer_of a.at.bytes (length a.input.now - a.at.bytes) (run a.input.now a.at.bytes)) = sym c.in-Run.is ∙ c.measure.ensures in
+    Ok (Some c.in-Run.r) ≡ answer_of a.at.bytes (length a.input.now - a.at.bytes) (run a.input.now a.at.bytes)) = sym c.in-Run.is ∙ c.measure.ensures in
     let measured-is : (let a = c.args in Measured a.input.now a.at.bytes c.in-Run.r) = measured c.args.input.now c.args.at.bytes _ c.if-input-p.false (named) in
     let a = c.args in
     let m = measured-is in
@@ -80,7 +80,7 @@ lay-requires c =
 pub returns-else-count-skip : goal.returns-else-count-skip
 returns-else-count-skip c =
     let named : (let a = c.args in
-    answer.Run c.in-Run.r ≡ answer_of a.at.bytes (length a.input.now - a.at.bytes) (run a.input.now a.at.bytes)) = sym c.in-Run.is ∙ c.measure.ensures in
+    Ok (Some c.in-Run.r) ≡ answer_of a.at.bytes (length a.input.now - a.at.bytes) (run a.input.now a.at.bytes)) = sym c.in-Run.is ∙ c.measure.ensures in
     let measured-is : (let a = c.args in Measured a.input.now a.at.bytes c.in-Run.r) = measured c.args.input.now c.args.at.bytes _ c.if-input-p.false (named) in
     let a = c.args in
     let s = a.input.now in

@@ -1,9 +1,9 @@
 -- The patched base reader meets its contract: what was found is laid down where its list passes and there is room. Assumes nothing.
+use Rattle.std.specs.Prelude.{Err}
 use native.Mathlib.Omega.{arith}
 use Prim.Native.Nat.{◌≤◌}
 use mathlib.Core.Path.{◌≡◌, refl, sym, ◌∙◌}
 use lib.ListN.{length}
-use Rattle.format.specs.declared.Answer.TheVariants as answer
 use Rattle.format.proofs.Reading.{gives_none}
 use Rattle.format.proofs.Rows.{width-le}
 use Rattle.format.proofs.Widths.{width-pos}
@@ -32,7 +32,7 @@ returns-then-refusal-ne0 c =
     let number_is : c.refused_with-refusal.result ≡ number_of c.args.input.now c.headed-f.result = rw (rest-is c.args.input.now c.headed-f.result.list.bytes) at c.refused_with-refusal.ensures in
     let a = c.args in
     rw c.refused.ensures
-    (gives_none a.at.bytes _ a.signed (run a.input.now a.at.bytes) a.out.now (answer.Refused _) tt
+    (gives_none a.at.bytes _ a.signed (run a.input.now a.at.bytes) a.out.now (Err _) tt
     (rw (number_is) (found-3-7 a.input.now a.at.bytes _ _ (heads) (λ z. c.if-refusal-ne0.true (number_is ∙ z)))))
 
 pub returns-then-out-rows : goal.returns-then-out-rows
