@@ -1,5 +1,4 @@
 -- The patches of a list, and the entries that name them: each of the list's tests, and the entry that it passes for. Assumes nothing.
-use Rattle.std.specs.Prelude.{Some}
 use Rattle.format.proofs.Common.{◌≡◌, refl, sym, subst, ◌⊎◌, inl, inr, ◌↔◌, ℕ, zero, suc, ◌+◌, ◌-◌, ◌^◌, ◌<◌, ◌≤◌, arith, Bool, true, false}
 use Rattle.format.proofs.Common.{not, ◌||◌, List, [], ◌∷◌, length, get_or, T, leb, eqb, eqb→eq, leb→le, le→leb, T_not, eq-eqb}
 use Rattle.format.specs.Fields.{pick}

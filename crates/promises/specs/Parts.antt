@@ -2,11 +2,10 @@
 -- of the joined bytes, however they are cut. Stated of the calls as format defines them;
 -- the code's promises are equations with these calls.
 -- Assumes nothing.
-use Rattle.std.specs.Prelude.{◌≡◌, ◌↔◌, ℕ, zero, suc, ◌+◌, ◌*◌, ◌%◌, ◌<◌, ◌≤◌, Bool, List, [], ◌∷◌, ◌++◌, length, drop, T, ℤ, Some, None}
+use Rattle.std.specs.Prelude.{◌≡◌, ◌↔◌, ℕ, zero, suc, ◌+◌, ◌*◌, ◌%◌, ◌<◌, ◌≤◌, Bool, List, [], ◌∷◌, ◌++◌, length, drop, T, ℤ, Some, None, Ok, Err}
 use Rattle.format.specs.declared.Refusal.{Refusal}
 use Rattle.format.specs.declared.Standing.{Standing}
 use Rattle.format.specs.declared.Standing.TheVariants.{Opened, Broken}
-use Rattle.format.specs.declared.Stream.TheVariants.{Whole, Refused}
 use Rattle.format.specs.declared.PartReader.{PartReader}
 use Rattle.format.specs.declared.PartAnswer.{PartAnswer}
 use Rattle.format.specs.declared.PartAnswer.TheVariants as said
@@ -76,9 +75,9 @@ cut_modulo None = None
 cut_modulo (Some b) = Some (record { bytes = b.bytes % two64 })
 
 abbrev pub last_answer : Stream → Reply
-last_answer (Whole c) = ended
-last_answer (Refused f c) =
-    broke (record { number = f.number; place = record { bytes = f.place.bytes % two64 }; cut = cut_modulo f.cut })
+last_answer (Ok c) = ended
+last_answer (Err s) =
+    broke (record { number = s.by.number; place = record { bytes = s.by.place.bytes % two64 }; cut = cut_modulo s.by.cut })
 
 abbrev pub stream_gives : Reading → GivenInParts
 stream_gives m = record { runs = starting 0 (runs_of m); answer = last_answer (stream_answer 0 m) }

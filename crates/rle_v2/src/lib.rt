@@ -110,9 +110,14 @@ pub fn read_stream(input: &[u8], at: ByteOffset, signed: bool, out: &mut [i64]) 
                 last = Some(r);
             }
             Err(f) => {
-                return Err(Stopped { by: f, before: Counts::new(RowNumber { rows: k },
-                    ByteOffset { bytes: p - from },
-                    last,) });
+                return Err(Stopped {
+                    by: f,
+                    before: Counts::new(
+                        RowNumber { rows: k },
+                        ByteOffset { bytes: p - from },
+                        last,
+                    ),
+                });
             }
             Ok(None) => {
                 return Ok(Counts::new(RowNumber { rows: k }, ByteOffset { bytes: p - from }, last));
@@ -164,13 +169,22 @@ pub fn measure_stream(input: &[u8], at: ByteOffset) -> Stream
             }
             Err(f) => {
                 let taken = place - from;
-                return Err(Stopped { by: f, before: Counts::new(RowNumber { rows: count },
-                    ByteOffset { bytes: taken },
-                    last,) });
+                return Err(Stopped {
+                    by: f,
+                    before: Counts::new(
+                        RowNumber { rows: count },
+                        ByteOffset { bytes: taken },
+                        last,
+                    ),
+                });
             }
             Ok(None) => {
                 let taken = place - from;
-                return Ok(Counts::new(RowNumber { rows: count }, ByteOffset { bytes: taken }, last));
+                return Ok(Counts::new(
+                    RowNumber { rows: count },
+                    ByteOffset { bytes: taken },
+                    last,
+                ));
             }
         }
     }

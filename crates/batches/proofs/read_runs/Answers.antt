@@ -27,7 +27,7 @@ overflow_add-k c =
     let given : (let l = c.loop-k in let a = c.args in
     RunRead a.input.now l.p a.signed (drop l.k l.out) c.read_run-a.new.out c.read_run-a.result) = let l = c.loop-k in rw (rest-is l.out l.k) at c.read_run-a.ensures in
     let there : TurnAt c.read_run-a.result = turn_is c.loop-k.invariant (given) (bytes) in
-    let ran-is : TurnAt (Ok (Some c.in-Ok-Some.r)) = subst (TurnAt) c.in-Ok-Some.is (there) in
+    let ran-is : TurnAt (Ok (Some c.in-Ok-Some.r)) = subst (TurnAt) (c.in-Ok-Some.is ∙ ap Ok (rw c.in-Ok-Some.is at c.in-Ok-Some.field-0-is)) (there) in
     omega (arith, ran-is.fits, ran-is.ran.rows_are, c.loop-k.invariant.few)
 
 pub overflow_add-p : goal.overflow_add-p
@@ -37,7 +37,7 @@ overflow_add-p c =
     let given : (let l = c.loop-k in let a = c.args in
     RunRead a.input.now l.p a.signed (drop l.k l.out) c.read_run-a.new.out c.read_run-a.result) = let l = c.loop-k in rw (rest-is l.out l.k) at c.read_run-a.ensures in
     let there : TurnAt c.read_run-a.result = turn_is c.loop-k.invariant (given) (bytes) in
-    let ran-is : TurnAt (Ok (Some c.in-Ok-Some.r)) = subst (TurnAt) c.in-Ok-Some.is (there) in
+    let ran-is : TurnAt (Ok (Some c.in-Ok-Some.r)) = subst (TurnAt) (c.in-Ok-Some.is ∙ ap Ok (rw c.in-Ok-Some.is at c.in-Ok-Some.field-0-is)) (there) in
     let o = ran-is.ran in
     omega (arith, o.bytes-are, o.stands.within)
 
@@ -48,7 +48,7 @@ loop-k-smaller c =
     let given : (let l = c.loop-k in let a = c.args in
     RunRead a.input.now l.p a.signed (drop l.k l.out) c.read_run-a.new.out c.read_run-a.result) = let l = c.loop-k in rw (rest-is l.out l.k) at c.read_run-a.ensures in
     let there : TurnAt c.read_run-a.result = turn_is c.loop-k.invariant (given) (bytes) in
-    let ran-is : TurnAt (Ok (Some c.in-Ok-Some.r)) = subst (TurnAt) c.in-Ok-Some.is (there) in
+    let ran-is : TurnAt (Ok (Some c.in-Ok-Some.r)) = subst (TurnAt) (c.in-Ok-Some.is ∙ ap Ok (rw c.in-Ok-Some.is at c.in-Ok-Some.field-0-is)) (there) in
     let o = ran-is.ran in
     omega (arith, o.bytes-are, o.stands.within, o.stands.some_bytes)
 
@@ -59,7 +59,7 @@ loop-k-preserved c =
     let TurnAt : Answer → Type 0 = let a = c.args in Turn a.input.now c.loop-k.p (length a.out.now - c.loop-k.k) in
     let bytes : AllBelow 256 c.args.input.now = below_all 256 c.args.input.now (λ i. (c.shared_slice_known-1.given i).fits) in
     let there : TurnAt c.read_run-a.result = turn_is c.loop-k.invariant (given) (bytes) in
-    let ran-is : TurnAt (Ok (Some c.in-Ok-Some.r)) = subst (TurnAt) c.in-Ok-Some.is (there) in
+    let ran-is : TurnAt (Ok (Some c.in-Ok-Some.r)) = subst (TurnAt) (c.in-Ok-Some.is ∙ ap Ok (rw c.in-Ok-Some.is at c.in-Ok-Some.field-0-is)) (there) in
     walked-run c.loop-k.invariant (given) (ran-is)
 
 pub offset_bounds-out-k-then-f-eq8 : goal.offset_bounds-out-k-then-f-eq8
@@ -162,11 +162,11 @@ returns-in-Ok-None c =
     let given : (let l = c.loop-k in let a = c.args in
     RunRead a.input.now l.p a.signed (drop l.k l.out) c.read_run-a.new.out c.read_run-a.result) = let l = c.loop-k in rw (rest-is l.out l.k) at c.read_run-a.ensures in
     let there : TurnAt c.read_run-a.result = turn_is c.loop-k.invariant (given) (bytes) in
-    let ended_is : TurnAt (Ok None) = subst (TurnAt) c.in-Ok-None.is (there) in
+    let ended_is : TurnAt (Ok None) = subst (TurnAt) (c.in-Ok-None.is ∙ ap Ok (rw c.in-Ok-None.is at c.in-Ok-None.field-0-is)) (there) in
     let back : List ℤ → List ℤ = λ part. let l = c.loop-k in take l.k l.out ++ (part ++ drop (length l.out - l.k) (drop l.k l.out)) in
     let Unchanged : Type 0 = back c.read_run-a.new.out ≡ c.loop-k.out in
     let unchanged : NoRun c.read_run-a.result → Unchanged = λ u. same-places c.loop-k.invariant (given) u in
-    let ended_same : Unchanged = unchanged (rw c.in-Ok-None.is tt) in
+    let ended_same : Unchanged = unchanged (rw (c.in-Ok-None.is ∙ ap Ok (rw c.in-Ok-None.is at c.in-Ok-None.field-0-is)) tt) in
     rw (c.up_to-in-Ok-None.ensures, ended_same) (walked_end c.loop-k.invariant (ended_is))
 
 pub returns : goal.returns
@@ -216,7 +216,7 @@ shape_of-out-in-Ok-None c =
     let back : List ℤ → List ℤ = λ part. let l = c.loop-k in take l.k l.out ++ (part ++ drop (length l.out - l.k) (drop l.k l.out)) in
     let Unchanged : Type 0 = back c.read_run-a.new.out ≡ c.loop-k.out in
     let unchanged : NoRun c.read_run-a.result → Unchanged = λ u. same-places c.loop-k.invariant (given) u in
-    let ended_same : Unchanged = unchanged (rw c.in-Ok-None.is tt) in
+    let ended_same : Unchanged = unchanged (rw (c.in-Ok-None.is ∙ ap Ok (rw c.in-Ok-None.is at c.in-Ok-None.field-0-is)) tt) in
     ap length (ended_same) ∙ c.loop-k.invariant.long
 
 pub shape_of-out : goal.shape_of-out

@@ -1,3 +1,4 @@
+use mathlib.Core.Path.{◌∙◌, ap}
 use Rattle.std.specs.Prelude.{Some, None, Ok, Err}
 use mathlib.Core.Path.{◌≡◌, refl, subst}
 use native.Mathlib.Omega.{arith}
@@ -13,7 +14,7 @@ returns-then-left-rows c =
     let StepAt : Answer → Type 0 = Step c.args.input.now c.loop-left.place in
     let there : StepAt c.measure-a.result = step c.args.input.now c.loop-left.place _
     (below_all 256 c.args.input.now (λ i. (c.shared_slice_known-1.given i).fits)) c.measure-a.ensures in
-    let ran-is : StepAt (Ok (Some c.in-Ok-Some.r)) = subst (StepAt) c.in-Ok-Some.is (there) in
+    let ran-is : StepAt (Ok (Some c.in-Ok-Some.r)) = subst (StepAt) (c.in-Ok-Some.is ∙ ap Ok (rw c.in-Ok-Some.is at c.in-Ok-Some.field-0-is)) (there) in
     let o = ran-is in
     (record { run = o.run; stands = o.stands; skips = omega (arith, o.rows_are) }, c.loop-left.invariant)
 
@@ -22,7 +23,7 @@ overflow_add-place c =
     let StepAt : Answer → Type 0 = Step c.args.input.now c.loop-left.place in
     let there : StepAt c.measure-a.result = step c.args.input.now c.loop-left.place _
     (below_all 256 c.args.input.now (λ i. (c.shared_slice_known-1.given i).fits)) c.measure-a.ensures in
-    let ran-is : StepAt (Ok (Some c.in-Ok-Some.r)) = subst (StepAt) c.in-Ok-Some.is (there) in
+    let ran-is : StepAt (Ok (Some c.in-Ok-Some.r)) = subst (StepAt) (c.in-Ok-Some.is ∙ ap Ok (rw c.in-Ok-Some.is at c.in-Ok-Some.field-0-is)) (there) in
     let o = ran-is in
     omega (arith, o.bytes-are, o.stands.within)
 
@@ -31,7 +32,7 @@ loop-left-smaller c =
     let StepAt : Answer → Type 0 = Step c.args.input.now c.loop-left.place in
     let there : StepAt c.measure-a.result = step c.args.input.now c.loop-left.place _
     (below_all 256 c.args.input.now (λ i. (c.shared_slice_known-1.given i).fits)) c.measure-a.ensures in
-    let ran-is : StepAt (Ok (Some c.in-Ok-Some.r)) = subst (StepAt) c.in-Ok-Some.is (there) in
+    let ran-is : StepAt (Ok (Some c.in-Ok-Some.r)) = subst (StepAt) (c.in-Ok-Some.is ∙ ap Ok (rw c.in-Ok-Some.is at c.in-Ok-Some.field-0-is)) (there) in
     let o = ran-is in
     omega (arith, o.rows_are, o.stands.some)
 
@@ -40,7 +41,7 @@ loop-left-preserved c =
     let StepAt : Answer → Type 0 = Step c.args.input.now c.loop-left.place in
     let there : StepAt c.measure-a.result = step c.args.input.now c.loop-left.place _
     (below_all 256 c.args.input.now (λ i. (c.shared_slice_known-1.given i).fits)) c.measure-a.ensures in
-    let ran-is : StepAt (Ok (Some c.in-Ok-Some.r)) = subst (StepAt) c.in-Ok-Some.is (there) in
+    let ran-is : StepAt (Ok (Some c.in-Ok-Some.r)) = subst (StepAt) (c.in-Ok-Some.is ∙ ap Ok (rw c.in-Ok-Some.is at c.in-Ok-Some.field-0-is)) (there) in
     passed c.loop-left.invariant (ran-is) (omega arith)
 
 pub returns-in-Err : goal.returns-in-Err
@@ -56,7 +57,7 @@ returns-in-Ok-None c =
     let StepAt : Answer → Type 0 = Step c.args.input.now c.loop-left.place in
     let there : StepAt c.measure-a.result = step c.args.input.now c.loop-left.place _
     (below_all 256 c.args.input.now (λ i. (c.shared_slice_known-1.given i).fits)) c.measure-a.ensures in
-    let ended_is : StepAt (Ok None) = subst (StepAt) c.in-Ok-None.is (there) in
+    let ended_is : StepAt (Ok None) = subst (StepAt) (c.in-Ok-None.is ∙ ap Ok (rw c.in-Ok-None.is at c.in-Ok-None.field-0-is)) (there) in
     rw c.new.ensures (no-such-row c.loop-left.invariant (ended_is) c.loop-left-test.true)
 
 -- ---- no row is left to skip

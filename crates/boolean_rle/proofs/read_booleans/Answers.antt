@@ -1,4 +1,6 @@
 -- By what the first pass finds: a cut is refused with its field, and if all runs are there, so are the booleans. Assumes nothing.
+use Rattle.std.specs.Prelude.{Some, Ok, Err}
+use mathlib.Core.Path.{ap}
 use mathlib.Core.Path.{◌≡◌, sym, ◌∙◌}
 use mathlib.Core.List.{List}
 use Prim.Native.Nat.{ℕ}
@@ -13,7 +15,7 @@ use Rattle.boolean_rle.proofs.read_booleans.Goals as goal
 pub returns-in-Cut : goal.returns-in-Cut
 returns-in-Cut c =
     let a = c.args in
-    rw (c.cut.ensures, c.later-cut.ensures)
+    rw ((ap Err c.cut.ensures), c.later-cut.ensures)
     (reads-cut a.input.now a.at.bytes a.n.rows a.out.now c.in-Cut.number c.in-Cut.field
     (sym c.span_from.ensures ∙ c.in-Cut.is))
 
@@ -23,7 +25,7 @@ returns-then-out-rows c =
     let whole : span_of (length (s)) (booleans c.args.n.rows (drop c.args.at.bytes (s)))
     ≡ span.Whole c.in-Whole.consumed = sym c.span_from.ensures ∙ c.in-Whole.is in
     let a = c.args in
-    rw c.refused.ensures
+    rw c.new.ensures
     (reads-8 a.input.now a.at.bytes a.n.rows a.out.now _ (whole) c.if-out-rows.true)
 
 pub put_booleans-requires : goal.put_booleans-requires
@@ -41,6 +43,6 @@ returns c =
     let whole : span_of (length (s)) (booleans c.args.n.rows (drop c.args.at.bytes (s)))
     ≡ span.Whole c.in-Whole.consumed = sym c.span_from.ensures ∙ c.in-Whole.is in
     let a = c.args in
-    rw c.run.ensures
+    rw c.new.ensures
     (reads_all a.input.now a.at.bytes a.n.rows a.out.now _ (whole) _ c.if-out-rows.false
     c.put_booleans.ensures)

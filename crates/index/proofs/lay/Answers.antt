@@ -1,4 +1,6 @@
 -- The run's rows are read aside, those from the row on are copied, and the runs after it are read after them. Assumes nothing.
+use mathlib.Core.Path.{◌∙◌}
+use Rattle.std.specs.Prelude.{Ok}
 use mathlib.Core.Path.{◌≡◌, ap}
 use Prim.Native.Nat.{ℕ, ◌+◌, ◌-◌}
 use mathlib.Core.List.{◌++◌}
@@ -14,14 +16,14 @@ pub overflow_sub-n : goal.overflow_sub-n
 overflow_sub-n c =
     let rows : c.in-Ok-Some.run'.rows.rows ≡ row_count c.requires.run = let a = c.args in
     rows_are a.input.now a.at.bytes a.skip.rows a.signed a.out.now c.requires _ _ _ c.scratch-held.ensures
-    c.read_run-a.ensures _ c.in-Ok-Some.is in
+    c.read_run-a.ensures _ (c.in-Ok-Some.is ∙ ap Ok (rw c.in-Ok-Some.is at c.in-Ok-Some.field-0-is)) in
     omega (arith, rows, c.requires.skips)
 
 pub copy-requires : goal.copy-requires
 copy-requires c =
     let rows : c.in-Ok-Some.run'.rows.rows ≡ row_count c.requires.run = let a = c.args in
     rows_are a.input.now a.at.bytes a.skip.rows a.signed a.out.now c.requires _ _ _ c.scratch-held.ensures
-    c.read_run-a.ensures _ c.in-Ok-Some.is in
+    c.read_run-a.ensures _ (c.in-Ok-Some.is ∙ ap Ok (rw c.in-Ok-Some.is at c.in-Ok-Some.field-0-is)) in
     let held : c.read_run-a.new.out ≡ i64_rows c.args.signed c.requires.run ++ drop (row_count c.requires.run) c.scratch-held.result = let a = c.args in
     held-is a.input.now a.at.bytes a.skip.rows a.signed a.out.now c.requires _ _ _ c.scratch-held.ensures
     c.read_run-a.ensures in
@@ -35,7 +37,7 @@ pub overflow_add-next : goal.overflow_add-next
 overflow_add-next c =
     let consumed : c.in-Ok-Some.run'.consumed.bytes ≡ length (layout c.requires.run) = let a = c.args in
     bytes-are a.input.now a.at.bytes a.skip.rows a.signed a.out.now c.requires _ _ _ c.scratch-held.ensures
-    c.read_run-a.ensures _ c.in-Ok-Some.is in
+    c.read_run-a.ensures _ (c.in-Ok-Some.is ∙ ap Ok (rw c.in-Ok-Some.is at c.in-Ok-Some.field-0-is)) in
     let a = c.args in
     omega (arith, consumed, bytes-within a.input.now a.at.bytes a.skip.rows a.signed a.out.now c.requires)
 
@@ -43,7 +45,7 @@ pub offset_bounds-out-n : goal.offset_bounds-out-n
 offset_bounds-out-n c =
     let rows : c.in-Ok-Some.run'.rows.rows ≡ row_count c.requires.run = let a = c.args in
     rows_are a.input.now a.at.bytes a.skip.rows a.signed a.out.now c.requires _ _ _ c.scratch-held.ensures
-    c.read_run-a.ensures _ c.in-Ok-Some.is in
+    c.read_run-a.ensures _ (c.in-Ok-Some.is ∙ ap Ok (rw c.in-Ok-Some.is at c.in-Ok-Some.field-0-is)) in
     let a = c.args in
     omega (arith, rows, rows-within a.input.now a.at.bytes a.skip.rows a.signed a.out.now c.requires)
 
@@ -51,7 +53,7 @@ pub slice_bounds-read_stream-count : goal.slice_bounds-read_stream-count
 slice_bounds-read_stream-count c =
     let rows : c.in-Ok-Some.run'.rows.rows ≡ row_count c.requires.run = let a = c.args in
     rows_are a.input.now a.at.bytes a.skip.rows a.signed a.out.now c.requires _ _ _ c.scratch-held.ensures
-    c.read_run-a.ensures _ c.in-Ok-Some.is in
+    c.read_run-a.ensures _ (c.in-Ok-Some.is ∙ ap Ok (rw c.in-Ok-Some.is at c.in-Ok-Some.field-0-is)) in
     let a = c.args in
     omega (
       arith,
@@ -64,7 +66,7 @@ pub slice_bounds-read_stream-start : goal.slice_bounds-read_stream-start
 slice_bounds-read_stream-start c =
     let rows : c.in-Ok-Some.run'.rows.rows ≡ row_count c.requires.run = let a = c.args in
     rows_are a.input.now a.at.bytes a.skip.rows a.signed a.out.now c.requires _ _ _ c.scratch-held.ensures
-    c.read_run-a.ensures _ c.in-Ok-Some.is in
+    c.read_run-a.ensures _ (c.in-Ok-Some.is ∙ ap Ok (rw c.in-Ok-Some.is at c.in-Ok-Some.field-0-is)) in
     let a = c.args in
     omega (
       arith,
@@ -77,10 +79,10 @@ pub returns-in-Ok-Some : goal.returns-in-Ok-Some
 returns-in-Ok-Some c =
     let rows : c.in-Ok-Some.run'.rows.rows ≡ row_count c.requires.run = let a = c.args in
     rows_are a.input.now a.at.bytes a.skip.rows a.signed a.out.now c.requires _ _ _ c.scratch-held.ensures
-    c.read_run-a.ensures _ c.in-Ok-Some.is in
+    c.read_run-a.ensures _ (c.in-Ok-Some.is ∙ ap Ok (rw c.in-Ok-Some.is at c.in-Ok-Some.field-0-is)) in
     let consumed : c.in-Ok-Some.run'.consumed.bytes ≡ length (layout c.requires.run) = let a = c.args in
     bytes-are a.input.now a.at.bytes a.skip.rows a.signed a.out.now c.requires _ _ _ c.scratch-held.ensures
-    c.read_run-a.ensures _ c.in-Ok-Some.is in
+    c.read_run-a.ensures _ (c.in-Ok-Some.is ∙ ap Ok (rw c.in-Ok-Some.is at c.in-Ok-Some.field-0-is)) in
     let held : c.read_run-a.new.out ≡ i64_rows c.args.signed c.requires.run ++ drop (row_count c.requires.run) c.scratch-held.result = let a = c.args in
     held-is a.input.now a.at.bytes a.skip.rows a.signed a.out.now c.requires _ _ _ c.scratch-held.ensures
     c.read_run-a.ensures in
@@ -104,4 +106,4 @@ returns-in-Ok-None c =
     let a = c.args in
     absurd (not-ended a.input.now a.at.bytes a.skip.rows a.signed a.out.now c.requires _ _ _
     c.scratch-held.ensures
-    c.read_run-a.ensures c.in-Ok-None.is)
+    c.read_run-a.ensures (c.in-Ok-None.is ∙ ap Ok (rw c.in-Ok-None.is at c.in-Ok-None.field-0-is)))

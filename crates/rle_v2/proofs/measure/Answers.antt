@@ -4,7 +4,7 @@ use Rattle.rle_v2.proofs.ByKind.{nothing-there, is-short, is-direct, is-patched,
 use Rattle.rle_v2.proofs.measure.Goals as goal
 
 pub returns-then-input-p : goal.returns-then-input-p
-returns-then-input-p c = let a = c.args in rw (c.end.ensures, nothing-there a.input.now a.at.bytes c.if-input-p.true)
+returns-then-input-p c = let a = c.args in rw (nothing-there a.input.now a.at.bytes c.if-input-p.true)
 
 pub returns-then-kind-eq0 : goal.returns-then-kind-eq0
 returns-then-kind-eq0 c = let a = c.args in rw (is-short a.input.now a.at.bytes c.if-input-p.false c.if-kind-eq0.true) c.measure.ensures

@@ -6,7 +6,7 @@ use Rattle.rle_v2.proofs.ByKind.{nothing-there, is-short, is-direct, is-patched,
 use Rattle.rle_v2.proofs.read_run.Goals as goal
 
 pub returns-then-input-p : goal.returns-then-input-p
-returns-then-input-p c = let a = c.args in rw c.end.ensures (gives_none a.at.bytes _ a.signed _ a.out.now (Ok None) tt (rw (nothing-there a.input.now a.at.bytes c.if-input-p.true)))
+returns-then-input-p c = let a = c.args in gives_none a.at.bytes _ a.signed _ a.out.now (Ok None) tt (rw (nothing-there a.input.now a.at.bytes c.if-input-p.true))
 
 pub returns-then-kind-eq0 : goal.returns-then-kind-eq0
 returns-then-kind-eq0 c =

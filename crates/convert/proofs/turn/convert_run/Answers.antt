@@ -1,5 +1,6 @@
 -- `turn::convert_run`: the reader finds the run at the byte (`found`); if its width is odd its rows are written again, and else its bytes are copied.
 -- Assumes nothing.
+use mathlib.Core.Path.{ap}
 use Rattle.std.specs.Prelude.{Some, Ok}
 use Rattle.format.proofs.Common.{◌≡◌, sym, ◌∙◌, ℕ, ◌<◌, arith, Bool, List, length, get_or, length-drop, ℤ, rules}
 use Rattle.format.specs.Answers.{Answer}
@@ -24,37 +25,37 @@ ran signed s p a h l g e = rw e at (says signed s p a h l g)
 pub bounds-input-p : goal.bounds-input-p
 bounds-input-p c =
     let a = c.args in
-    let o = ran a.signed a.input.now a.at.bytes c.read_run-a.result (search rules) (search rules) c.read_run-a.ensures c.in-Ok-Some.is in
+    let o = ran a.signed a.input.now a.at.bytes c.read_run-a.result (search rules) (search rules) c.read_run-a.ensures (c.in-Ok-Some.is ∙ ap Ok (rw c.in-Ok-Some.is at c.in-Ok-Some.field-0-is)) in
     omega (arith, o.at.within, o.at.some_bytes)
 
 pub rewrite-w-requires : goal.rewrite-w-requires
 rewrite-w-requires c =
     let a = c.args in
-    let o = ran a.signed a.input.now a.at.bytes c.read_run-a.result (search rules) (search rules) c.read_run-a.ensures c.in-Ok-Some.is in
+    let o = ran a.signed a.input.now a.at.bytes c.read_run-a.result (search rules) (search rules) c.read_run-a.ensures (c.in-Ok-Some.is ∙ ap Ok (rw c.in-Ok-Some.is at c.in-Ok-Some.field-0-is)) in
     omega (arith, o.at.few)
 
 pub returns-then-is_odd : goal.returns-then-is_odd
 returns-then-is_odd c =
     let a = c.args in
-    let o = ran a.signed a.input.now a.at.bytes c.read_run-a.result (search rules) (search rules) c.read_run-a.ensures c.in-Ok-Some.is in
+    let o = ran a.signed a.input.now a.at.bytes c.read_run-a.result (search rules) (search rules) c.read_run-a.ensures (c.in-Ok-Some.is ∙ ap Ok (rw c.in-Ok-Some.is at c.in-Ok-Some.field-0-is)) in
     turned-odd o c.consumed-given.ensures c.requires (sym c.is_odd.ensures ∙ c.if-is_odd.true) c.rewrite-w.ensures
 
 pub slice_bounds-copy-count : goal.slice_bounds-copy-count
 slice_bounds-copy-count c =
     let a = c.args in
-    let o = ran a.signed a.input.now a.at.bytes c.read_run-a.result (search rules) (search rules) c.read_run-a.ensures c.in-Ok-Some.is in
+    let o = ran a.signed a.input.now a.at.bytes c.read_run-a.result (search rules) (search rules) c.read_run-a.ensures (c.in-Ok-Some.is ∙ ap Ok (rw c.in-Ok-Some.is at c.in-Ok-Some.field-0-is)) in
     omega (arith, o.at.within)
 
 pub slice_bounds-copy-start : goal.slice_bounds-copy-start
 slice_bounds-copy-start c =
     let a = c.args in
-    let o = ran a.signed a.input.now a.at.bytes c.read_run-a.result (search rules) (search rules) c.read_run-a.ensures c.in-Ok-Some.is in
+    let o = ran a.signed a.input.now a.at.bytes c.read_run-a.result (search rules) (search rules) c.read_run-a.ensures (c.in-Ok-Some.is ∙ ap Ok (rw c.in-Ok-Some.is at c.in-Ok-Some.field-0-is)) in
     omega (arith, o.at.within)
 
 pub copy-requires : goal.copy-requires
 copy-requires c =
     let a = c.args in
-    let o = ran a.signed a.input.now a.at.bytes c.read_run-a.result (search rules) (search rules) c.read_run-a.ensures c.in-Ok-Some.is in
+    let o = ran a.signed a.input.now a.at.bytes c.read_run-a.result (search rules) (search rules) c.read_run-a.ensures (c.in-Ok-Some.is ∙ ap Ok (rw c.in-Ok-Some.is at c.in-Ok-Some.field-0-is)) in
     record {
       k_in_bounds = rw (rest-is a.input.now a.at.bytes, length-drop a.at.bytes a.input.now) (omega (arith, o.at.within));
       k_in_bounds_2 = omega (arith, o.at.bytes-are, byte-bounds o.at.run o.at.valid, c.requires);
@@ -63,7 +64,7 @@ copy-requires c =
 pub returns-else-is_odd : goal.returns-else-is_odd
 returns-else-is_odd c =
     let a = c.args in
-    let o = ran a.signed a.input.now a.at.bytes c.read_run-a.result (search rules) (search rules) c.read_run-a.ensures c.in-Ok-Some.is in
+    let o = ran a.signed a.input.now a.at.bytes c.read_run-a.result (search rules) (search rules) c.read_run-a.ensures (c.in-Ok-Some.is ∙ ap Ok (rw c.in-Ok-Some.is at c.in-Ok-Some.field-0-is)) in
     turned-even o a.run.now (sym c.is_odd.ensures ∙ c.if-is_odd.false) (rw (rest-is a.input.now a.at.bytes) at c.copy.ensures)
 
 pub returns-in-Err : goal.returns-in-Err
@@ -74,4 +75,4 @@ returns-in-Err c =
 pub returns-in-Ok-None : goal.returns-in-Ok-None
 returns-in-Ok-None c =
     let a = c.args in
-    rw c.in-Ok-None.is at (says a.signed a.input.now a.at.bytes c.read_run-a.result (search rules) (search rules) c.read_run-a.ensures)
+    rw (c.in-Ok-None.is ∙ ap Ok (rw c.in-Ok-None.is at c.in-Ok-None.field-0-is)) at (says a.signed a.input.now a.at.bytes c.read_run-a.result (search rules) (search rules) c.read_run-a.ensures)

@@ -1,3 +1,5 @@
+use mathlib.Core.Path.{◌∙◌, ap}
+use Rattle.std.specs.Prelude.{Ok}
 use mathlib.Core.Path.{◌≡◌}
 use native.Mathlib.Omega.{arith}
 use mathlib.Core.List.{[]}
@@ -14,7 +16,7 @@ pub offset_bounds-first-i : goal.offset_bounds-first-i
 offset_bounds-first-i c =
     let step : Step c.args.input.now c.loop-place.place c.measure-a.result = let input = c.args.input.now in
     step_is input c.loop-place.place _ (below_all 256 input (λ i. (c.shared_slice_known-1.given i).fits)) c.measure-a.ensures in
-    let ran-is : OneRun c.args.input.now c.loop-place.place c.in-Ok-Some.run' = rw c.in-Ok-Some.is at (step) in
+    let ran-is : OneRun c.args.input.now c.loop-place.place c.in-Ok-Some.run' = rw (c.in-Ok-Some.is ∙ ap Ok (rw c.in-Ok-Some.is at c.in-Ok-Some.field-0-is)) at (step) in
     let roomy : Room c.loop-place.invariant (ran-is) = has_room c.loop-place.invariant (ran-is) in
     let y = roomy in omega (arith, y.in-first₀)
 
@@ -22,7 +24,7 @@ pub bounds-first-i : goal.bounds-first-i
 bounds-first-i c =
     let step : Step c.args.input.now c.loop-place.place c.measure-a.result = let input = c.args.input.now in
     step_is input c.loop-place.place _ (below_all 256 input (λ i. (c.shared_slice_known-1.given i).fits)) c.measure-a.ensures in
-    let ran-is : OneRun c.args.input.now c.loop-place.place c.in-Ok-Some.run' = rw c.in-Ok-Some.is at (step) in
+    let ran-is : OneRun c.args.input.now c.loop-place.place c.in-Ok-Some.run' = rw (c.in-Ok-Some.is ∙ ap Ok (rw c.in-Ok-Some.is at c.in-Ok-Some.field-0-is)) at (step) in
     let roomy : Room c.loop-place.invariant (ran-is) = has_room c.loop-place.invariant (ran-is) in
     roomy.in-first
 
@@ -30,7 +32,7 @@ pub offset_bounds-at-i : goal.offset_bounds-at-i
 offset_bounds-at-i c =
     let step : Step c.args.input.now c.loop-place.place c.measure-a.result = let input = c.args.input.now in
     step_is input c.loop-place.place _ (below_all 256 input (λ i. (c.shared_slice_known-1.given i).fits)) c.measure-a.ensures in
-    let ran-is : OneRun c.args.input.now c.loop-place.place c.in-Ok-Some.run' = rw c.in-Ok-Some.is at (step) in
+    let ran-is : OneRun c.args.input.now c.loop-place.place c.in-Ok-Some.run' = rw (c.in-Ok-Some.is ∙ ap Ok (rw c.in-Ok-Some.is at c.in-Ok-Some.field-0-is)) at (step) in
     let roomy : Room c.loop-place.invariant (ran-is) = has_room c.loop-place.invariant (ran-is) in
     let y = roomy in omega (arith, y.in-at₀)
 
@@ -38,7 +40,7 @@ pub offset_bounds-counts-i : goal.offset_bounds-counts-i
 offset_bounds-counts-i c =
     let step : Step c.args.input.now c.loop-place.place c.measure-a.result = let input = c.args.input.now in
     step_is input c.loop-place.place _ (below_all 256 input (λ i. (c.shared_slice_known-1.given i).fits)) c.measure-a.ensures in
-    let ran-is : OneRun c.args.input.now c.loop-place.place c.in-Ok-Some.run' = rw c.in-Ok-Some.is at (step) in
+    let ran-is : OneRun c.args.input.now c.loop-place.place c.in-Ok-Some.run' = rw (c.in-Ok-Some.is ∙ ap Ok (rw c.in-Ok-Some.is at c.in-Ok-Some.field-0-is)) at (step) in
     let roomy : Room c.loop-place.invariant (ran-is) = has_room c.loop-place.invariant (ran-is) in
     let y = roomy in omega (arith, y.in-counts₀)
 
@@ -46,7 +48,7 @@ pub bounds-counts-i : goal.bounds-counts-i
 bounds-counts-i c =
     let step : Step c.args.input.now c.loop-place.place c.measure-a.result = let input = c.args.input.now in
     step_is input c.loop-place.place _ (below_all 256 input (λ i. (c.shared_slice_known-1.given i).fits)) c.measure-a.ensures in
-    let ran-is : OneRun c.args.input.now c.loop-place.place c.in-Ok-Some.run' = rw c.in-Ok-Some.is at (step) in
+    let ran-is : OneRun c.args.input.now c.loop-place.place c.in-Ok-Some.run' = rw (c.in-Ok-Some.is ∙ ap Ok (rw c.in-Ok-Some.is at c.in-Ok-Some.field-0-is)) at (step) in
     let roomy : Room c.loop-place.invariant (ran-is) = has_room c.loop-place.invariant (ran-is) in
     roomy.in-counts
 
@@ -54,7 +56,7 @@ pub overflow_add-row : goal.overflow_add-row
 overflow_add-row c =
     let step : Step c.args.input.now c.loop-place.place c.measure-a.result = let input = c.args.input.now in
     step_is input c.loop-place.place _ (below_all 256 input (λ i. (c.shared_slice_known-1.given i).fits)) c.measure-a.ensures in
-    let ran-is : OneRun c.args.input.now c.loop-place.place c.in-Ok-Some.run' = rw c.in-Ok-Some.is at (step) in
+    let ran-is : OneRun c.args.input.now c.loop-place.place c.in-Ok-Some.run' = rw (c.in-Ok-Some.is ∙ ap Ok (rw c.in-Ok-Some.is at c.in-Ok-Some.field-0-is)) at (step) in
     let roomy : Room c.loop-place.invariant (ran-is) = has_room c.loop-place.invariant (ran-is) in
     let y = roomy in omega (arith, y.rows-small)
 
@@ -62,14 +64,14 @@ pub overflow_add-place : goal.overflow_add-place
 overflow_add-place c =
     let step : Step c.args.input.now c.loop-place.place c.measure-a.result = let input = c.args.input.now in
     step_is input c.loop-place.place _ (below_all 256 input (λ i. (c.shared_slice_known-1.given i).fits)) c.measure-a.ensures in
-    let ran-is : OneRun c.args.input.now c.loop-place.place c.in-Ok-Some.run' = rw c.in-Ok-Some.is at (step) in
+    let ran-is : OneRun c.args.input.now c.loop-place.place c.in-Ok-Some.run' = rw (c.in-Ok-Some.is ∙ ap Ok (rw c.in-Ok-Some.is at c.in-Ok-Some.field-0-is)) at (step) in
     omega (arith, ran-is.within)
 
 pub overflow_add-i : goal.overflow_add-i
 overflow_add-i c =
     let step : Step c.args.input.now c.loop-place.place c.measure-a.result = let input = c.args.input.now in
     step_is input c.loop-place.place _ (below_all 256 input (λ i. (c.shared_slice_known-1.given i).fits)) c.measure-a.ensures in
-    let ran-is : OneRun c.args.input.now c.loop-place.place c.in-Ok-Some.run' = rw c.in-Ok-Some.is at (step) in
+    let ran-is : OneRun c.args.input.now c.loop-place.place c.in-Ok-Some.run' = rw (c.in-Ok-Some.is ∙ ap Ok (rw c.in-Ok-Some.is at c.in-Ok-Some.field-0-is)) at (step) in
     let roomy : Room c.loop-place.invariant (ran-is) = has_room c.loop-place.invariant (ran-is) in
     let y = roomy in omega (arith, y.in-first₀)
 
@@ -77,14 +79,14 @@ pub loop-place-smaller : goal.loop-place-smaller
 loop-place-smaller c =
     let step : Step c.args.input.now c.loop-place.place c.measure-a.result = let input = c.args.input.now in
     step_is input c.loop-place.place _ (below_all 256 input (λ i. (c.shared_slice_known-1.given i).fits)) c.measure-a.ensures in
-    let ran-is : OneRun c.args.input.now c.loop-place.place c.in-Ok-Some.run' = rw c.in-Ok-Some.is at (step) in
+    let ran-is : OneRun c.args.input.now c.loop-place.place c.in-Ok-Some.run' = rw (c.in-Ok-Some.is ∙ ap Ok (rw c.in-Ok-Some.is at c.in-Ok-Some.field-0-is)) at (step) in
     let o = ran-is in omega (arith, o.within, o.some_bytes)
 
 pub loop-place-preserved : goal.loop-place-preserved
 loop-place-preserved c =
     let step : Step c.args.input.now c.loop-place.place c.measure-a.result = let input = c.args.input.now in
     step_is input c.loop-place.place _ (below_all 256 input (λ i. (c.shared_slice_known-1.given i).fits)) c.measure-a.ensures in
-    let ran-is : OneRun c.args.input.now c.loop-place.place c.in-Ok-Some.run' = rw c.in-Ok-Some.is at (step) in
+    let ran-is : OneRun c.args.input.now c.loop-place.place c.in-Ok-Some.run' = rw (c.in-Ok-Some.is ∙ ap Ok (rw c.in-Ok-Some.is at c.in-Ok-Some.field-0-is)) at (step) in
     filling-run c.loop-place.invariant (ran-is)
 
 pub shape_of-first-in-Err : goal.shape_of-first-in-Err
@@ -116,7 +118,7 @@ pub returns-in-Ok-None : goal.returns-in-Ok-None
 returns-in-Ok-None c =
     let step : Step c.args.input.now c.loop-place.place c.measure-a.result = let input = c.args.input.now in
     step_is input c.loop-place.place _ (below_all 256 input (λ i. (c.shared_slice_known-1.given i).fits)) c.measure-a.ensures in
-    let z : drop c.loop-place.place c.args.input.now ≡ [] = rw c.in-Ok-None.is at (step) in
+    let z : drop c.loop-place.place c.args.input.now ≡ [] = rw (c.in-Ok-None.is ∙ ap Ok (rw c.in-Ok-None.is at c.in-Ok-None.field-0-is)) at (step) in
     filling-end c.loop-place.invariant z
 
 pub returns : goal.returns
@@ -126,7 +128,7 @@ pub bounds-at-i : goal.bounds-at-i
 bounds-at-i c =
     let step : Step c.args.input.now c.loop-place.place c.measure-a.result = let input = c.args.input.now in
     step_is input c.loop-place.place _ (below_all 256 input (λ i. (c.shared_slice_known-1.given i).fits)) c.measure-a.ensures in
-    let ran-is : OneRun c.args.input.now c.loop-place.place c.in-Ok-Some.run' = rw c.in-Ok-Some.is at (step) in
+    let ran-is : OneRun c.args.input.now c.loop-place.place c.in-Ok-Some.run' = rw (c.in-Ok-Some.is ∙ ap Ok (rw c.in-Ok-Some.is at c.in-Ok-Some.field-0-is)) at (step) in
     let roomy : Room c.loop-place.invariant (ran-is) = has_room c.loop-place.invariant (ran-is) in
     roomy.in-at
 

@@ -1,10 +1,12 @@
 -- One answer of three is a run. Assumes nothing.
+use mathlib.Core.Path.{◌∙◌, ap}
+use Rattle.std.specs.Prelude.{Ok}
 use Rattle.parts.specs.Steps.{is_whole}
 use Rattle.parts.proofs.steps.is_whole.Goals as goal
 
 pub returns-in-Ok-Some : goal.returns-in-Ok-Some
 unfolding is_whole
-returns-in-Ok-Some c = rw c.in-Ok-Some.is
+returns-in-Ok-Some c = rw (c.in-Ok-Some.is ∙ ap Ok (rw c.in-Ok-Some.is at c.in-Ok-Some.field-0-is))
 
 pub returns-in-Err : goal.returns-in-Err
 unfolding is_whole
@@ -12,4 +14,4 @@ returns-in-Err c = rw c.in-Err.is
 
 pub returns-in-Ok-None : goal.returns-in-Ok-None
 unfolding is_whole
-returns-in-Ok-None c = rw c.in-Ok-None.is
+returns-in-Ok-None c = rw (c.in-Ok-None.is ∙ ap Ok (rw c.in-Ok-None.is at c.in-Ok-None.field-0-is))

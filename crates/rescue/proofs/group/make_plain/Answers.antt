@@ -16,7 +16,7 @@ returns-then-left-rows c =
     let StepAt : Answer → Type 0 = Step c.args.input.now c.loop-left.place in
     let bytes : AllBelow 256 c.args.input.now = below_all 256 c.args.input.now (λ i. (c.shared_slice_known-1.given i).fits) in
     let there : StepAt c.measure-a.result = step c.args.input.now c.loop-left.place _ (bytes) c.measure-a.ensures in
-    let ran-is : StepAt (Ok (Some c.in-Ok-Some.r)) = subst (StepAt) c.in-Ok-Some.is (there) in
+    let ran-is : StepAt (Ok (Some c.in-Ok-Some.r)) = subst (StepAt) (c.in-Ok-Some.is ∙ ap Ok (rw c.in-Ok-Some.is at c.in-Ok-Some.field-0-is)) (there) in
     let l = c.loop-left in
     let o = ran-is in
     rw c.row_position.ensures
@@ -27,7 +27,7 @@ overflow_add-place c =
     let StepAt : Answer → Type 0 = Step c.args.input.now c.loop-left.place in
     let bytes : AllBelow 256 c.args.input.now = below_all 256 c.args.input.now (λ i. (c.shared_slice_known-1.given i).fits) in
     let there : StepAt c.measure-a.result = step c.args.input.now c.loop-left.place _ (bytes) c.measure-a.ensures in
-    let ran-is : StepAt (Ok (Some c.in-Ok-Some.r)) = subst (StepAt) c.in-Ok-Some.is (there) in
+    let ran-is : StepAt (Ok (Some c.in-Ok-Some.r)) = subst (StepAt) (c.in-Ok-Some.is ∙ ap Ok (rw c.in-Ok-Some.is at c.in-Ok-Some.field-0-is)) (there) in
     let o = ran-is in
     omega (arith, o.bytes-are, o.stands.within)
 
@@ -36,7 +36,7 @@ loop-left-smaller c =
     let StepAt : Answer → Type 0 = Step c.args.input.now c.loop-left.place in
     let bytes : AllBelow 256 c.args.input.now = below_all 256 c.args.input.now (λ i. (c.shared_slice_known-1.given i).fits) in
     let there : StepAt c.measure-a.result = step c.args.input.now c.loop-left.place _ (bytes) c.measure-a.ensures in
-    let ran-is : StepAt (Ok (Some c.in-Ok-Some.r)) = subst (StepAt) c.in-Ok-Some.is (there) in
+    let ran-is : StepAt (Ok (Some c.in-Ok-Some.r)) = subst (StepAt) (c.in-Ok-Some.is ∙ ap Ok (rw c.in-Ok-Some.is at c.in-Ok-Some.field-0-is)) (there) in
     let o = ran-is in
     omega (arith, o.rows_are, o.stands.some)
 
@@ -45,7 +45,7 @@ loop-left-preserved c =
     let StepAt : Answer → Type 0 = Step c.args.input.now c.loop-left.place in
     let bytes : AllBelow 256 c.args.input.now = below_all 256 c.args.input.now (λ i. (c.shared_slice_known-1.given i).fits) in
     let there : StepAt c.measure-a.result = step c.args.input.now c.loop-left.place _ (bytes) c.measure-a.ensures in
-    let ran-is : StepAt (Ok (Some c.in-Ok-Some.r)) = subst (StepAt) c.in-Ok-Some.is (there) in
+    let ran-is : StepAt (Ok (Some c.in-Ok-Some.r)) = subst (StepAt) (c.in-Ok-Some.is ∙ ap Ok (rw c.in-Ok-Some.is at c.in-Ok-Some.field-0-is)) (there) in
     let l = c.loop-left in
     l.invariant ∙ plain-passed _ l.place l.left _ (ran-is) (omega arith)
 
@@ -63,7 +63,7 @@ returns-in-Ok-None c =
     let StepAt : Answer → Type 0 = Step c.args.input.now c.loop-left.place in
     let bytes : AllBelow 256 c.args.input.now = below_all 256 c.args.input.now (λ i. (c.shared_slice_known-1.given i).fits) in
     let there : StepAt c.measure-a.result = step c.args.input.now c.loop-left.place _ (bytes) c.measure-a.ensures in
-    let ended_is : StepAt (Ok None) = subst (StepAt) c.in-Ok-None.is (there) in
+    let ended_is : StepAt (Ok None) = subst (StepAt) (c.in-Ok-None.is ∙ ap Ok (rw c.in-Ok-None.is at c.in-Ok-None.field-0-is)) (there) in
     let l = c.loop-left in
     sym (ap plain_in (l.invariant ∙ plain-none _ l.place l.left (ap runs_of (ended_is)) (omega arith)))
 

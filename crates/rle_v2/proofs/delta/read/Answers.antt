@@ -1,4 +1,6 @@
 -- The delta reader meets its contract: what the tests found is laid down where there is room. Assumes nothing.
+use Rattle.std.specs.Prelude.{Some, Ok, Err}
+use mathlib.Core.Path.{ap}
 use native.Mathlib.Omega.{arith}
 use Rattle.rle_v2.specs.DeltaStart.{Passed}
 use Rattle.rle_v2.proofs.RefusedBy.{refused_none}
@@ -15,7 +17,7 @@ pub returns-then-out-rows : goal.returns-then-out-rows
 returns-then-out-rows c =
     let passed : (let a = c.args in Passed a.input.now a.at.bytes (run a.input.now a.at.bytes) c.measured-f.result) = c.measured-f.ensures.passed c.if-f-ne0.false in
     let a = c.args in
-    rw c.refused.ensures (passed-8 a.input.now a.at.bytes _ _ (passed) a.signed a.out.now c.if-out-rows.true)
+    rw c.new.ensures (passed-8 a.input.now a.at.bytes _ _ (passed) a.signed a.out.now c.if-out-rows.true)
 
 pub lay-requires : goal.lay-requires
 lay-requires c =
@@ -31,4 +33,4 @@ pub returns : goal.returns
 returns c =
     let passed : (let a = c.args in Passed a.input.now a.at.bytes (run a.input.now a.at.bytes) c.measured-f.result) = c.measured-f.ensures.passed c.if-f-ne0.false in
     let a = c.args in
-    rw c.run.ensures (passed-read a.input.now a.at.bytes _ _ (passed) a.signed a.out.now _ c.if-out-rows.false c.lay.ensures)
+    rw c.new-2.ensures (passed-read a.input.now a.at.bytes _ _ (passed) a.signed a.out.now _ c.if-out-rows.false c.lay.ensures)

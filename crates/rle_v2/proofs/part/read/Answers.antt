@@ -1,5 +1,6 @@
 -- Each answer is that of the law for the tests that led there; the fields that are laid are decoded into the run's rows. Assumes nothing.
-use Rattle.std.specs.Prelude.{Some, Ok}
+use mathlib.Core.Path.{ap}
+use Rattle.std.specs.Prelude.{None, Some, Ok}
 use Prim.Native.Nat.{◌+◌, ◌-◌}
 use mathlib.Core.Path.{◌≡◌, sym, ◌∙◌}
 use native.Mathlib.Omega.{arith}
@@ -28,44 +29,44 @@ returns-then-input-p-ne1 c =
 pub returns-then-count-skip : goal.returns-then-count-skip
 returns-then-count-skip c =
     let named : (let a = c.args in
-    Ok (Some c.in-Run.r) ≡ answer_of a.at.bytes (length a.input.now - a.at.bytes) (run a.input.now a.at.bytes)) = sym c.in-Run.is ∙ c.measure.ensures in
-    let measured-is : (let a = c.args in Measured a.input.now a.at.bytes c.in-Run.r) = measured c.args.input.now c.args.at.bytes _ c.if-input-p.false (named) in
+    Ok (Some c.in-Ok-Some.r) ≡ answer_of a.at.bytes (length a.input.now - a.at.bytes) (run a.input.now a.at.bytes)) = sym (c.in-Ok-Some.is ∙ ap Ok c.in-Ok-Some.field-0-is) ∙ c.measure.ensures in
+    let measured-is : (let a = c.args in Measured a.input.now a.at.bytes c.in-Ok-Some.r) = measured c.args.input.now c.args.at.bytes _ c.if-input-p.false (named) in
     let a = c.args in
     rw (is-direct a.input.now a.at.bytes c.if-input-p.false c.if-input-p-ne1.false)
     (part_none a.input.now a.at.bytes a.skip.rows a.signed a.out.now _ (named) (measured-is) (omega (arith, c.if-count-skip.true)))
 
-pub returns-in-Refused : goal.returns-in-Refused
-returns-in-Refused c =
+pub returns-in-Err : goal.returns-in-Err
+returns-in-Err c =
     let a = c.args in
     rw (is-direct a.input.now a.at.bytes c.if-input-p.false c.if-input-p-ne1.false)
-    (none_named a.skip.rows a.signed a.out.now a.at.bytes _ _ _ (rw c.in-Refused.is tt) c.measure.ensures)
+    (none_named a.skip.rows a.signed a.out.now a.at.bytes _ _ _ (rw c.in-Err.is tt) c.measure.ensures)
 
-pub returns-in-End : goal.returns-in-End
-returns-in-End c =
+pub returns-in-Ok-None : goal.returns-in-Ok-None
+returns-in-Ok-None c =
     let a = c.args in
     rw (is-direct a.input.now a.at.bytes c.if-input-p.false c.if-input-p-ne1.false)
-    (none_named a.skip.rows a.signed a.out.now a.at.bytes _ _ _ (rw c.in-End.is tt) c.measure.ensures)
+    (none_named a.skip.rows a.signed a.out.now a.at.bytes _ _ (Ok None) tt (rw (c.in-Ok-None.is ∙ ap Ok c.in-Ok-None.field-0-is) at c.measure.ensures))
 
 -- ---- rows
 pub slice_bounds-lay-count : goal.slice_bounds-lay-count
 slice_bounds-lay-count c =
     let named : (let a = c.args in
-    Ok (Some c.in-Run.r) ≡ answer_of a.at.bytes (length a.input.now - a.at.bytes) (run a.input.now a.at.bytes)) = sym c.in-Run.is ∙ c.measure.ensures in
-    let measured-is : (let a = c.args in Measured a.input.now a.at.bytes c.in-Run.r) = measured c.args.input.now c.args.at.bytes _ c.if-input-p.false (named) in
+    Ok (Some c.in-Ok-Some.r) ≡ answer_of a.at.bytes (length a.input.now - a.at.bytes) (run a.input.now a.at.bytes)) = sym (c.in-Ok-Some.is ∙ ap Ok c.in-Ok-Some.field-0-is) ∙ c.measure.ensures in
+    let measured-is : (let a = c.args in Measured a.input.now a.at.bytes c.in-Ok-Some.r) = measured c.args.input.now c.args.at.bytes _ c.if-input-p.false (named) in
     let m = measured-is in omega (arith, m.head)
 
 pub slice_bounds-lay-start : goal.slice_bounds-lay-start
 slice_bounds-lay-start c =
     let named : (let a = c.args in
-    Ok (Some c.in-Run.r) ≡ answer_of a.at.bytes (length a.input.now - a.at.bytes) (run a.input.now a.at.bytes)) = sym c.in-Run.is ∙ c.measure.ensures in
-    let measured-is : (let a = c.args in Measured a.input.now a.at.bytes c.in-Run.r) = measured c.args.input.now c.args.at.bytes _ c.if-input-p.false (named) in
+    Ok (Some c.in-Ok-Some.r) ≡ answer_of a.at.bytes (length a.input.now - a.at.bytes) (run a.input.now a.at.bytes)) = sym (c.in-Ok-Some.is ∙ ap Ok c.in-Ok-Some.field-0-is) ∙ c.measure.ensures in
+    let measured-is : (let a = c.args in Measured a.input.now a.at.bytes c.in-Ok-Some.r) = measured c.args.input.now c.args.at.bytes _ c.if-input-p.false (named) in
     let m = measured-is in omega (arith, m.head)
 
 pub lay-requires : goal.lay-requires
 lay-requires c =
     let named : (let a = c.args in
-    Ok (Some c.in-Run.r) ≡ answer_of a.at.bytes (length a.input.now - a.at.bytes) (run a.input.now a.at.bytes)) = sym c.in-Run.is ∙ c.measure.ensures in
-    let measured-is : (let a = c.args in Measured a.input.now a.at.bytes c.in-Run.r) = measured c.args.input.now c.args.at.bytes _ c.if-input-p.false (named) in
+    Ok (Some c.in-Ok-Some.r) ≡ answer_of a.at.bytes (length a.input.now - a.at.bytes) (run a.input.now a.at.bytes)) = sym (c.in-Ok-Some.is ∙ ap Ok c.in-Ok-Some.field-0-is) ∙ c.measure.ensures in
+    let measured-is : (let a = c.args in Measured a.input.now a.at.bytes c.in-Ok-Some.r) = measured c.args.input.now c.args.at.bytes _ c.if-input-p.false (named) in
     let a = c.args in
     let m = measured-is in
     let s = a.input.now in
@@ -80,8 +81,8 @@ lay-requires c =
 pub returns-else-count-skip : goal.returns-else-count-skip
 returns-else-count-skip c =
     let named : (let a = c.args in
-    Ok (Some c.in-Run.r) ≡ answer_of a.at.bytes (length a.input.now - a.at.bytes) (run a.input.now a.at.bytes)) = sym c.in-Run.is ∙ c.measure.ensures in
-    let measured-is : (let a = c.args in Measured a.input.now a.at.bytes c.in-Run.r) = measured c.args.input.now c.args.at.bytes _ c.if-input-p.false (named) in
+    Ok (Some c.in-Ok-Some.r) ≡ answer_of a.at.bytes (length a.input.now - a.at.bytes) (run a.input.now a.at.bytes)) = sym (c.in-Ok-Some.is ∙ ap Ok c.in-Ok-Some.field-0-is) ∙ c.measure.ensures in
+    let measured-is : (let a = c.args in Measured a.input.now a.at.bytes c.in-Ok-Some.r) = measured c.args.input.now c.args.at.bytes _ c.if-input-p.false (named) in
     let a = c.args in
     let s = a.input.now in
     rw (is-direct s a.at.bytes c.if-input-p.false c.if-input-p-ne1.false)

@@ -1,4 +1,6 @@
 -- The answer names what was found, where the list passes. Assumes nothing.
+use Rattle.std.specs.Prelude.{Some, Ok, Err}
+use mathlib.Core.Path.{ap}
 use native.Mathlib.Omega.{arith}
 use Prim.Native.Nat.{◌≤◌}
 use mathlib.Core.Path.{◌≡◌, sym, ◌∙◌}
@@ -25,7 +27,7 @@ returns-then-number-ne0 c =
     let heads : (let a = c.args in Heads a.input.now a.at.bytes (run a.input.now a.at.bytes) c.headed-f.result) = c.headed-f.ensures.heads c.if-f-ne0.false in
     let number_is : c.refused_with-number.result ≡ number_of c.args.input.now c.headed-f.result = rw (rest-is c.args.input.now c.headed-f.result.list.bytes) at c.refused_with-number.ensures in
     let a = c.args in
-    rw (c.refused.ensures, number_is) (found-3-7 a.input.now a.at.bytes _ _ (heads) (λ z. c.if-number-ne0.true (number_is ∙ z)))
+    rw (c.new.ensures, number_is) (found-3-7 a.input.now a.at.bytes _ _ (heads) (λ z. c.if-number-ne0.true (number_is ∙ z)))
 
 pub overflow_sub-consumed : goal.overflow_sub-consumed
 overflow_sub-consumed c =
@@ -37,7 +39,7 @@ returns c =
     let heads : (let a = c.args in Heads a.input.now a.at.bytes (run a.input.now a.at.bytes) c.headed-f.result) = c.headed-f.ensures.heads c.if-f-ne0.false in
     let number_is : c.refused_with-number.result ≡ number_of c.args.input.now c.headed-f.result = rw (rest-is c.args.input.now c.headed-f.result.list.bytes) at c.refused_with-number.ensures in
     let a = c.args in
-    c.run.ensures ∙ passed-answer a.input.now a.at.bytes _ _ _ _ (passes a.input.now a.at.bytes _ _ (heads) (sym (number_is) ∙ c.if-number-ne0.false))
+    ap (λ r. Ok (Some r)) c.new-2.ensures ∙ passed-answer a.input.now a.at.bytes _ _ _ _ (passes a.input.now a.at.bytes _ _ (heads) (sym (number_is) ∙ c.if-number-ne0.false))
 
 pub slice_bounds-refused_with-count : goal.slice_bounds-refused_with-count
 slice_bounds-refused_with-count c =

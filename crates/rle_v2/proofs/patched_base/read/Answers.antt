@@ -1,4 +1,6 @@
 -- The patched base reader meets its contract: what was found is laid down where its list passes and there is room. Assumes nothing.
+use Rattle.std.specs.Prelude.{Some, Ok}
+use mathlib.Core.Path.{ap}
 use Rattle.std.specs.Prelude.{Err}
 use native.Mathlib.Omega.{arith}
 use Prim.Native.Nat.{◌≤◌}
@@ -31,7 +33,7 @@ returns-then-refusal-ne0 c =
     let heads : (let a = c.args in Heads a.input.now a.at.bytes (run a.input.now a.at.bytes) c.headed-f.result) = c.headed-f.ensures.heads c.if-f-ne0.false in
     let number_is : c.refused_with-refusal.result ≡ number_of c.args.input.now c.headed-f.result = rw (rest-is c.args.input.now c.headed-f.result.list.bytes) at c.refused_with-refusal.ensures in
     let a = c.args in
-    rw c.refused.ensures
+    rw c.new.ensures
     (gives_none a.at.bytes _ a.signed (run a.input.now a.at.bytes) a.out.now (Err _) tt
     (rw (number_is) (found-3-7 a.input.now a.at.bytes _ _ (heads) (λ z. c.if-refusal-ne0.true (number_is ∙ z)))))
 
@@ -43,7 +45,7 @@ returns-then-out-rows c =
     Passed a.input.now a.at.bytes (run a.input.now a.at.bytes) (head_of heads.code heads.patch heads.gap f) (widths_of f) (parts_of f)) = let a = c.args in
     passes a.input.now a.at.bytes _ _ (heads) (sym (number_is) ∙ c.if-refusal-ne0.false) in
     let a = c.args in
-    rw c.refused-then-out-rows.ensures (passed-8 a.input.now a.at.bytes _ _ _ _ (passed) a.signed a.out.now c.if-out-rows.true)
+    rw c.new-then-out-rows.ensures (passed-8 a.input.now a.at.bytes _ _ _ _ (passed) a.signed a.out.now c.if-out-rows.true)
 
 pub put-requires : goal.put-requires
 put-requires c =
@@ -65,7 +67,7 @@ returns c =
     Passed a.input.now a.at.bytes (run a.input.now a.at.bytes) (head_of heads.code heads.patch heads.gap f) (widths_of f) (parts_of f)) = let a = c.args in
     passes a.input.now a.at.bytes _ _ (heads) (sym (number_is) ∙ c.if-refusal-ne0.false) in
     let a = c.args in
-    rw c.run.ensures
+    rw c.new-2.ensures
     (passed-read a.input.now a.at.bytes _ _ _ _ (passed) a.signed a.out.now _ _ c.if-out-rows.false refl c.put.ensures)
 
 pub slice_bounds-refused_with-count : goal.slice_bounds-refused_with-count

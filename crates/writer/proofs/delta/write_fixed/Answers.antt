@@ -1,4 +1,5 @@
 -- The size says if there is a run and if it has room; the header and two varints are then all of it. Assumes nothing.
+use Rattle.std.specs.Prelude.{Some, Ok}
 use Rattle.format.proofs.Common.{◌≡◌, ap, ◌∙◌, List, map, ℕ, ◌+◌, ◌≤◌, arith, length}
 use Rattle.format.specs.Fields.{zigzagged, shortest}
 use Rattle.format.specs.Rows.{as_u64}
@@ -30,8 +31,8 @@ pub returns : goal.returns
 returns c =
     let known : Fixed c.args.rows.now c.args.signed c.args.code = fixed-known c.args.rows.now c.args.signed c.args.code (omega arith) (omega arith) (omega arith) in
     let a = c.args in
-    opened (known) c.size_fixed-bytes.ensures (omega arith) a.out.now c.write_start.new.out c.run.result
-    c.if-out-size.false c.run.ensures
+    opened (known) c.size_fixed-bytes.ensures (omega arith) a.out.now c.write_start.new.out (Ok (Some c.new.result))
+    c.if-out-size.false (ap (λ r. Ok (Some r)) c.new.ensures)
     (started 0 (length a.rows.now) c.first_of-first.ensures c.base_of-base.ensures c.write_start.ensures).places
 
 pub returns-then-size-eq0 : goal.returns-then-size-eq0

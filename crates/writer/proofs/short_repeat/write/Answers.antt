@@ -1,4 +1,5 @@
 -- No size is refused by the test that failed; otherwise the header byte and the value are all of the run. Assumes nothing.
+use Rattle.std.specs.Prelude.{Some, Ok}
 use Rattle.format.proofs.Common.{◌≡◌, ap, ◌∙◌, map, ℕ, ◌+◌, ◌≤◌, arith}
 use Rattle.format.specs.Rows.{as_u64}
 use Rattle.format.specs.Writing
@@ -18,8 +19,8 @@ returns c =
     let a = c.args in
     let v : c.stored-value.result ≡ first_of a.signed (map as_u64 a.rows.now) =
     c.stored-value.ensures ∙ ap (λ (x : ℕ). Writing.stored a.signed x) c.pattern_of.ensures in
-    repeated (known) c.size-bytes.ensures (omega arith) a.out.now c.write_head.new.out c.write.new.out c.run.result c.if-out-total.false
-    c.run.ensures c.write_head.ensures (rw v at c.write.ensures)
+    repeated (known) c.size-bytes.ensures (omega arith) a.out.now c.write_head.new.out c.write.new.out (Ok (Some c.new.result)) c.if-out-total.false
+    (ap (λ r. Ok (Some r)) c.new.ensures) c.write_head.ensures (rw v at c.write.ensures)
 
 pub returns-then-total-eq0 : goal.returns-then-total-eq0
 returns-then-total-eq0 c =
