@@ -1,7 +1,6 @@
 -- Answers as words, and words lent: what each word of an answer says, and what a call leaves in the words that it is lent (FORMAT.md, "Exported functions").
 -- Assumes nothing.
 use Rattle.std.specs.Prelude.{◌≡◌, ℕ, ◌-◌, List, [], ◌∷◌, ◌++◌, length, drop, leb, Some, None, Ok, Err}
-use Rattle.format.specs.declared.Stream as stream
 use Rattle.format.specs.Fields.{pick, two64}
 use Rattle.format.specs.Answers.{CutField, LastRun, Answer, Stream, kind_number, answer_number, answer_place, answer_cut, answer_width, answer_rows, answer_bytes, stream_number, stream_place, stream_cut, stream_rows, stream_bytes, stream_last}
 
@@ -51,13 +50,12 @@ answer_words a =
 
 -- a stream is whole, or a run of it is refused: in both cases with the counts of the runs that were read, and the last of them
 abbrev pub stream_case : Stream → ℕ
-stream_case (stream.TheVariants.Whole n) = 1
-stream_case (stream.TheVariants.Refused f n) = 2
+stream_case (Ok n) = 1
+stream_case (Err s) = 2
 
 -- the last run, as the answer that it would have by itself; end where no run was read
 abbrev pub last_answer : LastRun → Answer
-last_answer None = Ok None
-last_answer (Some r) = Ok (Some r)
+last_answer last = Ok last
 
 unfoldable pub stream_words : Stream → List ℕ
 stream_words s =

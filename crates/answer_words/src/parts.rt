@@ -4,7 +4,9 @@ ghost use Rattle.answer_words.specs.Words.{Put, Told};
 ghost use Rattle.answer_words.specs.Parts.{repeated, standing_case, standing_of, cut_of, state_words, state_word_count, refusal_of, reader_of, plain_answer, part_case, part_start, part_number, part_words, part_word_count, PartPut, StepTold};
 
 use crate::{TOO_FEW, cut_byte, cut_case, kind};
-use format::{Answer, ByteOffset, PartAnswer, PartReader, PartStep, Refusal, RowNumber, Run, Standing};
+use format::{
+    Answer, ByteOffset, PartAnswer, PartReader, PartStep, Refusal, RowNumber, Run, Standing, answer,
+};
 
 // How many words a state has, and a call's answer.
 pub const STATE_COUNT: usize = 7;
@@ -70,10 +72,7 @@ fn reader_in(state: &[u64]) -> PartReader
 fn word(state: &[u64], i: usize) -> u64
     ensures { result ≡ get_or state.now i 0 }
 {
-    if i < state.len() {
-        return state[i];
-    }
-    0
+    state.get(i).copied().unwrap_or(0)
 }
 
 // The reader that the words stand for; a word that is missing stands for 0.
@@ -124,10 +123,10 @@ fn store_reader(reader: PartReader, state: &mut [u64]) -> u64
     state[0] = standing_case(standing);
     state[1] = reader.held as u64;
     state[2] = reader.at.bytes as u64;
-    state[3] = again.number() as u64;
-    state[4] = again.place().bytes as u64;
-    state[5] = cut_case(again.cut_field());
-    state[6] = cut_byte(again.cut_field()).bytes as u64;
+    state[3] = answer::number(again) as u64;
+    state[4] = answer::place(again).bytes as u64;
+    state[5] = cut_case(answer::cut_field(again));
+    state[6] = cut_byte(answer::cut_field(again)).bytes as u64;
     0
 }
 
@@ -188,17 +187,17 @@ fn store_part(step: PartStep, words: &mut [u64]) -> u64
     let said = step.answer;
     let a = plain(said);
     words[0] = case(said);
-    words[1] = a.number() as u64;
-    words[2] = a.place().bytes as u64;
+    words[1] = answer::number(a) as u64;
+    words[2] = answer::place(a).bytes as u64;
     words[3] = kind(a) as u64;
-    words[4] = a.rows().rows as u64;
-    words[5] = a.consumed().bytes as u64;
-    words[6] = cut_case(a.cut_field());
-    words[7] = cut_byte(a.cut_field()).bytes as u64;
-    words[8] = a.width() as u64;
+    words[4] = answer::rows(a).rows as u64;
+    words[5] = answer::consumed(a).bytes as u64;
+    words[6] = cut_case(answer::cut_field(a));
+    words[7] = cut_byte(answer::cut_field(a)).bytes as u64;
+    words[8] = answer::width(a) as u64;
     words[9] = start(said).bytes as u64;
     words[10] = step.taken.bytes as u64;
-    a.number() as u64
+    answer::number(a) as u64
 }
 
 fn store_step(step: PartStep, state: &mut [u64], words: &mut [u64]) -> u64

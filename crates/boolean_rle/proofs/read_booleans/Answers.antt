@@ -15,7 +15,7 @@ use Rattle.boolean_rle.proofs.read_booleans.Goals as goal
 pub returns-in-Cut : goal.returns-in-Cut
 returns-in-Cut c =
     let a = c.args in
-    rw ((ap Err c.cut.ensures), c.later-cut.ensures)
+    rw (c.cut.ensures, c.later-cut.ensures)
     (reads-cut a.input.now a.at.bytes a.n.rows a.out.now c.in-Cut.number c.in-Cut.field
     (sym c.span_from.ensures ∙ c.in-Cut.is))
 
@@ -43,6 +43,6 @@ returns c =
     let whole : span_of (length (s)) (booleans c.args.n.rows (drop c.args.at.bytes (s)))
     ≡ span.Whole c.in-Whole.consumed = sym c.span_from.ensures ∙ c.in-Whole.is in
     let a = c.args in
-    rw c.new.ensures
+    rw c.new-2.ensures
     (reads_all a.input.now a.at.bytes a.n.rows a.out.now _ (whole) _ c.if-out-rows.false
     c.put_booleans.ensures)
