@@ -4,7 +4,7 @@ ghost use Rattle.format.specs.Kept.{next_kept};
 ghost use Rattle.format.specs.Writing.{Written};
 ghost use Rattle.convert.specs.Turn.{odd_first, form_first, StepIs};
 
-use format::{Answer, ByteOffset, Form, Kind, Refusal, RowNumber};
+use format::{Answer, ByteOffset, Form, Kind, Refusal, RowNumber, answer};
 use util::{bytes, width};
 
 // A run: the bytes that it takes up, those of the run that it is converted to, and whether its width is odd.
@@ -83,7 +83,7 @@ pub(crate) fn convert_run(input: &[u8], at: ByteOffset, signed: bool, run: &mut 
             let first = input[p];
             if is_odd(first) {
                 let w = rewrite(first, &rows, count, signed, run);
-                let given = w.consumed();
+                let given = answer::consumed(w);
                 return Step::Run(Turn {
                     taken,
                     given,

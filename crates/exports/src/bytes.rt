@@ -5,7 +5,7 @@ ghost use Rattle.format.specs.Rows.{as_i64};
 ghost use Rattle.format.specs.Digits.{lowest_first};
 ghost use Rattle.exports.specs.RowBytes.{row_bytes, LoadedAs};
 
-use format::{ByteOffset, Kind, RowNumber};
+use format::{ByteOffset, Kind, RowNumber, answer};
 use util::{big_endian, number, pattern};
 
 // The eight bytes of x at a place, lowest first: the eight stores become one.
@@ -65,10 +65,10 @@ pub(crate) fn read_repeat(input: &[u8], signed: bool, out: &mut [u8]) -> u64
             }
             let x = pattern::row(signed, big_endian::read(input, 1, r.width / 8));
             put_repeat(x, count, out);
-            measured.packed()
+            answer::packed(measured)
         }
-        Err(_) => measured.packed(),
-        Ok(None) => measured.packed(),
+        Err(_) => answer::packed(measured),
+        Ok(None) => answer::packed(measured),
     }
 }
 
@@ -79,8 +79,8 @@ pub(crate) fn read_by(input: &[u8], signed: bool, rows: &mut [i64], out: &mut [u
 {
     let places = number::least(out.len() / 8, rows.len());
     let answer = rle_v2::read_run(input, ByteOffset::new(0), signed, &mut rows[..places]);
-    put_rows(rows, answer.rows(), out);
-    answer.packed()
+    put_rows(rows, answer::rows(answer), out);
+    answer::packed(answer)
 }
 
 // Places for the rows of a short run, and of any. What stands in them is of no account.

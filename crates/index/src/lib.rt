@@ -232,7 +232,7 @@ fn lay(input: &[u8], at: ByteOffset, skip: RowNumber, signed: bool, out: &mut [i
             let next = ByteOffset {
                 bytes: at.bytes + consumed.bytes,
             };
-            rle_v2::read_stream(input, next, signed, &mut out[n..]);
+            let _ = rle_v2::read_stream(input, next, signed, &mut out[n..]);
         }
         // neither is: the stream is whole
         Err(_) => {}

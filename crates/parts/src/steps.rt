@@ -181,8 +181,8 @@ pub(crate) fn is_whole(a: Answer) -> bool
 {
     match a {
         Ok(Some(_)) => true,
-        Err(_) => false,
         Ok(None) => false,
+        Err(_) => false,
     }
 }
 

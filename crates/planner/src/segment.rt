@@ -4,7 +4,7 @@ ghost use Rattle.writer.specs.Sizes.{size_in};
 ghost use Rattle.planner.specs.Check.{proposal, any_run, write_in};
 ghost use Rattle.planner.specs.Walk.{form_of, segment_at, in_place, step_in, Ran};
 
-use format::{ByteOffset, Form, RowNumber};
+use format::{ByteOffset, Form, RowNumber, answer};
 use util::pattern;
 
 // As it is proposed: any five numbers.
@@ -71,10 +71,10 @@ fn write(part: &[i64], signed: bool, s: Segment, out: &mut [u8]) -> ByteOffset
     if s.form == 4 {
         let base = pattern::to_i64(s.base);
         let a = writer::write_patched(part, base, width, out);
-        return a.consumed();
+        return answer::consumed(a);
     }
     let a = writer::write_run(part, signed, form_of(s.form), width, out);
-    a.consumed()
+    answer::consumed(a)
 }
 
 // The bytes of that run, where there is room for any: nothing is written, but for a patched run, into the place that is lent for it.

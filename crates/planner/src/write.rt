@@ -8,7 +8,7 @@ ghost use Rattle.planner.specs.Check.{proposal, accepted, segments};
 ghost use Rattle.planner.specs.Walk.{Ran, ColumnLaid, WideLaid};
 
 use crate::{Columned, segment};
-use format::{ByteOffset, Form, Kind, RowNumber};
+use format::{ByteOffset, Form, Kind, RowNumber, answer};
 
 // The width code of 64 bits.
 pub(crate) const WIDEST: u8 = 31;
@@ -102,7 +102,7 @@ fn wide_run(rows: &[i64], signed: bool, at: RowNumber, n: RowNumber, out: &mut [
     let row = at.rows;
     let count = n.rows;
     let a = writer::write_run(&rows[row..row + count], signed, Form::Direct, WIDEST, out);
-    a.consumed()
+    answer::consumed(a)
 }
 
 // The direct runs, 512 rows each and the rest last.

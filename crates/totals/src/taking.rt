@@ -48,7 +48,7 @@ fn take_line(before: Totals, line: &[u8], rows: &mut [i64]) -> Taken
     match lines::read_line(line, rows) {
         Reading::Bad => before.take(Reply::Bad, &rows[..0]),
         Reading::Answered(answer) => {
-            let count = answer.rows();
+            let count = format::answer::rows(answer);
             let n = count.rows;
             before.take(Reply::to(answer), &rows[..n])
         }
