@@ -18,7 +18,7 @@ returns-in-Ok-Some c =
     let StepAt : Answer → Type 0 = Step c.args.input.now c.args.at.bytes in
     let there : StepAt c.measure.result = step c.args.input.now c.args.at.bytes _
     (below_all 256 c.args.input.now (λ i. (c.shared_slice_known-1.given i).fits)) c.measure.ensures in
-    begun-run c.read_runs-read.ensures (subst (StepAt) (c.in-Ok-Some.is ∙ ap Ok (rw c.in-Ok-Some.is at c.in-Ok-Some.field-0-is)) (there))
+    begun-run c.read_runs-read.ensures (subst (StepAt) (c.in-Ok-Some.is ∙ ap Ok c.in-Ok-Some.field-0-is) (there))
 
 pub returns-in-Err : goal.returns-in-Err
 returns-in-Err c =
@@ -34,4 +34,4 @@ returns-in-Ok-None c =
     let StepAt : Answer → Type 0 = Step c.args.input.now c.args.at.bytes in
     let there : StepAt c.measure.result = step c.args.input.now c.args.at.bytes _
     (below_all 256 c.args.input.now (λ i. (c.shared_slice_known-1.given i).fits)) c.measure.ensures in
-    begun-ended c.read_runs-read.ensures (none_read) (subst (StepAt) (c.in-Ok-None.is ∙ ap Ok (rw c.in-Ok-None.is at c.in-Ok-None.field-0-is)) (there))
+    begun-ended c.read_runs-read.ensures (none_read) (subst (StepAt) (c.in-Ok-None.is ∙ ap Ok c.in-Ok-None.field-0-is) (there))

@@ -153,7 +153,7 @@ returns-in-Err c =
     let unchanged : NoRun c.read_run-a.result → Unchanged = λ u. same-places c.loop-k.invariant (given) u in
     let refused-same : Unchanged = unchanged (rw c.in-Err.is tt) in
     let z : c.in-Err.f.number ≡ 8 → ⊥ = λ e. omega (arith, e) in
-    rw (c.up_to.ensures, refused-same) (walked-broken c.loop-k.invariant (refused-is) z)
+    rw (c.up_to-in-Err.ensures, refused-same) (walked-broken c.loop-k.invariant (refused-is) z)
 
 pub returns-in-Ok-None : goal.returns-in-Ok-None
 returns-in-Ok-None c =
@@ -167,7 +167,7 @@ returns-in-Ok-None c =
     let Unchanged : Type 0 = back c.read_run-a.new.out ≡ c.loop-k.out in
     let unchanged : NoRun c.read_run-a.result → Unchanged = λ u. same-places c.loop-k.invariant (given) u in
     let ended_same : Unchanged = unchanged (rw (c.in-Ok-None.is ∙ ap Ok (rw c.in-Ok-None.is at c.in-Ok-None.field-0-is)) tt) in
-    rw (c.up_to-in-Ok-None.ensures, ended_same) (walked_end c.loop-k.invariant (ended_is))
+    rw (c.up_to.ensures, ended_same) (walked_end c.loop-k.invariant (ended_is))
 
 pub returns : goal.returns
 returns c =
