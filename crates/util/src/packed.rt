@@ -122,7 +122,7 @@ pub fn block_size(w: usize, n: usize) -> usize
     requires { (w ≤ 64) × (n ≤ 65536) }
     ensures { result ≡ bytes_for (n * w) }
 {
-    (n * w + 7) / 8
+    (n * w).div_ceil(8)
 }
 
 // Field j of the eight that start with byte b: two or four bytes, or bits of x, the word at b, or bits of a word of its own.
@@ -192,13 +192,10 @@ fn single_bytes(s: &[u8], w: usize, n: usize, out: &mut [i64]) -> usize
     requires room { Room w n s.now out.old }
     ensures { FieldsLaid w n s.now result out.old out.new }
 {
-    let mut k = 0;
-    while k < n {
-        let row = pattern::to_i64(big_endian::bytes(s, k, 1));
-        out[k] = row;
-        k += 1;
+    for k in 0..n {
+        out[k] = i64::from(s[k]);
     }
-    k
+    n
 }
 
 // As many fields, up to n, as eights that lie in whole words: how many. The width is said twice: a caller that gives v as a number has
@@ -209,19 +206,16 @@ fn eights(s: &[u8], w: usize, v: usize, n: usize, out: &mut [i64]) -> usize
     requires room { Room w n s.now out.old }
     ensures { FieldsLaid w n s.now result out.old out.new }
 {
-    let whole = n - n % 8;
-    let mut k = 0;
-    let mut b = 0;
-    while k < whole {
+    let turns = n / 8;
+    for turn in 0..turns {
+        let b = turn * v;
         // eight narrow fields are less than a word
         if v < 8 && s.len() < b + 8 {
-            return k;
+            return 8 * turn;
         }
-        eight(s, b, v, out, k);
-        b += v;
-        k += 8;
+        eight(s, b, v, out, 8 * turn);
     }
-    k
+    8 * turns
 }
 
 // The same, with a copy of the loop for each width of the table.
@@ -276,12 +270,9 @@ fn few(s: &[u8], w: usize, n: usize, out: &mut [i64])
     let len = s.len();
     let x = big_endian::bytes(s, 0, len);
     let mut low = 8 * len;
-    let mut k = 0;
-    while k < n {
+    for k in 0..n {
         low -= w;
-        let row = pattern::to_i64(cut(x, low, w));
-        out[k] = row;
-        k += 1;
+        out[k] = pattern::to_i64(cut(x, low, w));
     }
 }
 
@@ -295,11 +286,9 @@ pub fn unpack(s: &[u8], w: usize, n: usize, out: &mut [i64])
         few(s, w, n, out);
         return;
     }
-    let mut k = eights_at(s, w, n, out);
-    while k < n {
-        let row = pattern::to_i64(field(s, w, k));
-        out[k] = row;
-        k += 1;
+    let laid = eights_at(s, w, n, out);
+    for k in laid..n {
+        out[k] = pattern::to_i64(field(s, w, k));
     }
 }
 
@@ -323,22 +312,19 @@ pub fn pack(vals: &[u64], n: usize, w: usize, out: &mut [u8], at: usize)
     let mut x = 0;
     let mut t = 0;
     let mut b = 0;
-    let mut k = 0;
-    while k < n {
-        let v = vals[k];
+    for v in &vals[..n] {
         t += w;
         if t < 64 {
-            x += v << (64 - t);
+            x += *v << (64 - t);
         } else {
             t -= 64;
-            big_endian::write(x + (v >> t), 8, out, at + b);
+            big_endian::write(x + (*v >> t), 8, out, at + b);
             b += 8;
-            x = raised(v, 64 - t);
+            x = raised(*v, 64 - t);
         }
-        k += 1;
     }
     if 0 < t {
-        let q = (t + 7) / 8;
+        let q = t.div_ceil(8);
         big_endian::write(x >> (64 - 8 * q), q, out, at + b);
     }
 }
