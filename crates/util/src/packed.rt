@@ -3,56 +3,25 @@ ghost use Rattle.std.specs.Prelude.{◌≡◌, ◌+◌, ◌-◌, ◌*◌, ◌/�
 ghost use Rattle.format.specs.Digits.{AllBelow, number};
 ghost use Rattle.format.specs.Fields.{bytes_for, block_bytes};
 ghost use Rattle.format.specs.Rows.{as_i64};
-ghost use Rattle.util.specs.Packed.{fields, bits, field_at, Width, Room, FieldsLaid, Lays, low_two, low_four, low_first, swap};
+ghost use Rattle.util.specs.Packed.{fields, bits, field_at, Width, Room, FieldsLaid, Lays};
 
-use crate::{big_endian, number, pattern};
-
-// Eight bytes, the lowest first: one load. It stands apart from `swapped`, or the optimiser makes eight loads of the two.
-fn low_first(s: &[u8], i: usize) -> u64
-    requires { i + 8 ≤ length s.now }
-    ensures { result ≡ low_first s.now i }
-{
-    number::wide(s[i])
-        + number::wide(s[i + 1]) * 256
-        + number::wide(s[i + 2]) * 65536
-        + number::wide(s[i + 3]) * 16777216
-        + number::wide(s[i + 4]) * 4294967296
-        + number::wide(s[i + 5]) * 1099511627776
-        + number::wide(s[i + 6]) * 281474976710656
-        + number::wide(s[i + 7]) * 72057594037927936
-}
-
-// The bytes of x in the other order: one instruction.
-fn swapped(x: u64) -> u64
-    ensures { result ≡ swap x }
-{
-    x % 256 * 72057594037927936
-        + x / 256 % 256 * 281474976710656
-        + x / 65536 % 256 * 1099511627776
-        + x / 16777216 % 256 * 4294967296
-        + x / 4294967296 % 256 * 16777216
-        + x / 1099511627776 % 256 * 65536
-        + x / 281474976710656 % 256 * 256
-        + x / 72057594037927936 % 256
-}
+use crate::{big_endian, pattern};
 
 // The eight bytes at i as a number.
 pub(crate) fn word(s: &[u8], i: usize) -> u64
     requires { i + 8 ≤ length s.now }
     ensures { result ≡ number 256 (take 8 (drop i s.now)) }
 {
-    swapped(low_first(s, i))
-}
-
-// Four bytes, the lowest first: one load as well.
-fn low_four(s: &[u8], i: usize) -> u64
-    requires { i + 4 ≤ length s.now }
-    ensures { result ≡ low_four s.now i }
-{
-    number::wide(s[i])
-        + number::wide(s[i + 1]) * 256
-        + number::wide(s[i + 2]) * 65536
-        + number::wide(s[i + 3]) * 16777216
+    u64::from_be_bytes([
+        s[i],
+        s[i + 1],
+        s[i + 2],
+        s[i + 3],
+        s[i + 4],
+        s[i + 5],
+        s[i + 6],
+        s[i + 7],
+    ])
 }
 
 // The four bytes at i as a number.
@@ -60,15 +29,7 @@ fn half(s: &[u8], i: usize) -> u64
     requires { i + 4 ≤ length s.now }
     ensures { result ≡ number 256 (take 4 (drop i s.now)) }
 {
-    swapped(low_four(s, i)) / 4294967296
-}
-
-// Two bytes, the lowest first: one load as well.
-fn low_two(s: &[u8], i: usize) -> u64
-    requires { i + 2 ≤ length s.now }
-    ensures { result ≡ low_two s.now i }
-{
-    number::wide(s[i]) + number::wide(s[i + 1]) * 256
+    u64::from(u32::from_be_bytes([s[i], s[i + 1], s[i + 2], s[i + 3]]))
 }
 
 // The two bytes at i as a number.
@@ -76,7 +37,7 @@ fn quarter(s: &[u8], i: usize) -> u64
     requires { i + 2 ≤ length s.now }
     ensures { result ≡ number 256 (take 2 (drop i s.now)) }
 {
-    swapped(low_two(s, i)) / 281474976710656
+    u64::from(u16::from_be_bytes([s[i], s[i + 1]]))
 }
 
 // The w bits of x above its lowest `low`.
