@@ -24,13 +24,9 @@ pub fn put_word(word: &[u8], out: &mut [u8], at: usize) -> usize
     requires { at + length word.now ≤ length out.old }
     ensures { TextWritten word.now out.old at out.new result }
 {
-    let mut place = at;
-    let mut i = 0;
-    while i < word.len() {
-        place = put(word[i], out, place);
-        i += 1;
-    }
-    place
+    let end = at + word.len();
+    out[at..end].copy_from_slice(word);
+    end
 }
 
 // The character of the lowest digit of x.
@@ -82,11 +78,9 @@ pub fn put_rows(rows: &[i64], n: usize, out: &mut [u8], at: usize) -> usize
     ensures { TextWritten (rows_text (take n rows.now)) out.old at out.new result }
 {
     let mut place = at;
-    let mut i = 0;
-    while i < n {
+    for row in &rows[..n] {
         let next = put(b' ', out, place);
-        place = put_row(rows[i], out, next);
-        i += 1;
+        place = put_row(*row, out, next);
     }
     place
 }
