@@ -41,7 +41,7 @@ pub fn none() -> Reads
 fn count_on(count: u64) -> u64
     ensures { result ≡ counted count }
 {
-    if count < u64::MAX { count + 1 } else { count }
+    count.saturating_add(1)
 }
 
 // One read more.
@@ -51,7 +51,7 @@ pub fn one_more(rt: &impl Input, reads: Reads, input: &mut [u8], from: usize, en
     let block = read_on(rt, input, from, end);
     let error = block.error;
     let came = block.stop - block.held;
-    let bytes = std::num::wrapping_add_u64(reads.bytes, came as u64);
+    let bytes = reads.bytes.wrapping_add(came as u64);
     let count = count_on(reads.count);
     let got = block.got;
     let more = Reads {

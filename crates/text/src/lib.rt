@@ -7,9 +7,6 @@ ghost use Rattle.std.specs.Prelude.{◌≡◌, ◌∷◌, [], ◌++◌, ◌+◌,
 ghost use Rattle.text.specs.Decimal.{decimal, row_text, rows_text};
 ghost use Rattle.text.specs.Written.{TextWritten};
 
-use format::{ALL_BITS, TOP_BIT};
-use util::pattern;
-
 // One character.
 pub fn put(c: u8, out: &mut [u8], at: usize) -> usize
     requires { at < length out.old }
@@ -24,13 +21,9 @@ pub fn put_word(word: &[u8], out: &mut [u8], at: usize) -> usize
     requires { at + length word.now ≤ length out.old }
     ensures { TextWritten word.now out.old at out.new result }
 {
-    let mut place = at;
-    let mut i = 0;
-    while i < word.len() {
-        place = put(word[i], out, place);
-        i += 1;
-    }
-    place
+    let end = at + word.len();
+    out[at..end].copy_from_slice(word);
+    end
 }
 
 // The character of the lowest digit of x.
@@ -68,12 +61,12 @@ fn put_row(row: i64, out: &mut [u8], at: usize) -> usize
     requires { at + length (row_text row) ≤ length out.old }
     ensures { TextWritten (row_text row) out.old at out.new result }
 {
-    let bits = pattern::to_u64(row);
-    if bits < TOP_BIT {
-        return put_decimal(bits, out, at);
+    let size = row.unsigned_abs();
+    if 0 <= row {
+        return put_decimal(size, out, at);
     }
     let next = put(b'-', out, at);
-    put_decimal(ALL_BITS - bits + 1, out, next)
+    put_decimal(size, out, next)
 }
 
 // The first n rows, with a space before each. With its space, a row takes 22 characters at most.
@@ -82,11 +75,9 @@ pub fn put_rows(rows: &[i64], n: usize, out: &mut [u8], at: usize) -> usize
     ensures { TextWritten (rows_text (take n rows.now)) out.old at out.new result }
 {
     let mut place = at;
-    let mut i = 0;
-    while i < n {
+    for row in &rows[..n] {
         let next = put(b' ', out, place);
-        place = put_row(rows[i], out, next);
-        i += 1;
+        place = put_row(*row, out, next);
     }
     place
 }

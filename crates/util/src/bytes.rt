@@ -8,9 +8,5 @@ pub fn copy(part: &[u8], k: usize, buffer: &mut [u8], h: usize)
     requires k_in_bounds_2 { h + k ≤ length buffer.old }
     ensures { buffer.new ≡ paste buffer.old h part.now k }
 {
-    let mut i = 0;
-    while i < k {
-        buffer[h + i] = part[i];
-        i += 1;
-    }
+    buffer[h..h + k].copy_from_slice(&part[..k]);
 }

@@ -10,7 +10,7 @@ pub loop-k-init : goal.loop-k-init
 unfolding varint_at
 loop-k-init c =
     let a = c.args in
-    let b = below-drop 256 a.at a.s.now (below_all 256 a.s.now (λ i. (c.shared_slice_known-1.given i).fits)) in
+    let b = below-drop 256 a.at a.s.now (below_all 256 a.s.now (λ i. (c.type_inv.s i).fits)) in
     (omega arith, told-from (cut_in 12 (drop a.at a.s.now)) a.at (drop a.at a.s.now) b)
 
 pub returns-then-s-i : goal.returns-then-s-i
