@@ -1,7 +1,7 @@
 -- HOW THE CODE HOLDS TOTALS: a struct of counts below 2^64, refusals by number, runs by kind, and the sum in two words; and what each
 -- function answers, for every struct that a caller makes.
 -- Assumes nothing.
-use Rattle.std.specs.Prelude.{ℕ, ◌+◌, List, [], ◌∷◌, map, length, replicate, ℤ, nat_lt}
+use Rattle.std.specs.Prelude.{ℕ, ◌+◌, List, [], ◌∷◌, map, length, replicate, ℤ, nat_lt, None}
 use Rattle.format.specs.declared.Kind.{Kind}
 use Rattle.format.specs.declared.Kind.TheVariants as kind
 use Rattle.format.specs.declared.Answer.{Answer}
@@ -11,7 +11,6 @@ use Rattle.format.specs.Fields.{pick}
 use Rattle.format.specs.Rows.{plus}
 use Rattle.tally.specs.declared.totals.Reply.{Reply}
 use Rattle.tally.specs.declared.totals.Reply.TheVariants.{Bad, End, Refused, Run}
-use Rattle.tally.specs.declared.totals.Extreme.TheVariants.{None}
 use Rattle.tally.specs.declared.totals.Totals.{Totals}
 use Rattle.tally.specs.declared.totals.Taken.{Taken}
 use Rattle.tally.specs.declared.totals.Stop.{Stop}
