@@ -8,10 +8,9 @@ use Rattle.tally.specs.declared.sums.Wide.{Wide}
 use Rattle.tally.specs.declared.sums.Tenth.{Tenth}
 use Rattle.tally.specs.declared.totals.Reply.{Reply}
 use Rattle.tally.specs.declared.totals.Totals.{Totals}
-use Rattle.tally.specs.declared.totals.Taken.{Taken}
 use Rattle.tally.specs.Totals.{lower, higher, of_two, empty}
 use Rattle.tally.specs.Wide.{wide_of, wide_value, size_of, is_negative, IsTenth, add_wide}
-use Rattle.tally.specs.Held.{line_with, reply_to, held, combined, take_line}
+use Rattle.tally.specs.Held.{Taken, line_with, reply_to, held, combined, take_line}
 
 -- both words are of 64 bits, as every u64 is
 pub record OfWide (w : Wide) : Type 0 where

@@ -1,9 +1,9 @@
 // Totals over lines of the program's input, taken line by line or combined:
 // counts, the smallest and the largest row, and the exact sum of all rows.
-ghost use Rattle.std.specs.Prelude.{◌≡◌, ◌+◌, ◌≤◌, [], ◌∷◌, length, nat_lt};
+ghost use Rattle.std.specs.Prelude.{◌≡◌, ◌+◌, ◌≤◌, [], ◌∷◌, length, nat_lt, Err};
 ghost use Rattle.format.specs.Fields.{pick};
 ghost use Rattle.tally.specs.Totals.{run, rows_in, lower, higher, of_two, of_all, totals, empty, limit};
-ghost use Rattle.tally.specs.Held.{slot, line_with, reply_to, held, counting, each_plus, together, going, stopped, combined, take_line};
+ghost use Rattle.tally.specs.Held.{Taken, slot, line_with, reply_to, held, counting, each_plus, together, stopped, combined, take_line};
 
 use crate::sums::{Wide, sum_of};
 use format::{Answer, ByteOffset, Kind, Refusal};
@@ -34,18 +34,11 @@ pub struct Totals {
     pub sum: Wide,
 }
 
-// Whether taking stopped: not, or by refusal 20.
+// Taking stopped, by refusal 20: the totals as before.
 #[derive(Clone, Copy)]
-pub enum Stop {
-    None,
-    Refused(Refusal),
-}
-
-// The totals after taking: as before, where it stopped.
-#[derive(Clone, Copy)]
-pub struct Taken {
+pub struct Stopped {
     pub totals: Totals,
-    pub stop: Stop,
+    pub refusal: Refusal,
 }
 
 // Both extremes of some rows.
@@ -121,9 +114,7 @@ fn row_count(reply: Reply, rows: &[i64]) -> u64
 {
     match reply {
         Reply::Run(_) => rows.len() as u64,
-        Reply::Bad => 0,
-        Reply::End => 0,
-        Reply::Refused(_) => 0,
+        Reply::Bad | Reply::End | Reply::Refused(_) => 0,
     }
 }
 
@@ -150,22 +141,13 @@ impl Reply {
     }
 }
 
-impl Taken {
-    fn going(totals: Totals) -> Self
-        ensures { result ≡ going totals }
+impl Stopped {
+    fn at(totals: Totals) -> Self
+        ensures { ◌≡◌ {A = Taken} (Err result) (stopped totals) }
     {
-        Taken {
+        Stopped {
             totals,
-            stop: Stop::None,
-        }
-    }
-
-    fn stopped(totals: Totals) -> Self
-        ensures { result ≡ stopped totals }
-    {
-        Taken {
-            totals,
-            stop: Stop::Refused(Refusal::new(20, ByteOffset { bytes: 0 })),
+            refusal: Refusal::new(20, ByteOffset { bytes: 0 }),
         }
     }
 }
@@ -253,30 +235,29 @@ impl Totals {
 
     // Two inputs, the second's lines after the first's. Refusal 20, with
     // the first's totals, where they are more lines or rows than the limit.
-    pub fn combine(self, more: Totals) -> Taken
+    pub fn combine(self, more: Totals) -> Result<Totals, Stopped>
         ensures { result ≡ combined self more }
     {
         if too_many(self.lines, more.lines) {
-            return Taken::stopped(self);
+            return Err(Stopped::at(self));
         }
         if too_many(self.rows, more.rows) {
-            return Taken::stopped(self);
+            return Err(Stopped::at(self));
         }
-        Taken::going(self.together(more))
+        Ok(self.together(more))
     }
 
     // One line more: its reply, and its rows, which count for a run alone.
     // Refusal 20, with the totals as before, where it would pass a limit.
-    pub fn take(self, reply: Reply, rows: &[i64]) -> Taken
+    pub fn take(self, reply: Reply, rows: &[i64]) -> Result<Totals, Stopped>
         ensures { result ≡ take_line self (line_with reply rows.now) }
     {
-        let count = row_count(reply, rows);
         if too_many(self.lines, 1) {
-            return Taken::stopped(self);
+            return Err(Stopped::at(self));
         }
-        if too_many(self.rows, count) {
-            return Taken::stopped(self);
+        if too_many(self.rows, row_count(reply, rows)) {
+            return Err(Stopped::at(self));
         }
-        Taken::going(self.together(Totals::of_line(reply, rows)))
+        Ok(self.together(Totals::of_line(reply, rows)))
     }
 }
