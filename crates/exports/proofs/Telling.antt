@@ -26,8 +26,8 @@ use Rattle.exports.specs.Converting.{convert_words, convert_word_count, ConvertT
 use Rattle.boolean_rle.specs.declared.count.Count.{Count}
 use Rattle.boolean_rle.specs.declared.count.Count.TheVariants as count
 use Rattle.exports.specs.Counts.{count_words, count_word_count, CountToldDetermined}
-use Rattle.salvage.specs.declared.Outcome.{Outcome}
-use Rattle.salvage.specs.declared.Outcome.TheVariants as salvage
+use Rattle.std.specs.Prelude.{Ok, Err}
+use Rattle.salvage.specs.Salvage.{Outcome}
 use Rattle.exports.specs.Salvage.{salvage_words, salvage_word_count, SalvageToldDetermined}
 use Rattle.planner.specs.declared.Checked.{Checked}
 use Rattle.planner.specs.declared.Checked.TheVariants as check
@@ -130,8 +130,8 @@ read-from-told-determined input c row flag rows rows' rows'' words words' words'
 
 pub salvage-long : (m : Outcome) → length (salvage_words m) ≡ salvage_word_count
 unfolding salvage_words
-salvage-long (salvage.Written n) = refl
-salvage-long (salvage.Refused f) = refl
+salvage-long (Ok n) = refl
+salvage-long (Err f) = refl
 
 pub salvage-told-determined : SalvageToldDetermined
 salvage-told-determined input starts counts fill flag out out' out'' lines lines' lines'' words words' words'' r r' p q = (

@@ -13,7 +13,7 @@ use util::{pattern, varint};
 pub(crate) fn stored(fill: i64, signed: bool) -> u64
     ensures { result ≡ Writing.stored signed (as_u64 fill) }
 {
-    let bits = pattern::to_u64(fill);
+    let bits = fill.cast_unsigned();
     if signed {
         pattern::zigzag_of(bits)
     } else {
@@ -25,13 +25,9 @@ pub(crate) fn stored(fill: i64, signed: bool) -> u64
 fn runs_size(rows: RowNumber, first: u64) -> ByteOffset
     ensures { result.bytes ≡ length (filled first rows.rows) }
 {
-    let runs = rows.rows / Kind::MAX_ROWS;
     let size = 3 + varint::size(first);
-    if rows.rows % Kind::MAX_ROWS == 0 {
-        return ByteOffset { bytes: runs * size };
-    }
     ByteOffset {
-        bytes: (runs + 1) * size,
+        bytes: rows.rows.div_ceil(Kind::MAX_ROWS) * size,
     }
 }
 
@@ -53,14 +49,12 @@ fn put_runs(rows: RowNumber, first: u64, out: &mut [u8], at: ByteOffset) -> Byte
     requires { at.bytes + length (filled first rows.rows) ≤ length out.old }
     ensures { TextWritten (filled first rows.rows) out.old at.bytes out.new result.bytes }
 {
-    let all = RowNumber {
+    let full = RowNumber {
         rows: Kind::MAX_ROWS,
     };
     let mut place = at;
-    let mut runs = rows.rows / Kind::MAX_ROWS;
-    while 0 < runs {
-        place = put_run(all, first, out, place);
-        runs -= 1;
+    for _ in 0..rows.rows / Kind::MAX_ROWS {
+        place = put_run(full, first, out, place);
     }
     let rest = rows.rows % Kind::MAX_ROWS;
     if rest == 0 {

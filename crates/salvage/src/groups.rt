@@ -9,21 +9,18 @@ use format::{ByteOffset, RowNumber, Stream};
 pub(crate) fn starts_right(starts: &[u64], end: ByteOffset) -> bool
     ensures { result ≡ starts_right end.bytes starts.now }
 {
-    if starts.len() == 0 {
+    let Some((first, more)) = starts.split_first() else {
         return end.bytes == 0;
-    }
-    if starts[0] != 0 {
+    };
+    if *first != 0 {
         return false;
     }
-    let mut last: u64 = 0;
-    let mut i: usize = 1;
-    while i < starts.len() {
-        let next = starts[i];
-        if next <= last {
+    let mut last = 0;
+    for next in more {
+        if *next <= last {
             return false;
         }
-        last = next;
-        i += 1;
+        last = *next;
     }
     last <= end.bytes as u64
 }
@@ -33,13 +30,12 @@ fn stop_of(end: ByteOffset, starts: &[u64], i: usize) -> ByteOffset
     requires { i < length starts.now }
     ensures { result.bytes ≡ stop_of end.bytes starts.now i }
 {
-    let next = i + 1;
-    if next < starts.len() {
-        return ByteOffset {
-            bytes: starts[next] as usize,
-        };
+    match starts.get(i + 1) {
+        Some(next) => ByteOffset {
+            bytes: *next as usize,
+        },
+        None => end,
     }
-    end
 }
 
 // The bytes of group i, where they stand.
@@ -50,8 +46,7 @@ pub(crate) fn bytes_of<'a>(input: &'a [u8], starts: &[u64], i: usize) -> &'a [u8
     let from = starts[i] as usize;
     let end = ByteOffset { bytes: input.len() };
     let stop = stop_of(end, starts, i);
-    let to = stop.bytes;
-    &input[from..to]
+    &input[from..stop.bytes]
 }
 
 // A group is kept exactly if its bytes read as a whole stream of exactly its rows.

@@ -3,7 +3,7 @@
 #![tactic(auto)]
 
 ghost use Rattle.std.specs.Prelude.{◌≡◌, Bool, length};
-ghost use Rattle.salvage.specs.Salvage.{written_of, refused_with, Salvaged};
+ghost use Rattle.salvage.specs.Salvage.{refused_with, Salvaged};
 ghost use Rattle.salvage.specs.Laws.{RightStarts};
 ghost use Rattle.salvage.specs.Steps.{room_for};
 
@@ -20,25 +20,11 @@ pub struct Sizes {
     pub report: ByteOffset,
 }
 
-// What a call comes to.
-#[derive(Clone, Copy)]
-pub enum Outcome {
-    Written(Sizes),
-    Refused(Refusal),
-}
-
-impl Outcome {
-    pub fn written(stream: ByteOffset, report: ByteOffset) -> Self
-        ensures { result ≡ written_of stream.bytes report.bytes }
-    {
-        Outcome::Written(Sizes { stream, report })
-    }
-
-    pub fn refused(number: u8) -> Self
-        ensures { result ≡ refused_with number }
-    {
-        Outcome::Refused(Refusal::new(number, ByteOffset { bytes: 0 }))
-    }
+// A refusal by its number, at place 0.
+fn refused(number: u8) -> Result<Sizes, Refusal>
+    ensures { result ≡ refused_with number }
+{
+    Err(Refusal::new(number, ByteOffset { bytes: 0 }))
 }
 
 // Both outputs have room for what is to be written. Only sizes are needed for that, and each is compared with the room that is left: no sum
@@ -59,27 +45,22 @@ fn has_room(
     let first = fill::stored(fill, signed);
     let mut stream: usize = 0;
     let mut lines: usize = 0;
-    let mut i: usize = 0;
-    while i < starts.len() {
-        let listed = counts[i];
+    for i in 0..starts.len() {
         let rows = RowNumber {
-            rows: listed as usize,
+            rows: counts[i] as usize,
         };
         let bytes = groups::bytes_of(input, starts, i);
         let keep = groups::is_kept(bytes, rows);
         let group = fill::group_size(bytes, rows, keep, first);
-        let more = group.bytes;
-        if out.len() - stream < more {
+        if out.len() - stream < group.bytes {
             return false;
         }
         let told = line::size(keep, i as u64, rows);
-        let line = told.bytes;
-        if report.len() - lines < line {
+        if report.len() - lines < told.bytes {
             return false;
         }
-        stream += more;
-        lines += line;
-        i += 1;
+        stream += group.bytes;
+        lines += told.bytes;
     }
     true
 }
@@ -93,7 +74,7 @@ fn write_all(
     signed: bool,
     out: &mut [u8],
     report: &mut [u8],
-) -> Outcome
+) -> Result<Sizes, Refusal>
     requires { RightStarts input.now starts.now counts.now
         × (room_for signed fill input.now starts.now counts.now (length out.old) (length report.old) ≡ Bool.true) }
     ensures { Salvaged input.now starts.now counts.now fill signed out.old
@@ -102,19 +83,19 @@ fn write_all(
     let first = fill::stored(fill, signed);
     let mut stream = ByteOffset { bytes: 0 };
     let mut lines = ByteOffset { bytes: 0 };
-    let mut i: usize = 0;
-    while i < starts.len() {
-        let listed = counts[i];
+    for i in 0..starts.len() {
         let rows = RowNumber {
-            rows: listed as usize,
+            rows: counts[i] as usize,
         };
         let bytes = groups::bytes_of(input, starts, i);
         let keep = groups::is_kept(bytes, rows);
         stream = fill::put_group(bytes, rows, keep, first, out, stream);
         lines = line::put_line(keep, i as u64, rows, report, lines);
-        i += 1;
     }
-    Outcome::written(stream, lines)
+    Ok(Sizes {
+        stream,
+        report: lines,
+    })
 }
 
 // Salvages a stream by its groups, each with a start byte and a row count. Refusals: 17 starts that do not begin at 0, do not rise strictly
@@ -127,18 +108,18 @@ pub fn salvage(
     signed: bool,
     out: &mut [u8],
     report: &mut [u8],
-) -> Outcome
+) -> Result<Sizes, Refusal>
     ensures { Salvaged input.now starts.now counts.now fill signed out.old
         out.new report.old report.new result }
 {
     if starts.len() != counts.len() {
-        return Outcome::refused(17);
+        return refused(17);
     }
     if !groups::starts_right(starts, ByteOffset { bytes: input.len() }) {
-        return Outcome::refused(17);
+        return refused(17);
     }
     if !has_room(input, starts, counts, fill, signed, out, report) {
-        return Outcome::refused(8);
+        return refused(8);
     }
     write_all(input, starts, counts, fill, signed, out, report)
 }

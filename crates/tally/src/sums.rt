@@ -97,10 +97,8 @@ pub(crate) fn sum_of(rows: &[i64]) -> Wide
     ensures { result ≡ wide_of (sum_of rows.now) }
 {
     let mut sum = Wide { high: 0, low: 0 };
-    let mut i: usize = 0;
-    while i < rows.len() {
-        sum = sum.plus(Wide::of_row(rows[i]));
-        i += 1;
+    for row in rows {
+        sum = sum.plus(Wide::of_row(*row));
     }
     sum
 }

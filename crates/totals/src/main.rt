@@ -110,79 +110,58 @@ fn take_came(
 // One block, after what is left of the one before.
 fn turn(
     rt: &(impl Input + Eprint),
-    before: Totals,
-    reads: Reads,
+    before: Standing,
     input: &mut [u8],
     from: usize,
     end: usize,
     rows: &mut [i64],
 ) -> Standing
     requires { NoNewline (part from end input.old) × (length rows.old ≡ 512) }
-    ensures { Turned before reads (part from end input.old) input.new result.totals result.next result.reads }
+    ensures { Turned before.totals before.reads (part from end input.old) input.new result.totals result.next result.reads }
 {
-    let block = reading::one_more(rt, reads, input, from, end);
-    let stop = block.stop;
+    let block = reading::one_more(rt, before.reads, input, from, end);
     let taken = take_came(
         rt,
-        before,
-        &input[..stop],
+        before.totals,
+        &input[..block.stop],
         block.held,
         block.got,
         block.error,
         rows,
     );
-    let totals = taken.totals;
-    let next = taken.next;
-    let more = block.reads;
     Standing {
-        totals,
-        next,
-        reads: more,
+        totals: taken.totals,
+        next: taken.next,
+        reads: block.reads,
     }
 }
 
-// Reads and takes to the end. A proved loop has to end, and nothing says that the input does: the loop counts its turns down, from a number
-// that no input uses up.
+// Reads and takes to the end. A proved loop has to end, and nothing says that the input does: the loop has as many turns as no input uses up.
 fn take_all(rt: &(impl Input + Eprint)) -> Standing
     ensures { Over result.next result.reads result.totals }
 {
     let mut input = blocks::input_places();
     let mut rows = taking::row_places();
-    let mut totals = Totals::empty();
-    let mut next = Next::Begun(0, 0);
-    let mut reads = reading::none();
-    let mut turns = u64::MAX;
-    while 0 < turns {
-        let Next::Begun(from, end) = next else {
-            return Standing {
-                totals,
-                next,
-                reads,
-            };
+    let mut all = Standing {
+        totals: Totals::empty(),
+        next: Next::Begun(0, 0),
+        reads: reading::none(),
+    };
+    for _ in 0..u64::MAX {
+        let Next::Begun(from, end) = all.next else {
+            return all;
         };
-        let taken = turn(rt, totals, reads, &mut input, from, end, &mut rows);
-        totals = taken.totals;
-        next = taken.next;
-        reads = taken.reads;
-        turns -= 1;
+        all = turn(rt, all, &mut input, from, end, &mut rows);
     }
-    Standing {
-        totals,
-        next,
-        reads,
-    }
+    all
 }
 
 // The totals are told, unless reading failed.
 fn main(rt: HostRuntime) {
     let all = take_all(&rt);
-    let totals = all.totals;
-    let next = all.next;
-    let reads = all.reads;
-    match next {
-        Next::Ended => tell(&rt, totals, false, reads),
-        Next::Stopped => tell(&rt, totals, true, reads),
-        Next::Failed => {}
-        Next::Begun(_, _) => {}
+    match all.next {
+        Next::Ended => tell(&rt, all.totals, false, all.reads),
+        Next::Stopped => tell(&rt, all.totals, true, all.reads),
+        Next::Failed | Next::Begun(_, _) => {}
     }
 }

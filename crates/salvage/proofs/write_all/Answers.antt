@@ -1,3 +1,4 @@
+use mathlib.Core.Path.{refl}
 use native.Mathlib.Omega.{arith}
 use lib.ListN.{get_or}
 use mir.Facts.{to_z-of_z}
@@ -68,7 +69,7 @@ returns c =
     let a = c.args in
     rw (to_z-of_z {w = w64} c.ranges.fill) at
     (was-written a.signed (to_z w64 (of_z w64 a.fill)) a.input.now a.starts.now a.counts.now c.requires.0
-    (rw (to_z-of_z {w = w64} c.ranges.fill) c.requires.1) l.invariant (omega arith) c.written.ensures)
+    (rw (to_z-of_z {w = w64} c.ranges.fill) c.requires.1) l.invariant (omega arith) refl)
 
 pub shape_of-out : goal.shape_of-out
 shape_of-out c = c.loop-i.invariant.same_out

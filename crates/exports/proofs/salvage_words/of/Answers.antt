@@ -2,10 +2,10 @@
 use Rattle.exports.specs.Salvage.{salvage_words}
 use Rattle.exports.proofs.salvage_words.of.Goals as goal
 
-pub returns-in-Written : goal.returns-in-Written
+pub returns-in-Ok : goal.returns-in-Ok
 unfolding salvage_words
-returns-in-Written c = rw c.in-Written.is
+returns-in-Ok c = rw c.in-Ok.is
 
-pub returns-in-Refused : goal.returns-in-Refused
+pub returns-in-Err : goal.returns-in-Err
 unfolding salvage_words
-returns-in-Refused c = rw c.in-Refused.is
+returns-in-Err c = rw c.in-Err.is
