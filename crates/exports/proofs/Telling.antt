@@ -9,13 +9,8 @@ use Rattle.format.specs.Fields.{pick}
 use Rattle.labels.specs.declared.Label.{Label}
 use Rattle.labels.specs.declared.Label.TheVariants as label
 use Rattle.index.specs.Columns.{Columns}
-use Rattle.index.specs.Promises.{BuiltIn}
-use Rattle.index.specs.declared.Built.{Built}
-use Rattle.index.specs.declared.Built.TheVariants as built
-use Rattle.index.specs.declared.Found.{Found}
-use Rattle.index.specs.declared.Found.TheVariants as found
-use Rattle.index.specs.declared.Preview.{Preview}
-use Rattle.index.specs.declared.Preview.TheVariants as preview
+use Rattle.index.specs.Promises.{Built, Found, Preview, BuiltIn}
+use Rattle.std.specs.Prelude.{Ok, Err}
 use Rattle.exports.specs.Numbers.{number_in}
 use Rattle.exports.specs.Index.{built_words, built_word_count, IndexTold, IndexToldDetermined, found_words, found_word_count, LookUpToldDetermined, preview_words, preview_word_count, ReadFromToldDetermined}
 use Rattle.exports.specs.Labels.{label_words, label_word_count, LabelToldDetermined}
@@ -89,8 +84,8 @@ count-told-determined packed n words words' words'' r r' p q = (p.words_are ∙ 
 
 pub built-long : (b : Built) → length (built_words b) ≡ built_word_count
 unfolding built_words
-built-long (built.Index s) = refl
-built-long (built.Refused f) = refl
+built-long (Ok s) = refl
+built-long (Err f) = refl
 
 -- what building told: too few words, or what was built laid into them
 module _ {input first at counts words : List ℕ} where
@@ -113,16 +108,16 @@ index-told-determined input first at counts f o n f' o' n' words words' words'' 
 
 pub found-long : (v : Found) → length (found_words v) ≡ found_word_count
 unfolding found_words
-found-long (found.Entry e) = refl
-found-long (found.Refused f) = refl
+found-long (Ok e) = refl
+found-long (Err f) = refl
 
 pub look-up-told-determined : LookUpToldDetermined
 look-up-told-determined input c row words words' words'' r r' p q = (p.words_are ∙ sym q.words_are, p.number_is ∙ sym q.number_is)
 
 pub preview-long : (p : Preview) → length (preview_words p) ≡ preview_word_count
 unfolding preview_words
-preview-long (preview.Rows n) = refl
-preview-long (preview.Refused f) = refl
+preview-long (Ok n) = refl
+preview-long (Err f) = refl
 
 pub read-from-told-determined : ReadFromToldDetermined
 read-from-told-determined input c row flag rows rows' rows'' words words' words'' r r' p q =

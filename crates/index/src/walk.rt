@@ -5,86 +5,66 @@ ghost use Rattle.index.specs.Walk.{total_of, survey_from, right_from, same_three
 
 use format::{ByteOffset, Refusal, RowNumber};
 
-// A count of rows, while it is at most 2^64 - 1.
+// A whole stream: how many runs it has, and how many rows, if these are at most 2^64 - 1.
 #[derive(Clone, Copy)]
-pub(crate) enum Total {
-    Rows(RowNumber),
-    Past,
+pub(crate) struct Whole {
+    pub runs: usize,
+    pub rows: Option<RowNumber>,
 }
 
-// What is found: how many runs and rows a whole stream has, or the stream's own refusal.
-#[derive(Clone, Copy)]
-pub(crate) enum Survey {
-    Whole(usize, Total),
-    Refused(Refusal),
-}
-
-fn more(total: Total, n: RowNumber) -> Total
+// A count of rows and more of them, while it is at most 2^64 - 1.
+#[tactic(auto, unfolding(crate::specs::Walk::total_of))]
+fn more(total: Option<RowNumber>, n: RowNumber) -> Option<RowNumber>
     ensures { (m : ℕ) → total ≡ total_of m → result ≡ total_of (m + n.rows) }
 {
-    match total {
-        Total::Rows(m) => {
-            if usize::MAX - m.rows < n.rows {
-                return Total::Past;
-            }
-            Total::Rows(RowNumber {
-                rows: m.rows + n.rows,
-            })
-        }
-        Total::Past => Total::Past,
-    }
+    let m = total?;
+    let rows = m.rows.checked_add(n.rows)?;
+    Some(RowNumber { rows })
 }
 
-pub(crate) fn whole_of(input: &[u8]) -> Survey
+// The runs and rows of a stream, or the stream's own refusal.
+pub(crate) fn whole_of(input: &[u8]) -> Result<Whole, Refusal>
     ensures { result ≡ survey_from 0 0 0 (stream input.now) }
 {
     let mut place: usize = 0;
     let mut runs: usize = 0;
-    let mut total = Total::Rows(RowNumber { rows: 0 });
+    let mut rows = Some(RowNumber { rows: 0 });
     while place < input.len() {
         let a = rle_v2::measure(input, ByteOffset { bytes: place });
         match a {
             Ok(Some(run)) => {
-                let rows = run.rows;
                 let consumed = run.consumed;
-                total = more(total, rows);
+                rows = more(rows, run.rows);
                 place += consumed.bytes;
                 runs += 1;
             }
             Err(f) => {
-                return Survey::Refused(f);
+                return Err(f);
             }
             Ok(None) => {
-                return Survey::Whole(runs, total);
+                return Ok(Whole { runs, rows });
             }
         }
     }
-    Survey::Whole(runs, total)
+    Ok(Whole { runs, rows })
 }
 
 // Whether three numbers of the columns are a run's, before which there are so many rows and bytes.
+#[tactic(auto, unfolding(crate::specs::Walk::total_of))]
 fn is_entry(
     first: u64,
     at: u64,
     count: u64,
-    total: Total,
+    total: Option<RowNumber>,
     place: ByteOffset,
     rows: RowNumber,
 ) -> bool
     ensures { (m : ℕ) → total ≡ total_of m → result ≡ same_three first at count m place.bytes rows.rows }
 {
-    match total {
-        Total::Rows(m) => {
-            if first as usize != m.rows {
-                return false;
-            }
-            if at as usize != place.bytes {
-                return false;
-            }
-            count as usize == rows.rows
-        }
-        Total::Past => false,
-    }
+    let Some(m) = total else {
+        return false;
+    };
+    first as usize == m.rows && at as usize == place.bytes && count as usize == rows.rows
 }
 
 // Whether the columns, which are of one length, are exactly the stream's.
@@ -94,7 +74,7 @@ pub(crate) fn right(input: &[u8], first: &[u64], at: &[u64], counts: &[u64]) -> 
 {
     let mut place: usize = 0;
     let mut i: usize = 0;
-    let mut total = Total::Rows(RowNumber { rows: 0 });
+    let mut total = Some(RowNumber { rows: 0 });
     while place < input.len() {
         let a = rle_v2::measure(input, ByteOffset { bytes: place });
         match a {

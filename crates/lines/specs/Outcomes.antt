@@ -2,7 +2,7 @@
 -- and every lent place at exit, of bad lines and too little room too.
 -- Assumes nothing.
 use Rattle.std.specs.Prelude.{◌≡◌, ℕ, List, ℤ, Option}
-use Rattle.format.specs.declared.Answer.{Answer}
+use Rattle.format.specs.Answers.{Answer}
 use Rattle.lines.specs.Line.{Answered, LineRead}
 
 -- `answer_line`: how many bytes the answer has, and every byte of the output

@@ -26,13 +26,7 @@ fn not_after(p: RowPosition, q: RowPosition) -> bool
     let skip = p.skip;
     let to_run = q.run;
     let to_skip = q.skip;
-    if run.bytes < to_run.bytes {
-        return true;
-    }
-    if run.bytes != to_run.bytes {
-        return false;
-    }
-    skip.rows <= to_skip.rows
+    run.bytes < to_run.bytes || run.bytes == to_run.bytes && skip.rows <= to_skip.rows
 }
 
 // Whether the positions are in order: the first is (0, 0), no byte falls or passes the end, and at the same byte no skip falls. An empty
@@ -41,24 +35,19 @@ pub(crate) fn in_order(end: ByteOffset, runs: &[u64], skips: &[u64]) -> bool
     requires { length skips.now ≡ length runs.now }
     ensures { result ≡ in_order end.bytes (positions runs.now skips.now) }
 {
-    if runs.len() == 0 {
+    if runs.is_empty() {
         return end.bytes == 0;
     }
-    if runs[0] != 0 {
-        return false;
-    }
-    if skips[0] != 0 {
+    if runs[0] != 0 || skips[0] != 0 {
         return false;
     }
     let mut last = crate::row_position(0, 0);
-    let mut i: usize = 1;
-    while i < runs.len() {
+    for i in 1..runs.len() {
         let next = position_at(end, runs, skips, i);
         if !not_after(last, next) {
             return false;
         }
         last = next;
-        i += 1;
     }
     let run = last.run;
     run.bytes <= end.bytes
@@ -69,14 +58,11 @@ pub(crate) fn too_many(counts: &[u64], places: RowNumber) -> bool
     ensures { result ≡ ltb places.rows (sum counts.now) }
 {
     let mut left = places.rows as u64;
-    let mut i: usize = 0;
-    while i < counts.len() {
-        let n = counts[i];
-        if left < n {
+    for n in counts {
+        if left < *n {
             return true;
         }
-        left -= n;
-        i += 1;
+        left -= *n;
     }
     false
 }

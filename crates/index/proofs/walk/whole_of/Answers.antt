@@ -35,7 +35,7 @@ loop-place-preserved c =
     let step : Step c.args.input.now c.loop-place.place c.measure-a.result = let input = c.args.input.now in
     step_is input c.loop-place.place _ (below_all 256 input (λ i. (c.shared_slice_known-1.given i).fits)) c.measure-a.ensures in
     let ran-is : OneRun c.args.input.now c.loop-place.place c.in-Ok-Some.run' = rw (c.in-Ok-Some.is ∙ ap Ok (rw c.in-Ok-Some.is at c.in-Ok-Some.field-0-is)) at (step) in
-    surveyed-run c.loop-place.invariant (ran-is) c.more-total.ensures
+    surveyed-run c.loop-place.invariant (ran-is) c.more-rows.ensures
 
 pub returns-in-Err : goal.returns-in-Err
 returns-in-Err c =

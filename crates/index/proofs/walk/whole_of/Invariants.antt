@@ -5,7 +5,7 @@ use Rattle.index.proofs.Walks.{Surveyed}
 use Rattle.index.proofs.walk.whole_of.Given as goal
 
 abbrev pub invariant-loop-place : goal.invariant-loop-place
-invariant-loop-place l = Surveyed l.input l.place l.runs l.total
+invariant-loop-place l = Surveyed l.input l.place l.runs l.rows
 
 abbrev pub decreases-loop-place : goal.decreases-loop-place
 decreases-loop-place l = length l.input - l.place
