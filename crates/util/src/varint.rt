@@ -74,7 +74,7 @@ fn low_group(x: u64) -> u8
     (x % 128 + 128) as u8
 }
 
-// The shortest varint of x, written at a place: the place after it.
+// The shortest varint of x, written at a place: the place after it. The loop counts nothing: it ends with what is left of x.
 pub fn write(x: u64, out: &mut [u8], at: usize) -> usize
     requires { at + length (shortest x) ≤ length out.old }
     ensures { VarintWritten x out.old at out.new result }
