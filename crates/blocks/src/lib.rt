@@ -27,7 +27,8 @@ pub const EAGAIN: i32 = 11;
 
 const EIO: i32 = 5;
 
-// What the system answered to a read: how many bytes came, or -1 and its error.
+// What the system answered to a read: how many bytes came, or -1 and its error. No Result: `came`, `not_ready` and `one_more` (specs/) speak of
+// the two numbers.
 #[derive(Clone, Copy)]
 struct Answer {
     got: isize,

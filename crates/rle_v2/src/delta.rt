@@ -11,7 +11,7 @@ ghost use Rattle.rle_v2.specs.RunAt.{run_at, MeasuredAs, ReadAs};
 
 use crate::{header, refusal, rows};
 use format::{Answer, ByteOffset, Kind, Refusal, RowNumber, Run, TOP_BIT};
-use util::varint::Varint;
+use util::varint::{Varint, VarintError};
 use util::{packed, pattern, varint, width};
 
 // What the tests of a delta run found: the width of its magnitudes in bits, 0 where it has none; its rows; the bits of its two varints, the place
@@ -46,20 +46,20 @@ fn gone(number: u8, field: ByteOffset) -> Found
 }
 
 // The varint at a place, as `varint::read` has it. Most have one byte or two: these need no loop, and no call.
-fn varint_at(input: &[u8], at: ByteOffset) -> Varint
+fn varint_at(input: &[u8], at: ByteOffset) -> Result<Varint, VarintError>
     ensures { result ≡ varint_at input.now at.bytes }
 {
     let p = at.bytes;
     if input.len() <= p {
-        return Varint::Cut;
+        return Err(VarintError::Cut);
     }
     let low = input[p];
     let after = p + 1;
     if low < 128 {
-        return Varint::Value {
+        return Ok(Varint {
             bits: low as u64,
             next: after,
-        };
+        });
     }
     if input.len() <= after {
         return varint::read(input, p);
@@ -67,7 +67,7 @@ fn varint_at(input: &[u8], at: ByteOffset) -> Varint
     let high = input[after];
     if high < 128 {
         let bits = (low as u64) % 128 + 128 * (high as u64);
-        return Varint::Value { bits, next: p + 2 };
+        return Ok(Varint { bits, next: p + 2 });
     }
     varint::read(input, p)
 }
@@ -80,15 +80,15 @@ fn starts_at(input: &[u8], at: ByteOffset, rows: RowNumber) -> Found
     let p = at.bytes;
     let body = p + 2;
     match varint_at(input, ByteOffset { bytes: body }) {
-        Varint::Cut => gone(12, ByteOffset { bytes: body }),
-        Varint::TooLong => gone(5, ByteOffset { bytes: 0 }),
-        Varint::Value { bits: first, next } => match varint_at(input, ByteOffset { bytes: next }) {
-            Varint::Cut => gone(12, ByteOffset { bytes: next }),
-            Varint::TooLong => gone(5, ByteOffset { bytes: 0 }),
-            Varint::Value {
+        Err(VarintError::Cut) => gone(12, ByteOffset { bytes: body }),
+        Err(VarintError::TooLong) => gone(5, ByteOffset { bytes: 0 }),
+        Ok(Varint { bits: first, next }) => match varint_at(input, ByteOffset { bytes: next }) {
+            Err(VarintError::Cut) => gone(12, ByteOffset { bytes: next }),
+            Err(VarintError::TooLong) => gone(5, ByteOffset { bytes: 0 }),
+            Ok(Varint {
                 bits: base,
                 next: end,
-            } => Found {
+            }) => Found {
                 number: 0,
                 field: ByteOffset { bytes: 0 },
                 bits: 0, // no magnitudes

@@ -1,6 +1,6 @@
 -- Texts written one after the other are the joined text; the digits of a number, the characters of a row, and how many they are.
 -- Assumes nothing.
-use Rattle.format.proofs.Common.{◌≡◌, refl, sym, ap, ◌∙◌, ℕ, zero, suc, ◌+◌, ◌-◌, ◌/◌, ◌%◌, ◌^◌, ◌<◌, ◌≤◌, arith, dec_le, dec_lt, pow-suc}
+use Rattle.format.proofs.Common.{◌≡◌, refl, sym, ap, ◌∙◌, ℕ, zero, suc, ◌+◌, ◌/◌, ◌%◌, ◌^◌, ◌<◌, ◌≤◌, arith, dec_le, dec_lt, pow-suc}
 use Rattle.format.proofs.Common.{add-one, Bool, true, false, List, [], ◌∷◌, ◌++◌, append_assoc, append-nil, length, take, drop, set, get_or}
 use Rattle.format.proofs.Common.{length-append, length-take, drop_of_length-le, length-take-le, take_all, drop-drop, take-suc, append_snoc}
 use Rattle.format.proofs.Common.{ltb, ℤ, pos, negsuc, w64, SFits, to_z, of_z, to_z-of_z, lt-ltb, le-ltb, le-leb}

@@ -33,7 +33,7 @@ fn low_digit(x: u64) -> u8
     (48 + x % 10) as u8
 }
 
-// A number in decimal: the digits above its lowest, and then that.
+// A number in decimal: the digits above its lowest, and then that. By hand, since `Display` writes to what may fail, and this can't.
 pub fn put_decimal(x: u64, out: &mut [u8], at: usize) -> usize
     requires { at + length (decimal x) ≤ length out.old }
     ensures { TextWritten (decimal x) out.old at out.new result }
@@ -69,7 +69,7 @@ fn put_row(row: i64, out: &mut [u8], at: usize) -> usize
     put_decimal(size, out, next)
 }
 
-// The first n rows, with a space before each. With its space, a row takes 22 characters at most.
+// The first n rows (the clauses name n), with a space before each. With its space, a row takes 22 characters at most.
 pub fn put_rows(rows: &[i64], n: usize, out: &mut [u8], at: usize) -> usize
     requires { (n ≤ length rows.now) × (at + 22 * n ≤ length out.old) }
     ensures { TextWritten (rows_text (take n rows.now)) out.old at out.new result }

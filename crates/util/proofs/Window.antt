@@ -5,15 +5,13 @@ use Rattle.format.proofs.Common.{pow-zero, div-one, mod-eq_of_lt, div-lt_iff_lt-
 use Rattle.format.proofs.Common.{map-append, append_assoc, length, get_or, set, take, drop, length-append, length-drop, length-map}
 use Rattle.format.proofs.Common.{take-append-drop, ℤ, pos, take_at, take_all, drop_at, take-suc, drop-cons, set_at, take-add, drop-drop}
 use Rattle.format.proofs.Common.{take-append-le, drop-append-le, drop-append-add, length-take-le, pow-add, pow_pos, shr-shr, high}
-use Rattle.std.proofs.Common.{reverse, lt_of_not-le}
+use Rattle.std.proofs.Common.{lt_of_not-le}
 use native.Mathlib.Numerals.{towards_suc}
-use mathlib.Core.List.{reverse_aux, reverse-reverse}
-use lib.ListN.{length-reverse}
 use lib.Pow.{ones_split, ones_lt}
 use Rattle.format.specs.Digits.{AllBelow, number, digits, spread}
 use Rattle.format.specs.Fields.{bytes_for, pad_bits}
 use Rattle.format.specs.Rows.{as_i64}
-use Rattle.format.proofs.Digits.{spread-number, digits-add, length_digits, number-low, digits_number, getD-digits, pow-pow, length-spread, spread-append}
+use Rattle.format.proofs.Digits.{spread-number, digits-add, length_digits, number-low, getD-digits, pow-pow, length-spread, spread-append}
 use Rattle.format.proofs.Below.{below_all, below-take, below-drop}
 use Rattle.format.proofs.Widths.{IsWidth}
 use Rattle.util.proofs.BigEndian.{number-bits}

@@ -1,5 +1,5 @@
 -- Packed fields, as they are read out of bytes (FORMAT.md, "Packed blocks"). Assumes nothing.
-use Rattle.std.specs.Prelude.{◌≡◌, ℕ, ◌+◌, ◌*◌, ◌/◌, ◌%◌, ◌<◌, ◌≤◌, List, ◌++◌, map, length, take, drop, ℤ}
+use Rattle.std.specs.Prelude.{◌≡◌, ℕ, ◌+◌, ◌*◌, ◌<◌, ◌≤◌, List, ◌++◌, map, length, take, drop, ℤ}
 use Rattle.format.specs.Digits.{number, spread}
 use Rattle.format.specs.Fields.{bytes_for, block_bytes}
 use Rattle.format.specs.Rows.{as_i64}

@@ -179,7 +179,8 @@ fn eights(s: &[u8], w: usize, v: usize, n: usize, out: &mut [i64]) -> usize
     8 * turns
 }
 
-// The same, with a copy of the loop for each width of the table.
+// The same, with a copy of the loop for each width of the table. No const parameter: the last arm, whose width is no constant, would need a
+// second function beside it.
 fn eights_at(s: &[u8], w: usize, n: usize, out: &mut [i64]) -> usize
     requires width { Width w }
     requires room { Room w n s.now out.old }
@@ -237,7 +238,8 @@ fn few(s: &[u8], w: usize, n: usize, out: &mut [i64])
     }
 }
 
-// The n fields that s begins with, put into the first n places as rows with the same bits: the eights, and then the rest.
+// The n fields that s begins with, put into the first n places as rows with the same bits: the eights, and then the rest. A count beside the
+// slices, since the clauses name it and both may be longer.
 pub fn unpack(s: &[u8], w: usize, n: usize, out: &mut [i64])
     requires width { Width w }
     requires n_bound { (n ≤ 65536) × (n ≤ length out.old) × (bytes_for (n * w) ≤ length s.now) }

@@ -1,4 +1,4 @@
-use Rattle.std.proofs.Common.{drop, refl, arith, length-drop}
+use Rattle.std.proofs.Common.{drop, arith, length-drop}
 use Rattle.blocks.proofs.Lines.{line-le, newline-here, newline-later}
 use Rattle.blocks.proofs.line_end.Goals as goal
 

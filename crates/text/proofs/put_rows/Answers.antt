@@ -1,4 +1,4 @@
-use Rattle.format.proofs.Common.{to_z, of_z, w64, ◌≡◌, ◌+◌, ◌<◌, arith, SFits, get_or, pos, take, length, to_z-of_z, rules, length-take-le}
+use Rattle.format.proofs.Common.{to_z, of_z, w64, arith, SFits, get_or, pos, take, to_z-of_z, rules, length-take-le}
 use Rattle.text.specs.Decimal.{rows_text}
 use Rattle.text.proofs.Texts.{none_written, texts-join, row-length, rows_next}
 use Rattle.text.proofs.put_rows.Goals as goal

@@ -1,4 +1,4 @@
-use Rattle.format.proofs.Common.{◌≡◌, ◌*◌, ◌+◌, ◌<◌, sym, arith, get_or}
+use Rattle.format.proofs.Common.{◌*◌, ◌+◌, ◌<◌, arith, get_or}
 use Rattle.text.specs.Hexadecimal.{hex_value}
 use Rattle.text.proofs.HexDigits.{ends-line, ends-high, ends_low, begun-next}
 use Rattle.text.proofs.hexadecimal.bytes.Goals as goal

@@ -1,4 +1,4 @@
-use Rattle.format.proofs.Common.{◌≡◌, refl, sym, ◌∙◌, ◌+◌, ◌-◌, ◌^◌, ◌<◌, arith, get_or, take, drop, get_or-take, get_or-drop}
+use Rattle.format.proofs.Common.{◌≡◌, refl, ◌∙◌, ◌+◌, ◌-◌, ◌<◌, arith, get_or, drop, get_or-take, get_or-drop}
 use Rattle.format.specs.Digits.{number}
 use Rattle.util.proofs.BigEndian.{number-room, number_more}
 use Rattle.util.proofs.big_endian.bytes.Goals as goal

@@ -1,4 +1,4 @@
-use Rattle.format.proofs.Common.{◌≡◌, refl, ap, ◌∙◌, suc, ◌+◌, ◌-◌, ◌++◌, [], arith, length-set, take}
+use Rattle.format.proofs.Common.{◌≡◌, suc, ◌+◌, ◌-◌, arith, length-set}
 use Rattle.format.specs.Digits.{digits}
 use Rattle.util.proofs.Grow.{grow, kept, filled}
 use Rattle.util.proofs.big_endian.write.Goals as goal

@@ -1,4 +1,4 @@
-use Rattle.format.proofs.Common.{◌≡◌, ◌+◌, ◌*◌, ◌≤◌, mul-le-mul_right, arith, length}
+use Rattle.format.proofs.Common.{◌+◌, ◌*◌, ◌≤◌, mul-le-mul_right, arith, length}
 use Rattle.util.proofs.packed.eights.Goals as goal
 use Rattle.util.proofs.packed.eights.Goals.{else-v-lt8-via-then-v-lt8+else-s-b, else-v-lt8-via-else-v-lt8}
 

@@ -1,4 +1,4 @@
-use Rattle.format.proofs.Common.{◌≡◌, sym, ap, ◌∙◌, ◌+◌, ◌-◌, ◌*◌, ◌≤◌, mul-le-mul_right, arith, length, to_z-of_z, to_z, of_z, w64, sfits_of}
+use Rattle.format.proofs.Common.{◌≡◌, sym, ap, ◌∙◌, ◌+◌, ◌-◌, ◌*◌, arith, length, to_z-of_z, to_z, of_z, w64, sfits_of}
 use Rattle.format.specs.Rows.{as_i64}
 use Rattle.format.proofs.Below.{below_all}
 use Rattle.util.specs.Packed.{field_at}

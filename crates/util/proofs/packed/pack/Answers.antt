@@ -1,5 +1,5 @@
-use Rattle.format.proofs.Common.{◌≡◌, refl, sym, ap, ◌∙◌, append-nil, ℕ, ◌+◌, ◌*◌, ◌/◌, ◌^◌, ◌≤◌, ◌<◌, add-zero, arith, length}
-use Rattle.format.proofs.Common.{get_or, take, take-append-drop, take_all, length-take-le, pow_pos}
+use Rattle.format.proofs.Common.{◌≡◌, refl, sym, ap, append-nil, ℕ, ◌+◌, ◌*◌, ◌/◌, ◌^◌, ◌≤◌, ◌<◌, add-zero, arith, length}
+use Rattle.format.proofs.Common.{take, take-append-drop, take_all, length-take-le, pow_pos}
 use Rattle.format.specs.Digits.{number, digits}
 use Rattle.format.proofs.Below.{below-getD}
 use Rattle.util.proofs.Packing.{joined-fits, full-fits, holds-joined, holds-full, full-room, whole}

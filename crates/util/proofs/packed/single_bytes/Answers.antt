@@ -1,4 +1,4 @@
-use Rattle.format.proofs.Common.{◌≡◌, sym, ap, ◌∙◌, ℕ, ◌+◌, ◌*◌, ◌<◌, arith, length, get_or, to_z-of_z, to_z, of_z, w64, sfits_of, pos}
+use Rattle.format.proofs.Common.{◌≡◌, sym, ap, ◌∙◌, ℕ, ◌<◌, arith, length, get_or, to_z-of_z, to_z, of_z, w64, sfits_of}
 use Rattle.format.specs.Rows.{as_i64}
 use Rattle.format.proofs.Below.{below_all}
 use Rattle.format.proofs.Patterns.{as-low}

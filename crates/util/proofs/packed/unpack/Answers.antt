@@ -2,7 +2,7 @@ use Rattle.format.proofs.Common.{◌≡◌, ap, ◌∙◌, ◌<◌, arith, lengt
 use Rattle.format.specs.Rows.{as_i64}
 use Rattle.format.proofs.Below.{below_all}
 use Rattle.util.specs.Packed.{field_at}
-use Rattle.util.proofs.Window.{field-there, laid_more, laid-all}
+use Rattle.util.proofs.Window.{laid_more, laid-all}
 use Rattle.util.proofs.packed.unpack.Goals as goal
 
 pub returns-then-s-lt8 : goal.returns-then-s-lt8
