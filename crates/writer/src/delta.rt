@@ -18,7 +18,7 @@ fn base_delta(rows: &[i64]) -> u64
     if rows.len() < 2 {
         return 0;
     }
-    pattern::sub(values::pattern_of(rows, 1), values::pattern_of(rows, 0))
+    values::pattern_of(rows, 1).wrapping_sub(values::pattern_of(rows, 0))
 }
 
 // The first row as it is stored.
