@@ -5,12 +5,7 @@ ghost use Rattle.format.specs.PatchedWriting.{patches_above, entries_from, least
 ghost use Rattle.writer.specs.PatchedBase.{Listed};
 
 use crate::values;
-use format::{Kind, RowNumber};
-
-// Room for a list.
-pub(crate) fn scratch() -> [u64; Kind::MAX_PATCHES] {
-    [0u64; Kind::MAX_PATCHES]
-}
+use format::RowNumber;
 
 // An entry: the patch is the low patch-width bits, and the gap is all bits above.
 fn entry(gap: usize, patch: u64, pw: usize) -> u64

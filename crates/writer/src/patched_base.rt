@@ -157,7 +157,7 @@ fn write_over(rows: &[i64], base: i64, width: u8, vals: &mut [u64], out: &mut [u
     ensures { PatchedWritten rows.now base width out.old out.new result }
 {
     let base_bits = pattern::to_u64(base);
-    let mut list = patch_list::scratch();
+    let mut list = [0u64; Kind::MAX_PATCHES];
     match header_of(rows, base_bits, width as usize, vals, &mut list) {
         Found::None => head::refused(10),
         Found::Header(h) => lay(h, base_bits, vals, &list, out),
@@ -174,9 +174,9 @@ pub(crate) fn write(rows: &[i64], base: i64, width: u8, out: &mut [u8]) -> Answe
     }
     // a short run clears a small buffer, and not one for any run
     if rows.len() <= values::FEW {
-        let mut few = values::few();
+        let mut few = [0u64; values::FEW];
         return write_over(rows, base, width, &mut few, out);
     }
-    let mut all = values::scratch();
+    let mut all = [0u64; Kind::MAX_ROWS];
     write_over(rows, base, width, &mut all, out)
 }

@@ -6,21 +6,11 @@ ghost use Rattle.format.specs.Writing.{step_to, steps_of, every};
 ghost use Rattle.format.specs.PatchedWriting as PatchedWriting;
 ghost use Rattle.writer.specs.PatchedBase.{Largest, BitLength};
 
-use format::{Kind, RowNumber};
+use format::RowNumber;
 use util::{packed, pattern};
-
-// Room for a run's values.
-pub(crate) fn scratch() -> [u64; Kind::MAX_ROWS] {
-    [0u64; Kind::MAX_ROWS]
-}
 
 // The most rows of a short run. A buffer for any run is 4 KB, and clearing it costs more than writing a few rows.
 pub(crate) const FEW: usize = 16;
-
-// Room for a short run's values.
-pub(crate) fn few() -> [u64; FEW] {
-    [0u64; FEW]
-}
 
 // The 64 bits of a row.
 fn pattern(row: i64) -> u64
