@@ -4,6 +4,7 @@ use Rattle.format.proofs.Common.{◌&&◌, and-true, and-false, List, [], ◌∷
 use Rattle.format.proofs.Common.{List·getD-map, slice, slice-cons, slice_empty, get_or-drop, pow_pos, lt-ltb, le-ltb, eq-eqb, ne_eqb}
 use Rattle.format.proofs.Common.{negsuc, w64, of_z, to_z, SFits, to_z-of_z}
 use Rattle.std.specs.Prelude.{max}
+use Rattle.std.proofs.Math.Seq.{take-length}
 use Rattle.format.specs.Rows.{as_u64}
 use Rattle.format.specs.Writing.{minus, steps_of, base_delta, every}
 use Rattle.writer.specs.PatchedBase.{Largest}
@@ -50,11 +51,14 @@ module _ (l : List ℕ) (n most i : ℕ) (m : Most l n most i) where
       by (yes g) = let e : max most (get_or l i 0) ≡ get_or l i 0 = omega arith in rw e (most-next h k (omega arith))
       by (no g) = let e : max most (get_or l i 0) ≡ most = omega arith in rw e (most-same h k (omega arith))
 
-  pub most-all : i ≤ n → n ≤ i → Largest (take n l) most
+  most-all : i ≤ n → n ≤ i → Largest (take n l) most
   unfolding every
   most-all h k =
       let e : i ≡ n = omega arith in
       record { bounds = λ b p. m.bounds b p ∙ rw (e, slice_empty n l) (and-true (ltb most b)) }
+
+pub most-of : (l : List ℕ) (most i : ℕ) → Most l (length l) most i → i ≤ length l → length l ≤ i → Largest l most
+most-of l most i m h k = rw take-length at (most-all l (length l) most i m h k)
 
 -- ---- bits that a shift leaves
 

@@ -101,13 +101,12 @@ pub(crate) fn keep_low(vals: &mut [u64], rows: RowNumber, bits: usize)
     }
 }
 
-// The largest of the first n values, or 0 if there is none.
-pub(crate) fn largest(vals: &[u64], n: usize) -> u64
-    requires { n ≤ length vals.now }
-    ensures { Largest (take n vals.now) result }
+// The largest of the values, or 0 if there is none.
+pub(crate) fn largest(vals: &[u64]) -> u64
+    ensures { Largest vals.now result }
 {
     let mut most: u64 = 0;
-    for value in &vals[..n] {
+    for value in vals {
         most = most.max(*value);
     }
     most
