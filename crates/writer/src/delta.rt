@@ -4,7 +4,7 @@ ghost use Rattle.format.specs.Fields.{zigzagged, shortest};
 ghost use Rattle.format.specs.Kept.{is_kept};
 ghost use Rattle.format.specs.Rows.{as_u64};
 ghost use Rattle.format.specs.Writing.{first_of, base_delta, Written};
-ghost use Rattle.writer.specs.Sizes.{Sized, Lays};
+ghost use Rattle.writer.specs.Sizes.{Sized, Measured, Lays};
 ghost use Rattle.writer.specs.Start.{start, Started, StartSize};
 
 use crate::{head, values};
@@ -18,7 +18,7 @@ fn base_delta(rows: &[i64]) -> u64
     if rows.len() < 2 {
         return 0;
     }
-    pattern::sub(values::pattern_of(rows, 1), values::pattern_of(rows, 0))
+    values::pattern_of(rows, 1).wrapping_sub(values::pattern_of(rows, 0))
 }
 
 // The first row as it is stored.
@@ -58,27 +58,25 @@ fn write_start(code: u8, rows: RowNumber, first: u64, base: u64, out: &mut [u8])
     ByteOffset { bytes }
 }
 
-// The bytes of a fixed delta, or 0 if the steps differ.
-pub(crate) fn size_fixed(rows: &[i64], signed: bool, code: u8) -> ByteOffset
+// The bytes of a fixed delta, if the steps are equal.
+pub(crate) fn size_fixed(rows: &[i64], signed: bool, code: u8) -> Option<ByteOffset>
     requires { (1 ≤ length rows.now) × (length rows.now ≤ 512) × (code ≡ 0) }
-    ensures { Sized signed Form.FixedDelta code (map as_u64 rows.now) result.bytes }
+    ensures { Measured signed Form.FixedDelta code (map as_u64 rows.now) result }
 {
     if !values::are_steps(rows, base_delta(rows)) {
-        return ByteOffset { bytes: 0 };
+        return None;
     }
-    start_size(rows, signed)
+    Some(start_size(rows, signed))
 }
 
 pub(crate) fn write_fixed(rows: &[i64], signed: bool, code: u8, out: &mut [u8]) -> Answer
     requires { (1 ≤ length rows.now) × (length rows.now ≤ 512) × (code ≡ 0) }
     ensures { Written rows.now signed Form.FixedDelta code out.old out.new result }
 {
-    let bytes = size_fixed(rows, signed, code);
-    let size = bytes.bytes;
-    if size == 0 {
+    let Some(bytes) = size_fixed(rows, signed, code) else {
         return head::refused(10);
-    }
-    if out.len() < size {
+    };
+    if out.len() < bytes.bytes {
         return head::refused(8);
     }
     let n = RowNumber { rows: rows.len() };
@@ -88,20 +86,20 @@ pub(crate) fn write_fixed(rows: &[i64], signed: bool, code: u8, out: &mut [u8]) 
     Ok(Some(Run::new(Kind::Delta, 0, n, bytes)))
 }
 
-// The bytes of a packed delta, or 0 if a magnitude does not fit the width.
-pub(crate) fn size_packed(rows: &[i64], signed: bool, code: u8) -> ByteOffset
+// The bytes of a packed delta, if every magnitude fits the width.
+pub(crate) fn size_packed(rows: &[i64], signed: bool, code: u8) -> Option<ByteOffset>
     requires in_bounds { (2 ≤ length rows.now) × (length rows.now ≤ 512) × (1 ≤ code) × (code ≤ 31) }
     requires code_value { is_kept code ≡ true }
-    ensures { Sized signed Form.PackedDelta code (map as_u64 rows.now) result.bytes }
+    ensures { Measured signed Form.PackedDelta code (map as_u64 rows.now) result }
 {
     let bits = width::bits_of(code);
     let falling = TOP_BIT <= base_delta(rows);
     if !values::all_steps_fit(&rows[1..], falling, bits) {
-        return ByteOffset { bytes: 0 };
+        return None;
     }
     let start = start_size(rows, signed).bytes;
     let bytes = start + packed::block_size(bits, rows.len() - 2);
-    ByteOffset { bytes }
+    Some(ByteOffset { bytes })
 }
 
 // Writes a packed delta, whose bytes are known. The caller's buffer holds its magnitudes on the way.
@@ -135,22 +133,20 @@ pub(crate) fn write_packed(rows: &[i64], signed: bool, code: u8, out: &mut [u8])
     requires code_value { is_kept code ≡ true }
     ensures { Written rows.now signed Form.PackedDelta code out.old out.new result }
 {
-    let bytes = size_packed(rows, signed, code);
-    let size = bytes.bytes;
-    if size == 0 {
+    let Some(bytes) = size_packed(rows, signed, code) else {
         return head::refused(11);
-    }
-    if out.len() < size {
+    };
+    if out.len() < bytes.bytes {
         return head::refused(8);
     }
     let n = RowNumber { rows: rows.len() };
     // a short run clears a small buffer, and not one for any run
     if rows.len() <= values::FEW {
-        let mut few = values::few();
+        let mut few = [0u64; values::FEW];
         write_packed_over(rows, signed, code, bytes, &mut few, out);
         return head::answer(Kind::Delta, code, n, bytes);
     }
-    let mut all = values::scratch();
+    let mut all = [0u64; Kind::MAX_ROWS];
     write_packed_over(rows, signed, code, bytes, &mut all, out);
     head::answer(Kind::Delta, code, n, bytes)
 }

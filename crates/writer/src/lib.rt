@@ -6,7 +6,7 @@ ghost use Rattle.format.specs.Kept.{NarrowestKept};
 ghost use Rattle.format.specs.Rows.{as_u64};
 ghost use Rattle.format.specs.Writing.{writing, Written};
 ghost use Rattle.format.specs.PatchedWriting.{PatchedWritten};
-ghost use Rattle.writer.specs.Sizes.{size_in};
+ghost use Rattle.writer.specs.Sizes.{size_in, bytes_of};
 
 use format::{Answer, ByteOffset, Form, Kind, RowNumber};
 
@@ -38,16 +38,16 @@ pub fn write_run(rows: &[i64], signed: bool, form: Form, width: u8, out: &mut [u
     }
 }
 
-// The bytes that `write_run` would write with room for any run, or 0 if it would refuse. Nothing is written.
-pub fn size_of_run(rows: &[i64], signed: bool, form: Form, width: u8) -> ByteOffset
-    ensures { result.bytes ≡ size_in (writing signed form width (map as_u64 rows.now) 4356) }
+// The bytes of a run, if its form and width allow these rows.
+fn measure(rows: &[i64], signed: bool, form: Form, width: u8) -> Option<ByteOffset>
+    ensures { bytes_of result ≡ size_in (writing signed form width (map as_u64 rows.now) 4356) }
 {
     let n = RowNumber { rows: rows.len() };
     if !allowed::count(form, n) {
-        return ByteOffset { bytes: 0 };
+        return None;
     }
     if !allowed::width(form, width) {
-        return ByteOffset { bytes: 0 };
+        return None;
     }
     match form {
         Form::ShortRepeat => short_repeat::size(rows, signed, width),
@@ -55,6 +55,13 @@ pub fn size_of_run(rows: &[i64], signed: bool, form: Form, width: u8) -> ByteOff
         Form::FixedDelta => delta::size_fixed(rows, signed, width),
         Form::PackedDelta => delta::size_packed(rows, signed, width),
     }
+}
+
+// The bytes that `write_run` would write with room for any run, or 0 if it would refuse. Nothing is written.
+pub fn size_of_run(rows: &[i64], signed: bool, form: Form, width: u8) -> ByteOffset
+    ensures { result.bytes ≡ size_in (writing signed form width (map as_u64 rows.now) 4356) }
+{
+    measure(rows, signed, form, width).unwrap_or(ByteOffset { bytes: 0 })
 }
 
 // Writes one patched run: every row as its difference from the base. The low bits of the difference, as many as the width says, are the

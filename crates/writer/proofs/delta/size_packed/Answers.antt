@@ -9,6 +9,7 @@ use Rattle.format.proofs.Fields.{block-small}
 use Rattle.format.proofs.Widths.{IsWidth}
 use Rattle.util.proofs.Grow.{rest-is}
 use Rattle.writer.specs.Start.{start}
+use Rattle.writer.proofs.Sizes.{none}
 use Rattle.writer.proofs.Pieces.{width-known}
 use Rattle.writer.proofs.PackedForms.{Packed, delta-packed, delta-steps, too_wide, measured}
 use Rattle.writer.proofs.FixedForm.{start-length}
@@ -27,10 +28,12 @@ returns c =
     let wide : IsWidth c.bits_of-bits.result = width-known c.args.code c.bits_of-bits.ensures in
     let few : c.start_size-start.result.bytes + c.block_size.result ≤ 4356 = omega (arith, c.start_size-start.ensures.few, c.block_size.ensures, block-small (n - 2) c.bits_of-bits.result (omega arith) wide.le) in
     let a = c.args in
-    let z = c.start_size-start.ensures in
-    measured (known) _ (tested) c.if-not-all_steps_fit.false
-    (ap₂ (λ (x y : ℕ). x + y) (z.bytes ∙ sym (start-length a.code (n) (first_of a.signed (rs)) (zigzagged (base_delta (rs)))))
-    c.block_size.ensures) (omega (arith, z.bytes)) (few)
+    let z = c.start_size-start.ensures in (
+      measured (known) _ (tested) c.if-not-all_steps_fit.false
+          (ap₂ (λ (x y : ℕ). x + y) (z.bytes ∙ sym (start-length a.code (n) (first_of a.signed (rs)) (zigzagged (base_delta (rs)))))
+          c.block_size.ensures) (omega (arith, z.bytes)) (few),
+      omega (arith, z.bytes),
+    )
 
 pub all_steps_fit-requires : goal.all_steps_fit-requires
 all_steps_fit-requires c = (width-known c.args.code c.bits_of-bits.ensures).le
@@ -45,7 +48,7 @@ returns-then-not-all_steps_fit c =
     let tested : c.all_steps_fit.result ≡ every (λ x. ltb x (2 ^ c.bits_of-bits.result)) (values_of c.args.signed PackedDelta (rs)) = (rw (rest-is c.args.rows.now 1) at c.all_steps_fit.ensures)
     ∙ ap (λ (l : List ℕ). every (λ x. ltb x (2 ^ c.bits_of-bits.result)) l)
     (delta-steps c.args.rows.now c.args.signed (omega arith) _ c.base_delta-falling.ensures) in
-    too_wide (known) _ (tested) c.if-not-all_steps_fit.true
+    none _ _ _ _ (too_wide (known) _ (tested) c.if-not-all_steps_fit.true)
 
 pub block_size-requires : goal.block_size-requires
 block_size-requires c =

@@ -5,6 +5,7 @@ use Rattle.format.specs.declared.Kind.TheVariants as kind
 use Rattle.format.specs.Runs.{head}
 use Rattle.format.specs.Writing.{values_of}
 use Rattle.format.proofs.Fields.{block-small}
+use Rattle.writer.proofs.Sizes.{none}
 use Rattle.writer.proofs.Pieces.{width-known}
 use Rattle.writer.proofs.PackedForms.{Packed, direct-packed, too_wide, measured}
 use Rattle.writer.proofs.direct.size.Goals as goal
@@ -15,7 +16,7 @@ returns-then-not-all_stored_fit c =
     let known : Packed c.args.rows.now c.args.signed Direct kind.Direct c.args.code
     (head 1 c.args.code (length c.args.rows.now)) (length c.args.rows.now) c.bits_of-bits.result = direct-packed c.args.rows.now c.args.signed c.args.code (omega arith) (omega arith) c.requires.code_value
     c.bits_of-bits.ensures in
-    too_wide (known) _ c.all_stored_fit.ensures c.if-not-all_stored_fit.true
+    none _ _ _ _ (too_wide (known) _ c.all_stored_fit.ensures c.if-not-all_stored_fit.true)
 
 pub overflow_add-bytes : goal.overflow_add-bytes
 overflow_add-bytes c =
@@ -31,14 +32,16 @@ unfolding values_of
 returns c =
     let known : Packed c.args.rows.now c.args.signed Direct kind.Direct c.args.code
     (head 1 c.args.code (length c.args.rows.now)) (length c.args.rows.now) c.bits_of-bits.result = direct-packed c.args.rows.now c.args.signed c.args.code (omega arith) (omega arith) c.requires.code_value
-    c.bits_of-bits.ensures in
-    measured (known) _ c.all_stored_fit.ensures c.if-not-all_stored_fit.false (ap (λ (x : ℕ). 2 + x) c.block_size-bytes.ensures) (omega arith)
-    (omega (
-      arith,
-      c.block_size-bytes.ensures,
-      block-small (length c.args.rows.now) c.bits_of-bits.result (omega arith)
-          (width-known c.args.code c.bits_of-bits.ensures).le,
-    ))
+    c.bits_of-bits.ensures in (
+      measured (known) _ c.all_stored_fit.ensures c.if-not-all_stored_fit.false (ap (λ (x : ℕ). 2 + x) c.block_size-bytes.ensures) (omega arith)
+          (omega (
+            arith,
+            c.block_size-bytes.ensures,
+            block-small (length c.args.rows.now) c.bits_of-bits.result (omega arith)
+                (width-known c.args.code c.bits_of-bits.ensures).le,
+          )),
+      omega arith,
+    )
 
 pub all_stored_fit-requires : goal.all_stored_fit-requires
 all_stored_fit-requires c = (width-known c.args.code c.bits_of-bits.ensures).le

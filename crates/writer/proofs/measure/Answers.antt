@@ -2,8 +2,8 @@
 use Rattle.format.proofs.Common.{sym, ◌∙◌, map, length, length-map}
 use Rattle.format.specs.Rows.{as_u64}
 use Rattle.writer.proofs.Pieces.{Allowed, allowed, short-allowed, direct-allowed, fixed-allowed, packed-allowed}
-use Rattle.writer.proofs.Sizes.{no-count, no-width, for-form, sized}
-use Rattle.writer.proofs.size_of_run.Goals as goal
+use Rattle.writer.proofs.Sizes.{no-count, no-width, measured}
+use Rattle.writer.proofs.measure.Goals as goal
 
 pub returns-then-not-width : goal.returns-then-not-width
 returns-then-not-width c =
@@ -41,23 +41,23 @@ size_packed-requires c =
 pub returns-in-ShortRepeat : goal.returns-in-ShortRepeat
 returns-in-ShortRepeat c =
     let passed : Allowed c.args.form (length c.args.rows.now) c.args.width = allowed c.count.ensures c.if-not-count.false c.width.ensures c.if-not-width.false in
-    sized c.args.signed c.args.form c.args.width (map as_u64 c.args.rows.now)
-    (rw (length-map c.args.rows.now as_u64) (passed)) (for-form c.in-ShortRepeat.is c.size.ensures)
+    measured c.args.signed c.args.form c.args.width (map as_u64 c.args.rows.now)
+    (rw (length-map c.args.rows.now as_u64) (passed)) c.size.result (rw c.in-ShortRepeat.is c.size.ensures)
 
 pub returns-in-Direct : goal.returns-in-Direct
 returns-in-Direct c =
     let passed : Allowed c.args.form (length c.args.rows.now) c.args.width = allowed c.count.ensures c.if-not-count.false c.width.ensures c.if-not-width.false in
-    sized c.args.signed c.args.form c.args.width (map as_u64 c.args.rows.now)
-    (rw (length-map c.args.rows.now as_u64) (passed)) (for-form c.in-Direct.is c.size-in-Direct.ensures)
+    measured c.args.signed c.args.form c.args.width (map as_u64 c.args.rows.now)
+    (rw (length-map c.args.rows.now as_u64) (passed)) c.size-in-Direct.result (rw c.in-Direct.is c.size-in-Direct.ensures)
 
 pub returns-in-FixedDelta : goal.returns-in-FixedDelta
 returns-in-FixedDelta c =
     let passed : Allowed c.args.form (length c.args.rows.now) c.args.width = allowed c.count.ensures c.if-not-count.false c.width.ensures c.if-not-width.false in
-    sized c.args.signed c.args.form c.args.width (map as_u64 c.args.rows.now)
-    (rw (length-map c.args.rows.now as_u64) (passed)) (for-form c.in-FixedDelta.is c.size_fixed.ensures)
+    measured c.args.signed c.args.form c.args.width (map as_u64 c.args.rows.now)
+    (rw (length-map c.args.rows.now as_u64) (passed)) c.size_fixed.result (rw c.in-FixedDelta.is c.size_fixed.ensures)
 
 pub returns-in-PackedDelta : goal.returns-in-PackedDelta
 returns-in-PackedDelta c =
     let passed : Allowed c.args.form (length c.args.rows.now) c.args.width = allowed c.count.ensures c.if-not-count.false c.width.ensures c.if-not-width.false in
-    sized c.args.signed c.args.form c.args.width (map as_u64 c.args.rows.now)
-    (rw (length-map c.args.rows.now as_u64) (passed)) (for-form c.in-PackedDelta.is c.size_packed.ensures)
+    measured c.args.signed c.args.form c.args.width (map as_u64 c.args.rows.now)
+    (rw (length-map c.args.rows.now as_u64) (passed)) c.size_packed.result (rw c.in-PackedDelta.is c.size_packed.ensures)
