@@ -32,8 +32,8 @@ returns c =
     let known : Fixed c.args.rows.now c.args.signed c.args.code = fixed-known c.args.rows.now c.args.signed c.args.code (omega arith) (omega arith) (omega arith) in
     let a = c.args in
     let m = rw c.in-Some.is at c.size_fixed.ensures in
-    opened (known) m.0 m.1 a.out.now c.write_start.new.out c.run.result
-    c.if-out-bytes.false c.run.ensures
+    opened (known) m.0 m.1 a.out.now c.write_start.new.out (Ok (Some c.new.result))
+    c.if-out-bytes.false (ap (λ r. Ok (Some r)) c.new.ensures)
     (started 0 (length a.rows.now) c.first_of-first.ensures c.base_of-base.ensures c.write_start.ensures).places
 
 pub returns-in_default : goal.returns-in_default

@@ -25,8 +25,8 @@ returns c =
     let v : c.stored-value.result ≡ first_of a.signed (map as_u64 a.rows.now) =
     c.stored-value.ensures ∙ ap (λ (x : ℕ). Writing.stored a.signed x) c.pattern_of.ensures in
     let m = rw c.in-Some.is at c.size.ensures in
-    repeated (known) m.0 m.1 a.out.now c.write_head.new.out c.write.new.out c.run.result c.if-out-bytes.false
-    c.run.ensures c.write_head.ensures (rw v at c.write.ensures)
+    repeated (known) m.0 m.1 a.out.now c.write_head.new.out c.write.new.out (Ok (Some c.new.result)) c.if-out-bytes.false
+    (ap (λ r. Ok (Some r)) c.new.ensures) c.write_head.ensures (rw v at c.write.ensures)
 
 pub returns-then-out-bytes : goal.returns-then-out-bytes
 returns-then-out-bytes c =
