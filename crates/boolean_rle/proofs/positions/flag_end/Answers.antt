@@ -1,5 +1,6 @@
 -- n flags are whole bytes, and then some bits of one that has to be there: it is if its run is. Assumes nothing.
-use mathlib.Core.Path.{sym, ◌∙◌}
+use mathlib.Core.Path.{◌≡◌, sym, ◌∙◌}
+use Prim.Native.Nat.{◌+◌, ◌%◌}
 use native.Mathlib.Omega.{arith}
 use Rattle.std.proofs.lemmas.Result.{err_from_is_err_and}
 use Rattle.format.proofs.Below.{below_all}
@@ -24,9 +25,11 @@ returns-in_ok-run_at c =
 
 pub returns-in_err-run_at : goal.returns-in_err-run_at
 returns-in_err-run_at c =
+    let bits = (c.args.from.bits % 8 + c.args.n % 8) % 8 in
+    let some : bits ≡ 0 → ⊥ = λ e. omega (arith, e) in
     let s = c.args.input.now in
     let p = err_from_is_err_and c.from_residual-in_err-run_at.result c.from_residual-in_err-run_at.ensures.1 in
     rw (p.1, p.2)
-    (sym (flags-missing s c.args.from.run.bytes _ _ (sym c.byte_end.ensures ∙ c.in_ok-end.was) _ _
-    (omega arith) (omega arith) (below_all 256 s (λ i. (c.shared_slice_known-1.given i).fits)) _ (c.if-bits-ne0.true)
+    (sym (flags-missing s c.args.from.run.bytes _ _ (sym c.byte_end.ensures ∙ c.in_ok-end.was) _ bits
+    (omega arith) (omega arith) (below_all 256 s (λ i. (c.shared_slice_known-1.given i).fits)) _ some
     (sym c.run_at.ensures ∙ c.in_err-run_at.was)))
