@@ -1,14 +1,6 @@
 // The bytes that are to be written, made as they are asked for: the bytes themselves, or eight flags packed into each.
 ghost use Rattle.std.specs.Prelude.{◌≡◌, ◌+◌, ◌*◌, ◌<◌, ◌≤◌, length, drop, get_or};
-ghost use Rattle.format.specs.Fields.{bytes_for};
 ghost use Rattle.byte_writer.specs.Flags as Flags;
-
-// How many bytes hold n flags.
-fn bytes_for(n: usize) -> usize
-    ensures { result ≡ bytes_for n }
-{
-    if n % 8 == 0 { n / 8 } else { n / 8 + 1 }
-}
 
 // A flag other than 0 is true.
 fn bit(flag: u8) -> u8
@@ -31,11 +23,9 @@ fn last_byte(flags: &[u8], at: usize) -> u8
 {
     let mut byte: u8 = 0;
     let mut weight: u8 = 128;
-    let mut i = at;
-    while i < flags.len() {
-        byte += weighed(flags[i], weight);
-        weight = weight / 2;
-        i += 1;
+    for &flag in &flags[at..] {
+        byte += weighed(flag, weight);
+        weight /= 2;
     }
     byte
 }
@@ -72,7 +62,7 @@ fn packed_byte(flags: &[u8], at: usize) -> u8
 pub(crate) fn count(s: &[u8], packed: bool) -> usize
     ensures { result ≡ length (Flags.source packed s.now) }
 {
-    if packed { bytes_for(s.len()) } else { s.len() }
+    if packed { s.len().div_ceil(8) } else { s.len() }
 }
 
 // Byte i.

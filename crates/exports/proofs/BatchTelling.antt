@@ -8,12 +8,9 @@ use borrow.Author.Tests.{le-leb, lt-leb}
 use lib.IntN.{ℤ}
 use Rattle.batches.specs.declared.Batch.{Batch}
 use Rattle.batches.specs.declared.Batch.TheVariants as row
-use Rattle.boolean_rle.specs.declared.bytes.ByteBatch.{ByteBatch}
-use Rattle.boolean_rle.specs.declared.bytes.ByteBatch.TheVariants as byte
-use Rattle.boolean_rle.specs.declared.flags.FlagBatch.{FlagBatch}
-use Rattle.boolean_rle.specs.declared.flags.FlagBatch.TheVariants as flag
-use Rattle.present.specs.declared.answer.Spread.{Spread}
-use Rattle.present.specs.declared.answer.Spread.TheVariants as spread
+use Rattle.std.specs.Prelude.{Ok, Err}
+use Rattle.boolean_rle.specs.Batches.{ByteBatch, FlagBatch}
+use Rattle.present.specs.Present.{Spread}
 use Rattle.labels.specs.declared.LabelColumn.{LabelColumn}
 use Rattle.labels.specs.declared.LabelColumn.TheVariants as column
 use Rattle.labels.specs.Column.{LabelPlaces, LabelledAll}
@@ -38,18 +35,18 @@ rows_long (row.Refused f) = refl
 
 pub flags_long : (b : FlagBatch) → length (flags_words b) ≡ flags_word_count
 unfolding flags_words
-flags_long (flag.Read b) = refl
-flags_long (flag.Refused f) = refl
+flags_long (Ok b) = refl
+flags_long (Err f) = refl
 
 pub bytes-long : (b : ByteBatch) → length (bytes_words b) ≡ bytes_word_count
 unfolding bytes_words
-bytes-long (byte.Read b) = refl
-bytes-long (byte.Refused f) = refl
+bytes-long (Ok b) = refl
+bytes-long (Err f) = refl
 
 pub spread-long : (s : Spread) → length (spread_words s) ≡ spread_word_count
 unfolding spread_words
-spread-long (spread.Rows n) = refl
-spread-long (spread.Refused f) = refl
+spread-long (Ok n) = refl
+spread-long (Err f) = refl
 
 pub labels-long : (l : LabelColumn) → length (labels_words l) ≡ labels_word_count
 unfolding labels_words

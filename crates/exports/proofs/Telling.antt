@@ -18,8 +18,8 @@ use Rattle.exports.specs.Patched.{PatchedToldDetermined}
 use Rattle.convert.specs.declared.Converted.{Converted}
 use Rattle.convert.specs.declared.Converted.TheVariants as convert
 use Rattle.exports.specs.Converting.{convert_words, convert_word_count, ConvertToldDetermined}
-use Rattle.boolean_rle.specs.declared.count.Count.{Count}
-use Rattle.boolean_rle.specs.declared.count.Count.TheVariants as count
+use Rattle.std.specs.Prelude.{Ok, Err}
+use Rattle.boolean_rle.specs.Ones.{Count}
 use Rattle.exports.specs.Counts.{count_words, count_word_count, CountToldDetermined}
 use Rattle.std.specs.Prelude.{Ok, Err}
 use Rattle.salvage.specs.Salvage.{Outcome}
@@ -76,8 +76,8 @@ patched-told-determined rows base w out out' out'' words words' words'' r r' p q
 
 pub count_long : (c : Count) → length (count_words c) ≡ count_word_count
 unfolding count_words
-count_long (count.True n) = refl
-count_long (count.Refused f) = refl
+count_long (Ok n) = refl
+count_long (Err f) = refl
 
 pub count-told-determined : CountToldDetermined
 count-told-determined packed n words words' words'' r r' p q = (p.words_are ∙ sym q.words_are, p.number_is ∙ sym q.number_is)

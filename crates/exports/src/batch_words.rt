@@ -4,8 +4,9 @@ ghost use Rattle.exports.specs.Batches.{rows_words, flags_words, bytes_words};
 
 use answer_words::{cut_byte, cut_case};
 use batches::Batch;
-use boolean_rle::bytes::ByteBatch;
-use boolean_rle::flags::FlagBatch;
+use boolean_rle::bytes::BytesRead;
+use boolean_rle::flags::FlagsRead;
+use format::Refusal;
 
 // How many words each has.
 pub const ROWS_COUNT: usize = 8;
@@ -50,11 +51,11 @@ pub(crate) fn of_rows(batch: Batch) -> [u64; ROWS_COUNT]
 }
 
 // Of flags.
-pub(crate) fn of_flags(batch: FlagBatch) -> [u64; FLAGS_COUNT]
+pub(crate) fn of_flags(batch: Result<FlagsRead, Refusal>) -> [u64; FLAGS_COUNT]
     ensures { result ≡ flags_words batch }
 {
     match batch {
-        FlagBatch::Read(b) => {
+        Ok(b) => {
             let next = b.next;
             [
                 1,
@@ -68,7 +69,7 @@ pub(crate) fn of_flags(batch: FlagBatch) -> [u64; FLAGS_COUNT]
                 0,
             ]
         }
-        FlagBatch::Refused(f) => {
+        Err(f) => {
             let cut = f.cut;
             [
                 2,
@@ -86,11 +87,11 @@ pub(crate) fn of_flags(batch: FlagBatch) -> [u64; FLAGS_COUNT]
 }
 
 // Of bytes.
-pub(crate) fn of_bytes(batch: ByteBatch) -> [u64; BYTES_COUNT]
+pub(crate) fn of_bytes(batch: Result<BytesRead, Refusal>) -> [u64; BYTES_COUNT]
     ensures { result ≡ bytes_words batch }
 {
     match batch {
-        ByteBatch::Read(b) => {
+        Ok(b) => {
             let next = b.next;
             [
                 1,
@@ -103,7 +104,7 @@ pub(crate) fn of_bytes(batch: ByteBatch) -> [u64; BYTES_COUNT]
                 0,
             ]
         }
-        ByteBatch::Refused(f) => {
+        Err(f) => {
             let cut = f.cut;
             [
                 2,

@@ -2,8 +2,8 @@
 ghost use Rattle.std.specs.Prelude.{◌≡◌};
 ghost use Rattle.exports.specs.LinedUp.{spread_words, labels_words};
 
+use format::{Refusal, RowNumber};
 use labels::LabelColumn;
-use present::answer::Spread;
 
 // How many words each has.
 pub const SPREAD_COUNT: usize = 4;
@@ -11,12 +11,12 @@ pub const SPREAD_COUNT: usize = 4;
 pub const LABELS_COUNT: usize = 5;
 
 // Of a column with missing rows.
-pub(crate) fn of_spread(spread: Spread) -> [u64; SPREAD_COUNT]
+pub(crate) fn of_spread(spread: Result<RowNumber, Refusal>) -> [u64; SPREAD_COUNT]
     ensures { result ≡ spread_words spread }
 {
     match spread {
-        Spread::Rows(n) => [1, 0, 0, n.rows as u64],
-        Spread::Refused(f) => [2, f.number as u64, f.place.bytes as u64, 0],
+        Ok(n) => [1, 0, 0, n.rows as u64],
+        Err(f) => [2, f.number as u64, f.place.bytes as u64, 0],
     }
 }
 

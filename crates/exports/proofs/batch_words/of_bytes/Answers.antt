@@ -2,10 +2,10 @@
 use Rattle.exports.specs.Batches.{bytes_words}
 use Rattle.exports.proofs.batch_words.of_bytes.Goals as goal
 
-pub returns-in-Read : goal.returns-in-Read
+pub returns-in-Ok : goal.returns-in-Ok
 unfolding bytes_words
-returns-in-Read c = rw c.in-Read.is
+returns-in-Ok c = rw c.in-Ok.is
 
-pub returns-in-Refused : goal.returns-in-Refused
+pub returns-in-Err : goal.returns-in-Err
 unfolding bytes_words
-returns-in-Refused c = rw (c.cut_byte.ensures, c.cut_case.ensures, c.in-Refused.is)
+returns-in-Err c = rw (c.cut_byte.ensures, c.cut_case.ensures, c.in-Err.is)

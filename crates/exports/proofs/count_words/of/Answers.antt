@@ -2,10 +2,10 @@
 use Rattle.exports.specs.Counts.{count_words}
 use Rattle.exports.proofs.count_words.of.Goals as goal
 
-pub returns-in-True : goal.returns-in-True
+pub returns-in-Ok : goal.returns-in-Ok
 unfolding count_words
-returns-in-True c = rw c.in-True.is
+returns-in-Ok c = rw c.in-Ok.is
 
-pub returns-in-Refused : goal.returns-in-Refused
+pub returns-in-Err : goal.returns-in-Err
 unfolding count_words
-returns-in-Refused c = rw (c.cut_byte.ensures, c.cut_case.ensures, c.in-Refused.is)
+returns-in-Err c = rw (c.cut_byte.ensures, c.cut_case.ensures, c.in-Err.is)

@@ -2,10 +2,10 @@
 use Rattle.exports.specs.LinedUp.{spread_words}
 use Rattle.exports.proofs.lined_up_words.of_spread.Goals as goal
 
-pub returns-in-Rows : goal.returns-in-Rows
+pub returns-in-Ok : goal.returns-in-Ok
 unfolding spread_words
-returns-in-Rows c = rw c.in-Rows.is
+returns-in-Ok c = rw c.in-Ok.is
 
-pub returns-in-Refused : goal.returns-in-Refused
+pub returns-in-Err : goal.returns-in-Err
 unfolding spread_words
-returns-in-Refused c = rw c.in-Refused.is
+returns-in-Err c = rw c.in-Err.is

@@ -7,20 +7,18 @@ use lib.Seq.{get_or-drop}
 use Rattle.format.specs.Booleans.{byte_run}
 use Rattle.boolean_rle.specs.Found.{bytes_at}
 use Rattle.boolean_rle.proofs.RunBytes.{length-bytes, byte_more}
-use Rattle.boolean_rle.proofs.put_run.Goals as goal
+use Rattle.boolean_rle.proofs.run.RunAt.put.Goals as goal
 
-pub returns : goal.returns
-returns c =
+pub returns-clause-wrote : goal.returns-clause-wrote
+returns-clause-wrote c =
     let a = c.args in
-    let all = bytes_at a.input.now a.at in
+    let all = bytes_at a.self.input.now a.self.at in
     let bs = drop a.skip all in
     let whole = (a.n - a.k) / 8 in
     let there : whole < length bs =
     rw length-drop
-    (omega (arith, length-bytes (length a.input.now) (byte_run (drop a.at a.input.now)) a.run c.requires.0)) in
+    (omega (arith, length-bytes (length a.self.input.now) (byte_run (drop a.self.at a.self.input.now)) a.self.run a.self.found)) in
     let byte-is : get_or all (a.skip + whole) 0 ≡ get_or bs whole 0 = sym (get_or-drop a.skip all whole 0) in
-    let up-to-n : a.k + 8 * whole + (a.n - a.k) % 8 ≡ a.n = omega arith in record {
-      value = omega arith;
-      wrote = rw up-to-n at (byte_more bs a.k whole ((a.n - a.k) % 8) a.out.now _ _ there c.put_bytes-2.ensures
-          (rw (c.run_byte.ensures, byte-is) at c.put_bits.ensures));
-    }
+    let up-to-n : a.k + 8 * whole + (a.n - a.k) % 8 ≡ a.n = omega arith in
+    rw up-to-n at (byte_more bs a.k whole ((a.n - a.k) % 8) a.out.now _ _ there c.put_whole-2.ensures
+    (rw (c.byte.ensures, byte-is) at c.put_bits.ensures))
