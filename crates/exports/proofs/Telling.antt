@@ -6,6 +6,8 @@ use lib.ListN.{length, drop, get_or}
 use lib.Dec.{leb}
 use borrow.Author.Tests.{le-leb, lt-leb}
 use Rattle.format.specs.Fields.{pick}
+use Rattle.std.specs.Prelude.{Result, Ok, Err}
+use Rattle.format.specs.declared.Refusal.{Refusal}
 use Rattle.labels.specs.declared.Label.{Label}
 use Rattle.labels.specs.declared.Label.TheVariants as label
 use Rattle.index.specs.Columns.{Columns}
@@ -65,11 +67,11 @@ laid long h e q = laid_by long h (ap (λ w. get_or w 1 0) e) e q
 
 -- every answer has as many words as its function says, and its promise determines the number, the words and every other lent place
 
-pub label-long : (l : Label) → length (label_words l) ≡ label_word_count
+pub label-long : (l : Result Label Refusal) → length (label_words l) ≡ label_word_count
 unfolding label_words
-label-long (label.Name n) = refl
-label-long (label.Fallback n) = refl
-label-long (label.Refused f) = refl
+label-long (Ok (label.Name n)) = refl
+label-long (Ok (label.Fallback n)) = refl
+label-long (Err f) = refl
 
 pub label-told-determined : LabelToldDetermined
 label-told-determined lengths numbers flags block fall row words words' words'' r r' p q =
