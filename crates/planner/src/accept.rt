@@ -11,16 +11,7 @@ use format::{ByteOffset, Kind, RowNumber};
 pub(crate) fn are_equal(n: usize, counts: usize, forms: usize, widths: usize, bases: usize) -> bool
     ensures { result ≡ (eqb counts n && eqb forms n && eqb widths n && eqb bases n) }
 {
-    if counts != n {
-        return false;
-    }
-    if forms != n {
-        return false;
-    }
-    if widths != n {
-        return false;
-    }
-    bases == n
+    counts == n && forms == n && widths == n && bases == n
 }
 
 // Room for any run: a patched one is written to tell its bytes.
@@ -46,10 +37,9 @@ pub(crate) fn walk(
 {
     let limit = room.bytes;
     let mut run = bytes_room();
-    let mut k: usize = 0;
     let mut row: usize = 0;
     let mut bytes: usize = 0;
-    while k < first.len() {
+    for k in 0..first.len() {
         let s = segment::at(first, counts, forms, widths, bases, k);
         let at = RowNumber { rows: row };
         let n = segment::step_size(rows, signed, at, s, &mut run).bytes;
@@ -59,7 +49,6 @@ pub(crate) fn walk(
         if limit - bytes < n {
             return Checked::Rejected;
         }
-        k += 1;
         row += s.count as usize;
         bytes += n;
     }
@@ -67,7 +56,7 @@ pub(crate) fn walk(
         return Checked::Rejected;
     }
     Checked::Accepted(Columned {
-        runs: k,
+        runs: first.len(),
         rows: RowNumber { rows: row },
         bytes: ByteOffset { bytes },
     })

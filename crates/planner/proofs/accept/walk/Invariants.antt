@@ -9,6 +9,3 @@ use Rattle.planner.proofs.accept.walk.Given as goal
 abbrev pub invariant-loop-k : goal.invariant-loop-k
 invariant-loop-k l =
     (length l.run ≡ any_run) × Along l.signed l.rows (proposal l.first l.counts l.forms l.widths l.bases) l.limit l.k l.row l.bytes
-
-abbrev pub decreases-loop-k : goal.decreases-loop-k
-decreases-loop-k l = length l.first - l.k

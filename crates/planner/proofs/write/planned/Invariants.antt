@@ -8,6 +8,3 @@ use Rattle.planner.proofs.write.planned.Given as goal
 abbrev pub invariant-loop-k : goal.invariant-loop-k
 invariant-loop-k l =
     Plan l.signed l.rows (proposal l.first l.counts l.forms l.widths l.bases) l.initial.out l.out l.k l.row l.bytes
-
-abbrev pub decreases-loop-k : goal.decreases-loop-k
-decreases-loop-k l = length l.first - l.k
