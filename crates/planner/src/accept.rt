@@ -4,7 +4,7 @@ ghost use Rattle.proposer.specs.Proposed.{Proposed};
 ghost use Rattle.planner.specs.Check.{proposal, equal_lengths, checked_as};
 ghost use Rattle.planner.specs.Plan.{Kept};
 
-use crate::{Checked, Columned, segment, write};
+use crate::{Columned, segment, write};
 use format::{ByteOffset, Kind, RowNumber};
 
 // Whether the columns are of one length.
@@ -29,7 +29,7 @@ pub(crate) fn walk(
     widths: &[u64],
     bases: &[u64],
     room: ByteOffset,
-) -> Checked
+) -> Option<Columned>
     requires { equal_lengths (proposal first.now counts.now forms.now widths.now bases.now) ≡ true }
     ensures { result ≡ checked_as signed rows.now
         (proposal first.now counts.now forms.now widths.now bases.now)
@@ -44,18 +44,18 @@ pub(crate) fn walk(
         let at = RowNumber { rows: row };
         let n = segment::step_size(rows, signed, at, s, &mut run).bytes;
         if n == 0 {
-            return Checked::Rejected;
+            return None;
         }
         if limit - bytes < n {
-            return Checked::Rejected;
+            return None;
         }
         row += s.count as usize;
         bytes += n;
     }
     if row < rows.len() {
-        return Checked::Rejected;
+        return None;
     }
-    Checked::Accepted(Columned {
+    Some(Columned {
         runs: first.len(),
         rows: RowNumber { rows: row },
         bytes: ByteOffset { bytes },
@@ -89,12 +89,12 @@ pub(crate) fn sound(
         any,
     );
     match c {
-        Checked::Accepted(t) => {
+        Some(t) => {
             if write::is_longer(t.bytes, RowNumber { rows: rows.len() }) {
                 return 0;
             }
             k
         }
-        Checked::Rejected => 0,
+        None => 0,
     }
 }

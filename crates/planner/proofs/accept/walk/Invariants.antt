@@ -1,6 +1,5 @@
 -- Each turn takes one segment more, or ends with what the check says of the segment reached. Assumes nothing.
 use mathlib.Core.Path.{◌≡◌}
-use Prim.Native.Nat.{◌-◌}
 use lib.ListN.{length}
 use Rattle.planner.specs.Check.{proposal, any_run}
 use Rattle.planner.proofs.Checking.{Along}

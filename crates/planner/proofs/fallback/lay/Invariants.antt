@@ -1,5 +1,4 @@
 -- Each turn lays one segment more, so at the end all direct runs are laid. Assumes nothing.
-use Prim.Native.Nat.{◌-◌}
 use Rattle.planner.specs.Check.{proposal}
 use Rattle.planner.proofs.Falling.{Laying}
 use Rattle.planner.proofs.fallback.lay.Given as goal

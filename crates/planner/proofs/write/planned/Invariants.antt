@@ -1,6 +1,4 @@
 -- Each turn lays the next segment's run after those before it; the check has said that all of them have room. Assumes nothing.
-use Prim.Native.Nat.{◌-◌}
-use lib.ListN.{length}
 use Rattle.planner.specs.Check.{proposal}
 use Rattle.planner.proofs.Planning.{Plan}
 use Rattle.planner.proofs.write.planned.Given as goal
