@@ -12,7 +12,7 @@ use Rattle.format.proofs.StreamRoom.{more_room}
 use Rattle.format.proofs.Joined.{joined_snoc, rows-le}
 use Rattle.format.proofs.Tests.{never}
 use Rattle.convert.specs.declared.LaidOutput.{LaidOutput}
-use Rattle.convert.specs.declared.Converted.TheVariants.{Refused}
+use Rattle.std.specs.Prelude.{Err}
 use Rattle.convert.specs.declared.turn.Turn.{Turn}
 use Rattle.convert.specs.Convert.{is_odd, converted, converted_all, odd_runs, result, convert}
 use Rattle.convert.specs.Turn.{Turned, NoRun}
@@ -109,7 +109,7 @@ module _ (signed : Bool) (bs : List ℕ) (limit : ℕ) (out₀ : List ℕ) where
         }
 
     -- a run is refused
-    pub along-refused : (f : Refusal) → AllBelow 256 bs → NoRun signed bs p f → Walked signed bs limit out₀ out (Refused f)
+    pub along-refused : (f : Refusal) → AllBelow 256 bs → NoRun signed bs p f → Walked signed bs limit out₀ out (Err f)
     unfolding convert stream
     along-refused f h n =
         let n₀ = 512 * length bs in
@@ -117,7 +117,7 @@ module _ (signed : Bool) (bs : List ℕ) (limit : ℕ) (out₀ : List ℕ) where
         let k : total_rows w.ds ≤ n₀ = omega (arith, rows-le w.ds w.valid, ap length w.split, length-append (joined w.ds) (drop p bs)) in
         let e : stream bs ≡ broken w.ds n.reason (drop p bs) = rw (← w.split) at (stream-broken n₀ w.ds (drop p bs) n.reason w.valid k r) in
         record {
-          answer = rw (e, ← w.place) (ap Refused n.refusal_is);
+          answer = rw (e, ← w.place) (ap Err n.refusal_is);
           long = w.long;
           places = λ q a bytes r. never (cc (rw e at r));
         }

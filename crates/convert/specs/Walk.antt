@@ -4,15 +4,17 @@ use Rattle.std.proofs.Math.Seq.{paste}
 use Rattle.format.specs.Fields.{pick}
 use Rattle.format.specs.Answers.{refusing}
 use Rattle.convert.specs.declared.LaidOutput.{LaidOutput}
-use Rattle.convert.specs.declared.Converted.{Converted}
-use Rattle.convert.specs.declared.Converted.TheVariants.{Refused}
+use Rattle.std.specs.Prelude.{Result}
+use Rattle.format.specs.declared.Refusal.{Refusal}
+use Rattle.convert.specs.declared.Conversion.{Conversion}
+use Rattle.std.specs.Prelude.{Err}
 use Rattle.convert.specs.Convert.{done, told_as, result, convert}
 
 abbrev pub counted : Bool → ℕ
 counted odd = pick odd 1 0
 
-abbrev pub finished : ℕ → LaidOutput → Converted
-finished altered at = pick at.full (Refused (refusing 8 0)) (done altered at.end.bytes)
+abbrev pub finished : ℕ → LaidOutput → Result Conversion Refusal
+finished altered at = pick at.full (Err (refusing 8 0)) (done altered at.end.bytes)
 
 -- a run's bytes at a place that has room for them
 abbrev pub Put : List ℕ → ℕ → ℕ → List ℕ → List ℕ → Type 0
@@ -31,7 +33,7 @@ pub record Lays (run : List ℕ) (n : ℕ) (at : LaidOutput) (room : ℕ) (out o
   pub more : (l out₀ : List ℕ) → Filled l room out₀ out at → Filled (l ++ take n run) room out₀ out' r
 
 -- the answer in so much room, and what an output of that length holds where nothing is refused
-pub record Walked (signed : Bool) (bs : List ℕ) (room : ℕ) (out out' : List ℕ) (r : Converted) : Type 0 where
+pub record Walked (signed : Bool) (bs : List ℕ) (room : ℕ) (out out' : List ℕ) (r : Result Conversion Refusal) : Type 0 where
   pub answer : r ≡ told_as (length bs) (convert signed bs room)
   pub long : length out' ≡ length out
   pub places : length out ≡ room → (altered : ℕ) (bytes : List ℕ) → convert signed bs room ≡ result altered bytes

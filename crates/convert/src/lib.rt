@@ -2,7 +2,7 @@
 // written on a refusal, wherever in the stream it stands; then it writes.
 #![tactic(auto)]
 
-ghost use Rattle.std.specs.Prelude.{◌≡◌, ◌≤◌, length};
+ghost use Rattle.std.specs.Prelude.{◌≡◌, ◌≤◌, Ok, length};
 ghost use Rattle.convert.specs.Convert.{done, Converts};
 ghost use Rattle.convert.specs.Walk.{counted, finished, Put, Lays, Walked};
 
@@ -20,13 +20,6 @@ pub struct Conversion {
     pub bytes: ByteOffset,
 }
 
-// What the converter answers.
-#[derive(Clone, Copy)]
-pub enum Converted {
-    Done(Conversion),
-    Refused(Refusal),
-}
-
 // How far the output is filled, and whether the runs have no room.
 #[derive(Clone, Copy)]
 struct LaidOutput {
@@ -34,18 +27,19 @@ struct LaidOutput {
     full: bool,
 }
 
-impl Converted {
-    pub fn done(altered: usize, bytes: ByteOffset) -> Self
-        ensures { result ≡ done altered bytes.bytes }
+impl Conversion {
+    pub fn new(altered: usize, bytes: ByteOffset) -> Self
+        ensures { Ok result ≡ done altered bytes.bytes }
     {
-        Converted::Done(Conversion { altered, bytes })
+        Conversion { altered, bytes }
     }
 }
 
+// One altered run or none.
 fn count(odd: bool) -> usize
     ensures { result ≡ counted odd }
 {
-    if odd { 1 } else { 0 }
+    usize::from(odd)
 }
 
 // The first n bytes of a run at a place of the output, where it has room: the first walk has none.
@@ -89,17 +83,17 @@ fn lay(run: &[u8], n: ByteOffset, at: LaidOutput, room: ByteOffset, out: &mut [u
     }
 }
 
-fn finish(altered: usize, at: LaidOutput) -> Converted
+fn finish(altered: usize, at: LaidOutput) -> Result<Conversion, Refusal>
     ensures { result ≡ finished altered at }
 {
     if at.full {
-        return Converted::Refused(Refusal::new(8, ByteOffset { bytes: 0 }));
+        return Err(Refusal::new(8, ByteOffset { bytes: 0 }));
     }
-    Converted::done(altered, at.end)
+    Ok(Conversion::new(altered, at.end))
 }
 
 // Every run of the stream, converted, one behind the other in so much room. Where the output is not that long, only the answer counts.
-fn walk(input: &[u8], signed: bool, room: ByteOffset, out: &mut [u8]) -> Converted
+fn walk(input: &[u8], signed: bool, room: ByteOffset, out: &mut [u8]) -> Result<Conversion, Refusal>
     ensures { Walked signed input.now room.bytes out.old out.new result }
 {
     let mut p: usize = 0;
@@ -119,7 +113,7 @@ fn walk(input: &[u8], signed: bool, room: ByteOffset, out: &mut [u8]) -> Convert
                 p += t.taken.bytes;
             }
             Step::Refused(f) => {
-                return Converted::Refused(f);
+                return Err(f);
             }
             Step::End => {
                 return finish(altered, at);
@@ -131,14 +125,11 @@ fn walk(input: &[u8], signed: bool, room: ByteOffset, out: &mut [u8]) -> Convert
 
 // Replaces each direct or packed delta run of an odd width by the writer's run of the same rows at the next kept width, and copies every
 // other run. The stream's own refusal comes first, then 8; nothing is written on either.
-pub fn convert(input: &[u8], signed: bool, out: &mut [u8]) -> Converted
+pub fn convert(input: &[u8], signed: bool, out: &mut [u8]) -> Result<Conversion, Refusal>
     ensures { Converts signed input.now out.old out.new result }
 {
     let n = out.len();
     let room = ByteOffset { bytes: n };
-    let first = walk(input, signed, room, &mut out[n..]);
-    match first {
-        Converted::Done(_) => walk(input, signed, room, out),
-        Converted::Refused(f) => Converted::Refused(f),
-    }
+    walk(input, signed, room, &mut out[n..])?;
+    walk(input, signed, room, out)
 }

@@ -8,11 +8,11 @@ use borrow.Author.Tests.{le-leb, lt-leb}
 use lib.IntN.{ℤ}
 use Rattle.batches.specs.declared.Batch.{Batch}
 use Rattle.batches.specs.declared.Batch.TheVariants as row
-use Rattle.std.specs.Prelude.{Ok, Err}
+use Rattle.std.specs.Prelude.{Ok, Err, Result}
 use Rattle.boolean_rle.specs.Batches.{ByteBatch, FlagBatch}
 use Rattle.present.specs.Present.{Spread}
-use Rattle.labels.specs.declared.LabelColumn.{LabelColumn}
-use Rattle.labels.specs.declared.LabelColumn.TheVariants as column
+use Rattle.format.specs.declared.RowNumber.{RowNumber}
+use Rattle.labels.specs.declared.ColumnRefusal.{ColumnRefusal}
 use Rattle.labels.specs.Column.{LabelPlaces, LabelledAll}
 use Rattle.answer_words.specs.Words.{too_few_words, Told, ToldOf}
 use Rattle.answer_words.proofs.Telling.{few}
@@ -48,18 +48,17 @@ unfolding spread_words
 spread-long (Ok n) = refl
 spread-long (Err f) = refl
 
-pub labels-long : (l : LabelColumn) → length (labels_words l) ≡ labels_word_count
+pub labels-long : (l : Result RowNumber ColumnRefusal) → length (labels_words l) ≡ labels_word_count
 unfolding labels_words
-labels-long (column.Rows n) = refl
-labels-long (column.Refused f) = refl
-labels-long (column.RefusedRow f row) = refl
+labels-long (Ok n) = refl
+labels-long (Err f) = refl
 
 -- the labels' three columns: too few words, or the answer laid into them
 module _ {flags : List ℕ} {numbers lengths : List ℤ} {block : ℕ} {p : LabelPlaces} {words : List ℕ} where
   pub labels-few : length words < labels_word_count → LabelsTold flags numbers lengths block p p words words too_few_words
   labels-few h = record { told = few labels-long h; columns-are = rw (lt-leb labels_word_count (length words) h) }
 
-  pub labels-told : {p' : LabelPlaces} {words' : List ℕ} {a : LabelColumn} {r : ℕ} → LabelledAll flags numbers lengths block p p' a → labels_word_count ≤ length words
+  pub labels-told : {p' : LabelPlaces} {words' : List ℕ} {a : Result RowNumber ColumnRefusal} {r : ℕ} → LabelledAll flags numbers lengths block p p' a → labels_word_count ≤ length words
       → Told labels_words (number_in labels_words) a words words' r → LabelsTold flags numbers lengths block p p' words words' r
   labels-told q h t = record { told = told q.answer t; columns-are = rw (le-leb labels_word_count (length words) h) q.places }
 

@@ -6,6 +6,8 @@ use lib.ListN.{length, drop, get_or}
 use lib.Dec.{leb}
 use borrow.Author.Tests.{le-leb, lt-leb}
 use Rattle.format.specs.Fields.{pick}
+use Rattle.std.specs.Prelude.{Option, Some, None, Result, Ok, Err}
+use Rattle.format.specs.declared.Refusal.{Refusal}
 use Rattle.labels.specs.declared.Label.{Label}
 use Rattle.labels.specs.declared.Label.TheVariants as label
 use Rattle.index.specs.Columns.{Columns}
@@ -15,8 +17,7 @@ use Rattle.exports.specs.Numbers.{number_in}
 use Rattle.exports.specs.Index.{built_words, built_word_count, IndexTold, IndexToldDetermined, found_words, found_word_count, LookUpToldDetermined, preview_words, preview_word_count, ReadFromToldDetermined}
 use Rattle.exports.specs.Labels.{label_words, label_word_count, LabelToldDetermined}
 use Rattle.exports.specs.Patched.{PatchedToldDetermined}
-use Rattle.convert.specs.declared.Converted.{Converted}
-use Rattle.convert.specs.declared.Converted.TheVariants as convert
+use Rattle.convert.specs.declared.Conversion.{Conversion}
 use Rattle.exports.specs.Converting.{convert_words, convert_word_count, ConvertToldDetermined}
 use Rattle.std.specs.Prelude.{Ok, Err}
 use Rattle.boolean_rle.specs.Ones.{Count}
@@ -24,10 +25,9 @@ use Rattle.exports.specs.Counts.{count_words, count_word_count, CountToldDetermi
 use Rattle.std.specs.Prelude.{Ok, Err}
 use Rattle.salvage.specs.Salvage.{Outcome}
 use Rattle.exports.specs.Salvage.{salvage_words, salvage_word_count, SalvageToldDetermined}
-use Rattle.planner.specs.declared.Checked.{Checked}
-use Rattle.planner.specs.declared.Checked.TheVariants as check
-use Rattle.planner.specs.declared.ColumnAnswer.{ColumnAnswer}
-use Rattle.planner.specs.declared.ColumnAnswer.TheVariants as column
+use Rattle.planner.specs.declared.Columned.{Columned}
+use Rattle.planner.specs.declared.ColumnRuns.{ColumnRuns}
+use Rattle.planner.specs.declared.ColumnRuns.TheVariants as column
 use Rattle.exports.specs.Columns.{check_words, check_word_count, CheckToldDetermined, column_words, column_word_count, ColumnToldDetermined}
 use Rattle.answer_words.specs.Words.{too_few_words, Told, ToldOf}
 use Rattle.answer_words.proofs.Telling.{few}
@@ -60,11 +60,11 @@ laid long h e q = laid_by long h (ap (λ w. get_or w 1 0) e) e q
 
 -- every answer has as many words as its function says, and its promise determines the number, the words and every other lent place
 
-pub label-long : (l : Label) → length (label_words l) ≡ label_word_count
+pub label-long : (l : Result Label Refusal) → length (label_words l) ≡ label_word_count
 unfolding label_words
-label-long (label.Name n) = refl
-label-long (label.Fallback n) = refl
-label-long (label.Refused f) = refl
+label-long (Ok (label.Name n)) = refl
+label-long (Ok (label.Fallback n)) = refl
+label-long (Err f) = refl
 
 pub label-told-determined : LabelToldDetermined
 label-told-determined lengths numbers flags block fall row words words' words'' r r' p q =
@@ -136,28 +136,28 @@ salvage-told-determined input starts counts fill flag out out' out'' lines lines
   p.stream-told.told.number_is ∙ sym q.stream-told.told.number_is,
 )
 
-pub convert-long : (c : Converted) → length (convert_words c) ≡ convert_word_count
+pub convert-long : (c : Result Conversion Refusal) → length (convert_words c) ≡ convert_word_count
 unfolding convert_words
-convert-long (convert.Done n) = refl
-convert-long (convert.Refused f) = refl
+convert-long (Ok n) = refl
+convert-long (Err f) = refl
 
 pub convert-told-determined : ConvertToldDetermined
 convert-told-determined input flag out out' out'' words words' words'' r r' p q =
     (p.places-are ∙ sym q.places-are, p.told.words_are ∙ sym q.told.words_are, p.told.number_is ∙ sym q.told.number_is)
 
-pub check-long : (c : Checked) → length (check_words c) ≡ check_word_count
+pub check-long : (c : Option Columned) → length (check_words c) ≡ check_word_count
 unfolding check_words
-check-long (check.Accepted n) = refl
-check-long check.Rejected = refl
+check-long (Some n) = refl
+check-long None = refl
 
 pub check-told-determined : CheckToldDetermined
 check-told-determined rows flag c room words words' words'' r r' p q = (p.words_are ∙ sym q.words_are, p.number_is ∙ sym q.number_is)
 
-pub column-long : (a : ColumnAnswer) → length (column_words a) ≡ column_word_count
+pub column-long : (a : Result ColumnRuns Refusal) → length (column_words a) ≡ column_word_count
 unfolding column_words
-column-long (column.Planned n) = refl
-column-long (column.Direct n) = refl
-column-long (column.Refused f) = refl
+column-long (Ok (column.Planned n)) = refl
+column-long (Ok (column.Direct n)) = refl
+column-long (Err f) = refl
 
 pub column-told-determined : ColumnToldDetermined
 column-told-determined rows flag c out out' out'' words words' words'' r r' p q =

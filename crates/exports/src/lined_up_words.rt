@@ -1,9 +1,10 @@
 // A column with missing rows and the labels of a column, as words: the case, the refusal's number and place, how many rows; of labels also the refused row.
 ghost use Rattle.std.specs.Prelude.{◌≡◌};
-ghost use Rattle.exports.specs.LinedUp.{spread_words, labels_words};
+ghost use Rattle.exports.specs.LinedUp.{spread_words, labels_words, refused_row};
 
 use format::{Refusal, RowNumber};
-use labels::LabelColumn;
+use format::RowNumber;
+use labels::ColumnRefusal;
 
 // How many words each has.
 pub const SPREAD_COUNT: usize = 4;
@@ -20,19 +21,28 @@ pub(crate) fn of_spread(spread: Result<RowNumber, Refusal>) -> [u64; SPREAD_COUN
     }
 }
 
+// The first row that is refused, 0 if none is.
+fn refused_row(row: Option<RowNumber>) -> u64
+    ensures { result ≡ refused_row row }
+{
+    match row {
+        Some(row) => row.rows as u64,
+        None => 0,
+    }
+}
+
 // Of the labels of a column.
-pub(crate) fn of_labels(labels: LabelColumn) -> [u64; LABELS_COUNT]
+pub(crate) fn of_labels(labels: Result<RowNumber, ColumnRefusal>) -> [u64; LABELS_COUNT]
     ensures { result ≡ labels_words labels }
 {
     match labels {
-        LabelColumn::Rows(n) => [1, 0, 0, n.rows as u64, 0],
-        LabelColumn::Refused(f) => [2, f.number as u64, f.place.bytes as u64, 0, 0],
-        LabelColumn::RefusedRow(f, row) => [
+        Ok(n) => [1, 0, 0, n.rows as u64, 0],
+        Err(ColumnRefusal { refusal, row }) => [
             2,
-            f.number as u64,
-            f.place.bytes as u64,
+            refusal.number as u64,
+            refusal.place.bytes as u64,
             0,
-            row.rows as u64,
+            refused_row(row),
         ],
     }
 }

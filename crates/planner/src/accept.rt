@@ -4,23 +4,14 @@ ghost use Rattle.proposer.specs.Proposed.{Proposed};
 ghost use Rattle.planner.specs.Check.{proposal, equal_lengths, checked_as};
 ghost use Rattle.planner.specs.Plan.{Kept};
 
-use crate::{Checked, Columned, segment, write};
+use crate::{Columned, segment, write};
 use format::{ByteOffset, Kind, RowNumber};
 
 // Whether the columns are of one length.
 pub(crate) fn are_equal(n: usize, counts: usize, forms: usize, widths: usize, bases: usize) -> bool
     ensures { result ≡ (eqb counts n && eqb forms n && eqb widths n && eqb bases n) }
 {
-    if counts != n {
-        return false;
-    }
-    if forms != n {
-        return false;
-    }
-    if widths != n {
-        return false;
-    }
-    bases == n
+    counts == n && forms == n && widths == n && bases == n
 }
 
 // Room for any run: a patched one is written to tell its bytes.
@@ -38,7 +29,7 @@ pub(crate) fn walk(
     widths: &[u64],
     bases: &[u64],
     room: ByteOffset,
-) -> Checked
+) -> Option<Columned>
     requires { equal_lengths (proposal first.now counts.now forms.now widths.now bases.now) ≡ true }
     ensures { result ≡ checked_as signed rows.now
         (proposal first.now counts.now forms.now widths.now bases.now)
@@ -46,28 +37,26 @@ pub(crate) fn walk(
 {
     let limit = room.bytes;
     let mut run = bytes_room();
-    let mut k: usize = 0;
     let mut row: usize = 0;
     let mut bytes: usize = 0;
-    while k < first.len() {
+    for k in 0..first.len() {
         let s = segment::at(first, counts, forms, widths, bases, k);
         let at = RowNumber { rows: row };
         let n = segment::step_size(rows, signed, at, s, &mut run).bytes;
         if n == 0 {
-            return Checked::Rejected;
+            return None;
         }
         if limit - bytes < n {
-            return Checked::Rejected;
+            return None;
         }
-        k += 1;
         row += s.count as usize;
         bytes += n;
     }
     if row < rows.len() {
-        return Checked::Rejected;
+        return None;
     }
-    Checked::Accepted(Columned {
-        runs: k,
+    Some(Columned {
+        runs: first.len(),
         rows: RowNumber { rows: row },
         bytes: ByteOffset { bytes },
     })
@@ -100,12 +89,12 @@ pub(crate) fn sound(
         any,
     );
     match c {
-        Checked::Accepted(t) => {
+        Some(t) => {
             if write::is_longer(t.bytes, RowNumber { rows: rows.len() }) {
                 return 0;
             }
             k
         }
-        Checked::Rejected => 0,
+        None => 0,
     }
 }

@@ -21,22 +21,14 @@ pub struct Columned {
     pub bytes: ByteOffset,
 }
 
-// What the check answers.
+// What was written: the proposal's runs, or direct runs of 64 bits.
 #[derive(Clone, Copy)]
-pub enum Checked {
-    Accepted(Columned),
-    Rejected,
-}
-
-// What the writer answers: the proposal's runs were written, or direct runs of 64 bits, or nothing.
-#[derive(Clone, Copy)]
-pub enum ColumnAnswer {
+pub enum ColumnRuns {
     Planned(Columned),
     Direct(Columned),
-    Refused(Refusal),
 }
 
-// Whether a proposal is accepted, in so much room. It is five columns, one entry a segment: first row, rows, form (0 short repeat, 1
+// The runs of a proposal, if it is accepted in so much room. It is five columns, one entry a segment: first row, rows, form (0 short repeat, 1
 // direct, 2 fixed delta, 3 packed delta, 4 patched), width (bytes, code, code, code, W in bits), and base, which only patched runs have.
 pub fn check(
     rows: &[i64],
@@ -47,14 +39,14 @@ pub fn check(
     widths: &[u64],
     bases: &[u64],
     room: ByteOffset,
-) -> Checked
+) -> Option<Columned>
     ensures { result ≡ checked_as signed rows.now
         (proposal first.now counts.now forms.now widths.now bases.now)
         room.bytes }
 {
     let n = first.len();
     if !accept::are_equal(n, counts.len(), forms.len(), widths.len(), bases.len()) {
-        return Checked::Rejected;
+        return None;
     }
     accept::walk(rows, signed, first, counts, forms, widths, bases, room)
 }
@@ -70,25 +62,21 @@ pub fn write_column(
     widths: &[u64],
     bases: &[u64],
     out: &mut [u8],
-) -> ColumnAnswer
+) -> Result<ColumnRuns, Refusal>
     ensures { Wrote signed rows.now
         (proposal first.now counts.now forms.now widths.now bases.now)
         out.old out.new result }
 {
     let room = ByteOffset { bytes: out.len() };
     let c = check(rows, signed, first, counts, forms, widths, bases, room);
-    match c {
-        Checked::Accepted(t) => {
-            write::planned(rows, signed, first, counts, forms, widths, bases, out);
-            ColumnAnswer::Planned(t)
-        }
-        Checked::Rejected => {
-            if !write::wide_fits(RowNumber { rows: rows.len() }, room) {
-                return ColumnAnswer::Refused(Refusal::new(8, ByteOffset { bytes: 0 }));
-            }
-            ColumnAnswer::Direct(write::wide(rows, signed, out))
-        }
+    if let Some(t) = c {
+        write::planned(rows, signed, first, counts, forms, widths, bases, out);
+        return Ok(ColumnRuns::Planned(t));
     }
+    if !write::wide_fits(RowNumber { rows: rows.len() }, room) {
+        return Err(Refusal::new(8, ByteOffset { bytes: 0 }));
+    }
+    Ok(ColumnRuns::Direct(write::wide(rows, signed, out)))
 }
 
 // Proposes how a column is cut into runs, in the first places of the five columns: how many. What is proposed has passed the check, so it
@@ -106,7 +94,7 @@ pub fn plan(
     ensures { Proposes signed rows.now
         (proposal first.new counts.new forms.new widths.new bases.new) result }
 {
-    if rows.len() == 0 {
+    if rows.is_empty() {
         return 0;
     }
     let k = proposer::propose(rows, signed, first, counts, forms, widths, bases);

@@ -31,14 +31,12 @@ pub(crate) fn planned(
         (segments (proposal first.now counts.now forms.now widths.now bases.now)))
         out.old out.new }
 {
-    let mut k: usize = 0;
     let mut row: usize = 0;
     let mut bytes: usize = 0;
-    while k < first.len() {
+    for k in 0..first.len() {
         let s = segment::at(first, counts, forms, widths, bases, k);
         let at = RowNumber { rows: row };
         let n = segment::step(rows, signed, at, s, &mut out[bytes..]).bytes;
-        k += 1;
         row += s.count as usize;
         bytes += n;
     }
@@ -53,7 +51,7 @@ pub(crate) fn wide_fits(rows: RowNumber, room: ByteOffset) -> bool
     if limit / 8 < n {
         return false;
     }
-    let runs = (n + (Kind::MAX_ROWS - 1)) / Kind::MAX_ROWS;
+    let runs = n.div_ceil(Kind::MAX_ROWS);
     2 * runs <= limit - 8 * n
 }
 
@@ -72,24 +70,15 @@ pub(crate) fn is_longer(bytes: ByteOffset, rows: RowNumber) -> bool
 pub(crate) fn know(rows: &[i64])
     ensures { AllI64 rows.now }
 {
-    let mut i: usize = 0;
-    while i < rows.len() {
-        let z = rows[i];
-        i += 1;
-    }
+    for &z in rows {}
 }
 
 // The rows of the next direct run, of so many that are left.
 pub(crate) fn part_rows(left: RowNumber) -> RowNumber
     ensures { result.rows ≡ min 512 left.rows }
 {
-    let n = left.rows;
-    if Kind::MAX_ROWS < n {
-        RowNumber {
-            rows: Kind::MAX_ROWS,
-        }
-    } else {
-        left
+    RowNumber {
+        rows: left.rows.min(Kind::MAX_ROWS),
     }
 }
 

@@ -5,4 +5,4 @@ pub returns-then-at : goal.returns-then-at
 returns-then-at c = rw (c.if-at.true, c.new.ensures)
 
 pub returns : goal.returns
-returns c = rw (c.if-at.false, c.done.ensures)
+returns c = rw c.if-at.false c.new-2.ensures

@@ -2,10 +2,10 @@
 use Rattle.exports.specs.Columns.{check_words}
 use Rattle.exports.proofs.column_words.of_checked.Goals as goal
 
-pub returns-in-Accepted : goal.returns-in-Accepted
+pub returns-in-Some : goal.returns-in-Some
 unfolding check_words
-returns-in-Accepted c = rw c.in-Accepted.is
+returns-in-Some c = rw c.in-Some.is
 
-pub returns-in-Rejected : goal.returns-in-Rejected
+pub returns-in-None : goal.returns-in-None
 unfolding check_words
-returns-in-Rejected c = rw c.in-Rejected.is
+returns-in-None c = rw c.in-None.is

@@ -2,10 +2,10 @@
 use Rattle.exports.specs.Converting.{convert_words}
 use Rattle.exports.proofs.convert_words.of.Goals as goal
 
-pub returns-in-Done : goal.returns-in-Done
+pub returns-in-Ok : goal.returns-in-Ok
 unfolding convert_words
-returns-in-Done c = rw c.in-Done.is
+returns-in-Ok c = rw c.in-Ok.is
 
-pub returns-in-Refused : goal.returns-in-Refused
+pub returns-in-Err : goal.returns-in-Err
 unfolding convert_words
-returns-in-Refused c = rw (c.cut_byte.ensures, c.cut_case.ensures, c.in-Refused.is)
+returns-in-Err c = rw (c.cut_byte.ensures, c.cut_case.ensures, c.in-Err.is)

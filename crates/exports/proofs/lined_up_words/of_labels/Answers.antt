@@ -2,14 +2,10 @@
 use Rattle.exports.specs.LinedUp.{labels_words}
 use Rattle.exports.proofs.lined_up_words.of_labels.Goals as goal
 
-pub returns-in-Rows : goal.returns-in-Rows
+pub returns-in-Ok : goal.returns-in-Ok
 unfolding labels_words
-returns-in-Rows c = rw c.in-Rows.is
+returns-in-Ok c = rw c.in-Ok.is
 
-pub returns-in-Refused : goal.returns-in-Refused
+pub returns-in-Err : goal.returns-in-Err
 unfolding labels_words
-returns-in-Refused c = rw c.in-Refused.is
-
-pub returns-in-RefusedRow : goal.returns-in-RefusedRow
-unfolding labels_words
-returns-in-RefusedRow c = rw c.in-RefusedRow.is
+returns-in-Err c = rw (c.in-Err.is, c.refused_row.ensures)

@@ -37,10 +37,10 @@ returns-else-is_longer c =
     let a = c.args in
     kept (proposes a.signed a.rows.now
     (proposal a.first.now a.counts.now a.forms.now a.widths.now a.bases.now) a.k c.requires
-    c.in-Accepted.t 18446744073709551615 c.in-Accepted.ensures (sym c.is_longer.ensures ∙ c.if-is_longer.false))
+    c.in-Some.t 18446744073709551615 c.in-Some.ensures (sym c.is_longer.ensures ∙ c.if-is_longer.false))
 
 pub returns-then-is_longer : goal.returns-then-is_longer
 returns-then-is_longer c = dropped
 
-pub returns-in-Rejected : goal.returns-in-Rejected
-returns-in-Rejected c = dropped
+pub returns-in-None : goal.returns-in-None
+returns-in-None c = dropped

@@ -1,4 +1,7 @@
-use mathlib.Core.Path.{sym}
+use mathlib.Core.Path.{◌≡◌, sym, ap, ◌∙◌}
+use Rattle.std.specs.Prelude.{Some}
+use Prim.Native.Nat.{ℕ}
+use lib.ListN.{length}
 use native.Mathlib.Omega.{arith}
 use borrow.Author.Rules.{rules}
 use Rattle.planner.specs.Check.{proposal}
@@ -64,4 +67,6 @@ returns-then-row-rows c =
 pub returns : goal.returns
 returns c =
     let l = c.loop-k in
-    along-end _ _ _ _ l.k l.row l.bytes l.invariant.1 c.loop-k-test.false c.if-row-rows.false
+    let e : length c.args.first.now ≡ l.k = omega arith in
+    ap (λ (n : ℕ). Some (record { runs = n; rows = record { rows = l.row }; bytes = record { bytes = l.bytes } })) e
+    ∙ along-end _ _ _ _ l.k l.row l.bytes l.invariant.1 c.loop-k-test.false c.if-row-rows.false
