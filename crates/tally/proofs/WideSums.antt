@@ -132,24 +132,6 @@ row_low n h = pos-words {q = 0} (record { number = omega arith; fits = omega ari
 pub row-high : (n : ℕ) → n < 2 ^ 63 → wide_of (negsuc n) ≡ words (two64 - 1) (two64 - 1 - n)
 row-high n h = neg-words {q = 0} (record { number = omega arith; fits = omega arith })
 
--- the low words wrap exactly where their sum is below the first
-carried : (a b : ℕ) → a < two64 → b < two64 → (a + b) % two64 < a → (a + b) / two64 ≡ 1
-carried a b h k l = omega arith
-
-kept : (a b : ℕ) → a < two64 → b < two64 → a ≤ (a + b) % two64 → (a + b) / two64 ≡ 0
-kept a b h k l = omega arith
-
-module _ (v w : Wide) (hv : v.low < two64) (hw : w.low < two64) where
-  pub carries : (v.low + w.low) % two64 < v.low → words (((v.high + w.high) % two64 + 1) % two64) ((v.low + w.low) % two64) ≡ add_wide v w
-  carries l =
-      let e : (v.low + w.low) / two64 ≡ 1 = carried v.low w.low hv hw l in
-      rw e (same (mod-add-mod (v.high + w.high) two64 1) refl)
-
-  pub no-carry : v.low ≤ (v.low + w.low) % two64 → words ((v.high + w.high) % two64) ((v.low + w.low) % two64) ≡ add_wide v w
-  no-carry l =
-      let e : (v.low + w.low) / two64 ≡ 0 = kept v.low w.low hv hw l in
-      rw (e, add-zero)
-
 -- one row more: the sum so far is at most 2^63 for each row in size
 pub record Summed (rows : List ℤ) (i : ℕ) (w : Wide) : Type 0 where
   pub size : nat_abs (sum_of (take i rows)) ≤ i * 2 ^ 63
