@@ -1,7 +1,7 @@
 -- The sum of at most 2^32 rows stands in two words. Assumes nothing.
-use Rattle.std.proofs.Common.{◌≡◌, ℕ, suc, ◌+◌, ◌-◌, ◌*◌, ◌/◌, ◌%◌, ◌^◌, ◌<◌, ◌≤◌, List, [], ◌∷◌, length, get_or, take, ℤ, pos, negsuc, ◌+ℤ◌, nat_abs, sym, refl, ap, ◌∙◌, add-zero, mod-lt, div-add-mod', add-one, arith, take-suc, pow_pos, w64, SFits, le-ltb, lt-ltb}
+use Rattle.std.proofs.Common.{◌≡◌, ℕ, suc, ◌+◌, ◌-◌, ◌*◌, ◌/◌, ◌%◌, ◌^◌, ◌<◌, ◌≤◌, List, [], ◌∷◌, length, get_or, take, ℤ, pos, negsuc, ◌+ℤ◌, nat_abs, sym, refl, ap, ◌∙◌, mod-lt, div-add-mod', add-one, arith, take-suc, pow_pos, w64, SFits, le-ltb, lt-ltb}
 use native.Mathlib.Decide.{dec_lt}
-use native.Mathlib.Nat.{mod-add-mod, div-le_of_le-mul}
+use native.Mathlib.Nat.{div-le_of_le-mul}
 use lib.Arith.{digits_div, digits_mod}
 use lib.IntN.{sub_ℕ, +ℤ_idr}
 use Rattle.format.specs.Fields.{two64}

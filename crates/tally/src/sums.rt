@@ -5,7 +5,7 @@ ghost use Rattle.tally.specs.Wide.{wide_of, wide_value, size_of, is_negative, Is
 
 use format::{ALL_BITS, TOP_BIT};
 
-// A whole number in two words of 64 bits, two's complement.
+// A whole number in two words of 64 bits, two's complement. (No i128: `wide_of`, `wide_value` and the theorem `Sums` speak of the words.)
 #[derive(Clone, Copy)]
 pub struct Wide {
     pub high: u64,
