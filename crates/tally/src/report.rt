@@ -108,7 +108,7 @@ fn put_refusal(number: u64, count: u64, out: &mut [u8], at: usize) -> usize
     put(b'\n', out, place)
 }
 
-// The refusals by number.
+// The refusals by number. (No loop: `refusals_text` is written out line by line.)
 fn put_refusals(counts: [u64; 15], out: &mut [u8], at: usize) -> usize
     requires { at + 500 ≤ length out.old }
     ensures text_written { TextWritten (refusals_text counts) out.old at out.new result }
@@ -164,7 +164,8 @@ fn put_totals(totals: Totals, out: &mut [u8]) -> usize
 }
 
 // The lines of totals, in the first bytes of `out`: how many bytes they
-// are. Nothing is written where `out` has less room than any totals need.
+// are. Nothing is written where `out` has less room than any totals need (0
+// and no Option: `Shown` promises a length).
 pub fn show(totals: Totals, out: &mut [u8]) -> usize
     ensures { Shown totals out.old out.new result }
 {

@@ -10,7 +10,7 @@ ghost use Rattle.text.specs.Written.{TextWritten};
 ghost use Rattle.totals.specs.Program.{written_for, After, Turned, Final, Over};
 
 use blocks::reading;
-use blocks::reading::Reads;
+use blocks::reading::{Read, Reads};
 use std::{io, thread};
 use taking::{Next, Turn};
 use tally::totals::Totals;
@@ -70,40 +70,32 @@ fn tell(rt: &(impl Print + Eprint), totals: Totals, stopped: bool, reads: Reads)
     say(rt, totals, stopped, reads, &out[..end]);
 }
 
-// What to do with what is held and what came after it, by what the system answered. The error is handed in, so that the answer is
+// What to do with what is held and what came after it, by what the system answered. The error stands in `block`, so that the answer is
 // determined.
-fn take_came(
-    rt: &impl Eprint,
-    before: Totals,
-    input: &[u8],
-    held: usize,
-    got: isize,
-    error: i32,
-    rows: &mut [i64],
-) -> Turn
-    requires { (length input.now ≡ held + came got) × NoNewline (take held input.now) × (length rows.old ≡ 512) }
-    ensures { After before input.now held got error result.totals result.next }
+fn take_came(rt: &impl Eprint, before: Totals, block: Read, input: &[u8], rows: &mut [i64]) -> Turn
+    requires { (length input.now ≡ block.held + came block.got) × NoNewline (take block.held input.now) × (length rows.old ≡ 512) }
+    ensures { After before input.now block.held block.got block.error result.totals result.next }
 {
-    if got > 0 {
+    if block.got > 0 {
         return taking::take_block(before, input, rows);
     }
-    if got == 0 {
+    if block.got == 0 {
         return taking::take_last(before, input, rows);
     }
-    if !blocks::is_not_ready(error) {
-        let e = io::Error::from_raw_os_error(error);
+    if !blocks::is_not_ready(block.error) {
+        let e = io::Error::from_raw_os_error(block.error);
         let _ = eprintln!(rt; "totals: nothing is written, standard input cannot be read: {e}");
         return Turn {
             totals: before,
             next: Next::Failed,
         };
     }
-    if error == blocks::EAGAIN {
+    if block.error == blocks::EAGAIN {
         thread::yield_now();
     }
     Turn {
         totals: before,
-        next: Next::Begun(0, held),
+        next: Next::Begun(0, block.held),
     }
 }
 
@@ -120,15 +112,7 @@ fn turn(
     ensures { Turned before.totals before.reads (part from end input.old) input.new result.totals result.next result.reads }
 {
     let block = reading::one_more(rt, before.reads, input, from, end);
-    let taken = take_came(
-        rt,
-        before.totals,
-        &input[..block.stop],
-        block.held,
-        block.got,
-        block.error,
-        rows,
-    );
+    let taken = take_came(rt, before.totals, block, &input[..block.stop], rows);
     Standing {
         totals: taken.totals,
         next: taken.next,

@@ -27,7 +27,7 @@ returns c =
     runs-rest c.loop.invariant (omega arith) (λ e. omega arith) c.put_run.ensures
 
 pub loop-init : goal.loop-init
-loop-init c = 
+loop-init c =
     let e : c.args.rows.rows / 512 - 0 ≡ c.args.rows.rows / 512 = omega arith in
     rw e (runs-begin c.requires)
 
