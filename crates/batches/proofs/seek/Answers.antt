@@ -15,7 +15,7 @@ returns-then-left-rows c =
     (below_all 256 c.args.input.now (λ i. (c.shared_slice_known-1.given i).fits)) c.measure-a.ensures in
     let ran-is : StepAt (answer.Run c.in-Run.r) = subst (StepAt) c.in-Run.is (there) in
     let o = ran-is in
-    (record { run = o.run; stands = o.stands; skips = omega (arith, o.rows_are) }, c.loop-left.invariant)
+    (λ h. record { run = o.run; stands = o.stands; skips = omega (arith, o.rows_are) }, c.loop-left.invariant)
 
 pub overflow_add-place : goal.overflow_add-place
 overflow_add-place c =
@@ -63,7 +63,7 @@ returns-in-End c =
 pub returns : goal.returns
 returns c =
     let e : c.loop-left.left ≡ 0 = omega arith in
-    rw e at c.loop-left.invariant
+    (λ h. absurd (omega arith), rw e at c.loop-left.invariant)
 
 pub loop-left-init : goal.loop-left-init
 loop-left-init c = record { same = λ signed n. refl }
