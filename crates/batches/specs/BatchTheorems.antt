@@ -11,9 +11,8 @@ use Rattle.index.specs.Entries.{Entry}
 use Rattle.index.specs.Theorems.{IsIndex, Holds}
 use Rattle.batches.specs.Batches.{Position, RowBatch, BatchOutcome, gives, ended, refuses, rows_left, count_left, empty_of}
 use Rattle.batches.specs.Batches.{reading_at, batch}
-use Rattle.batches.specs.BatchPromise.{RowsRead}
+use Rattle.batches.specs.BatchPromise.{Batch, RowsRead}
 use Rattle.batches.specs.declared.RowPosition.{RowPosition}
-use Rattle.batches.specs.declared.Batch.{Batch}
 
 -- the rows from a position of the input on
 abbrev pub rows_at : Bool → List ℕ → Position → List ℤ

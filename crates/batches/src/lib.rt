@@ -26,22 +26,6 @@ pub struct BatchRead {
     pub next: RowPosition,
 }
 
-// What a call answers.
-#[derive(Clone, Copy)]
-pub enum Batch {
-    Rows(BatchRead),
-    End,
-    Refused(Refusal),
-}
-
-// Where a position's row is: at a byte, which is not looked at yet; or within a run. Refused: it is not reached.
-#[derive(Clone, Copy)]
-enum Sought {
-    Begins(ByteOffset),
-    Within(RowPosition),
-    Refused(Refusal),
-}
-
 impl BatchRead {
     fn new(rows: RowNumber, run: ByteOffset, skip: RowNumber) -> Self
         ensures { result ≡ batch_read_as rows.rows run.bytes skip.rows }
@@ -73,8 +57,9 @@ impl BatchRead {
     }
 }
 
-// Finds a position's row. Runs that are skipped as a whole are measured and not decoded; with no row to skip nothing is looked at.
-fn seek(input: &[u8], from: RowPosition) -> Sought
+// Finds a position's row: the run that holds it and the rows to skip in it, or the byte that it begins at, which is not looked at. Runs that
+// are skipped as a whole are measured and not decoded; with no row to skip nothing is looked at.
+fn seek(input: &[u8], from: RowPosition) -> Result<RowPosition, Refusal>
     ensures { Finds input.now from result }
 {
     let at = from.run;
@@ -88,7 +73,7 @@ fn seek(input: &[u8], from: RowPosition) -> Sought
                 let rows = r.rows;
                 let consumed = r.consumed;
                 if left < rows.rows {
-                    return Sought::Within(RowPosition {
+                    return Ok(RowPosition {
                         run: ByteOffset { bytes: place },
                         skip: RowNumber { rows: left },
                     });
@@ -97,15 +82,18 @@ fn seek(input: &[u8], from: RowPosition) -> Sought
                 place += consumed.bytes;
             }
             Err(f) => {
-                return Sought::Refused(f);
+                return Err(f);
             }
             // more rows to skip than there are
             Ok(None) => {
-                return Sought::Refused(Refusal::new(16, ByteOffset { bytes: 0 }));
+                return Err(Refusal::new(16, ByteOffset { bytes: 0 }));
             }
         }
     }
-    Sought::Begins(ByteOffset { bytes: place })
+    Ok(RowPosition {
+        run: ByteOffset { bytes: place },
+        skip: RowNumber { rows: 0 },
+    })
 }
 
 // Fewer places, for a short run: they are less to clear.
@@ -231,7 +219,7 @@ fn read_within(input: &[u8], from: RowPosition, signed: bool, out: &mut [i64]) -
     requires { RunHolds input.now from }
     ensures { BatchFrom input.now (position_in from) signed out.old out.new result }
 {
-    if out.len() == 0 {
+    if out.is_empty() {
         return BatchRead::new(RowNumber { rows: 0 }, from.run, from.skip);
     }
     let first = read_part(input, from, signed, out);
@@ -245,32 +233,43 @@ fn read_within(input: &[u8], from: RowPosition, signed: bool, out: &mut [i64]) -
     rest.after(rows)
 }
 
-// The rows from a byte on. Only if none was read is the byte looked at again: there are no places, the run is refused, or the input ends.
-fn read_begun(input: &[u8], at: ByteOffset, signed: bool, out: &mut [i64]) -> Batch
+// The rows from a byte on, or none at the end. Only if none was read is the byte looked at again: there are no places, the run is refused, or the input ends.
+fn read_begun(
+    input: &[u8],
+    at: ByteOffset,
+    signed: bool,
+    out: &mut [i64],
+) -> Result<Option<BatchRead>, Refusal>
     ensures { RowsRead input.now (record { run = at; skip = record { rows = 0 } }) signed
         out.old out.new result }
 {
     let read = read_runs(input, at, signed, out);
     let rows = read.rows;
     if 0 < rows.rows {
-        return Batch::Rows(read);
+        return Ok(Some(read));
     }
     match rle_v2::measure(input, at) {
-        Ok(Some(_)) => Batch::Rows(read),
-        Err(f) => Batch::Refused(f),
-        Ok(None) => Batch::End,
+        Ok(Some(_)) => Ok(Some(read)),
+        Err(f) => Err(f),
+        Ok(None) => Ok(None),
     }
 }
 
 // As many rows as there are places, or as are left before the end or the first refused run, from a position on. They go into the
-// first places, and the answer names the position of the row after them. If none is left it answers the end, the stream's own refusal,
-// or 16 if more rows are to be skipped than there are, and touches no place.
-pub fn read_rows(input: &[u8], from: RowPosition, signed: bool, out: &mut [i64]) -> Batch
+// first places, and the answer names the position of the row after them. If none is left it answers none at the end, the stream's own
+// refusal, or 16 if more rows are to be skipped than there are, and touches no place.
+pub fn read_rows(
+    input: &[u8],
+    from: RowPosition,
+    signed: bool,
+    out: &mut [i64],
+) -> Result<Option<BatchRead>, Refusal>
     ensures { RowsRead input.now from signed out.old out.new result }
 {
-    match seek(input, from) {
-        Sought::Refused(f) => Batch::Refused(f),
-        Sought::Begins(at) => read_begun(input, at, signed, out),
-        Sought::Within(p) => Batch::Rows(read_within(input, p, signed, out)),
+    let found = seek(input, from)?;
+    let skip = found.skip;
+    if skip.rows == 0 {
+        return read_begun(input, found.run, signed, out);
     }
+    Ok(Some(read_within(input, found, signed, out)))
 }

@@ -6,13 +6,12 @@ use mathlib.Core.List.{List}
 use lib.ListN.{length}
 use borrow.Author.Tests.{le-leb, lt-leb}
 use lib.IntN.{ℤ}
-use Rattle.batches.specs.declared.Batch.{Batch}
-use Rattle.batches.specs.declared.Batch.TheVariants as row
-use Rattle.std.specs.Prelude.{Ok, Err, Result}
+use Rattle.std.specs.Prelude.{Ok, Err, Result, Some, None}
 use Rattle.boolean_rle.specs.Batches.{ByteBatch, FlagBatch}
 use Rattle.present.specs.Present.{Spread}
 use Rattle.format.specs.declared.RowNumber.{RowNumber}
 use Rattle.labels.specs.declared.ColumnRefusal.{ColumnRefusal}
+use Rattle.batches.specs.BatchPromise.{Batch}
 use Rattle.labels.specs.Column.{LabelPlaces, LabelledAll}
 use Rattle.answer_words.specs.Words.{too_few_words, Told, ToldOf}
 use Rattle.answer_words.proofs.Telling.{few}
@@ -29,9 +28,9 @@ told-of-one p q = (p.places-are ∙ sym q.places-are, p.told.words_are ∙ sym q
 
 pub rows_long : (b : Batch) → length (rows_words b) ≡ rows_word_count
 unfolding rows_words
-rows_long (row.Rows b) = refl
-rows_long row.End = refl
-rows_long (row.Refused f) = refl
+rows_long (Ok (Some b)) = refl
+rows_long (Ok None) = refl
+rows_long (Err f) = refl
 
 pub flags_long : (b : FlagBatch) → length (flags_words b) ≡ flags_word_count
 unfolding flags_words

@@ -3,10 +3,10 @@ ghost use Rattle.std.specs.Prelude.{◌≡◌};
 ghost use Rattle.exports.specs.Batches.{rows_words, flags_words, bytes_words};
 
 use answer_words::{cut_byte, cut_case};
-use batches::Batch;
 use boolean_rle::bytes::BytesRead;
 use boolean_rle::flags::FlagsRead;
 use format::Refusal;
+use batches::BatchRead;
 
 // How many words each has.
 pub const ROWS_COUNT: usize = 8;
@@ -16,11 +16,12 @@ pub const FLAGS_COUNT: usize = 9;
 pub const BYTES_COUNT: usize = 8;
 
 // Of rows.
-pub(crate) fn of_rows(batch: Batch) -> [u64; ROWS_COUNT]
+#[tactic(auto, unfolding(crate::specs::Batches::rows_words))]
+pub(crate) fn of_rows(batch: Result<Option<BatchRead>, Refusal>) -> [u64; ROWS_COUNT]
     ensures { result ≡ rows_words batch }
 {
     match batch {
-        Batch::Rows(b) => {
+        Ok(Some(b)) => {
             let next = b.next;
             [
                 1,
@@ -33,8 +34,8 @@ pub(crate) fn of_rows(batch: Batch) -> [u64; ROWS_COUNT]
                 0,
             ]
         }
-        Batch::End => [0, 0, 0, 0, 0, 0, 0, 0],
-        Batch::Refused(f) => {
+        Ok(None) => [0, 0, 0, 0, 0, 0, 0, 0],
+        Err(f) => {
             let cut = f.cut;
             [
                 2,

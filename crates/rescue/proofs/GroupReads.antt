@@ -12,13 +12,11 @@ use borrow.Author.Tests.{eqb-true}
 use Rattle.format.specs.Digits.{AllBelow}
 use Rattle.format.specs.Fields.{pick}
 use Rattle.batches.specs.Batches.{Position, BatchOutcome, gives, ended, refuses, rows_left, reading_at, batch}
-use Rattle.batches.specs.BatchPromise.{position_in, batch_answer, places_after, RowsRead}
+use Rattle.batches.specs.BatchPromise.{Batch, position_in, batch_answer, places_after, RowsRead}
 use Rattle.batches.specs.declared.RowPosition.{RowPosition}
-use Rattle.batches.specs.declared.Batch.{Batch}
-use Rattle.batches.specs.declared.Batch.TheVariants as answer
 use Rattle.rescue.specs.Rescue.{PlainPosition, at, nowhere, made_plain, meets, group, end_of, kept, own_rows, group_rows}
 use Rattle.rescue.specs.RescueSteps.{row_position, plain_in, GroupRead, GroupRescued}
-use Rattle.std.specs.Prelude.{Option, Some, None}
+use Rattle.std.specs.Prelude.{Option, Some, None, Ok, Err}
 use Rattle.rescue.proofs.GroupEnds.{end-from, end-nowhere, rows-from, end_none, rows_in, after_all, rows_in_lem, after_is}
 
 none : {A : Type 0} (l : List A) → length l ≡ 0 → l ≡ []
@@ -72,9 +70,9 @@ module _ (s : List ℕ) (from to : RowPosition) (signed : Bool) (out : List ℤ)
 
   -- where the rows of an answer end, if they are all
   abbrev pub end_in : Batch → PlainPosition
-  end_in (answer.Rows b) = pick (eqb b.rows.rows n) (at (position_in b.next)) nowhere
-  end_in answer.End = nowhere
-  end_in (answer.Refused f) = nowhere
+  end_in (Ok (Some b)) = pick (eqb b.rows.rows n) (at (position_in b.next)) nowhere
+  end_in (Ok None) = nowhere
+  end_in (Err f) = nowhere
 
   end-in : (t : BatchOutcome) → end_in (batch_answer t) ≡ after_all n t
   end-in (gives b) = refl

@@ -4,8 +4,8 @@ ghost use Rattle.batches.specs.BatchPromise.{position_in};
 ghost use Rattle.rescue.specs.Rescue.{at, made_plain, meets};
 ghost use Rattle.rescue.specs.RescueSteps.{plain_in, GroupRead, GroupRescued};
 
-use batches::{Batch, RowPosition};
 use format::ByteOffset;
+use batches::RowPosition;
 
 // Makes a position plain: whole runs are passed while there are at least as many rows to skip. With none left, no run is looked at.
 pub(crate) fn make_plain(input: &[u8], from: RowPosition) -> Option<RowPosition>
@@ -53,20 +53,16 @@ fn same(p: RowPosition, q: RowPosition) -> bool
 fn read(input: &[u8], from: RowPosition, to: RowPosition, signed: bool, out: &mut [i64]) -> bool
     ensures { GroupRead input.now (Some from) (Some to) signed out.old out.new result }
 {
-    if out.len() == 0 {
+    if out.is_empty() {
         return same(from, to);
     }
-    let answer = batches::read_rows(input, from, signed, out);
-    match answer {
-        Batch::Rows(b) => {
-            let rows = b.rows;
-            if rows.rows != out.len() {
-                return false;
-            }
-            same(b.next, to)
+    match batches::read_rows(input, from, signed, out) {
+        Ok(Some(read)) => {
+            let rows = read.rows;
+            rows.rows == out.len() && same(read.next, to)
         }
-        Batch::End => false,
-        Batch::Refused(_) => false,
+        Ok(None) => false,
+        Err(_) => false,
     }
 }
 

@@ -9,12 +9,13 @@ use Rattle.util.proofs.Grow.{rest-is}
 use Rattle.batches.specs.BatchSteps.{BatchFrom}
 use Rattle.batches.proofs.RowPositions.{position}
 use Rattle.batches.proofs.WithinRun.{none-wanted, all-filled, some_left, rest-few, rest_read}
+use Rattle.std.proofs.lemmas.Bool.Decides.{nat_tests}
 use Rattle.batches.proofs.read_within.Goals as goal
 
 -- ---- no places, or the part fills them
-pub returns-then-out-eq0 : goal.returns-then-out-eq0
-returns-then-out-eq0 c =
-    rw c.new.ensures (none-wanted c.args.signed c.args.out.now c.requires (omega arith))
+pub returns-then-is_empty : goal.returns-then-is_empty
+returns-then-is_empty c =
+    rw c.new.ensures (none-wanted c.args.signed c.args.out.now c.requires (grind (arith, nat_tests)))
 
 pub returns-then-n-out : goal.returns-then-n-out
 returns-then-n-out c =

@@ -16,7 +16,7 @@ returns-then-left-rows c =
     (below_all 256 c.args.input.now (λ i. (c.shared_slice_known-1.given i).fits)) c.measure-a.ensures in
     let ran-is : StepAt (Ok (Some c.in-Ok-Some.r)) = subst (StepAt) (c.in-Ok-Some.is ∙ ap Ok (rw c.in-Ok-Some.is at c.in-Ok-Some.field-0-is)) (there) in
     let o = ran-is in
-    (record { run = o.run; stands = o.stands; skips = omega (arith, o.rows_are) }, c.loop-left.invariant)
+    (λ h. record { run = o.run; stands = o.stands; skips = omega (arith, o.rows_are) }, c.loop-left.invariant)
 
 pub overflow_add-place : goal.overflow_add-place
 overflow_add-place c =
@@ -64,7 +64,7 @@ returns-in-Ok-None c =
 pub returns : goal.returns
 returns c =
     let e : c.loop-left.left ≡ 0 = omega arith in
-    rw e at c.loop-left.invariant
+    (λ h. absurd (omega arith), rw e at c.loop-left.invariant)
 
 pub loop-left-init : goal.loop-left-init
 loop-left-init c = record { same = λ signed n. refl }
