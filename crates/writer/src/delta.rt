@@ -1,12 +1,12 @@
 // Delta: the header, the first row and the base delta as varints; a packed delta's magnitudes follow in a packed block.
-ghost use Rattle.std.specs.Prelude.{◌≡◌, true, map, ◌+◌, ◌<◌, ◌≤◌, length};
+ghost use Rattle.std.specs.Prelude.{◌≡◌, map, ◌+◌, ◌<◌, ◌≤◌, length};
 ghost use Rattle.format.specs.Fields.{zigzagged, shortest};
-ghost use Rattle.format.specs.Kept.{is_kept};
 ghost use Rattle.format.specs.Rows.{as_u64};
 ghost use Rattle.format.specs.Writing.{first_of, base_delta, Written};
 ghost use Rattle.writer.specs.Sizes.{Sized, Measured, Lays};
 ghost use Rattle.writer.specs.Start.{start, Started, StartSize};
 
+use crate::packed_rows::PackedRows;
 use crate::{head, values};
 use format::{Answer, ByteOffset, Form, Kind, RowNumber, Run, TOP_BIT};
 use util::{packed, pattern, varint, width};
@@ -87,66 +87,58 @@ pub(crate) fn write_fixed(rows: &[i64], signed: bool, code: u8, out: &mut [u8]) 
 }
 
 // The bytes of a packed delta, if every magnitude fits the width.
-pub(crate) fn size_packed(rows: &[i64], signed: bool, code: u8) -> Option<ByteOffset>
-    requires in_bounds { (2 ≤ length rows.now) × (length rows.now ≤ 512) × (1 ≤ code) × (code ≤ 31) }
-    requires code_value { is_kept code ≡ true }
-    ensures { Measured signed Form.PackedDelta code (map as_u64 rows.now) result }
+pub(crate) fn size_packed(run: PackedRows<'_>) -> Option<ByteOffset>
+    requires { (2 ≤ length run.rows.now) × (1 ≤ run.code) }
+    ensures { Measured run.entry.signed Form.PackedDelta run.entry.code (map as_u64 run.entry.rows.now) result }
 {
-    let bits = width::bits_of(code);
-    let falling = TOP_BIT <= base_delta(rows);
-    if !values::all_steps_fit(&rows[1..], falling, bits) {
+    let bits = width::bits_of(run.code);
+    let falling = TOP_BIT <= base_delta(run.rows);
+    if !values::all_steps_fit(&run.rows[1..], falling, bits) {
         return None;
     }
-    let start = start_size(rows, signed).bytes;
-    let bytes = start + packed::block_size(bits, rows.len() - 2);
+    let start = start_size(run.rows, run.signed).bytes;
+    let bytes = start + packed::block_size(bits, run.rows.len() - 2);
     Some(ByteOffset { bytes })
 }
 
 // Writes a packed delta, whose bytes are known. The caller's buffer holds its magnitudes on the way.
-fn write_packed_over(
-    rows: &[i64],
-    signed: bool,
-    code: u8,
-    bytes: ByteOffset,
-    vals: &mut [u64],
-    out: &mut [u8],
-)
-    requires in_bounds { (2 ≤ length rows.now) × (length rows.now ≤ 512) × (1 ≤ code) × (code ≤ 31) × (length rows.now ≤ length vals.old)
+fn write_packed_over(run: PackedRows<'_>, bytes: ByteOffset, vals: &mut [u64], out: &mut [u8])
+    requires in_bounds { (2 ≤ length run.rows.now) × (1 ≤ run.code) × (length run.rows.now ≤ length vals.old)
         × (1 ≤ bytes.bytes) × (bytes.bytes ≤ length out.old) }
-    requires code_value { is_kept code ≡ true }
-    requires sized { Sized signed Form.PackedDelta code (map as_u64 rows.now) bytes.bytes }
-    ensures { Lays rows.now signed Form.PackedDelta code Kind.Delta bytes.bytes
+    requires sized { Sized run.signed Form.PackedDelta run.code (map as_u64 run.rows.now) bytes.bytes }
+    ensures { Lays run.entry.rows.now run.entry.signed Form.PackedDelta run.entry.code Kind.Delta bytes.bytes
         out.old out.new }
 {
-    let n = rows.len();
-    let bits = width::bits_of(code);
-    let falling = TOP_BIT <= base_delta(rows);
-    values::steps(&rows[1..], falling, vals);
-    let first = first_of(rows, signed);
-    let base = base_of(rows);
-    let at = write_start(code, RowNumber { rows: n }, first, base, out).bytes;
+    let n = run.rows.len();
+    let bits = width::bits_of(run.code);
+    let falling = TOP_BIT <= base_delta(run.rows);
+    values::steps(&run.rows[1..], falling, vals);
+    let first = first_of(run.rows, run.signed);
+    let base = base_of(run.rows);
+    let at = write_start(run.code, RowNumber { rows: n }, first, base, out).bytes;
     packed::pack(vals, n - 2, bits, out, at);
 }
 
-pub(crate) fn write_packed(rows: &[i64], signed: bool, code: u8, out: &mut [u8]) -> Answer
-    requires in_bounds { (2 ≤ length rows.now) × (length rows.now ≤ 512) × (1 ≤ code) × (code ≤ 31) }
-    requires code_value { is_kept code ≡ true }
-    ensures { Written rows.now signed Form.PackedDelta code out.old out.new result }
+pub(crate) fn write_packed(run: PackedRows<'_>, out: &mut [u8]) -> Answer
+    requires { (2 ≤ length run.rows.now) × (1 ≤ run.code) }
+    ensures { Written run.entry.rows.now run.entry.signed Form.PackedDelta run.entry.code out.old out.new result }
 {
-    let Some(bytes) = size_packed(rows, signed, code) else {
+    let Some(bytes) = size_packed(run) else {
         return head::refused(11);
     };
     if out.len() < bytes.bytes {
         return head::refused(8);
     }
-    let n = RowNumber { rows: rows.len() };
+    let n = RowNumber {
+        rows: run.rows.len(),
+    };
     // a short run clears a small buffer, and not one for any run
-    if rows.len() <= values::FEW {
+    if run.rows.len() <= values::FEW {
         let mut few = [0u64; values::FEW];
-        write_packed_over(rows, signed, code, bytes, &mut few, out);
-        return head::answer(Kind::Delta, code, n, bytes);
+        write_packed_over(run, bytes, &mut few, out);
+        return head::answer(Kind::Delta, run.code, n, bytes);
     }
     let mut all = [0u64; Kind::MAX_ROWS];
-    write_packed_over(rows, signed, code, bytes, &mut all, out);
-    head::answer(Kind::Delta, code, n, bytes)
+    write_packed_over(run, bytes, &mut all, out);
+    head::answer(Kind::Delta, run.code, n, bytes)
 }

@@ -14,10 +14,13 @@ mod allowed;
 mod delta;
 mod direct;
 mod head;
+mod packed_rows;
 mod patch_list;
 mod patched_base;
 mod short_repeat;
 mod values;
+
+use packed_rows::PackedRows;
 
 // Writes one run. The width counts bytes for a short repeat, and is a width code otherwise.
 pub fn write_run(rows: &[i64], signed: bool, form: Form, width: u8, out: &mut [u8]) -> Answer
@@ -32,9 +35,23 @@ pub fn write_run(rows: &[i64], signed: bool, form: Form, width: u8, out: &mut [u
     }
     match form {
         Form::ShortRepeat => short_repeat::write(rows, signed, width, out),
-        Form::Direct => direct::write(rows, signed, width, out),
+        Form::Direct => direct::write(
+            PackedRows {
+                rows,
+                signed,
+                code: width,
+            },
+            out,
+        ),
         Form::FixedDelta => delta::write_fixed(rows, signed, width, out),
-        Form::PackedDelta => delta::write_packed(rows, signed, width, out),
+        Form::PackedDelta => delta::write_packed(
+            PackedRows {
+                rows,
+                signed,
+                code: width,
+            },
+            out,
+        ),
     }
 }
 
@@ -51,9 +68,17 @@ fn measure(rows: &[i64], signed: bool, form: Form, width: u8) -> Option<ByteOffs
     }
     match form {
         Form::ShortRepeat => short_repeat::size(rows, signed, width),
-        Form::Direct => direct::size(rows, signed, width),
+        Form::Direct => direct::size(PackedRows {
+            rows,
+            signed,
+            code: width,
+        }),
         Form::FixedDelta => delta::size_fixed(rows, signed, width),
-        Form::PackedDelta => delta::size_packed(rows, signed, width),
+        Form::PackedDelta => delta::size_packed(PackedRows {
+            rows,
+            signed,
+            code: width,
+        }),
     }
 }
 

@@ -1,5 +1,5 @@
 -- A count or a width that the form does not allow has no size; the rest is what the form's own measure promises. Assumes nothing.
-use Rattle.format.proofs.Common.{sym, ◌∙◌, map, length, length-map}
+use Rattle.format.proofs.Common.{sym, ◌∙◌, map, length, length-map, arith}
 use Rattle.format.specs.Rows.{as_u64}
 use Rattle.writer.proofs.Pieces.{Allowed, allowed, short-allowed, direct-allowed, fixed-allowed, packed-allowed}
 use Rattle.writer.proofs.Sizes.{no-count, no-width, measured}
@@ -21,11 +21,11 @@ size-requires c =
     let passed : Allowed c.args.form (length c.args.rows.now) c.args.width = allowed c.count.ensures c.if-not-count.false c.width.ensures c.if-not-width.false in
     short-allowed (passed) c.in-ShortRepeat.is
 
-pub size-requires-in-Direct : goal.size-requires-in-Direct
-size-requires-in-Direct c =
+pub invariant_of-size : goal.invariant_of-size
+invariant_of-size c =
     let passed : Allowed c.args.form (length c.args.rows.now) c.args.width = allowed c.count.ensures c.if-not-count.false c.width.ensures c.if-not-width.false in
     let p = direct-allowed (passed) c.in-Direct.is in
-    record { in_bounds = p.0; code_value = p.1 }
+    record { some = p.0.0; few = p.0.1; low = p.0.2; kept = p.1 }
 
 pub size_fixed-requires : goal.size_fixed-requires
 size_fixed-requires c =
@@ -36,7 +36,13 @@ pub size_packed-requires : goal.size_packed-requires
 size_packed-requires c =
     let passed : Allowed c.args.form (length c.args.rows.now) c.args.width = allowed c.count.ensures c.if-not-count.false c.width.ensures c.if-not-width.false in
     let p = packed-allowed (passed) c.in-PackedDelta.is in
-    record { in_bounds = p.0; code_value = p.1 }
+    (p.0.0, p.0.2)
+
+pub invariant_of-size_packed : goal.invariant_of-size_packed
+invariant_of-size_packed c =
+    let passed : Allowed c.args.form (length c.args.rows.now) c.args.width = allowed c.count.ensures c.if-not-count.false c.width.ensures c.if-not-width.false in
+    let p = packed-allowed (passed) c.in-PackedDelta.is in
+    record { some = omega (arith, p.0.0); few = p.0.1; low = p.0.3; kept = p.1 }
 
 pub returns-in-ShortRepeat : goal.returns-in-ShortRepeat
 returns-in-ShortRepeat c =
