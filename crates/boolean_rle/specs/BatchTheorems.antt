@@ -67,7 +67,7 @@ NextIsPlain input =
 -- A batch from the byte where a run begins is what the boolean reader gives there: it is refused alike, and else n are read.
 abbrev pub Alike : ℕ → FlagBatch → Answer → Type 0
 Alike n (Ok x) r = (x.rows.rows ≡ n) × ((consumed : ℕ) × (r ≡ ran Booleans 1 n consumed))
-Alike n (Err f) r = r ≡ answer.Refused f
+Alike n (Err f) r = r ≡ Err f
 
 abbrev pub FromRun : Type 0
 FromRun = (input : List ℕ) (at n : ℕ) (out places places' : List ℕ) (batch : FlagBatch) (r : Answer)
@@ -79,7 +79,7 @@ FromRun = (input : List ℕ) (at n : ℕ) (out places places' : List ℕ) (batch
 abbrev pub LastOf : ℕ → ℕ → List ℕ → List ℕ → FlagBatch → Answer → Type 0
 LastOf k n places places' (Ok x) r =
     (x.rows.rows ≡ n) × ((consumed : ℕ) × (r ≡ ran Booleans 1 (k + n) consumed)) × (take n places ≡ drop k (take (k + n) places'))
-LastOf k n places places' (Err f) r = r ≡ answer.Refused f
+LastOf k n places places' (Err f) r = r ≡ Err f
 
 abbrev pub AsBooleans : Type 0
 AsBooleans = (input : List ℕ) (p : FlagPosition) (n : ℕ) (out places out' places' : List ℕ) (batch : FlagBatch) (r : Answer)

@@ -9,9 +9,8 @@ ghost use Rattle.format.specs.Booleans.{booleans, bits, BooleansRead};
 ghost use Rattle.boolean_rle.specs.Column.{column};
 ghost use Rattle.boolean_rle.specs.Found.{found_at, bytes_at, span_of, Wrote};
 
-use format::{Answer, ByteOffset, Kind, Refusal, RowNumber, Run};
 use crate::run::RunAt;
-use format::{Answer, ByteOffset, Kind, Refusal, RowNumber};
+use format::{Answer, ByteOffset, Kind, Refusal, RowNumber, Run};
 
 pub mod bytes;
 pub mod count;
