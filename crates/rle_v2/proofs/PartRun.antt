@@ -122,14 +122,14 @@ module _ (s : List ℕ) (at skip : ℕ) (signed : Bool) (out : List ℤ) (r : Ru
       ∙ rw (take-map (row signed) n, take-map as_i64 n, drop-map (row signed) skip, drop-map as_i64 skip)
 
   pub part-read : (n : ℕ) (one two : List ℤ) → skip < r.rows.rows → n ≡ min (length out) (r.rows.rows - skip)
-      → PartPut r.width r.rows.rows skip n (drop (at + 2) s) out one → two ≡ decoded signed (take n one) ++ drop n one
-      → PartGives skip signed (direct-run.run s at) out two (part.Read r)
+      → PartPut r.width r.rows.rows skip n (drop (at + 2) s) out one → two ≡ decoded signed (take n one)
+      → PartGives skip signed (direct-run.run s at) out (two ++ drop n one) (part.Read r)
   part-read n one two h q f g =
       let rows = drop skip (i64_rows signed d) in
       let lv : length (map as_i64 (take n (drop skip values))) ≡ n
       = length-map (take n (drop skip values)) as_i64 ∙ length-take-le n (drop skip values) (rw length-drop (omega (arith, count, q))) in
       let lr : length rows ≡ r.rows.rows - skip = rw (length-drop, i64-count signed d, count) in
-      let o : two ≡ take n rows ++ drop n out
+      let o : two ++ drop n one ≡ take n rows ++ drop n out
       = then-pass (decoded signed) (map as_i64 (take n (drop skip values))) out one two n lv f g ∙ ap (λ (x : List ℤ). x ++ drop n out) (decoded-rows n) in
       let named : r ≡ run_of d = run-inj r (run_of d) (e ∙ ap (answer_of at (length s - at)) there) in
       record {

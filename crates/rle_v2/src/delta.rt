@@ -187,7 +187,7 @@ fn magnitudes(block: &[u8], bits: usize, n: RowNumber, falling: bool, second: u6
         ≡ summed falling second (map as_i64 (fields bits n.rows block.now)) ++ drop n.rows out.old }
 {
     packed::unpack(block, bits, n.rows, out);
-    rows::sum(falling, second, n, out);
+    rows::sum(falling, second, &mut out[..n.rows]);
 }
 
 // All rows of a run with n magnitudes: the first, the second, which is first + base delta, and those after it, which rise or fall as
@@ -198,8 +198,8 @@ fn lay_packed(block: &[u8], bits: usize, n: RowNumber, first: u64, step: u64, ou
     ensures { out.new
         ≡ laid first step (map as_i64 (fields bits n.rows block.now)) ++ drop (n.rows + 2) out.old }
 {
-    rows::steps(first, step, RowNumber { rows: 2 }, out);
-    let second = pattern::add(first, step);
+    rows::steps(first, step, &mut out[..2]);
+    let second = first.wrapping_add(step);
     let falling = TOP_BIT <= step;
     magnitudes(block, bits, n, falling, second, &mut out[2..]);
 }
@@ -213,7 +213,7 @@ fn lay(input: &[u8], f: Found, signed: bool, out: &mut [i64])
     let step = pattern::unzigzag(f.base);
     let rows = f.rows;
     if f.bits == 0 {
-        rows::steps(first, step, rows, out);
+        rows::steps(first, step, &mut out[..rows.rows]);
     } else {
         let next = f.next;
         let p = next.bytes;

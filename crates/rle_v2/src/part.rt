@@ -80,7 +80,7 @@ pub fn read(
             }
             let n = less(out.len(), count.rows - skip.rows);
             lay(&input[p + 2..], r.width, count.rows, skip.rows, n, out);
-            rows::decode(signed, RowNumber { rows: n }, out);
+            rows::decode(signed, &mut out[..n]);
             DirectPart::Read(r)
         }
         Answer::Refused(_) => DirectPart::NotRead,

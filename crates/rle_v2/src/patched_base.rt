@@ -234,7 +234,7 @@ fn lay(block: &[u8], bits: usize, n: RowNumber, base: u64, out: &mut [i64])
         ≡ based base (map as_i64 (fields bits n.rows block.now)) ++ drop n.rows out.old }
 {
     packed::unpack(block, bits, n.rows, out);
-    rows::add_base(base, n, out);
+    rows::add_base(base, &mut out[..n.rows]);
 }
 
 // The rows of a run that passed its tests.
