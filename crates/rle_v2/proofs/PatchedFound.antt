@@ -1,21 +1,17 @@
 -- What was found of a patched base run: it is refused, or it is all there; where its list stands, and what the run gives once its list has passed. Assumes nothing.
 use mathlib.Core.Path.{◌≡◌, ◌∙◌}
-use mathlib.Core.Logic.{◌≢◌}
 use Prim.Native.Nat.{ℕ, ◌+◌, ◌-◌, ◌*◌, ◌<◌, ◌≤◌}
 use native.Mathlib.Omega.{arith}
-use mathlib.Core.Bool.{Bool, true, false}
+use mathlib.Core.Bool.{Bool}
 use mathlib.Core.List.{List, ◌++◌, map}
 use lib.ListN.{length, take, drop, length-drop}
-use lib.Dec.{ltb}
 use lib.IntN.{ℤ}
-use borrow.Author.Tests.{ne_eqb}
-use Rattle.format.specs.Fields.{pick, width, bytes_for}
+use Rattle.format.specs.Fields.{width, bytes_for}
 use Rattle.format.specs.Runs.{Description, entry_width}
 use Rattle.format.specs.Rows.{as_i64, base_value}
 use Rattle.format.specs.Parse.{Parsed}
 use Rattle.format.specs.Promises.{answer_of, Gives}
-use Rattle.format.specs.declared.Answer.TheVariants as answer
-use Rattle.format.specs.Answers.{ran, refusing, cutting, refused_at}
+use Rattle.format.specs.Answers.{ran, refused_at}
 use Rattle.format.specs.declared.Kind.TheVariants.{PatchedBase}
 use Rattle.format.proofs.Widths.{width-pos}
 use Rattle.format.proofs.Rows.{width-le}

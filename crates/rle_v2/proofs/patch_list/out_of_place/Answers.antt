@@ -6,7 +6,6 @@ use Rattle.format.proofs.Below.{below_all}
 use Rattle.util.specs.Packed.{fields, field_at}
 use Rattle.util.proofs.Window.{field-there, length_fields}
 use Rattle.rle_v2.proofs.PatchWalk.{entry_next, large-next, large-here, large-none}
-use borrow.Author.Rules.{rules}
 use native.Mathlib.Omega.{arith}
 use Rattle.rle_v2.proofs.patch_list.out_of_place.Goals as goal
 

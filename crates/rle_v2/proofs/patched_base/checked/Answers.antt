@@ -1,13 +1,10 @@
 -- The list stands where its walk looks for it, and what the walk refuses is what the run is refused with. Assumes nothing.
 use native.Mathlib.Omega.{arith}
-use mathlib.Core.Path.{sym, ◌∙◌}
-use lib.ListN.{length}
-use Prim.Native.Nat.{◌≤◌}
-use Rattle.std.proofs.lemmas.Result.{err_from_is_err_and}
+use mathlib.Core.Path.{◌∙◌}
 use Rattle.format.proofs.Rows.{width-le}
 use Rattle.format.proofs.Widths.{width-pos}
 use Rattle.util.proofs.Grow.{rest-is}
-use Rattle.rle_v2.proofs.PatchedFound.{found_in, found-list, found-3-7}
+use Rattle.rle_v2.proofs.PatchedFound.{found-list, found-3-7}
 use Rattle.rle_v2.proofs.patched_base.checked.Goals as goal
 
 pub refused_with-requires-clause-listed : goal.refused_with-requires-clause-listed

@@ -1,5 +1,5 @@
 use Rattle.rle_v2.proofs.Pass.{turn-first, turn-next, turn_last, written, bits_of}
-use mathlib.Core.Path.{refl, sym, ap, ◌∙◌}
+use mathlib.Core.Path.{refl}
 use lib.IntN.{pos}
 use lib.ListN.{get_or}
 use native.Mathlib.Omega.{arith}

@@ -2,7 +2,6 @@ use Rattle.rle_v2.proofs.Pass.{turn-first, turn-next, turn_last, written}
 use Rattle.format.specs.Rows.{plus, as_i64}
 use Prim.Native.Nat.{◌+◌, ◌^◌, ◌<◌}
 use native.Mathlib.Nat.{add-zero, mod-eq_of_lt}
-use lib.ListN.{length-set}
 use lib.IntN.{pos}
 use mathlib.Core.Path.{◌≡◌, sym}
 use mir.Val.{to_z, of_z}
