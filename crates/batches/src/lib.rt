@@ -9,7 +9,6 @@ ghost use Rattle.batches.specs.BatchSteps.{RunHolds, Finds, more, HeldRun, PartL
 
 use format::{ByteOffset, Kind, Refusal, RowNumber, Run};
 use rle_v2::part;
-use rle_v2::part::DirectPart;
 use util::rows;
 
 // Where a row stands: the byte where a run begins, and how many rows to skip from there.
@@ -158,7 +157,7 @@ fn read_part(input: &[u8], from: RowPosition, signed: bool, out: &mut [i64]) -> 
     let skip = from.skip;
     let room = out.len();
     match part::read(input, at, skip, signed, out) {
-        DirectPart::Read(run) => {
+        Some(run) => {
             let rows = run.rows;
             let consumed = run.consumed;
             let left = rows.rows - skip.rows;
@@ -173,7 +172,7 @@ fn read_part(input: &[u8], from: RowPosition, signed: bool, out: &mut [i64]) -> 
             };
             BatchRead::up_to(RowNumber { rows: left }, end)
         }
-        DirectPart::NotRead => read_aside(input, from, signed, out),
+        None => read_aside(input, from, signed, out),
     }
 }
 

@@ -16,7 +16,8 @@ use util::{packed, pattern, varint, width};
 
 // What the tests of a delta run found: the width of its magnitudes in bits, 0 where it has none; its rows; the bits of its two varints, the place
 // after these, and the place after the run. Where the number is not 0, the run is refused with it instead, and the input ends in the field that
-// begins at a byte, or, where that is 0, in none. It is no enum: one with a struct in it goes through memory.
+// begins at a byte, or, where that is 0, in none. Tried and slower: a Result<Found, Refusal> goes through memory, and a run of four rows takes 32
+// in 100 more instructions.
 #[derive(Clone, Copy)]
 struct Found {
     number: u8,
@@ -187,7 +188,7 @@ fn magnitudes(block: &[u8], bits: usize, n: RowNumber, falling: bool, second: u6
         ≡ summed falling second (map as_i64 (fields bits n.rows block.now)) ++ drop n.rows out.old }
 {
     packed::unpack(block, bits, n.rows, out);
-    rows::sum(falling, second, n, out);
+    rows::sum(falling, second, &mut out[..n.rows]);
 }
 
 // All rows of a run with n magnitudes: the first, the second, which is first + base delta, and those after it, which rise or fall as
@@ -198,8 +199,8 @@ fn lay_packed(block: &[u8], bits: usize, n: RowNumber, first: u64, step: u64, ou
     ensures { out.new
         ≡ laid first step (map as_i64 (fields bits n.rows block.now)) ++ drop (n.rows + 2) out.old }
 {
-    rows::steps(first, step, RowNumber { rows: 2 }, out);
-    let second = pattern::add(first, step);
+    rows::steps(first, step, &mut out[..2]);
+    let second = first.wrapping_add(step);
     let falling = TOP_BIT <= step;
     magnitudes(block, bits, n, falling, second, &mut out[2..]);
 }
@@ -213,7 +214,7 @@ fn lay(input: &[u8], f: Found, signed: bool, out: &mut [i64])
     let step = pattern::unzigzag(f.base);
     let rows = f.rows;
     if f.bits == 0 {
-        rows::steps(first, step, rows, out);
+        rows::steps(first, step, &mut out[..rows.rows]);
     } else {
         let next = f.next;
         let p = next.bytes;

@@ -39,7 +39,7 @@ pub(crate) fn read(input: &[u8], at: ByteOffset, signed: bool, out: &mut [i64]) 
             }
             let body = at.bytes + 2;
             packed::unpack(&input[body..], r.width, count.rows, out);
-            rows::decode(signed, count, out);
+            rows::decode(signed, &mut out[..count.rows]);
             // as it is: an answer that is made again goes through memory in pieces
             measured
         }

@@ -27,17 +27,12 @@ pub fn measure(input: &[u8], at: ByteOffset) -> Answer
         return Ok(None);
     }
     // the top two bits are the kind
-    let kind = input[p] / 64;
-    if kind == 0 {
-        return short_repeat::measure(input, at);
+    match input[p] / 64 {
+        0 => short_repeat::measure(input, at),
+        1 => direct::measure(input, at),
+        2 => patched_base::measure(input, at),
+        _ => delta::measure(input, at),
     }
-    if kind == 1 {
-        return direct::measure(input, at);
-    }
-    if kind == 2 {
-        return patched_base::measure(input, at);
-    }
-    delta::measure(input, at)
 }
 
 // One run of any kind, from a position of the input on: its rows go into the first places. A refused call consumes nothing and leaves
@@ -50,17 +45,12 @@ pub fn read_run(input: &[u8], at: ByteOffset, signed: bool, out: &mut [i64]) -> 
         return Ok(None);
     }
     // the top two bits are the kind
-    let kind = input[p] / 64;
-    if kind == 0 {
-        return short_repeat::read(input, at, signed, out);
+    match input[p] / 64 {
+        0 => short_repeat::read(input, at, signed, out),
+        1 => direct::read(input, at, signed, out),
+        2 => patched_base::read(input, at, signed, out),
+        _ => delta::read(input, at, signed, out),
     }
-    if kind == 1 {
-        return direct::read(input, at, signed, out);
-    }
-    if kind == 2 {
-        return patched_base::read(input, at, signed, out);
-    }
-    delta::read(input, at, signed, out)
 }
 
 // The run that the input begins with, as `read_run` reads it, for a caller that reads one run a call: a short repeat is read here, since its
@@ -68,10 +58,8 @@ pub fn read_run(input: &[u8], at: ByteOffset, signed: bool, out: &mut [i64]) -> 
 pub fn read_first(input: &[u8], signed: bool, out: &mut [i64]) -> Answer
     ensures { RunRead input.now 0 signed out.old out.new result }
 {
-    if 0 < input.len() {
-        if input[0] / 64 == 0 {
-            return short_repeat::read(input, ByteOffset { bytes: 0 }, signed, out);
-        }
+    if !input.is_empty() && input[0] / 64 == 0 {
+        return short_repeat::read(input, ByteOffset { bytes: 0 }, signed, out);
     }
     read_run(input, ByteOffset { bytes: 0 }, signed, out)
 }
@@ -80,11 +68,9 @@ pub fn read_first(input: &[u8], signed: bool, out: &mut [i64]) -> Answer
 pub fn read_gathered(input: &[u8], signed: bool, out: &mut [i64]) -> Answer
     ensures { RunRead input.now 0 signed out.old out.new result }
 {
-    if 0 < input.len() {
-        if input[0] / 64 == 1 {
-            if let Err(f) = direct::measure(input, ByteOffset { bytes: 0 }) {
-                return Err(f);
-            }
+    if !input.is_empty() && input[0] / 64 == 1 {
+        if let Err(f) = direct::measure(input, ByteOffset { bytes: 0 }) {
+            return Err(f);
         }
     }
     read_run(input, ByteOffset { bytes: 0 }, signed, out)

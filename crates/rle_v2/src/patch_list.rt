@@ -3,10 +3,10 @@ ghost use Rattle.std.specs.Prelude.{◌≡◌, false, ◌+◌, ◌*◌, ◌≤�
 ghost use Rattle.format.specs.Fields.{pick};
 ghost use Rattle.format.specs.Runs.{patch_limit, out_of_place};
 ghost use Rattle.util.specs.Packed.{fields, field_at, Width};
-ghost use Rattle.rle_v2.specs.PatchList.{IsEntry, Listed, large, list_number, patch_all};
+ghost use Rattle.rle_v2.specs.PatchList.{IsEntry, Listed, large, list_number, IsListRefusal, patch_all};
 
 use format::RowNumber;
-use util::{packed, pattern};
+use util::packed;
 
 #[derive(Clone, Copy)]
 struct Entry {
@@ -48,18 +48,16 @@ fn out_of_place(list: &[u8], bits: usize, pw: usize, from: usize, n: usize, widt
     ensures { result ≡ pick (large width pw (drop from (fields bits n list.now))) 3 7 }
 {
     let limit = patch_limit(width);
-    let mut k = from;
-    while k < n {
+    for k in from..n {
         let e = entry_at(list, bits, pw, k);
         if limit <= e.patch {
             return 3;
         }
-        k += 1;
     }
     7
 }
 
-// What the list is refused with, or 0. Refusal 3: a patch is too large for the values' width; a skip's patch is 0, and never is. Refusal 7:
+// What the list is refused with, if it is. Refusal 3: a patch is too large for the values' width; a skip's patch is 0, and never is. Refusal 7:
 // the last entry is a skip, two entries share a place, or a place is past the rows. Places never fall from one entry to the next, so it is
 // enough to hold each against the one before it.
 pub(crate) fn refused_with(
@@ -69,36 +67,31 @@ pub(crate) fn refused_with(
     n: usize,
     width: usize,
     count: RowNumber,
-) -> u8
+) -> Option<u8>
     requires listed { Listed bits pw n list.now }
     requires width_nonzero { (0 < width) × (width ≤ 64) × (count.rows ≤ 512) }
-    ensures { result ≡ list_number width pw count.rows (fields bits n list.now) }
+    ensures { IsListRefusal (list_number width pw count.rows (fields bits n list.now)) result }
 {
     let rows = count.rows;
     let limit = patch_limit(width);
     let mut place: usize = 0;
     let mut free: usize = 0;
     let mut skip = false;
-    let mut k: usize = 0;
-    while k < n {
+    for k in 0..n {
         let e = entry_at(list, bits, pw, k);
         if limit <= e.patch {
-            return 3;
+            return Some(3);
         }
         place += e.gap;
         skip = e.skip;
         if !skip {
-            if place < free {
-                return out_of_place(list, bits, pw, k, n, width);
-            }
-            if rows <= place {
-                return out_of_place(list, bits, pw, k, n, width);
+            if place < free || rows <= place {
+                return Some(out_of_place(list, bits, pw, k, n, width));
             }
             free = place + 1;
         }
-        k += 1;
     }
-    if skip { 7 } else { 0 }
+    if skip { Some(7) } else { None }
 }
 
 // The patches, into rows that stand in their places.
@@ -119,15 +112,12 @@ pub(crate) fn put(
     // no place reaches it: the list passed its test
     let rows = count.rows;
     let mut row: usize = 0;
-    let mut k: usize = 0;
-    while k < n {
+    for k in 0..n {
         let e = entry_at(list, bits, pw, k);
         row += e.gap;
         if !e.skip {
             let patch = packed::raised(e.patch, width);
-            let r = pattern::to_i64(pattern::add(pattern::to_u64(out[row]), patch));
-            out[row] = r;
+            out[row] = out[row].cast_unsigned().wrapping_add(patch).cast_signed();
         }
-        k += 1;
     }
 }

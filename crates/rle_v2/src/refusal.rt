@@ -1,4 +1,4 @@
-// A refusal by words, as the tests of delta and patched base runs hand it on: its number, and the byte where the field begins that the input ends in.
+// A refusal by words, as the tests of a delta run hand it on: its number, and the byte where the field begins that the input ends in.
 ghost use Rattle.std.specs.Prelude.{◌≡◌};
 ghost use Rattle.rle_v2.specs.RefusedBy.{refused_by};
 

@@ -39,7 +39,7 @@ pub(crate) fn read(input: &[u8], at: ByteOffset, signed: bool, out: &mut [i64]) 
                 return Err(Refusal::new(8, at));
             }
             let value = pattern::row(signed, big_endian::read(input, at.bytes + 1, r.width / 8));
-            rows::repeat(value, count, out);
+            rows::repeat(value, &mut out[..count.rows]);
             // as it is: an answer that is made again goes through memory in pieces
             measured
         }

@@ -13,18 +13,18 @@ use Rattle.rle_v2.proofs.ByKind.{nothing-there, is-direct}
 use Rattle.rle_v2.proofs.DirectRun.{run, Measured, measured, rows-there}
 use Rattle.rle_v2.proofs.PartRun.{none-there, none_named, none-direct, part_none, part-read}
 use Rattle.rle_v2.proofs.part.read.Goals as goal
+use Rattle.rle_v2.proofs.part.read.Goals.{then-input-p-via-then-input-p, then-input-p-via-else-input-p+then-input-p-ne1}
 
 -- ---- no rows
 pub returns-then-input-p : goal.returns-then-input-p
 returns-then-input-p c =
     let a = c.args in
-    none-there a.skip.rows a.signed a.out.now _ (nothing-there a.input.now a.at.bytes c.if-input-p.true)
-
-pub returns-then-input-p-ne1 : goal.returns-then-input-p-ne1
-returns-then-input-p-ne1 c =
-    let a = c.args in
-    none-direct a.skip.rows a.signed a.out.now a.input.now a.at.bytes
-    (below_all 256 a.input.now (λ i. (c.shared_slice_known-1.given i).fits)) c.if-input-p.false c.if-input-p-ne1.true
+    elim c.then-input-p.branch [
+      | then-input-p-via-then-input-p w ↦ none-there a.skip.rows a.signed a.out.now _ (nothing-there a.input.now a.at.bytes w.if-input-p.true)
+      | then-input-p-via-else-input-p+then-input-p-ne1 w ↦
+          none-direct a.skip.rows a.signed a.out.now a.input.now a.at.bytes
+          (below_all 256 a.input.now (λ i. (c.type_inv.input i).fits)) w.if-input-p.false w.if-input-p-ne1.true
+    ]
 
 pub returns-then-count-skip : goal.returns-then-count-skip
 returns-then-count-skip c =
@@ -72,9 +72,9 @@ lay-requires c =
     let s = a.input.now in
     record {
       width = rw m.width_is (code-width _);
-      few = omega (arith, m.rows_are, c.shared_slice_known-1.given (a.at.bytes + 1));
-      within = omega (arith, c.less-n.ensures, c.if-count-skip.false);
-      places = omega (arith, c.less-n.ensures);
+      few = omega (arith, m.rows_are, c.type_inv.input (a.at.bytes + 1));
+      within = omega (arith, c.min-n.ensures, c.if-count-skip.false);
+      places = omega (arith, c.min-n.ensures);
       there = rw (rest-is s (a.at.bytes + 2), length-drop) (rows-there s a.at.bytes _ m);
     }
 
@@ -86,5 +86,5 @@ returns-else-count-skip c =
     let a = c.args in
     let s = a.input.now in
     rw (is-direct s a.at.bytes c.if-input-p.false c.if-input-p-ne1.false)
-    (part-read s a.at.bytes a.skip.rows a.signed a.out.now _ (named) (measured-is) c.less-n.result _ _
-    (omega (arith, c.if-count-skip.false)) c.less-n.ensures (rw (rest-is s (a.at.bytes + 2)) at c.lay.ensures) c.decode.ensures)
+    (part-read s a.at.bytes a.skip.rows a.signed a.out.now _ (named) (measured-is) c.min-n.result _ _
+    (omega (arith, c.if-count-skip.false)) c.min-n.ensures (rw (rest-is s (a.at.bytes + 2)) at c.lay.ensures) c.decode.ensures)

@@ -1,13 +1,9 @@
 -- The walk over the rest of a list that is refused finds a patch that is too large, or none. Assumes nothing.
 use mathlib.Core.Path.{◌≡◌}
-use Prim.Native.Nat.{◌-◌, ◌≤◌}
 use lib.ListN.{drop}
 use Rattle.util.specs.Packed.{fields}
 use Rattle.rle_v2.specs.PatchList.{large}
 use Rattle.rle_v2.proofs.patch_list.out_of_place.Given as goal
 
 abbrev pub invariant-loop-k : goal.invariant-loop-k
-invariant-loop-k l = (l.k ≤ l.n) × (large l.width l.pw (drop l.k (fields l.bits l.n l.list)) ≡ large l.width l.pw (drop l.from (fields l.bits l.n l.list)))
-
-abbrev pub decreases-loop-k : goal.decreases-loop-k
-decreases-loop-k l = l.n - l.k
+invariant-loop-k l = large l.width l.pw (drop l.k (fields l.bits l.n l.list)) ≡ large l.width l.pw (drop l.from (fields l.bits l.n l.list))
