@@ -41,7 +41,7 @@ pub(crate) fn put_offsets(lengths: &[i64], block: ByteOffset, offsets: &mut [u64
     }
 }
 
-// The name of a row whose number is in this entry: 0 and 0 if it has none.
+// The name of a row whose number is in this entry: 0 and 0 if it has none, as `LabelledAll` and the caller in C have it.
 fn name_for(flag: u8, numbers: &[i64], at: usize, lengths: &[i64], offsets: &[u64]) -> Name
     requires { (has_number lengths.now flag (drop at numbers.now) ≡ true) × (length lengths.now ≤ length offsets.now)
         × (none_below lengths.now ≡ true) }

@@ -62,7 +62,8 @@ pub(crate) fn walk(
     })
 }
 
-// The first k segments, where they are accepted and have no more bytes than the direct runs; else none.
+// The first k segments, where they are accepted and have no more bytes than the direct runs; else none. (0 for none, as `Proposes` and `orc_plan`
+// have it.)
 pub(crate) fn sound(
     rows: &[i64],
     signed: bool,

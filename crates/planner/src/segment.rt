@@ -57,6 +57,7 @@ fn form_of(form: u64) -> Form
 }
 
 // Some rows as the segment's run: its bytes, or 0 where the writer does not accept them. No form has a width above 255.
+// (A number for a refusal, since `writer::size_of_run` promises it so.)
 fn write(part: &[i64], signed: bool, s: Segment, out: &mut [u8]) -> ByteOffset
     ensures { Ran (write_in signed s.form s.width s.base part.now (length out.old)) out.old
         out.new result.bytes }
@@ -124,7 +125,7 @@ pub(crate) fn step(
     write(&rows[row..row + s.count as usize], signed, s, out)
 }
 
-// The same bytes, where there is room for any run.
+// The same bytes, where there is room for any run. (A function of its own, since most forms are measured without a byte being written.)
 pub(crate) fn step_size(
     rows: &[i64],
     signed: bool,
