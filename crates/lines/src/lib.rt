@@ -121,7 +121,7 @@ fn put_frame(frame: &[u8], out: &mut [u8]) -> ByteOffset
 }
 
 // The answer line to a line (its bytes without the newline), in the first bytes of `out`: how many they are. Nothing is written where `out`
-// has fewer bytes than any answer line needs.
+// has fewer bytes than any answer line needs (0 and no Option: `Answered` promises a length).
 pub fn answer_line(line: &[u8], out: &mut [u8]) -> usize
     ensures { Answered line.now out.old out.new result }
 {

@@ -166,6 +166,7 @@ fn turn(
     }
 }
 
+// (Not one function with `take_all` of the program `totals`: what `Ready` and `Over` say of a turn differs, so that one for both is no plainer.)
 // Reads and answers to the end. A proved loop has to end, and nothing says that the input does: the loop has as many turns as no input uses up.
 fn run(rt: &(impl Input + Print + Eprint)) -> Standing
     ensures { Over result.left result.reads result.said }

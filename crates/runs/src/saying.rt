@@ -5,7 +5,8 @@ ghost use Rattle.runs.specs.Program.{program_text, nothing_said, Due, SaidOn};
 
 use blocks::reading::Reads;
 
-// How many bytes were handed over, and whether the system did not take the last of them.
+// How many bytes were handed over, and whether the system did not take the last of them. (No Result: the count is told in both cases,
+// and `AfterBlock` speaks of `cut`.)
 #[derive(Clone, Copy)]
 pub(crate) struct Said {
     bytes: u64,
