@@ -1,4 +1,5 @@
-// The row index of an integer stream, beside it: three lent columns, one place a run, with its first row, its byte offset and its rows.
+// The row index of an integer stream, beside it: three lent columns, one place a run, with its first row, its byte offset and its rows. They
+// are three slices, and no slice of entries, because C lends them so.
 // A caller's index is not trusted: it is compared with the stream before it is used.
 #![tactic(auto)]
 

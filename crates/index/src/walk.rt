@@ -1,4 +1,5 @@
-// Walks over a stream by its runs' measures: no row is decoded.
+// Walks over a stream by its runs' measures: no row is decoded. Three loops and not one that takes a closure: it would need a contract for the
+// walk and for each closure, and what the loops share is the measure and one sum.
 ghost use Rattle.std.specs.Prelude.{◌≡◌, ℕ, ◌+◌, length};
 ghost use Rattle.format.specs.Streams.{stream};
 ghost use Rattle.index.specs.Walk.{total_of, survey_from, right_from, same_three, Roomy, Filled};

@@ -7,7 +7,8 @@ ghost use Rattle.rescue.specs.RescueSteps.{plain_in, GroupRead, GroupRescued};
 use format::ByteOffset;
 use batches::RowPosition;
 
-// Makes a position plain: whole runs are passed while there are at least as many rows to skip. With none left, no run is looked at.
+// Makes a position plain: whole runs are passed while there are at least as many rows to skip. With none left, no run is looked at. The walk
+// is that of `batches::seek`, which promises the same batches and not, as here, the position itself.
 pub(crate) fn make_plain(input: &[u8], from: RowPosition) -> Option<RowPosition>
     ensures { result ≡ plain_in (made_plain input.now (position_in from)) }
 {
@@ -38,7 +39,7 @@ pub(crate) fn make_plain(input: &[u8], from: RowPosition) -> Option<RowPosition>
     Some(crate::row_position(place, 0))
 }
 
-// Whether two positions are equal.
+// Whether two positions are equal. No derive: the format's units have no PartialEq.
 fn same(p: RowPosition, q: RowPosition) -> bool
     ensures { result ≡ meets (at (position_in p)) (at (position_in q)) }
 {

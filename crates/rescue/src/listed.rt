@@ -1,4 +1,4 @@
-// The columns that list the groups: their order, their sum, and a position by its number.
+// The columns that list the groups, as C lends them: their order, their sum, and a position by its number.
 ghost use Rattle.std.specs.Prelude.{◌≡◌, length, ltb};
 ghost use Rattle.batches.specs.BatchPromise.{position_in};
 ghost use Rattle.rescue.specs.Rescue.{positions, not_after, in_order, sum};
@@ -18,7 +18,8 @@ pub(crate) fn position_at(end: ByteOffset, runs: &[u64], skips: &[u64], i: usize
     crate::row_position(end.bytes, 0)
 }
 
-// Whether one position is not after another: its byte is lower, or the bytes are equal and it skips no more rows.
+// Whether one position is not after another: its byte is lower, or the bytes are equal and it skips no more rows. No derive: the format's
+// units have no order.
 fn not_after(p: RowPosition, q: RowPosition) -> bool
     ensures { result ≡ not_after (position_in p) (position_in q) }
 {
