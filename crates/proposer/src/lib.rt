@@ -183,7 +183,8 @@ fn lay(rows: &[i64], signed: bool, columns: &mut Columns<'_>) -> usize {
 }
 
 // Proposes runs for a column, in the first places of the five: first row, rows, form (0 short repeat, 1 direct, 2 fixed delta, 3 packed delta, 4
-// patched), width (bytes, code, code, code, bits) and base. Answers how many, or 0 where a column has too few places.
+// patched), width (bytes, code, code, code, bits) and base. Answers how many, or 0 where a column has too few places: columns and 0 are as `orc_plan`
+// and the promise (`Proposed`) have them.
 pub fn propose(
     rows: &[i64],
     signed: bool,

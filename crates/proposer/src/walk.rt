@@ -53,7 +53,7 @@ impl Steps {
     // One step more. A run that begins with it begins at the row before, behind so many bits with its header, first row and this step.
     fn take(self, step: u64, from: u64, bits: u64) -> Steps {
         let fresh = states::state(bits, from, Form::Fixed);
-        // a step of 0 goes on with either direction
+        // a step of 0 goes on with either direction; `&` and no branch, since steps vary
         let turns = (step != 0) & ((step >> 63 == 1) != self.falls);
         Steps {
             step,
@@ -101,7 +101,8 @@ fn direct_at(runs: &mut [u64; 16], widths: &Widths, k: u64, first: u64, fresh: u
     run
 }
 
-// The packed delta of width k with this step: those from `first` on have it, and each may begin with it.
+// The packed delta of width k with this step: those from `first` on have it, and each may begin with it. Least and sum stand in another order than
+// for a direct run, so the two are no twins.
 fn packed_at(runs: &mut [u64; 16], widths: &Widths, k: u64, first: u64, fresh: u64) -> u64 {
     let on = cells::at(runs, k).wrapping_add(cells::at(&widths.bits, k));
     let run = if k < first { CLOSED } else { on }.min(fresh);

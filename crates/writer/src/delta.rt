@@ -132,7 +132,7 @@ pub(crate) fn write_packed(run: PackedRows<'_>, out: &mut [u8]) -> Answer
     let n = RowNumber {
         rows: run.rows.len(),
     };
-    // a short run clears a small buffer, and not one for any run
+    // a short run clears a small buffer, and not one for any run; a const parameter for the size would copy the writer, and say no less
     if run.rows.len() <= values::FEW {
         let mut few = [0u64; values::FEW];
         write_packed_over(run, bytes, &mut few, out);

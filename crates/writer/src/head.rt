@@ -8,6 +8,7 @@ ghost use Rattle.format.specs.Runs as Runs;
 use format::{Answer, ByteOffset, Kind, Refusal, RowNumber, Run};
 use util::width;
 
+// The bits of kind and code are numbers, as the contract names them (`Runs.head`).
 pub(crate) fn write(kind: u8, code: u8, rows: RowNumber, out: &mut [u8])
     requires { (kind < 4) × (code < 32) × (1 ≤ rows.rows) × (rows.rows ≤ 512) × (2 ≤ length out.old) }
     ensures { out.new ≡ Runs.head kind code rows.rows ++ drop 2 out.old }

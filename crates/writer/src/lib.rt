@@ -83,6 +83,7 @@ fn measure(rows: &[i64], signed: bool, form: Form, width: u8) -> Option<ByteOffs
 }
 
 // The bytes that `write_run` would write with room for any run, or 0 if it would refuse. Nothing is written.
+// Not an Option: its promise says 0 (`size_in`).
 pub fn size_of_run(rows: &[i64], signed: bool, form: Form, width: u8) -> ByteOffset
     ensures { result.bytes ≡ size_in (writing signed form width (map as_u64 rows.now) 4356) }
 {

@@ -169,7 +169,7 @@ pub(crate) fn write(rows: &[i64], base: i64, width: u8, out: &mut [u8]) -> Answe
     if !is_kept(width as usize) {
         return head::refused(10);
     }
-    // a short run clears a small buffer, and not one for any run
+    // a short run clears a small buffer, and not one for any run; a const parameter for the size would copy the writer, and say no less
     if rows.len() <= values::FEW {
         let mut few = [0u64; values::FEW];
         return write_over(rows, base, width, &mut few, out);
