@@ -1,10 +1,9 @@
 -- The run at a place, by the kind that its first byte names: a kind's definition takes that byte and all that follows it. Assumes nothing.
-use Rattle.std.specs.Prelude.{◌≡◌, ℕ, ◌+◌, ◌-◌, Bool, List, length, get_or, drop, ℤ}
+use Rattle.std.specs.Prelude.{◌≡◌, ℕ, ◌+◌, ◌-◌, Bool, List, length, get_or, drop, ℤ, Err}
 use Rattle.format.specs.Runs.{Description}
 use Rattle.format.specs.Parse.{Parsed}
 use Rattle.format.specs.Promises.{answer_of, Gives}
 use Rattle.format.specs.Answers.{Answer}
-use Rattle.format.specs.declared.Answer.TheVariants as answer
 use Rattle.format.specs.declared.Refusal.{Refusal}
 
 abbrev pub run_at : (ℕ → List ℕ → Parsed Description) → List ℕ → ℕ → Parsed Description
@@ -20,4 +19,4 @@ ReadAs kind s at signed out out' r = Gives at (length s - at) signed (run_at kin
 
 -- reading gives m, and the run at `at` is refused
 abbrev pub Refuses : List ℕ → ℕ → Parsed Description → Refusal → Type 0
-Refuses s at m f = answer.Refused f ≡ answer_of at (length s - at) m
+Refuses s at m f = Err f ≡ answer_of at (length s - at) m

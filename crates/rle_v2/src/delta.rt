@@ -86,10 +86,12 @@ fn starts_at(input: &[u8], at: ByteOffset, rows: RowNumber) -> Found
         Ok(Varint { bits: first, next }) => match varint_at(input, ByteOffset { bytes: next }) {
             Err(VarintError::Cut) => gone(12, ByteOffset { bytes: next }),
             Err(VarintError::TooLong) => gone(5, ByteOffset { bytes: 0 }),
-            Ok(Varint {
-                bits: base,
-                next: end,
-            }) => Found {
+            Ok(
+                Varint {
+                    bits: base,
+                    next: end,
+                },
+            ) => Found {
                 number: 0,
                 field: ByteOffset { bytes: 0 },
                 bits: 0, // no magnitudes

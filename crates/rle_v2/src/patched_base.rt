@@ -180,20 +180,12 @@ pub(crate) fn measure(input: &[u8], at: ByteOffset) -> Answer
     requires { at.bytes < length input.now }
     ensures { MeasuredAs patched_run input.now at.bytes result }
 {
-    let p = at.bytes;
-    match checked(input, at) {
-        Ok(f) => {
-            let end = f.end;
-            let consumed = end.bytes - p;
-            Ok(Some(Run::new(
-                Kind::PatchedBase,
-                f.bits,
-                f.rows,
-                ByteOffset { bytes: consumed },
-            )))
-        }
-        Err(refusal) => Err(refusal),
-    }
+    let f = checked(input, at)?;
+    let end = f.end;
+    let consumed = ByteOffset {
+        bytes: end.bytes - at.bytes,
+    };
+    Ok(Some(Run::new(Kind::PatchedBase, f.bits, f.rows, consumed)))
 }
 
 // The values with the base added, in their places.
@@ -236,23 +228,15 @@ pub(crate) fn read(input: &[u8], at: ByteOffset, signed: bool, out: &mut [i64]) 
     requires { at.bytes < length input.now }
     ensures { ReadAs patched_run input.now at.bytes signed out.old out.new result }
 {
-    let p = at.bytes;
-    match checked(input, at) {
-        Ok(f) => {
-            let rows = f.rows;
-            if out.len() < rows.rows {
-                return Err(Refusal::new(8, at));
-            }
-            put(input, at, f, out);
-            let end = f.end;
-            let consumed = end.bytes - p;
-            Ok(Some(Run::new(
-                Kind::PatchedBase,
-                f.bits,
-                rows,
-                ByteOffset { bytes: consumed },
-            )))
-        }
-        Err(refusal) => Err(refusal),
+    let f = checked(input, at)?;
+    let rows = f.rows;
+    if out.len() < rows.rows {
+        return Err(Refusal::new(8, at));
     }
+    put(input, at, f, out);
+    let end = f.end;
+    let consumed = ByteOffset {
+        bytes: end.bytes - at.bytes,
+    };
+    Ok(Some(Run::new(Kind::PatchedBase, f.bits, rows, consumed)))
 }

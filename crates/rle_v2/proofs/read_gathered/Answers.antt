@@ -11,4 +11,4 @@ pub returns-in-Err : goal.returns-in-Err
 returns-in-Err c =
     let a = c.args in
     rw (is-direct a.input.now 0 (search rules) c.if-input-eq1.true)
-    (gives_none 0 _ a.signed (run a.input.now 0) a.out.now (answer.Refused _) tt (sym c.in-Err.is ∙ c.measure.ensures))
+    (gives_none 0 _ a.signed (run a.input.now 0) a.out.now (Err _) tt (sym c.in-Err.is ∙ c.measure.ensures))

@@ -61,7 +61,7 @@ returns-else-out-count c =
     let r = c.in-Ok-Some.r in
     let o = then-pass (decoded a.signed) (map as_i64 (block_at s body r.width r.rows.rows).values) a.out.now c.unpack.new.out c.decode.new.out r.rows.rows
     (block-rows s body r.width r.rows.rows) (rw (rest-is s body) at c.unpack.ensures) c.decode.ensures in
-    read_is s a.at.bytes a.signed a.out.now r (named) (measured-is) _ c.if-out-count.false o
+    rw ((c.in-Ok-Some.is ∙ ap Ok (rw c.in-Ok-Some.is at c.in-Ok-Some.field-0-is))) (read_is s a.at.bytes a.signed a.out.now r (named) (measured-is) _ c.if-out-count.false o)
 
 pub returns-in-Err : goal.returns-in-Err
 returns-in-Err c =

@@ -4,8 +4,8 @@ use mathlib.Core.Path.{ap, ◌∙◌}
 use Rattle.rle_v2.proofs.PatchedFound.{passed-answer, passes}
 use Rattle.rle_v2.proofs.patched_base.measure.Goals as goal
 
-pub returns-in-Ok : goal.returns-in-Ok
-returns-in-Ok c =
+pub returns : goal.returns
+returns c =
     let a = c.args in
-    let f = c.in-Ok.ensures in
-    c.run.ensures ∙ passed-answer a.input.now a.at.bytes _ _ _ _ (passes a.input.now a.at.bytes _ _ f.heads f.list)
+    let f = c.in_ok-f.ensures in
+    (ap (λ r. Ok (Some r)) c.new.ensures) ∙ passed-answer a.input.now a.at.bytes _ _ _ _ (passes a.input.now a.at.bytes _ _ f.heads f.list)

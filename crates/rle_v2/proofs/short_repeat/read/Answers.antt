@@ -30,8 +30,8 @@ returns-else-out-count c =
     let a = c.args in
     let v = rw c.read.ensures at c.row-value.ensures in
     let f : c.row-value.result < 2 ^ 64 = c.row-value.type_inv in
-    read_is a.input.now a.at.bytes a.signed a.out.now _ (named) (measured-is) _ c.if-out-count.false
-    (rw v at f) (rw (rw v at c.repeat.ensures))
+    rw ((c.in-Ok-Some.is ∙ ap Ok (rw c.in-Ok-Some.is at c.in-Ok-Some.field-0-is))) (read_is a.input.now a.at.bytes a.signed a.out.now _ (named) (measured-is) _ c.if-out-count.false
+    (rw v at f) (rw (rw v at c.repeat.ensures)))
 
 pub returns-in-Err : goal.returns-in-Err
 returns-in-Err c =
