@@ -48,6 +48,7 @@ fn text_places() -> [u8; 65536]
     [0; 65536]
 }
 
+// `stopped` stays a flag: `written_for`, `Final` and the theorem `FinalSays` speak of it.
 // The lines of the totals, and the refusal last where one stopped the reading, in the first bytes of `out`: how many bytes they are.
 fn put_text(totals: Totals, stopped: bool, out: &mut [u8]) -> usize
     requires { 8192 ≤ length out.old }
@@ -120,6 +121,7 @@ fn turn(
     }
 }
 
+// (Not one function with `run` of the program `runs`: what `Ready` and `Over` say of a turn differs, so that one for both is no plainer.)
 // Reads and takes to the end. A proved loop has to end, and nothing says that the input does: the loop has as many turns as no input uses up.
 fn take_all(rt: &(impl Input + Eprint)) -> Standing
     ensures { Over result.next result.reads result.totals }
