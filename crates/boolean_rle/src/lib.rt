@@ -12,6 +12,7 @@ ghost use Rattle.boolean_rle.specs.Found.{found_at, bytes_at, span_of, Wrote};
 use crate::run::RunAt;
 use format::{Answer, ByteOffset, Kind, Refusal, RowNumber, Run};
 
+pub mod batch;
 pub mod bytes;
 pub mod count;
 pub mod flags;
@@ -181,10 +182,7 @@ pub fn read_booleans(input: &[u8], at: ByteOffset, n: RowNumber, out: &mut [u8])
 {
     let position = at.bytes;
     let rows = n.rows;
-    let consumed = match span_from(input, position, rows) {
-        Ok(consumed) => consumed,
-        Err(cut) => return Err(cut.refusal(at)),
-    };
+    let consumed = span_from(input, position, rows).map_err(|cut| cut.refusal(at))?;
     if out.len() < rows {
         return Err(Refusal::new(8, at));
     }
