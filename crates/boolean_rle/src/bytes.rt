@@ -36,6 +36,7 @@ fn put_values(input: &[u8], from: BytePosition, n: usize, out: &mut [u8])
     let mut place = start.bytes;
     let mut left = skip.bytes;
     let mut done = 0;
+    // from run to run: the step is a run's size, so no range has these places
     while done < n {
         let Ok(run) = crate::run_at(input, place) else {
             return;
