@@ -12,12 +12,14 @@ use Rattle.boolean_rle.specs.declared.positions.BytePosition.{BytePosition}
 use Rattle.boolean_rle.specs.declared.Cut.{Cut}
 use Rattle.boolean_rle.specs.Column.{runs_at, column}
 use Rattle.boolean_rle.specs.Positions.{past}
-use Rattle.boolean_rle.specs.Batches.{read_bytes, BytesGiven}
+use Rattle.boolean_rle.specs.Batches.{ByteBatch, read_bytes, BytesGiven}
 use Rattle.boolean_rle.specs.Found.{bytes_ahead, Wrote, byte_end}
 use Rattle.boolean_rle.proofs.Onward.{OnwardIn, onward}
 use Rattle.boolean_rle.proofs.FlagsOnward.{plain-le}
 use Rattle.boolean_rle.proofs.Batches.{bytes-seen}
 use Rattle.boolean_rle.proofs.Ends.{byte_cut, byte-at}
+use native.Mathlib.Nat.{add-zero, le_refl}
+use Rattle.boolean_rle.specs.Walked.{Walked, cut_before, cut_within, no_room, whole}
 use Rattle.boolean_rle.proofs.Placed.{scan-cut, cut-is, placed-short, placed-8, placed-all, laid, leb-shift}
 
 -- from a position q that was found, k bytes after the byte `at`
@@ -74,3 +76,18 @@ module _ (s : List ℕ) (b : AllBelow 256 s) (p : BytePosition) (n : ℕ) (out :
         let next = past at (p.bytes.bytes + n) (runs_at s at).runs in
         let g = placed-all p.bytes.bytes n (length out) (column (drop at s)) next (runs_at s at).why h l in
         record { answer = rw (bytes-seen s b p n, g, y); places = rw (bytes-seen s b p n, g) (laid n _ out out' w) }
+
+  -- what the reader of a batch comes to is what is promised
+  pub bytes-given : (out' : List ℕ) (r : ByteBatch) → Walked (λ p n. byte_end s p.run.bytes (p.bytes.bytes + n)) (bytes_ahead s) p.run.bytes p n out out' r
+      → BytesGiven s p n out out' r
+  bytes-given out' r (cut_before f e o a) = rw (o, a) (bytes_cut (p.bytes.bytes + 0) f (omega arith) e)
+  bytes-given out' r (cut_within q f e g o a) =
+      let on = bytes_on s b p.run.bytes p.bytes.bytes q (rw add-zero at e) n in
+      rw (o, a) (bytes_cut (p.bytes.bytes + n) f (le_refl _) (on ∙ g))
+  bytes-given out' r (no_room q q' e g l o a) =
+      let on = bytes_on s b p.run.bytes p.bytes.bytes q (rw add-zero at e) n in
+      rw (o, a) (bytes_8 q' (on ∙ g) l)
+  bytes-given out' r (whole q q' e g l w a) =
+      let h = rw add-zero at e in
+      let on = bytes_on s b p.run.bytes p.bytes.bytes q h n in
+      rw a (bytes-all q' (on ∙ g) out' l (rw (bytes_same s b p.run.bytes p.bytes.bytes q h) w))

@@ -13,11 +13,13 @@ use Rattle.boolean_rle.specs.declared.positions.FlagPosition.{FlagPosition}
 use Rattle.boolean_rle.specs.declared.Cut.{Cut}
 use Rattle.boolean_rle.specs.Column.{runs_at, column}
 use Rattle.boolean_rle.specs.Positions.{skipped, past_flags}
-use Rattle.boolean_rle.specs.Batches.{read_flags, FlagsGiven}
+use Rattle.boolean_rle.specs.Batches.{FlagBatch, read_flags, FlagsGiven}
 use Rattle.boolean_rle.specs.Found.{flags_ahead, Wrote, flag_end, Ready}
 use Rattle.boolean_rle.proofs.FlagsOnward.{FlagsOnward, flags-onward}
 use Rattle.boolean_rle.proofs.Batches.{flags-seen}
 use Rattle.boolean_rle.proofs.Ends.{flag-cut, flag_at_lem}
+use native.Mathlib.Nat.{add-zero, le_refl}
+use Rattle.boolean_rle.specs.Walked.{Walked, cut_before, cut_within, no_room, whole}
 use Rattle.boolean_rle.proofs.Placed.{scan-cut, cut-is, placed-short, placed-8, placed-all, laid, leb-shift}
 
 -- from a position q that was found, k flags after the byte `at`
@@ -81,3 +83,18 @@ module _ (s : List ℕ) (b : AllBelow 256 s) (p : FlagPosition) (n : ℕ) (out :
         let g = placed-all (skipped p) n (length out) vs (past_flags at (skipped p + n) (runs_at s at).runs) (runs_at s at).why
         (rw length-bits h) l in
         record { answer = rw (flags-seen s b p n, g, y); places = rw (flags-seen s b p n, g) (laid n _ out out' w) }
+
+  -- what the reader of a batch comes to is what is promised
+  pub flags-given : (out' : List ℕ) (r : FlagBatch) → Walked (λ p n. flag_end s p.run.bytes (skipped p + n)) (flags_ahead s) p.run.bytes p n out out' r
+      → FlagsGiven s p n out out' r
+  flags-given out' r (cut_before f e o a) = rw (o, a) (flags-cut (skipped p + 0) f (omega arith) e)
+  flags-given out' r (cut_within q f e g o a) =
+      let on = flags-on s b p.run.bytes (skipped p) q (rw add-zero at e) n in
+      rw (o, a) (flags-cut (skipped p + n) f (le_refl _) (on ∙ g))
+  flags-given out' r (no_room q q' e g l o a) =
+      let on = flags-on s b p.run.bytes (skipped p) q (rw add-zero at e) n in
+      rw (o, a) (flags-8 q' (on ∙ g) l)
+  flags-given out' r (whole q q' e g l w a) =
+      let h = rw add-zero at e in
+      let on = flags-on s b p.run.bytes (skipped p) q h n in
+      rw a (flags-all q' (on ∙ g) out' l (rw (flags-same s b p.run.bytes (skipped p) q h) w))

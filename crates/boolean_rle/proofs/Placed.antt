@@ -66,18 +66,18 @@ leb-shift k l k' l' x h h' e = by (dec_lt l (k + x))
     by (yes t) = rw (lt-leb (k + x) l t, lt-leb (k' + x) l' (omega arith))
     by (no t) = rw (le-leb (k + x) l (omega arith), le-leb (k' + x) l' (omega arith))
 
--- what `map_err` was given, by what it gave
-pub mapped-err : {A E D : Type 0} (s : Result A E) (m : Result A D) (Q : E → D → Type 0) (r : D)
-    → MatchResult s (λ x. m ≡ Ok x) (λ e. IsErrAnd m (Q e)) → m ≡ Err r → (e : E) × (s ≡ Err e) × Q e r
-mapped-err (Ok x) m Q r h g = never (cc)
-mapped-err (Err e) (Ok y) Q r h g = never (cc)
-mapped-err (Err e) (Err z) Q r h g =
+-- what a call answers, by what `map_err` gave: s is the call's answer, m that of `map_err`
+pub was-err : {A E D : Type 0} {s e : Result A E} {m : Result A D} (Q : E → D → Type 0) {r : D}
+    → s ≡ e → MatchResult s (λ x. m ≡ Ok x) (λ f. IsErrAnd m (Q f)) → m ≡ Err r → (f : E) × (e ≡ Err f) × Q f r
+was-err {s = Ok x} Q h w g = never (cc)
+was-err {s = Err f} {m = Ok y} Q h w g = never (cc)
+was-err {s = Err f} {m = Err z} Q {r} h w g =
     let y : z ≡ r = cc in
-    (e, refl, rw y at h)
+    (f, sym h, rw y at w)
 
-pub mapped-ok : {A E D : Type 0} (s : Result A E) (m : Result A D) (Q : E → D → Type 0) (x : A)
-    → MatchResult s (λ x. m ≡ Ok x) (λ e. IsErrAnd m (Q e)) → m ≡ Ok x → s ≡ Ok x
-mapped-ok (Ok y) m Q x h g = cc
-mapped-ok (Err e) m Q x h g =
-    let (z, f, q) = err_from_is_err_and {Q = Q e} m h in
+pub was-ok : {A E D : Type 0} {s e : Result A E} {m : Result A D} (Q : E → D → Type 0) {x : A}
+    → s ≡ e → MatchResult s (λ y. m ≡ Ok y) (λ f. IsErrAnd m (Q f)) → m ≡ Ok x → e ≡ Ok x
+was-ok {s = Ok y} Q h w g = cc
+was-ok {s = Err f} {m} Q h w g =
+    let (z, k, q) = err_from_is_err_and {Q = Q f} m w in
     never (cc)

@@ -8,8 +8,7 @@ use Rattle.format.specs.declared.Refusal.{Refusal}
 use Rattle.format.specs.Booleans.{ByteRun, joined_bytes, booleans_of, byte_runs, booleans}
 use Rattle.boolean_rle.specs.declared.positions.BytePosition.{BytePosition}
 use Rattle.boolean_rle.specs.declared.positions.FlagPosition.{FlagPosition}
-use Rattle.boolean_rle.specs.declared.bytes.BytesRead.{BytesRead}
-use Rattle.boolean_rle.specs.declared.flags.FlagsRead.{FlagsRead}
+use Rattle.boolean_rle.specs.declared.batch.Read.{Read}
 use Rattle.boolean_rle.specs.Positions.{skipped, past, past_flags}
 
 -- what was taken, with the position after it; or why it can't be
@@ -47,10 +46,10 @@ placed places n (missing r) = missing r
 
 -- what a reader answers: a batch, or a refusal
 abbrev pub ByteBatch : Type 0
-ByteBatch = Result BytesRead Refusal
+ByteBatch = Result (Read BytePosition) Refusal
 
 abbrev pub FlagBatch : Type 0
-FlagBatch = Result FlagsRead Refusal
+FlagBatch = Result (Read FlagPosition) Refusal
 
 -- n are read, and q is the position after them
 abbrev pub read_bytes : ℕ → BytePosition → ByteBatch

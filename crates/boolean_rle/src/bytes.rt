@@ -1,18 +1,29 @@
-// Bytes in batches, from a position of the row index. The positions before and after them are found first; only then is a place written.
-ghost use Rattle.std.specs.Prelude.{◌≤◌, length};
+// Bytes in batches, from a position of the row index.
+ghost use Rattle.std.specs.Prelude.{◌+◌, ◌≤◌, length};
 ghost use Rattle.boolean_rle.specs.Batches.{BytesGiven};
-ghost use Rattle.boolean_rle.specs.Found.{bytes_ahead, Wrote};
+ghost use Rattle.boolean_rle.specs.Found.{byte_end, bytes_ahead, Wrote};
 
-use crate::positions;
+use crate::batch::{Position, Read};
 use crate::positions::BytePosition;
 use crate::run::RunAt;
+use crate::{Cut, batch, positions};
 use format::{Refusal, RowNumber};
 
 // A batch: how many bytes, and the position after them.
-#[derive(Clone, Copy)]
-pub struct BytesRead {
-    pub rows: RowNumber,
-    pub next: BytePosition,
+pub type BytesRead = Read<BytePosition>;
+
+impl Position for BytePosition {
+    ghost end = { λ s p n. byte_end s p.run.bytes (p.bytes.bytes + n) };
+
+    ghost ahead = { bytes_ahead };
+
+    fn after(self, input: &[u8], n: usize) -> Result<BytePosition, Cut> {
+        positions::byte_end(input, self, n)
+    }
+
+    fn put(self, input: &[u8], n: usize, out: &mut [u8]) {
+        put_values(input, self, n, out);
+    }
 }
 
 // The bytes after a position, run by run, in the first n places.
@@ -25,6 +36,7 @@ fn put_values(input: &[u8], from: BytePosition, n: usize, out: &mut [u8])
     let mut place = start.bytes;
     let mut left = skip.bytes;
     let mut done = 0;
+    // from run to run: the step is a run's size, so no range has these places
     while done < n {
         let Ok(run) = crate::run_at(input, place) else {
             return;
@@ -51,13 +63,5 @@ pub fn read_bytes(
 ) -> Result<BytesRead, Refusal>
     ensures { BytesGiven input.now from n.rows out.old out.new result }
 {
-    let at = from.run;
-    let rows = n.rows;
-    let begin = positions::byte_end(input, from, 0).map_err(|cut| cut.refusal(at))?;
-    let next = positions::byte_end(input, begin, rows).map_err(|cut| cut.refusal(at))?;
-    if out.len() < rows {
-        return Err(Refusal::new(8, at));
-    }
-    put_values(input, begin, rows, out);
-    Ok(BytesRead { rows: n, next })
+    batch::read_batch(input, from, from.run, n, out)
 }

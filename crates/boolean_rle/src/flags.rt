@@ -1,18 +1,30 @@
-// Flags in batches, from a position of the row index. The positions before and after them are found first; only then is a place written.
-ghost use Rattle.std.specs.Prelude.{◌≡◌, ◌-◌, ◌≤◌, ◌<◌, min, length};
+// Flags in batches, from a position of the row index.
+ghost use Rattle.std.specs.Prelude.{◌≡◌, ◌+◌, ◌-◌, ◌≤◌, ◌<◌, min, length};
 ghost use Rattle.boolean_rle.specs.Batches.{FlagsGiven};
-ghost use Rattle.boolean_rle.specs.Found.{Wrote, flags_ahead, Ready};
+ghost use Rattle.boolean_rle.specs.Found.{flag_end, flags_ahead, Ready, Wrote};
+ghost use Rattle.boolean_rle.specs.Positions.{skipped};
 
-use crate::positions;
+use crate::batch::{Position, Read};
 use crate::positions::FlagPosition;
 use crate::run::RunAt;
+use crate::{Cut, batch, positions};
 use format::{Refusal, RowNumber};
 
 // A batch: how many flags, and the position after them.
-#[derive(Clone, Copy)]
-pub struct FlagsRead {
-    pub rows: RowNumber,
-    pub next: FlagPosition,
+pub type FlagsRead = Read<FlagPosition>;
+
+impl Position for FlagPosition {
+    ghost end = { λ s p n. flag_end s p.run.bytes (skipped p + n) };
+
+    ghost ahead = { flags_ahead };
+
+    fn after(self, input: &[u8], n: usize) -> Result<FlagPosition, Cut> {
+        positions::flag_end(input, self, n)
+    }
+
+    fn put(self, input: &[u8], n: usize, out: &mut [u8]) {
+        put_flags(input, self, n, out);
+    }
 }
 
 // Of the byte in which a plain position stands, the flags that it does not skip, as far as n are wanted: how many they are.
@@ -64,13 +76,5 @@ pub fn read_flags(
 ) -> Result<FlagsRead, Refusal>
     ensures { FlagsGiven input.now from n.rows out.old out.new result }
 {
-    let at = from.run;
-    let rows = n.rows;
-    let begin = positions::flag_end(input, from, 0).map_err(|cut| cut.refusal(at))?;
-    let next = positions::flag_end(input, begin, rows).map_err(|cut| cut.refusal(at))?;
-    if out.len() < rows {
-        return Err(Refusal::new(8, at));
-    }
-    put_flags(input, begin, rows, out);
-    Ok(FlagsRead { rows: n, next })
+    batch::read_batch(input, from, from.run, n, out)
 }

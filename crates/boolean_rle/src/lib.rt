@@ -12,6 +12,7 @@ ghost use Rattle.boolean_rle.specs.Found.{found_at, bytes_at, span_of, Wrote};
 use crate::run::RunAt;
 use format::{Answer, ByteOffset, Kind, Refusal, RowNumber, Run};
 
+pub mod batch;
 pub mod bytes;
 pub mod count;
 pub mod flags;
@@ -25,7 +26,8 @@ struct ByteRun {
     count: usize,
 }
 
-// Where the input has too few bytes: the refusal's number, and the byte where the cut field begins.
+// Where the input has too few bytes: the refusal's number, and the byte where the cut field begins. The number stays a number: it is docs/FORMAT.md's,
+// which `Refusal::cut` takes, the promises name (`byte_runs`, `BooleansRead`) and C is given.
 #[derive(Clone, Copy)]
 pub(crate) struct Cut {
     number: u8,
@@ -91,6 +93,7 @@ fn span_from(input: &[u8], at: usize, n: usize) -> Result<usize, Cut>
 {
     let mut end = at;
     let mut left = n.div_ceil(8);
+    // from run to run: the step is a run's size, so no range has these places
     while 0 < left {
         let run = run_at(input, end)?;
         end += run.size;
@@ -99,7 +102,8 @@ fn span_from(input: &[u8], at: usize, n: usize) -> Result<usize, Cut>
     Ok(end - at)
 }
 
-// m bits of a byte after its first `skip`, highest first, in the places from k on.
+// m bits of a byte after its first `skip`, highest first, in the places from k on. Here and below the whole of the places is lent, with k beside it: the
+// next run goes on at the place that is left, and of parts each one would have to be split off and its length be said again.
 fn put_bits(byte: u8, skip: usize, m: usize, out: &mut [u8], k: usize)
     requires { (skip + m ≤ 8) × (k + m ≤ length out.old) }
     ensures { Wrote k (k + m) (drop skip (digits 2 8 byte)) out.old out.new }
@@ -131,7 +135,8 @@ fn put_byte(byte: u8, out: &mut [u8], k: usize)
     }
 }
 
-// The bits of copies of a byte, in eight places each, from k on.
+// The bits of copies of a byte, in eight places each, from k on. This and `put_literals` stay two loops, for speed: one byte is read before the loop and
+// not in it.
 fn put_copies(byte: u8, count: usize, out: &mut [u8], k: usize)
     requires { k + 8 * count ≤ length out.old }
     ensures { Wrote k (k + 8 * count) (bits (replicate count byte)) out.old out.new }
@@ -160,6 +165,7 @@ fn put_booleans(input: &[u8], at: usize, skip: usize, n: usize, out: &mut [u8], 
     let mut place = at;
     let mut left = skip;
     let mut done = k;
+    // from run to run: the step is a run's size, so no range has these places
     while done < n {
         let Ok(run) = run_at(input, place) else {
             return;
@@ -181,10 +187,7 @@ pub fn read_booleans(input: &[u8], at: ByteOffset, n: RowNumber, out: &mut [u8])
 {
     let position = at.bytes;
     let rows = n.rows;
-    let consumed = match span_from(input, position, rows) {
-        Ok(consumed) => consumed,
-        Err(cut) => return Err(cut.refusal(at)),
-    };
+    let consumed = span_from(input, position, rows).map_err(|cut| cut.refusal(at))?;
     if out.len() < rows {
         return Err(Refusal::new(8, at));
     }

@@ -13,7 +13,8 @@ pub struct BytePosition {
     pub bytes: ByteOffset,
 }
 
-// A position of a boolean stream: the same, and how many bits of the next byte to skip.
+// A position of a boolean stream: the same, and how many bits of the next byte to skip. It has the fields of a byte position and not one of that type:
+// the definitions `flag_at` and `skipped`, and so the promises, name these fields.
 #[derive(Clone, Copy)]
 pub struct FlagPosition {
     pub run: ByteOffset,
@@ -30,6 +31,7 @@ pub(crate) fn byte_end(input: &[u8], from: BytePosition, n: usize) -> Result<Byt
     let mut place = start.bytes;
     let mut left = skip.bytes;
     let mut rest = n;
+    // from run to run: the step is a run's size, so no range has these places
     while 0 < left.max(rest) {
         let run = crate::run_at(input, place)?;
         let unused = run.count.saturating_sub(left);

@@ -43,6 +43,7 @@ fn lay(flags: &[u8], rows: &[i64], fill: i64, out: &mut [i64])
     ensures { out.new ≡ Present.spread fill flags.now rows.now
         ++ drop (length flags.now) out.old }
 {
+    // a `for` over the flags would need a test of `next` and a `break` at each, and over the rows a test of the flag, which can't be guessed
     let mut next: usize = 0;
     let mut i: usize = 0;
     while next < rows.len() {
@@ -59,6 +60,7 @@ fn lay(flags: &[u8], rows: &[i64], fill: i64, out: &mut [i64])
 pub fn spread(flags: &[u8], rows: &[i64], fill: i64, out: &mut [i64]) -> Result<RowNumber, Refusal>
     ensures { SpreadOut flags.now rows.now fill out.old out.new result }
 {
+    // 21 and 8 stay numbers: they are docs/FORMAT.md's, which `SpreadOut` names and C is given
     let there = count_present(flags);
     if there.rows != rows.len() {
         return Err(Refusal::new(21, ByteOffset { bytes: 0 }));
