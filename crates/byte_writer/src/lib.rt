@@ -12,6 +12,8 @@ use format::{Answer, ByteOffset, Kind, Refusal, RowNumber, Run};
 mod run;
 mod source;
 
+use source::Source;
+
 // What writing bytes comes to: how many were taken, and how many their runs have.
 #[derive(Clone, Copy)]
 pub struct Written {
@@ -20,14 +22,14 @@ pub struct Written {
 }
 
 // The first pass: how many bytes the runs have.
-fn measure(s: &[u8], packed: bool) -> usize
-    ensures { result ≡ length (written (source packed s.now)) }
+fn measure(s: Source<'_>) -> usize
+    ensures { result ≡ length (written (source s.entry.packed s.entry.given.now)) }
 {
-    let n = source::count(s, packed);
+    let n = s.count();
     let mut at = 0;
     let mut size = 0;
     while at < n {
-        let next = run::next_at(s, packed, at);
+        let next = run::next_at(s, at);
         size += next.size();
         at += next.count();
     }
@@ -35,16 +37,16 @@ fn measure(s: &[u8], packed: bool) -> usize
 }
 
 // The second pass: the runs, in the first places.
-fn lay(s: &[u8], packed: bool, out: &mut [u8])
-    requires { length (written (source packed s.now)) ≤ length out.old }
-    ensures { out.new ≡ in_front (written (source packed s.now)) out.old }
+fn lay(s: Source<'_>, out: &mut [u8])
+    requires { length (written (source s.packed s.given.now)) ≤ length out.old }
+    ensures { out.new ≡ in_front (written (source s.entry.packed s.entry.given.now)) out.old }
 {
-    let n = source::count(s, packed);
+    let n = s.count();
     let mut at = 0;
     let mut place = 0;
     while at < n {
-        let next = run::next_at(s, packed, at);
-        run::put(s, packed, at, next, out, place);
+        let next = run::next_at(s, at);
+        run::put(s, at, next, out, place);
         place += next.size();
         at += next.count();
     }
@@ -55,7 +57,10 @@ pub fn size_of_bytes(bytes: &[u8]) -> ByteOffset
     ensures { result.bytes ≡ length (written bytes.now) }
 {
     ByteOffset {
-        bytes: measure(bytes, false),
+        bytes: measure(Source {
+            given: bytes,
+            packed: false,
+        }),
     }
 }
 
@@ -64,7 +69,10 @@ pub fn size_of_booleans(flags: &[u8]) -> ByteOffset
     ensures { result.bytes ≡ length (written (flag_bytes flags.now)) }
 {
     ByteOffset {
-        bytes: measure(flags, true),
+        bytes: measure(Source {
+            given: flags,
+            packed: true,
+        }),
     }
 }
 
@@ -72,11 +80,20 @@ pub fn size_of_booleans(flags: &[u8]) -> ByteOffset
 pub fn write_bytes(bytes: &[u8], out: &mut [u8]) -> Result<Written, Refusal>
     ensures { BytesWritten bytes.now out.old out.new result }
 {
-    let size = measure(bytes, false);
+    let size = measure(Source {
+        given: bytes,
+        packed: false,
+    });
     if out.len() < size {
         return Err(Refusal::new(8, ByteOffset { bytes: 0 }));
     }
-    lay(bytes, false, out);
+    lay(
+        Source {
+            given: bytes,
+            packed: false,
+        },
+        out,
+    );
     Ok(Written {
         rows: RowNumber { rows: bytes.len() },
         size: ByteOffset { bytes: size },
@@ -87,11 +104,20 @@ pub fn write_bytes(bytes: &[u8], out: &mut [u8]) -> Result<Written, Refusal>
 pub fn write_booleans(flags: &[u8], out: &mut [u8]) -> Answer
     ensures { BooleansWritten flags.now out.old out.new result }
 {
-    let size = measure(flags, true);
+    let size = measure(Source {
+        given: flags,
+        packed: true,
+    });
     if out.len() < size {
         return Err(Refusal::new(8, ByteOffset { bytes: 0 }));
     }
-    lay(flags, true, out);
+    lay(
+        Source {
+            given: flags,
+            packed: true,
+        },
+        out,
+    );
     Ok(Some(Run::new(
         Kind::Booleans,
         1,

@@ -58,20 +58,32 @@ fn packed_byte(flags: &[u8], at: usize) -> u8
     last_byte(flags, at)
 }
 
-// How many bytes there are.
-pub(crate) fn count(s: &[u8], packed: bool) -> usize
-    ensures { result ≡ length (Flags.source packed s.now) }
-{
-    if packed { s.len().div_ceil(8) } else { s.len() }
+// What was given, and whether its flags are still to be packed.
+#[derive(Clone, Copy)]
+pub(crate) struct Source<'a> {
+    pub(crate) given: &'a [u8],
+    pub(crate) packed: bool,
 }
 
-// Byte i.
-pub(crate) fn byte_at(s: &[u8], packed: bool, i: usize) -> u8
-    requires { i < length (Flags.source packed s.now) }
-    ensures { result ≡ get_or (Flags.source packed s.now) i 0 }
-{
-    if packed {
-        return packed_byte(s, 8 * i);
+impl<'a> Source<'a> {
+    // How many bytes there are.
+    pub(crate) fn count(self) -> usize
+        ensures { result ≡ length (Flags.source self.entry.packed self.entry.given.now) }
+    {
+        if self.packed {
+            return self.given.len().div_ceil(8);
+        }
+        self.given.len()
     }
-    s[i]
+
+    // Byte i.
+    pub(crate) fn byte_at(self, i: usize) -> u8
+        requires { i < length (Flags.source self.packed self.given.now) }
+        ensures { result ≡ get_or (Flags.source self.entry.packed self.entry.given.now) i 0 }
+    {
+        if self.packed {
+            return packed_byte(self.given, 8 * i);
+        }
+        self.given[i]
+    }
 }

@@ -5,7 +5,7 @@ use Rattle.byte_writer.proofs.Walking.{Laying}
 use Rattle.byte_writer.proofs.lay.Given as goal
 
 abbrev pub invariant-loop-at : goal.invariant-loop-at
-invariant-loop-at l = Laying (source l.packed l.s) l.initial.out l.out l.at l.place
+invariant-loop-at l = Laying (source l.s.packed l.s.given.now) l.initial.out l.out l.at l.place
 
 abbrev pub decreases-loop-at : goal.decreases-loop-at
-decreases-loop-at l = length (source l.packed l.s) - l.at
+decreases-loop-at l = length (source l.s.packed l.s.given.now) - l.at

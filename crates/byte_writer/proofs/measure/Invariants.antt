@@ -6,7 +6,7 @@ use Rattle.byte_writer.proofs.measure.Given as goal
 
 abbrev pub invariant-loop-at : goal.invariant-loop-at
 invariant-loop-at l =
-    (l.at ≤ length (source l.packed l.s)) × (l.size + length (written (drop l.at (source l.packed l.s))) ≡ length (written (source l.packed l.s)))
+    (l.at ≤ length (source l.s.packed l.s.given.now)) × (l.size + length (written (drop l.at (source l.s.packed l.s.given.now))) ≡ length (written (source l.s.packed l.s.given.now)))
 
 abbrev pub decreases-loop-at : goal.decreases-loop-at
-decreases-loop-at l = length (source l.packed l.s) - l.at
+decreases-loop-at l = length (source l.s.packed l.s.given.now) - l.at

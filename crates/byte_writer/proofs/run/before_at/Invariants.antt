@@ -7,5 +7,5 @@ use Rattle.byte_writer.proofs.run.before_at.Given as goal
 
 abbrev pub invariant-loop-i : goal.invariant-loop-i
 invariant-loop-i l =
-    (l.first ≡ get_or (source l.packed l.s) (l.at + l.i) 0)
-    × (l.second ≡ get_or (source l.packed l.s) (l.at + l.i + 1) 0) × Unlike (source l.packed l.s) l.at l.i
+    (l.first ≡ get_or (source l.s.packed l.s.given.now) (l.at + l.i) 0)
+    × (l.second ≡ get_or (source l.s.packed l.s.given.now) (l.at + l.i + 1) 0) × Unlike (source l.s.packed l.s.given.now) l.at l.i

@@ -10,27 +10,27 @@ use Rattle.byte_writer.proofs.run.literals_at.Goals as goal
 pub returns-then-count-ge128 : goal.returns-then-count-ge128
 returns-then-count-ge128 c =
     let a = c.args in
-    literals-full (source a.packed a.s.now) a.at _ c.before_at-count.ensures c.if-count-ge128.true
+    literals-full (source a.s.packed a.s.given.now) a.at _ c.before_at-count.ensures c.if-count-ge128.true
 
 pub overflow_add-at : goal.overflow_add-at
 overflow_add-at c =
     let a = c.args in
-    omega (arith, source-le a.packed a.s.now)
+    omega (arith, source-le a.s.packed a.s.given.now)
 
 pub alone_at-requires : goal.alone_at-requires
 alone_at-requires c =
     let a = c.args in
-    let bs = source a.packed a.s.now in
+    let bs = source a.s.packed a.s.given.now in
     omega (arith, before-le (drop a.at bs), length-drop a.at bs)
 
 pub overflow_add-result : goal.overflow_add-result
 overflow_add-result c =
     let a = c.args in
-    let bs = source a.packed a.s.now in
+    let bs = source a.s.packed a.s.given.now in
     omega (arith, (alone-le (stretch (drop (a.at + c.before_at-count.result) bs))).0)
 
 pub returns : goal.returns
 returns c =
     let a = c.args in
     rw c.alone_at.ensures
-    (literals-then (source a.packed a.s.now) a.at _ c.before_at-count.ensures (omega arith))
+    (literals-then (source a.s.packed a.s.given.now) a.at _ c.before_at-count.ensures (omega arith))

@@ -9,13 +9,13 @@ use Rattle.byte_writer.proofs.run.next_at.Goals as goal
 pub returns-then-count-ge3 : goal.returns-then-count-ge3
 returns-then-count-ge3 c =
     let a = c.args in
-    let bs = drop a.at (source a.packed a.s.now) in
+    let bs = drop a.at (source a.s.packed a.s.given.now) in
     rw (next-repeat bs (omega arith), c.first_repeat.ensures, c.stretch_at-count.ensures, repeated-min (stretch bs))
 
 pub returns : goal.returns
 returns c =
     let a = c.args in
-    let bs = drop a.at (source a.packed a.s.now) in
+    let bs = drop a.at (source a.s.packed a.s.given.now) in
     let l : 0 < length bs = rw length-drop (omega arith) in
     let n = length-take-le (min 128 (in_literals bs)) bs (omega (arith, literals-le bs)) in
     rw (next-literals bs l (omega arith), n, c.literals_at.ensures)

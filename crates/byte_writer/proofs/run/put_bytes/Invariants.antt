@@ -4,4 +4,4 @@ use Rattle.byte_writer.specs.Flags.{source}
 use Rattle.byte_writer.proofs.run.put_bytes.Given as goal
 
 abbrev pub invariant-loop-i : goal.invariant-loop-i
-invariant-loop-i l = (length l.out ≡ length l.initial.out) × (l.out ≡ paste l.initial.out l.k (drop l.at (source l.packed l.s)) l.i)
+invariant-loop-i l = (length l.out ≡ length l.initial.out) × (l.out ≡ paste l.initial.out l.k (drop l.at (source l.s.packed l.s.given.now)) l.i)

@@ -6,4 +6,4 @@ use Rattle.byte_writer.proofs.run.stretch_at.Given as goal
 
 abbrev pub invariant-loop-i : goal.invariant-loop-i
 invariant-loop-i l =
-    stretch (drop l.at (source l.packed l.s)) ≡ l.i + same_as l.first (drop (l.at + l.i) (source l.packed l.s))
+    stretch (drop l.at (source l.s.packed l.s.given.now)) ≡ l.i + same_as l.first (drop (l.at + l.i) (source l.s.packed l.s.given.now))
