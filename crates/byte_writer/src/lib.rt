@@ -4,7 +4,8 @@
 
 ghost use Rattle.std.specs.Prelude.{◌≡◌, ◌≤◌, length};
 ghost use Rattle.byte_writer.specs.Choice.{written};
-ghost use Rattle.byte_writer.specs.Flags.{flag_bytes, source};
+ghost use Rattle.byte_writer.specs.Flags.{flag_bytes};
+ghost use Rattle.byte_writer.specs.Steps.{bytes_of};
 ghost use Rattle.byte_writer.specs.Written.{in_front, BytesWritten, BooleansWritten};
 
 use format::{Answer, ByteOffset, Kind, Refusal, RowNumber, Run};
@@ -23,7 +24,7 @@ pub struct Written {
 
 // The first pass: how many bytes the runs have.
 fn measure(s: Source<'_>) -> usize
-    ensures { result ≡ length (written (source s.entry.packed s.entry.given.now)) }
+    ensures { result ≡ length (written (bytes_of s.entry)) }
 {
     let n = s.count();
     let mut at = 0;
@@ -38,8 +39,8 @@ fn measure(s: Source<'_>) -> usize
 
 // The second pass: the runs, in the first places.
 fn lay(s: Source<'_>, out: &mut [u8])
-    requires { length (written (source s.packed s.given.now)) ≤ length out.old }
-    ensures { out.new ≡ in_front (written (source s.entry.packed s.entry.given.now)) out.old }
+    requires { length (written (bytes_of s)) ≤ length out.old }
+    ensures { out.new ≡ in_front (written (bytes_of s.entry)) out.old }
 {
     let n = s.count();
     let mut at = 0;
@@ -57,10 +58,7 @@ pub fn size_of_bytes(bytes: &[u8]) -> ByteOffset
     ensures { result.bytes ≡ length (written bytes.now) }
 {
     ByteOffset {
-        bytes: measure(Source {
-            given: bytes,
-            packed: false,
-        }),
+        bytes: measure(Source::Bytes(bytes)),
     }
 }
 
@@ -69,10 +67,7 @@ pub fn size_of_booleans(flags: &[u8]) -> ByteOffset
     ensures { result.bytes ≡ length (written (flag_bytes flags.now)) }
 {
     ByteOffset {
-        bytes: measure(Source {
-            given: flags,
-            packed: true,
-        }),
+        bytes: measure(Source::Flags(flags)),
     }
 }
 
@@ -80,20 +75,11 @@ pub fn size_of_booleans(flags: &[u8]) -> ByteOffset
 pub fn write_bytes(bytes: &[u8], out: &mut [u8]) -> Result<Written, Refusal>
     ensures { BytesWritten bytes.now out.old out.new result }
 {
-    let size = measure(Source {
-        given: bytes,
-        packed: false,
-    });
+    let size = measure(Source::Bytes(bytes));
     if out.len() < size {
         return Err(Refusal::new(8, ByteOffset { bytes: 0 }));
     }
-    lay(
-        Source {
-            given: bytes,
-            packed: false,
-        },
-        out,
-    );
+    lay(Source::Bytes(bytes), out);
     Ok(Written {
         rows: RowNumber { rows: bytes.len() },
         size: ByteOffset { bytes: size },
@@ -104,20 +90,11 @@ pub fn write_bytes(bytes: &[u8], out: &mut [u8]) -> Result<Written, Refusal>
 pub fn write_booleans(flags: &[u8], out: &mut [u8]) -> Answer
     ensures { BooleansWritten flags.now out.old out.new result }
 {
-    let size = measure(Source {
-        given: flags,
-        packed: true,
-    });
+    let size = measure(Source::Flags(flags));
     if out.len() < size {
         return Err(Refusal::new(8, ByteOffset { bytes: 0 }));
     }
-    lay(
-        Source {
-            given: flags,
-            packed: true,
-        },
-        out,
-    );
+    lay(Source::Flags(flags), out);
     Ok(Some(Run::new(
         Kind::Booleans,
         1,

@@ -2,8 +2,7 @@
 ghost use Rattle.std.specs.Prelude.{◌≡◌, ◌+◌, ◌<◌, ◌≤◌, min, length, drop, take};
 ghost use Rattle.format.specs.Booleans.{run_layout};
 ghost use Rattle.byte_writer.specs.Choice.{stretch, before, repeated, alone, in_literals, next_run};
-ghost use Rattle.byte_writer.specs.Flags as Flags;
-ghost use Rattle.byte_writer.specs.Steps.{are_equal, next_of, Laid, Ready, size_in, count_in};
+ghost use Rattle.byte_writer.specs.Steps.{are_equal, bytes_of, next_of, Laid, Ready, size_in, count_in};
 
 use crate::source::Source;
 
@@ -38,8 +37,8 @@ impl Next {
 
 // How many equal bytes stand at a place, counted up to `most`.
 fn stretch_at(s: Source<'_>, at: usize, most: usize) -> usize
-    requires { (at < length (Flags.source s.packed s.given.now)) × (1 ≤ most) }
-    ensures { result ≡ min most (stretch (drop at (Flags.source s.entry.packed s.entry.given.now))) }
+    requires { (at < length (bytes_of s)) × (1 ≤ most) }
+    ensures { result ≡ min most (stretch (drop at (bytes_of s.entry))) }
 {
     let stop = most.min(s.count() - at);
     let first = s.byte_at(at);
@@ -63,8 +62,8 @@ fn first_repeat(n: usize) -> usize
 
 // Whether repeats leave a byte alone of the stretch at a place: one or none.
 fn alone_at(s: Source<'_>, at: usize) -> usize
-    requires { at ≤ length (Flags.source s.packed s.given.now) }
-    ensures { result ≡ alone (stretch (drop at (Flags.source s.entry.packed s.entry.given.now))) }
+    requires { at ≤ length (bytes_of s) }
+    ensures { result ≡ alone (stretch (drop at (bytes_of s.entry))) }
 {
     let n = s.count();
     if n <= at {
@@ -85,8 +84,8 @@ fn are_equal(first: u8, second: u8, third: u8) -> bool
 
 // How many bytes stand before three equal ones, counted up to 128. Each byte is asked for once; the last two bytes begin no three.
 fn before_at(s: Source<'_>, at: usize) -> usize
-    requires { at < length (Flags.source s.packed s.given.now) }
-    ensures { result ≡ min 128 (before (drop at (Flags.source s.entry.packed s.entry.given.now))) }
+    requires { at < length (bytes_of s) }
+    ensures { result ≡ min 128 (before (drop at (bytes_of s.entry))) }
 {
     let left = s.count() - at;
     let most = left.min(128);
@@ -109,8 +108,8 @@ fn before_at(s: Source<'_>, at: usize) -> usize
 
 // How many literals stand at a place, counted up to 128: if they leave room, also the byte that would be left alone.
 fn literals_at(s: Source<'_>, at: usize) -> usize
-    requires { at < length (Flags.source s.packed s.given.now) }
-    ensures { result ≡ min 128 (in_literals (drop at (Flags.source s.entry.packed s.entry.given.now))) }
+    requires { at < length (bytes_of s) }
+    ensures { result ≡ min 128 (in_literals (drop at (bytes_of s.entry))) }
 {
     let count = before_at(s, at);
     if 128 <= count {
@@ -121,8 +120,8 @@ fn literals_at(s: Source<'_>, at: usize) -> usize
 
 // The run that the bytes from a place on begin with. 133 equal bytes are begun as any more are.
 pub(crate) fn next_at(s: Source<'_>, at: usize) -> Next
-    requires { at < length (Flags.source s.packed s.given.now) }
-    ensures { result ≡ next_of (next_run (drop at (Flags.source s.entry.packed s.entry.given.now))) }
+    requires { at < length (bytes_of s) }
+    ensures { result ≡ next_of (next_run (drop at (bytes_of s.entry))) }
 {
     let count = stretch_at(s, at, 133);
     if 3 <= count {
@@ -133,8 +132,8 @@ pub(crate) fn next_at(s: Source<'_>, at: usize) -> Next
 
 // Literal bytes in the places from k on.
 fn put_bytes(s: Source<'_>, at: usize, count: usize, out: &mut [u8], k: usize)
-    requires { (at + count ≤ length (Flags.source s.packed s.given.now)) × (k + count ≤ length out.old) }
-    ensures { Laid (take count (drop at (Flags.source s.entry.packed s.entry.given.now))) k out.old out.new }
+    requires { (at + count ≤ length (bytes_of s)) × (k + count ≤ length out.old) }
+    ensures { Laid (take count (drop at (bytes_of s.entry))) k out.old out.new }
 {
     for i in 0..count {
         out[k + i] = s.byte_at(at + i);
@@ -143,8 +142,8 @@ fn put_bytes(s: Source<'_>, at: usize, count: usize, out: &mut [u8], k: usize)
 
 // A run in the places from k on: its control byte, and the byte or the bytes.
 pub(crate) fn put(s: Source<'_>, at: usize, run: Next, out: &mut [u8], k: usize)
-    requires { Ready (drop at (Flags.source s.packed s.given.now)) run k out.old }
-    ensures { Laid (run_layout (next_run (drop at (Flags.source s.entry.packed s.entry.given.now)))) k out.old out.new }
+    requires { Ready (drop at (bytes_of s)) run k out.old }
+    ensures { Laid (run_layout (next_run (drop at (bytes_of s.entry)))) k out.old out.new }
 {
     match run {
         Next::Repeat(count) => {

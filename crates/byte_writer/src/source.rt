@@ -1,6 +1,7 @@
 // The bytes that are to be written, made as they are asked for: the bytes themselves, or eight flags packed into each.
 ghost use Rattle.std.specs.Prelude.{◌≡◌, ◌+◌, ◌*◌, ◌<◌, ◌≤◌, length, drop, get_or};
 ghost use Rattle.byte_writer.specs.Flags as Flags;
+ghost use Rattle.byte_writer.specs.Steps.{bytes_of};
 
 // A flag other than 0 is true.
 fn bit(flag: u8) -> u8
@@ -58,32 +59,32 @@ fn packed_byte(flags: &[u8], at: usize) -> u8
     last_byte(flags, at)
 }
 
-// What was given, and whether its flags are still to be packed.
+// What is to be written.
 #[derive(Clone, Copy)]
-pub(crate) struct Source<'a> {
-    pub(crate) given: &'a [u8],
-    pub(crate) packed: bool,
+pub(crate) enum Source<'a> {
+    Bytes(&'a [u8]),
+    Flags(&'a [u8]),
 }
 
-impl<'a> Source<'a> {
+impl Source<'_> {
     // How many bytes there are.
     pub(crate) fn count(self) -> usize
-        ensures { result ≡ length (Flags.source self.entry.packed self.entry.given.now) }
+        ensures { result ≡ length (bytes_of self.entry) }
     {
-        if self.packed {
-            return self.given.len().div_ceil(8);
+        match self {
+            Source::Bytes(bytes) => bytes.len(),
+            Source::Flags(flags) => flags.len().div_ceil(8),
         }
-        self.given.len()
     }
 
     // Byte i.
     pub(crate) fn byte_at(self, i: usize) -> u8
-        requires { i < length (Flags.source self.packed self.given.now) }
-        ensures { result ≡ get_or (Flags.source self.entry.packed self.entry.given.now) i 0 }
+        requires { i < length (bytes_of self) }
+        ensures { result ≡ get_or (bytes_of self.entry) i 0 }
     {
-        if self.packed {
-            return packed_byte(self.given, 8 * i);
+        match self {
+            Source::Bytes(bytes) => bytes[i],
+            Source::Flags(flags) => packed_byte(flags, 8 * i),
         }
-        self.given[i]
     }
 }

@@ -6,23 +6,18 @@ use Rattle.byte_writer.proofs.source.Source.byte_at.Goals as goal
 
 pub overflow_mul-i : goal.overflow_mul-i
 overflow_mul-i c =
-    let there : c.args.i < length (flag_bytes c.args.self.given.now) = rw c.if-self.true at c.requires in
-    omega (arith, there, length-flags c.args.self.given.now)
+    let there : c.args.i < length (flag_bytes c.in-Flags.flags.now) = rw c.in-Flags.is at c.requires in
+    let w = (rw c.in-Flags.is at c.well_formed).0.1.1.1.1.0.0.1.1 in
+    omega (arith, there, length-flags c.in-Flags.flags.now, w)
 
 pub packed_byte-requires : goal.packed_byte-requires
 packed_byte-requires c =
-    let there : c.args.i < length (flag_bytes c.args.self.given.now) = rw c.if-self.true at c.requires in
-    let n = length-flags c.args.self.given.now in
-    (omega (arith, there, n), omega (arith, there, n))
+    let there : c.args.i < length (flag_bytes c.in-Flags.flags.now) = rw c.in-Flags.is at c.requires in
+    let n = length-flags c.in-Flags.flags.now in
+    let w = (rw c.in-Flags.is at c.well_formed).0.1.1.1.1.0.0.1.1 in
+    (omega (arith, there, n, w), omega (arith, there, n, w))
 
-pub returns-then-self : goal.returns-then-self
-returns-then-self c =
-    let there : c.args.i < length (flag_bytes c.args.self.given.now) = rw c.if-self.true at c.requires in
-    let a = c.args in
-    rw c.if-self.true (c.packed_byte.ensures ∙ sym (byte-is a.i a.self.given.now (there)))
-
-pub bounds-self-i : goal.bounds-self-i
-bounds-self-i c = rw c.if-self.false at c.requires
-
-pub returns : goal.returns
-returns c = rw c.if-self.false
+pub returns-in-Flags : goal.returns-in-Flags
+returns-in-Flags c =
+    let there : c.args.i < length (flag_bytes c.in-Flags.flags.now) = rw c.in-Flags.is at c.requires in
+    rw c.in-Flags.is (c.packed_byte.ensures ∙ sym (byte-is c.args.i c.in-Flags.flags.now (there)))

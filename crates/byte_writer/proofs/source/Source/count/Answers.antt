@@ -4,8 +4,5 @@ use mathlib.Core.Path.{◌∙◌}
 use Rattle.boolean_rle.proofs.FirstPass.{ceil-is}
 use Rattle.byte_writer.proofs.source.Source.count.Goals as goal
 
-pub returns-then-self : goal.returns-then-self
-returns-then-self c = rw (c.if-self.true, length-flags c.args.self.given.now) (c.div_ceil.ensures ∙ ceil-is _)
-
-pub returns : goal.returns
-returns c = rw c.if-self.false
+pub returns-in-Flags : goal.returns-in-Flags
+returns-in-Flags c = rw (c.in-Flags.is, length-flags c.in-Flags.flags.now) (c.div_ceil.ensures ∙ ceil-is _)
