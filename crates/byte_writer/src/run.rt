@@ -1,4 +1,6 @@
 // One byte run: which run comes next at a place of the bytes, and its layout in the output.
+// That the place is inside stays a demand of each function: a struct of source and place would be made anew before each call, by the same proof,
+// and `alone_at` and `put` demand something else. It is no plainer.
 ghost use Rattle.std.specs.Prelude.{◌≡◌, ◌+◌, ◌<◌, ◌≤◌, min, length, drop, take};
 ghost use Rattle.format.specs.Booleans.{run_layout};
 ghost use Rattle.byte_writer.specs.Choice.{stretch, before, repeated, alone, in_literals, next_run};
@@ -6,7 +8,7 @@ ghost use Rattle.byte_writer.specs.Steps.{are_equal, bytes_of, next_of, Laid, Re
 
 use crate::source::Source;
 
-// The next run: copies of one byte, or literal bytes. How many.
+// The next run: copies of one byte, or literal bytes. How many. Neither is a lack or a failure, so it is no Option and no Result.
 #[derive(Clone, Copy)]
 pub(crate) enum Next {
     Repeat(usize),
@@ -23,7 +25,7 @@ impl Next {
         }
     }
 
-    // How many bytes its layout has.
+    // How many bytes its layout has. This is counted and no conversion, so there is nothing to derive.
     pub(crate) fn size(self) -> usize
         requires { count_in self ≤ 130 }
         ensures { result ≡ size_in self }

@@ -31,7 +31,8 @@ fn last_byte(flags: &[u8], at: usize) -> u8
     byte
 }
 
-// Eight bits as a byte, the first the highest.
+// Eight bits as a byte, the first the highest. Written out for speed, as `packed_byte` is: the loop that does the same is `last_byte`'s, and
+// its turns are tests and halvings of a weight in every loop of `run`.
 fn joined(a: u8, b: u8, c: u8, d: u8, e: u8, f: u8, g: u8, h: u8) -> u8
     requires { (a < 2) × (b < 2) × (c < 2) × (d < 2) × (e < 2) × (f < 2) × (g < 2) × (h < 2) }
     ensures { result ≡ a * 128 + b * 64 + c * 32 + d * 16 + e * 8 + f * 4 + g * 2 + h }
@@ -59,7 +60,7 @@ fn packed_byte(flags: &[u8], at: usize) -> u8
     last_byte(flags, at)
 }
 
-// What is to be written.
+// What is to be written. An enum and no trait with two types: that would make `run` twice over, and its theorems speak of one list of bytes.
 #[derive(Clone, Copy)]
 pub(crate) enum Source<'a> {
     Bytes(&'a [u8]),
