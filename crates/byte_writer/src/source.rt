@@ -1,6 +1,7 @@
 // The bytes that are to be written, made as they are asked for: the bytes themselves, or eight flags packed into each.
 ghost use Rattle.std.specs.Prelude.{◌≡◌, ◌+◌, ◌*◌, ◌<◌, ◌≤◌, length, drop, get_or};
 ghost use Rattle.byte_writer.specs.Flags as Flags;
+ghost use Rattle.byte_writer.specs.Steps.{bytes_of};
 
 // A flag other than 0 is true.
 fn bit(flag: u8) -> u8
@@ -30,7 +31,8 @@ fn last_byte(flags: &[u8], at: usize) -> u8
     byte
 }
 
-// Eight bits as a byte, the first the highest.
+// Eight bits as a byte, the first the highest. Written out for speed, as `packed_byte` is: the loop that does the same is `last_byte`'s, and
+// its turns are tests and halvings of a weight in every loop of `run`.
 fn joined(a: u8, b: u8, c: u8, d: u8, e: u8, f: u8, g: u8, h: u8) -> u8
     requires { (a < 2) × (b < 2) × (c < 2) × (d < 2) × (e < 2) × (f < 2) × (g < 2) × (h < 2) }
     ensures { result ≡ a * 128 + b * 64 + c * 32 + d * 16 + e * 8 + f * 4 + g * 2 + h }
@@ -58,20 +60,32 @@ fn packed_byte(flags: &[u8], at: usize) -> u8
     last_byte(flags, at)
 }
 
-// How many bytes there are.
-pub(crate) fn count(s: &[u8], packed: bool) -> usize
-    ensures { result ≡ length (Flags.source packed s.now) }
-{
-    if packed { s.len().div_ceil(8) } else { s.len() }
+// What is to be written. An enum and no trait with two types: that would make `run` twice over, and its theorems speak of one list of bytes.
+#[derive(Clone, Copy)]
+pub(crate) enum Source<'a> {
+    Bytes(&'a [u8]),
+    Flags(&'a [u8]),
 }
 
-// Byte i.
-pub(crate) fn byte_at(s: &[u8], packed: bool, i: usize) -> u8
-    requires { i < length (Flags.source packed s.now) }
-    ensures { result ≡ get_or (Flags.source packed s.now) i 0 }
-{
-    if packed {
-        return packed_byte(s, 8 * i);
+impl Source<'_> {
+    // How many bytes there are.
+    pub(crate) fn count(self) -> usize
+        ensures { result ≡ length (bytes_of self.entry) }
+    {
+        match self {
+            Source::Bytes(bytes) => bytes.len(),
+            Source::Flags(flags) => flags.len().div_ceil(8),
+        }
     }
-    s[i]
+
+    // Byte i.
+    pub(crate) fn byte_at(self, i: usize) -> u8
+        requires { i < length (bytes_of self) }
+        ensures { result ≡ get_or (bytes_of self.entry) i 0 }
+    {
+        match self {
+            Source::Bytes(bytes) => bytes[i],
+            Source::Flags(flags) => packed_byte(flags, 8 * i),
+        }
+    }
 }

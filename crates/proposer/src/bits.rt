@@ -19,7 +19,7 @@ pub(crate) fn magnitude(step: u64) -> u64 {
     step.cast_signed().unsigned_abs()
 }
 
-// The number that stands for a row: zigzagged if signed.
+// The number that stands for a row: zigzagged if signed, by util, since the library has no zigzag.
 pub(crate) fn number(row: u64, signed: bool) -> u64 {
     if signed { pattern::zigzag_of(row) } else { row }
 }

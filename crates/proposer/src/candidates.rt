@@ -9,7 +9,8 @@ pub(crate) struct Candidates {
     pub frames: Frames,
 }
 
-// Widths that are chosen, as a state counts them, and how many; and for each class, in four bits, the first of them that has it.
+// Widths that are chosen, as a state counts them, and how many; and for each class, in four bits, the first of them that has it. An array, since
+// there is no heap here, a rule of the project.
 #[derive(Drop)]
 pub(crate) struct Widths {
     pub count: u64,
@@ -24,7 +25,7 @@ pub(crate) struct Frames {
     pub two: Option<u64>,
 }
 
-// How many rows there are of each class, by their numbers; and how many steps, by their sizes.
+// How many rows there are of each class, by their numbers; and how many steps, by their sizes. Arrays, since there is no heap here.
 #[derive(Drop)]
 struct Counts {
     numbers: [u64; 16],

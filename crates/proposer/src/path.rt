@@ -7,7 +7,7 @@ use format::Kind;
 // Rows of a window: the most that a run has.
 pub(crate) const WINDOW: u64 = Kind::MAX_ROWS as u64;
 
-// A place for each row of a window, and one behind the last.
+// A place for each row of a window, and one behind the last: an array, since there is no heap here, a rule of the project.
 const PLACES: usize = Kind::MAX_ROWS + 1;
 
 #[derive(Drop)]

@@ -1,7 +1,7 @@
 // A state: a run that is open, as one number, so that the cheaper of two is the lesser: the bits up to here, then where the run begins (ten
 // bits), then its form (four).
 
-// A form: a patched run has the class of its frame beside.
+// A form: a patched run has the class of its frame beside. No lack and no failure, so no Option and no Result.
 #[derive(Clone, Copy)]
 pub(crate) enum Form {
     Short,
@@ -18,7 +18,7 @@ pub(crate) const FAR: u64 = 67108864;
 pub(crate) const CLOSED: u64 = 1099511627776;
 
 impl Form {
-    // As a proposal has it.
+    // As a proposal has it: orc_plan hands the number to C.
     pub(crate) fn number(self) -> u64 {
         match self {
             Form::Short => 0,
@@ -38,7 +38,7 @@ impl Form {
     }
 }
 
-// The form of a code.
+// The form of a code: a state is one number, in four bits of which the form stands (above).
 impl From<u64> for Form {
     fn from(code: u64) -> Form {
         match code {

@@ -12,7 +12,7 @@ const MIN_EQUAL: u64 = Kind::MIN_REPEAT as u64 - 1;
 
 const MAX_EQUAL: u64 = Kind::MAX_REPEAT as u64 - 1;
 
-// The runs that are open: a direct run and a packed delta of each width, and a patched run of each frame.
+// The runs that are open: a direct run and a packed delta of each width, and a patched run of each frame. Arrays, since there is no heap here.
 #[derive(Drop)]
 struct Open {
     direct: [u64; 16],

@@ -21,7 +21,8 @@ fn base_delta(rows: &[i64]) -> u64
     values::pattern_of(rows, 1).wrapping_sub(values::pattern_of(rows, 0))
 }
 
-// The first row as it is stored.
+// The first row as it is stored. That there is one stays a demand, here and of two more: a type for it would be made from the slice before each
+// call, and is no plainer.
 fn first_of(rows: &[i64], signed: bool) -> u64
     requires { 1 ≤ length rows.now }
     ensures { result ≡ first_of signed (map as_u64 rows.now) }
@@ -119,6 +120,7 @@ fn write_packed_over(run: PackedRows<'_>, bytes: ByteOffset, vals: &mut [u64], o
     packed::pack(vals, n - 2, bits, out, at);
 }
 
+// As `direct::write`, but for size, refusal of a width, layout and kind: one function would take these as closures, and is no plainer.
 pub(crate) fn write_packed(run: PackedRows<'_>, out: &mut [u8]) -> Answer
     requires { (2 ≤ length run.rows.now) × (1 ≤ run.code) }
     ensures { Written run.entry.rows.now run.entry.signed Form.PackedDelta run.entry.code out.old out.new result }

@@ -28,7 +28,7 @@ pub(crate) fn answer(kind: Kind, code: u8, rows: RowNumber, bytes: ByteOffset) -
     Ok(Some(Run::new(kind, bits, rows, bytes)))
 }
 
-// A writer's refusal: its run would begin at the first byte.
+// A writer's refusal: its run would begin at the first byte. The number is FORMAT.md's, which the promise names and C gets.
 pub(crate) fn refused(number: u8) -> Answer
     ensures { result ≡ refused_at number 0 }
 {

@@ -46,7 +46,7 @@ fn is_kept(bits: usize) -> bool
     }
 }
 
-// The base without its sign.
+// The base without its sign, as the definition has it (PatchedWriting.magnitude), of the pattern and not of the signed number.
 fn magnitude(base: u64) -> u64
     ensures { result ≡ PatchedWriting.magnitude base }
 {

@@ -34,7 +34,7 @@ pub(crate) fn stored(signed: bool, row: u64) -> u64
     if signed { pattern::zigzag_of(row) } else { row }
 }
 
-// The step from one row to the next: turned around if the run falls.
+// The step from one row to the next: turned around if the run falls. It takes the difference of two rows; rle_v2's `moved_by` goes the other way.
 fn step(falling: bool, x: u64, y: u64) -> u64
     ensures { result ≡ step_to falling x y }
 {
@@ -45,7 +45,8 @@ fn step(falling: bool, x: u64, y: u64) -> u64
     }
 }
 
-// What stands above the low bits. There is no shift by 64, so 64 bits are a case of their own.
+// What stands above the low bits. There is no shift by 64, so 64 bits are a case of their own. That bits are at most 64 stays a demand of four
+// functions: a type for it would be opened for each shift and for util's `pack`, which takes the number, and is no plainer.
 pub(crate) fn above(x: u64, bits: usize) -> u64
     requires { bits ≤ 64 }
     ensures { result ≡ x / 2 ^ bits }
