@@ -2,7 +2,7 @@
 -- the run's first byte says its form and whether its width is odd. Assumes nothing.
 use Rattle.std.specs.Prelude.{Some, None, Ok, Err}
 use Rattle.format.proofs.Common.{◌≡◌, refl, sym, ap, ◌∙◌, ℕ, ◌+◌, ◌-◌, ◌*◌, ◌/◌, ◌%◌, ◌≤◌, arith, Bool, true, false, List, [], ◌++◌, map, ℤ}
-use Rattle.format.proofs.Common.{length, get_or, take, drop, take_at, get_or-drop, paste, lt-ltb, le-ltb}
+use Rattle.format.proofs.Common.{length, get_or, take, drop, take_at, get_or-drop, lt-ltb, le-ltb}
 use Rattle.format.specs.declared.ByteOffset.{ByteOffset}
 use Rattle.format.specs.declared.Run.{Run}
 use Rattle.format.specs.Digits.{AllBelow}
@@ -120,12 +120,11 @@ module _ {signed : Bool} {s : List ℕ} {p : ℕ} {rows : List ℤ} {r : Run} (o
       turned (sym t ∙ is_odd_lem) (rw (g, q)) (rw (g, q) (byte-bounds c (runs-hold signed d o.at.valid).valid))
       (rw (g, q, b) (take_at (layout c) (drop (length (layout c)) run) (length (layout c)) refl))
 
-  pub turned-even : (run : List ℕ) {run' : List ℕ} → odd_first (get_or s p 0) ≡ false → run' ≡ paste run 0 (drop p s) n
+  pub turned-even : (run : List ℕ) {run' : List ℕ} → odd_first (get_or s p 0) ≡ false → run' ≡ take n (drop p s) ++ drop n run
       → Turned signed s p run' (record { taken = r.consumed; given = r.consumed; odd = false })
   turned-even run {run'} t b =
       let d = o.at.run in
       let c : converted signed d ≡ d = (runs-hold signed d o.at.valid).copied (sym is_odd_lem ∙ t) in
-      let z : 0 + n ≡ n = omega arith in
       let k : take n (drop p s) ≡ layout d = rw o.at.split (take_at (layout d) (drop (p + n) s) n (sym o.at.bytes-are)) in
       turned (sym t ∙ is_odd_lem) (rw c o.at.bytes-are) (omega (arith, o.at.bytes-are, byte-bounds d o.at.valid))
-      (rw (c, b, k, z) (take_at (layout d) (drop n run) n (sym o.at.bytes-are)))
+      (rw (c, b, k) (take_at (layout d) (drop n run) n (sym o.at.bytes-are)))

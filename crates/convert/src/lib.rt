@@ -4,27 +4,17 @@
 
 ghost use Rattle.std.specs.Prelude.{◌≡◌, ◌≤◌, Ok, length};
 ghost use Rattle.convert.specs.Convert.{done, Converts};
-ghost use Rattle.convert.specs.Walk.{counted, finished, Put, Lays, Walked};
+ghost use Rattle.convert.specs.Walk.{counted, finished, Put, Within, Lays, Walked};
 
 use format::{ByteOffset, Refusal};
 
 mod turn;
-
-use turn::Step;
-use util::bytes;
 
 // What was converted: how many runs were altered, and how many bytes the stream now has.
 #[derive(Clone, Copy)]
 pub struct Conversion {
     pub altered: usize,
     pub bytes: ByteOffset,
-}
-
-// How far the output is filled, and whether the runs have no room.
-#[derive(Clone, Copy)]
-struct LaidOutput {
-    end: ByteOffset,
-    full: bool,
 }
 
 impl Conversion {
@@ -55,70 +45,54 @@ fn put(run: &[u8], n: ByteOffset, out: &mut [u8], at: ByteOffset)
     if out.len() - place < size {
         return;
     }
-    bytes::copy(run, size, out, place);
+    out[place..place + size].copy_from_slice(&run[..size]);
 }
 
-// The first n bytes of a run behind those that are laid, in so much room.
-fn lay(run: &[u8], n: ByteOffset, at: LaidOutput, room: ByteOffset, out: &mut [u8]) -> LaidOutput
-    requires { (n.bytes ≤ length run.now) × (at.end.bytes ≤ room.bytes) }
+// The first n bytes of a run behind those that are laid, in so much room: where the bytes end then. None is no room, now or before.
+fn lay(
+    run: &[u8],
+    n: ByteOffset,
+    at: Option<ByteOffset>,
+    room: ByteOffset,
+    out: &mut [u8],
+) -> Option<ByteOffset>
+    requires { (n.bytes ≤ length run.now) × Within at room.bytes }
     ensures { Lays run.now n.bytes at room.bytes out.old out.new result }
 {
-    let end = at.end;
+    let end = at?;
     let filled = end.bytes;
     let size = n.bytes;
     let all = room.bytes;
-    if at.full {
-        return LaidOutput { end, full: true };
-    }
     if all - filled < size {
-        return LaidOutput { end, full: true };
+        return None;
     }
     put(run, n, out, end);
-    let next = ByteOffset {
+    Some(ByteOffset {
         bytes: filled + size,
-    };
-    LaidOutput {
-        end: next,
-        full: false,
-    }
+    })
 }
 
-fn finish(altered: usize, at: LaidOutput) -> Result<Conversion, Refusal>
+fn finish(altered: usize, at: Option<ByteOffset>) -> Result<Conversion, Refusal>
     ensures { result ≡ finished altered at }
 {
-    if at.full {
+    let Some(end) = at else {
         return Err(Refusal::new(8, ByteOffset { bytes: 0 }));
-    }
-    Ok(Conversion::new(altered, at.end))
+    };
+    Ok(Conversion::new(altered, end))
 }
 
 // Every run of the stream, converted, one behind the other in so much room. Where the output is not that long, only the answer counts.
 fn walk(input: &[u8], signed: bool, room: ByteOffset, out: &mut [u8]) -> Result<Conversion, Refusal>
     ensures { Walked signed input.now room.bytes out.old out.new result }
 {
+    let mut run = turn::bytes_room();
     let mut p: usize = 0;
     let mut altered: usize = 0;
-    let none = ByteOffset { bytes: 0 };
-    let mut at = LaidOutput {
-        end: none,
-        full: false,
-    };
-    while p < input.len() {
-        let mut run = turn::bytes_room();
-        let step = turn::convert_run(input, ByteOffset { bytes: p }, signed, &mut run);
-        match step {
-            Step::Run(t) => {
-                at = lay(&run, t.given, at, room, out);
-                altered += count(t.odd);
-                p += t.taken.bytes;
-            }
-            Step::Refused(f) => {
-                return Err(f);
-            }
-            Step::End => {
-                return finish(altered, at);
-            }
-        }
+    let mut at = Some(ByteOffset { bytes: 0 });
+    while let Some(t) = turn::convert_run(input, ByteOffset { bytes: p }, signed, &mut run)? {
+        at = lay(&run, t.given, at, room, out);
+        altered += count(t.odd);
+        p += t.taken.bytes;
     }
     finish(altered, at)
 }

@@ -19,7 +19,8 @@ pub struct Name {
     pub size: ByteOffset,
 }
 
-// What a row is called: a name of the dictionary, or the caller's own fallback, by its length.
+// What a row is called: a name of the dictionary, or the caller's own fallback, by its length. (Two kinds of label, neither of them a refusal or
+// nothing: an Option or a Result would give one of them a name that it is not.)
 #[derive(Clone, Copy)]
 pub enum Label {
     Name(Name),
@@ -46,6 +47,7 @@ impl Label {
         Label::Fallback(size)
     }
 
+    // By FORMAT.md's number, which the definition `refused_with`, `format::Refusal` and the caller in C have.
     pub fn refused(number: u8) -> Result<Self, Refusal>
         ensures { result ≡ refused_with number }
     {
@@ -54,6 +56,7 @@ impl Label {
 }
 
 impl ColumnRefusal {
+    // By FORMAT.md's number, as the definitions `column_refused` and `row_refused` have it.
     pub fn new(number: u8) -> Self
         ensures { Err result ≡ column_refused number }
     {
@@ -195,7 +198,7 @@ pub fn part_of<'a>(
 // What every row is called, in one pass. The first places of `offsets` get where each name begins in the block, those of `starts` and
 // `sizes` for each row where its name begins and its length, or 0 and 0 if it has none. It refuses without touching a place: 18 as
 // `label_of`; then 19, with the first row whose number is outside the dictionary or missing; then 8 if there are too few places in any of
-// the three.
+// the three. (Three lent columns and no list of names: `orc_label_column` hands them down, and `LabelledAll` speaks of each.)
 pub fn label_column(
     flags: &[u8],
     numbers: &[i64],

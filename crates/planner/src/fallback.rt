@@ -55,7 +55,8 @@ fn lay(
     }
 }
 
-// The direct runs as a proposal, if the columns have places for them.
+// The direct runs as a proposal, if the columns have places for them. (Five columns that are written, as `proposer::propose` has them; and 0 for
+// none, as in `FallsBack` and `Proposes`.)
 pub(crate) fn propose(
     rows: &[i64],
     first: &mut [u64],

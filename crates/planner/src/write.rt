@@ -4,9 +4,10 @@ ghost use Rattle.format.specs.Runs.{joined};
 ghost use Rattle.format.specs.Rows.{as_u64};
 ghost use Rattle.format.specs.Writing.{writing, AllI64};
 ghost use Rattle.planner.specs.Check as Check;
-ghost use Rattle.planner.specs.Check.{proposal, accepted, segments};
-ghost use Rattle.planner.specs.Walk.{Ran, ColumnLaid, WideLaid};
+ghost use Rattle.planner.specs.Check.{accepted, segments};
+ghost use Rattle.planner.specs.Walk.{columns, Ran, ColumnLaid, WideLaid};
 
+use crate::segment::Proposal;
 use crate::{Columned, segment};
 use format::{ByteOffset, Form, Kind, RowNumber, answer};
 
@@ -14,27 +15,18 @@ use format::{ByteOffset, Form, Kind, RowNumber, answer};
 pub(crate) const WIDEST: u8 = 31;
 
 // The runs of a proposal, one behind the other.
-pub(crate) fn planned(
-    rows: &[i64],
-    signed: bool,
-    first: &[u64],
-    counts: &[u64],
-    forms: &[u64],
-    widths: &[u64],
-    bases: &[u64],
-    out: &mut [u8],
-)
-    requires { accepted signed rows.now (proposal first.now counts.now forms.now widths.now bases.now) (length out.old)
+pub(crate) fn planned(rows: &[i64], signed: bool, p: Proposal, out: &mut [u8])
+    requires { accepted signed rows.now (columns p) (length out.old)
         ≡ true }
     ensures { ColumnLaid
         (Check.runs signed rows.now
-        (segments (proposal first.now counts.now forms.now widths.now bases.now)))
+        (segments (columns p.entry)))
         out.old out.new }
 {
     let mut row: usize = 0;
     let mut bytes: usize = 0;
-    for k in 0..first.len() {
-        let s = segment::at(first, counts, forms, widths, bases, k);
+    for k in 0..p.first.len() {
+        let s = p.at(k);
         let at = RowNumber { rows: row };
         let n = segment::step(rows, signed, at, s, &mut out[bytes..]).bytes;
         row += s.count as usize;
@@ -94,7 +86,7 @@ fn wide_run(rows: &[i64], signed: bool, at: RowNumber, n: RowNumber, out: &mut [
     answer::consumed(a)
 }
 
-// The direct runs, 512 rows each and the rest last.
+// The direct runs, 512 rows each and the rest last. (No `for`: besides the rows it moves the place in the lent bytes, by what each run takes.)
 pub(crate) fn wide(rows: &[i64], signed: bool, out: &mut [u8]) -> Columned
     requires { length (joined (Check.wide signed rows.now)) ≤ length out.old }
     ensures { WideLaid signed rows.now out.old out.new result }
