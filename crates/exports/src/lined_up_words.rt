@@ -3,7 +3,6 @@ ghost use Rattle.std.specs.Prelude.{◌≡◌};
 ghost use Rattle.exports.specs.LinedUp.{spread_words, labels_words, refused_row};
 
 use format::{Refusal, RowNumber};
-use format::RowNumber;
 use labels::ColumnRefusal;
 
 // How many words each has.
