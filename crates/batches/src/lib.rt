@@ -66,28 +66,20 @@ fn seek(input: &[u8], from: RowPosition) -> Result<RowPosition, Refusal>
     let mut place = at.bytes;
     let mut left = skip.rows;
     while 0 < left {
-        let a = rle_v2::measure(input, ByteOffset { bytes: place });
-        match a {
-            Ok(Some(r)) => {
-                let rows = r.rows;
-                let consumed = r.consumed;
-                if left < rows.rows {
-                    return Ok(RowPosition {
-                        run: ByteOffset { bytes: place },
-                        skip: RowNumber { rows: left },
-                    });
-                }
-                left -= rows.rows;
-                place += consumed.bytes;
-            }
-            Err(f) => {
-                return Err(f);
-            }
+        let Some(run) = rle_v2::measure(input, ByteOffset { bytes: place })? else {
             // more rows to skip than there are
-            Ok(None) => {
-                return Err(Refusal::new(16, ByteOffset { bytes: 0 }));
-            }
+            return Err(Refusal::new(16, ByteOffset { bytes: 0 }));
+        };
+        let rows = run.rows;
+        let consumed = run.consumed;
+        if left < rows.rows {
+            return Ok(RowPosition {
+                run: ByteOffset { bytes: place },
+                skip: RowNumber { rows: left },
+            });
         }
+        left -= rows.rows;
+        place += consumed.bytes;
     }
     Ok(RowPosition {
         run: ByteOffset { bytes: place },
