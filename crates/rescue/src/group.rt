@@ -17,24 +17,17 @@ pub(crate) fn make_plain(input: &[u8], from: RowPosition) -> Option<RowPosition>
     let mut place = run.bytes;
     let mut left = skip.rows;
     while 0 < left {
-        let a = rle_v2::measure(input, ByteOffset { bytes: place });
-        match a {
-            Ok(Some(r)) => {
-                let rows = r.rows;
-                let consumed = r.consumed;
-                if left < rows.rows {
-                    return Some(crate::row_position(place, left));
-                }
-                left -= rows.rows;
-                place += consumed.bytes;
-            }
-            Err(_) => {
-                return None;
-            }
-            Ok(None) => {
-                return None;
-            }
+        // a refused run is passed no more than the end
+        let Some(run) = rle_v2::measure(input, ByteOffset { bytes: place }).unwrap_or(None) else {
+            return None;
+        };
+        let rows = run.rows;
+        let consumed = run.consumed;
+        if left < rows.rows {
+            return Some(crate::row_position(place, left));
         }
+        left -= rows.rows;
+        place += consumed.bytes;
     }
     Some(crate::row_position(place, 0))
 }
