@@ -65,6 +65,7 @@ pub(crate) fn right(input: &[u8], first: &[u64], at: &[u64], counts: &[u64]) -> 
     let mut place: usize = 0;
     let mut i: usize = 0;
     let mut total = Some(RowNumber { rows: 0 });
+    // an `Ok(Some(run))` here does not tell the proof, in its else, that the answer is none
     while place < input.len() {
         let from = ByteOffset { bytes: place };
         let Some(run) = rle_v2::measure(input, from).unwrap_or(None) else {
