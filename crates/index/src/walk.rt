@@ -28,6 +28,7 @@ pub(crate) fn whole_of(input: &[u8]) -> Result<Whole, Refusal>
     ensures { result ≡ survey_from 0 0 0 (stream input.now) }
 {
     let mut place: usize = 0;
+    // the runs beside the walk, whose step is a run's bytes: no range and no slice to walk by `for`; `right` and `fill` the same
     let mut runs: usize = 0;
     let mut rows = Some(RowNumber { rows: 0 });
     while let Some(run) = rle_v2::measure(input, ByteOffset { bytes: place })? {
