@@ -58,6 +58,7 @@ impl BatchRead {
 
 // Finds a position's row: the run that holds it and the rows to skip in it, or the byte that it begins at, which is not looked at. Runs that
 // are skipped as a whole are measured and not decoded; with no row to skip nothing is looked at.
+// rescue's make_plain is the same walk, and not this one: here the promise is the same batches, there it is the position itself (plain_in).
 fn seek(input: &[u8], from: RowPosition) -> Result<RowPosition, Refusal>
     ensures { Finds input.now from result }
 {
@@ -66,28 +67,20 @@ fn seek(input: &[u8], from: RowPosition) -> Result<RowPosition, Refusal>
     let mut place = at.bytes;
     let mut left = skip.rows;
     while 0 < left {
-        let a = rle_v2::measure(input, ByteOffset { bytes: place });
-        match a {
-            Ok(Some(r)) => {
-                let rows = r.rows;
-                let consumed = r.consumed;
-                if left < rows.rows {
-                    return Ok(RowPosition {
-                        run: ByteOffset { bytes: place },
-                        skip: RowNumber { rows: left },
-                    });
-                }
-                left -= rows.rows;
-                place += consumed.bytes;
-            }
-            Err(f) => {
-                return Err(f);
-            }
+        let Some(run) = rle_v2::measure(input, ByteOffset { bytes: place })? else {
             // more rows to skip than there are
-            Ok(None) => {
-                return Err(Refusal::new(16, ByteOffset { bytes: 0 }));
-            }
+            return Err(Refusal::new(16, ByteOffset { bytes: 0 }));
+        };
+        let rows = run.rows;
+        let consumed = run.consumed;
+        if left < rows.rows {
+            return Ok(RowPosition {
+                run: ByteOffset { bytes: place },
+                skip: RowNumber { rows: left },
+            });
         }
+        left -= rows.rows;
+        place += consumed.bytes;
     }
     Ok(RowPosition {
         run: ByteOffset { bytes: place },
@@ -114,6 +107,7 @@ fn lay_part(run: Run, held: &[i64], from: RowPosition, out: &mut [i64]) -> Batch
     let left = rows.rows - skip.rows;
     let places = out.len();
     if places < left {
+        // by its units: with copy_from_slice these are two ranges of bare numbers
         rows::copy(held, skip, RowNumber { rows: places }, out);
         let next = RowNumber {
             rows: skip.rows + places,
@@ -142,7 +136,7 @@ fn read_aside(input: &[u8], from: RowPosition, signed: bool, out: &mut [i64]) ->
     let b = rle_v2::read_run(input, at, signed, &mut held);
     match b {
         Ok(Some(run)) => lay_part(run, &held, from, out),
-        // neither is: a run begins there
+        // neither is: a run begins there. Two arms: a `_` for both does not tell the proof that the answer is none.
         Err(_) => BatchRead::up_to(RowNumber { rows: 0 }, at),
         Ok(None) => BatchRead::up_to(RowNumber { rows: 0 }, at),
     }
@@ -194,7 +188,7 @@ fn read_runs(input: &[u8], at: ByteOffset, signed: bool, out: &mut [i64]) -> Bat
                 p += consumed.bytes;
             }
             Err(f) => {
-                // the run has more rows than there are places left
+                // the run has more rows than there are places left; by its number, which `Refusal` has because C does
                 if f.number == 8 {
                     let from = RowPosition {
                         run: ByteOffset { bytes: p },
@@ -247,6 +241,7 @@ fn read_begun(
     if 0 < rows.rows {
         return Ok(Some(read));
     }
+    // three arms and no `?`: the edit end_for_broken changes what a refusal gives
     match rle_v2::measure(input, at) {
         Ok(Some(_)) => Ok(Some(read)),
         Err(f) => Err(f),

@@ -1,5 +1,6 @@
 -- The walks that find a stream's runs and compare them with columns: what is left at each place gives the whole's answer. Assumes nothing.
 use mathlib.Core.Path.{◌≡◌, refl, sym, ap, ◌∙◌}
+use mathlib.Core.Logic.{◌⊎◌, inl, inr}
 use Prim.Native.Nat.{ℕ, suc, ◌+◌, ◌<◌, ◌≤◌}
 use native.Mathlib.Omega.{arith}
 use native.Mathlib.Decide.{dec_lt}
@@ -151,3 +152,7 @@ module _ {s fs os ns : List ℕ} {p i : ℕ} {t : Option RowNumber} (w : Matched
 
   pub matched-refused : {f : Refusal} → NoRun s p f → false ≡ right_from 0 0 fs os ns (stream s)
   matched-refused q = rw (broken-here q) at w.so_far
+
+  pub matched-stop : p < length s → (drop p s ≡ []) ⊎ ((f : Refusal) × NoRun s p f) → false ≡ right_from 0 0 fs os ns (stream s)
+  matched-stop l (inl z) = absurd (omega (arith, l, length-drop p s, ap length z))
+  matched-stop l (inr (f, q)) = matched-refused q

@@ -57,7 +57,8 @@ impl Entry {
     }
 }
 
-// A refusal that is not the stream's own: it has no place.
+// A refusal that is not the stream's own: it has no place. Its number is a `u8`, and no enum, because C and `refuses` in specs/Entries say
+// refusals by their numbers.
 fn refused(number: u8) -> Refusal
     ensures { result ≡ refusing number 0 }
 {
@@ -161,13 +162,14 @@ fn lay(input: &[u8], at: ByteOffset, skip: RowNumber, signed: bool, out: &mut [i
             let count = run.rows;
             let consumed = run.consumed;
             let n = count.rows - skip.rows;
+            // by its units: with copy_from_slice these are two ranges of bare numbers
             rows::copy(&held, skip, RowNumber { rows: n }, out);
             let next = ByteOffset {
                 bytes: at.bytes + consumed.bytes,
             };
             let _ = rle_v2::read_stream(input, next, signed, &mut out[n..]);
         }
-        // neither is: the stream is whole
+        // neither is: the stream is whole. Two arms: a `_` for both does not tell the proof that the answer is none.
         Err(_) => {}
         Ok(None) => {}
     }

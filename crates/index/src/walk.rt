@@ -28,24 +28,14 @@ pub(crate) fn whole_of(input: &[u8]) -> Result<Whole, Refusal>
     ensures { result ≡ survey_from 0 0 0 (stream input.now) }
 {
     let mut place: usize = 0;
+    // the runs beside the walk, whose step is a run's bytes: no range and no slice to walk by `for`; `right` and `fill` the same
     let mut runs: usize = 0;
     let mut rows = Some(RowNumber { rows: 0 });
-    while place < input.len() {
-        let a = rle_v2::measure(input, ByteOffset { bytes: place });
-        match a {
-            Ok(Some(run)) => {
-                let consumed = run.consumed;
-                rows = more(rows, run.rows);
-                place += consumed.bytes;
-                runs += 1;
-            }
-            Err(f) => {
-                return Err(f);
-            }
-            Ok(None) => {
-                return Ok(Whole { runs, rows });
-            }
-        }
+    while let Some(run) = rle_v2::measure(input, ByteOffset { bytes: place })? {
+        let consumed = run.consumed;
+        rows = more(rows, run.rows);
+        place += consumed.bytes;
+        runs += 1;
     }
     Ok(Whole { runs, rows })
 }
@@ -76,30 +66,23 @@ pub(crate) fn right(input: &[u8], first: &[u64], at: &[u64], counts: &[u64]) -> 
     let mut place: usize = 0;
     let mut i: usize = 0;
     let mut total = Some(RowNumber { rows: 0 });
+    // an `Ok(Some(run))` here does not tell the proof, in its else, that the answer is none
     while place < input.len() {
-        let a = rle_v2::measure(input, ByteOffset { bytes: place });
-        match a {
-            Ok(Some(run)) => {
-                let rows = run.rows;
-                let consumed = run.consumed;
-                if first.len() <= i {
-                    return false;
-                }
-                let from = ByteOffset { bytes: place };
-                if !is_entry(first[i], at[i], counts[i], total, from, rows) {
-                    return false;
-                }
-                total = more(total, rows);
-                place += consumed.bytes;
-                i += 1;
-            }
-            Err(_) => {
-                return false;
-            }
-            Ok(None) => {
-                return i == first.len();
-            }
+        let from = ByteOffset { bytes: place };
+        let Some(run) = rle_v2::measure(input, from).unwrap_or(None) else {
+            return false;
+        };
+        let rows = run.rows;
+        let consumed = run.consumed;
+        if first.len() <= i {
+            return false;
         }
+        if !is_entry(first[i], at[i], counts[i], total, from, rows) {
+            return false;
+        }
+        total = more(total, rows);
+        place += consumed.bytes;
+        i += 1;
     }
     i == first.len()
 }
@@ -113,26 +96,15 @@ pub(crate) fn fill(input: &[u8], first: &mut [u64], at: &mut [u64], counts: &mut
     let mut place: usize = 0;
     let mut row: usize = 0;
     let mut i: usize = 0;
-    while place < input.len() {
-        let a = rle_v2::measure(input, ByteOffset { bytes: place });
-        match a {
-            Ok(Some(run)) => {
-                let rows = run.rows;
-                let consumed = run.consumed;
-                first[i] = row as u64;
-                at[i] = place as u64;
-                counts[i] = rows.rows as u64;
-                row += rows.rows;
-                place += consumed.bytes;
-                i += 1;
-            }
-            // neither is: the stream is whole
-            Err(_) => {
-                return;
-            }
-            Ok(None) => {
-                return;
-            }
-        }
+    // until the end: the stream is whole, so no run is refused
+    while let Some(run) = rle_v2::measure(input, ByteOffset { bytes: place }).unwrap_or(None) {
+        let rows = run.rows;
+        let consumed = run.consumed;
+        first[i] = row as u64;
+        at[i] = place as u64;
+        counts[i] = rows.rows as u64;
+        row += rows.rows;
+        place += consumed.bytes;
+        i += 1;
     }
 }

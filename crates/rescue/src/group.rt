@@ -4,11 +4,12 @@ ghost use Rattle.batches.specs.BatchPromise.{position_in};
 ghost use Rattle.rescue.specs.Rescue.{at, made_plain, meets};
 ghost use Rattle.rescue.specs.RescueSteps.{plain_in, GroupRead, GroupRescued};
 
-use format::ByteOffset;
 use batches::RowPosition;
+use format::ByteOffset;
 
 // Makes a position plain: whole runs are passed while there are at least as many rows to skip. With none left, no run is looked at. The walk
-// is that of `batches::seek`, which promises the same batches and not, as here, the position itself.
+// is that of `batches::seek`, which promises the same batches and not, as here, the position itself (plain_in): one for both would be a new
+// public function of batches.
 pub(crate) fn make_plain(input: &[u8], from: RowPosition) -> Option<RowPosition>
     ensures { result ≡ plain_in (made_plain input.now (position_in from)) }
 {
@@ -17,24 +18,17 @@ pub(crate) fn make_plain(input: &[u8], from: RowPosition) -> Option<RowPosition>
     let mut place = run.bytes;
     let mut left = skip.rows;
     while 0 < left {
-        let a = rle_v2::measure(input, ByteOffset { bytes: place });
-        match a {
-            Ok(Some(r)) => {
-                let rows = r.rows;
-                let consumed = r.consumed;
-                if left < rows.rows {
-                    return Some(crate::row_position(place, left));
-                }
-                left -= rows.rows;
-                place += consumed.bytes;
-            }
-            Err(_) => {
-                return None;
-            }
-            Ok(None) => {
-                return None;
-            }
+        // a refused run is passed no more than the end
+        let Some(run) = rle_v2::measure(input, ByteOffset { bytes: place }).unwrap_or(None) else {
+            return None;
+        };
+        let rows = run.rows;
+        let consumed = run.consumed;
+        if left < rows.rows {
+            return Some(crate::row_position(place, left));
         }
+        left -= rows.rows;
+        place += consumed.bytes;
     }
     Some(crate::row_position(place, 0))
 }
@@ -62,6 +56,7 @@ fn read(input: &[u8], from: RowPosition, to: RowPosition, signed: bool, out: &mu
             let rows = read.rows;
             rows.rows == out.len() && same(read.next, to)
         }
+        // two arms: a `_` for both does not tell the proof that the answer is none
         Ok(None) => false,
         Err(_) => false,
     }

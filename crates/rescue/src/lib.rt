@@ -21,7 +21,7 @@ pub struct Totals {
     pub kept: usize,
 }
 
-// A refusal: it has no place.
+// A refusal: it has no place. Its number is a `u8`, and no enum, because C and `refuse_if` in specs/Rescue say refusals by their numbers.
 fn refused(number: u8) -> Refusal
     ensures { result ≡ refusing number 0 }
 {
