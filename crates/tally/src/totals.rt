@@ -125,18 +125,15 @@ fn too_many(a: u64, b: u64) -> bool
     LIMIT < a.saturating_add(b)
 }
 
-impl Reply {
-    // The reply to a line that is not bad: what the run reader answers.
-    pub fn to(answer: Answer) -> Self
-        ensures { result ≡ reply_to answer }
-    {
+// The reply to a line that is not bad: what the run reader answers.
+impl From<Answer> for Reply {
+    ghost from_gives = { λ answer reply. reply ≡ reply_to answer };
+
+    fn from(answer: Answer) -> Self {
         match answer {
             Ok(None) => Reply::End,
-            Ok(Some(run)) => {
-                let kind = run.kind;
-                Reply::Run(kind)
-            }
-            Err(f) => Reply::Refused(f.number),
+            Ok(Some(run)) => Reply::Run(run.kind),
+            Err(refusal) => Reply::Refused(refusal.number),
         }
     }
 }

@@ -51,7 +51,7 @@ fn take_line(before: Totals, line: &[u8], rows: &mut [i64]) -> Result<Totals, St
         None => before.take(Reply::Bad, &[]),
         Some(answer) => {
             let count = format::answer::rows(answer);
-            before.take(Reply::to(answer), &rows[..count.rows])
+            before.take(Reply::from(answer), &rows[..count.rows])
         }
     }
 }
