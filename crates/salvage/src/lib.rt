@@ -20,7 +20,7 @@ pub struct Sizes {
     pub report: ByteOffset,
 }
 
-// A refusal by its number, at place 0.
+// A refusal by its number, at place 0. (`Refusal` of the format has a number, and the definition `refused_with` takes it.)
 fn refused(number: u8) -> Result<Sizes, Refusal>
     ensures { result ≡ refused_with number }
 {
