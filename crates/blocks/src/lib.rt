@@ -35,7 +35,8 @@ struct Answer {
     error: i32,
 }
 
-// What stands in the input after a read: the beginning of a line that was kept, what came behind it, and what the system answered.
+// What stands in the input after a read: the beginning of a line that was kept, what came behind it, and what the system answered. (No Result:
+// `Came` speaks of `got`, -1 with the rest.)
 #[derive(Clone, Copy)]
 pub(crate) struct Block {
     pub held: usize,

@@ -6,7 +6,7 @@ ghost use Rattle.blocks.specs.Reading.{no_reads, counted, ReadOnce};
 use crate::read_on;
 
 // How often was read and how many bytes came by it, what the system answered last, and its error then, which says something only of a read
-// that failed.
+// that failed. (No Result: `no_reads`, `one_more` and `is_broken` speak of both numbers, and `one_more` keeps them whatever was answered.)
 #[derive(Clone, Copy)]
 pub struct Reads {
     count: u64,
@@ -15,7 +15,8 @@ pub struct Reads {
     error: i32,
 }
 
-// A read: what was held before what came, where that ends, what the system answered, and the reads with this one.
+// A read: what was held before what came, where that ends, what the system answered, and the reads with this one. (No Result: `ReadOnce` speaks of
+// `got` and `error`.)
 #[derive(Clone, Copy)]
 pub struct Read {
     pub held: usize,

@@ -16,6 +16,7 @@ use saying::Said;
 use std::{io, thread};
 
 // From where to where in the input a line has begun; that the input has ended; that reading failed; or that the output cannot be written.
+// (Four cases: no Option or Result has that shape, and `AfterBlock`, `AfterEnd` and `Over` speak of each.)
 #[derive(Clone, Copy)]
 enum Left {
     Begun(usize, usize),

@@ -5,6 +5,7 @@ ghost use Rattle.format.specs.Writing as Writing;
 ghost use Rattle.salvage.specs.Steps.{run_of, filled, made};
 ghost use Rattle.text.specs.Written.{TextWritten};
 
+use crate::groups::Group;
 use format::{ByteOffset, Kind, RowNumber};
 use text::{put, put_word};
 use util::{pattern, varint};
@@ -64,30 +65,26 @@ fn put_runs(rows: RowNumber, first: u64, out: &mut [u8], at: ByteOffset) -> Byte
 }
 
 // How many bytes stand for a group.
-pub(crate) fn group_size(bytes: &[u8], rows: RowNumber, keep: bool, first: u64) -> ByteOffset
-    ensures { result.bytes ≡ length (made keep bytes.now first rows.rows) }
+pub(crate) fn group_size(group: Group, first: u64) -> ByteOffset
+    ensures { result.bytes ≡ length (made group.entry.keep group.entry.bytes.now first group.entry.rows.rows) }
 {
-    if keep {
-        return ByteOffset { bytes: bytes.len() };
+    if group.keep {
+        return ByteOffset {
+            bytes: group.bytes.len(),
+        };
     }
-    runs_size(rows, first)
+    runs_size(group.rows, first)
 }
 
-pub(crate) fn put_group(
-    bytes: &[u8],
-    rows: RowNumber,
-    keep: bool,
-    first: u64,
-    out: &mut [u8],
-    at: ByteOffset,
-) -> ByteOffset
-    requires { at.bytes + length (made keep bytes.now first rows.rows) ≤ length out.old }
-    ensures { TextWritten (made keep bytes.now first rows.rows)
+// A group's own bytes, or the runs in their place.
+pub(crate) fn put_group(group: Group, first: u64, out: &mut [u8], at: ByteOffset) -> ByteOffset
+    requires { at.bytes + length (made group.keep group.bytes.now first group.rows.rows) ≤ length out.old }
+    ensures { TextWritten (made group.entry.keep group.entry.bytes.now first group.entry.rows.rows)
         out.old at.bytes out.new result.bytes }
 {
-    if keep {
-        let end = put_word(bytes, out, at.bytes);
+    if group.keep {
+        let end = put_word(group.bytes, out, at.bytes);
         return ByteOffset { bytes: end };
     }
-    put_runs(rows, first, out, at)
+    put_runs(group.rows, first, out, at)
 }

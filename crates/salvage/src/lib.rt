@@ -4,10 +4,10 @@
 
 ghost use Rattle.std.specs.Prelude.{◌≡◌, Bool, length};
 ghost use Rattle.salvage.specs.Salvage.{refused_with, Salvaged};
-ghost use Rattle.salvage.specs.Laws.{RightStarts};
 ghost use Rattle.salvage.specs.Steps.{room_for};
 
-use format::{ByteOffset, Refusal, RowNumber};
+use format::{ByteOffset, Refusal};
+use groups::Groups;
 
 mod fill;
 mod groups;
@@ -20,7 +20,7 @@ pub struct Sizes {
     pub report: ByteOffset,
 }
 
-// A refusal by its number, at place 0.
+// A refusal by its number, at place 0. (`Refusal` of the format has a number, and the definition `refused_with` takes it.)
 fn refused(number: u8) -> Result<Sizes, Refusal>
     ensures { result ≡ refused_with number }
 {
@@ -29,37 +29,24 @@ fn refused(number: u8) -> Result<Sizes, Refusal>
 
 // Both outputs have room for what is to be written. Only sizes are needed for that, and each is compared with the room that is left: no sum
 // passes 2^64, and a count of any size costs the same.
-fn has_room(
-    input: &[u8],
-    starts: &[u64],
-    counts: &[u64],
-    fill: i64,
-    signed: bool,
-    out: &[u8],
-    report: &[u8],
-) -> bool
-    requires { RightStarts input.now starts.now counts.now }
-    ensures { result ≡ room_for signed fill input.now starts.now counts.now (length out.now)
-        (length report.now) }
+fn has_room(groups: Groups, fill: i64, signed: bool, out: &[u8], report: &[u8]) -> bool
+    ensures { result ≡ room_for signed fill groups.entry.input.now groups.entry.starts.now groups.entry.counts.now
+        (length out.now) (length report.now) }
 {
     let first = fill::stored(fill, signed);
     let mut stream: usize = 0;
     let mut lines: usize = 0;
-    for i in 0..starts.len() {
-        let rows = RowNumber {
-            rows: counts[i] as usize,
-        };
-        let bytes = groups::bytes_of(input, starts, i);
-        let keep = groups::is_kept(bytes, rows);
-        let group = fill::group_size(bytes, rows, keep, first);
-        if out.len() - stream < group.bytes {
+    for i in 0..groups.starts.len() {
+        let group = groups.group(i);
+        let made = fill::group_size(group, first);
+        if out.len() - stream < made.bytes {
             return false;
         }
-        let told = line::size(keep, i as u64, rows);
+        let told = line::size(group.keep, i as u64, group.rows);
         if report.len() - lines < told.bytes {
             return false;
         }
-        stream += group.bytes;
+        stream += made.bytes;
         lines += told.bytes;
     }
     true
@@ -67,30 +54,24 @@ fn has_room(
 
 // Writes each group, and its line.
 fn write_all(
-    input: &[u8],
-    starts: &[u64],
-    counts: &[u64],
+    groups: Groups,
     fill: i64,
     signed: bool,
     out: &mut [u8],
     report: &mut [u8],
 ) -> Result<Sizes, Refusal>
-    requires { RightStarts input.now starts.now counts.now
-        × (room_for signed fill input.now starts.now counts.now (length out.old) (length report.old) ≡ Bool.true) }
-    ensures { Salvaged input.now starts.now counts.now fill signed out.old
+    requires { room_for signed fill groups.input.now groups.starts.now groups.counts.now
+        (length out.old) (length report.old) ≡ Bool.true }
+    ensures { Salvaged groups.entry.input.now groups.entry.starts.now groups.entry.counts.now fill signed out.old
         out.new report.old report.new result }
 {
     let first = fill::stored(fill, signed);
     let mut stream = ByteOffset { bytes: 0 };
     let mut lines = ByteOffset { bytes: 0 };
-    for i in 0..starts.len() {
-        let rows = RowNumber {
-            rows: counts[i] as usize,
-        };
-        let bytes = groups::bytes_of(input, starts, i);
-        let keep = groups::is_kept(bytes, rows);
-        stream = fill::put_group(bytes, rows, keep, first, out, stream);
-        lines = line::put_line(keep, i as u64, rows, report, lines);
+    for i in 0..groups.starts.len() {
+        let group = groups.group(i);
+        stream = fill::put_group(group, first, out, stream);
+        lines = line::put_line(group.keep, i as u64, group.rows, report, lines);
     }
     Ok(Sizes {
         stream,
@@ -118,8 +99,13 @@ pub fn salvage(
     if !groups::starts_right(starts, ByteOffset { bytes: input.len() }) {
         return refused(17);
     }
-    if !has_room(input, starts, counts, fill, signed, out, report) {
+    let groups = Groups {
+        input,
+        starts,
+        counts,
+    };
+    if !has_room(groups, fill, signed, out, report) {
         return refused(8);
     }
-    write_all(input, starts, counts, fill, signed, out, report)
+    write_all(groups, fill, signed, out, report)
 }

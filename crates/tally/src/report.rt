@@ -1,4 +1,5 @@
-// The text of totals: a line for each count, for the smallest and the largest row, and for the sum as a whole number.
+// The text of totals: a line for each count, for the smallest and the largest row, and for the sum as a whole number. (No Display: there is no
+// heap, and text goes into lent bytes `out` from a place `at`, as `TextWritten` of `text` says for each word.)
 ghost use Rattle.std.specs.Prelude.{◌≡◌, ◌+◌, ◌≤◌, length};
 ghost use Rattle.text.specs.Written.{TextWritten};
 ghost use Rattle.tally.specs.Wide.{wide_value, size_of};
@@ -136,7 +137,7 @@ fn put_sum(sum: Wide, out: &mut [u8], at: usize) -> usize
     put(b'\n', out, place)
 }
 
-// The runs by kind, and their rows.
+// The runs by kind, and their rows. (No loop: `runs_text` is written out line by line.)
 fn put_runs(runs: [u64; 6], rows: u64, out: &mut [u8], at: usize) -> usize
     requires { at + 140 ≤ length out.old }
     ensures text_written { TextWritten (runs_text runs rows) out.old at out.new result }

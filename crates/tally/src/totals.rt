@@ -11,7 +11,8 @@ use format::{Answer, ByteOffset, Kind, Refusal};
 // At most 2^32 lines, and at most 2^32 rows.
 pub const LIMIT: u64 = 4294967296;
 
-// How a line was answered, without its rows: a bad line, the end, a refusal by its number, or a run by its kind.
+// How a line was answered, without its rows: a bad line, the end, a refusal by its number, or a run by its kind. (Four cases, of which two
+// have no value: no Option or Result has that shape, and one in another would be no plainer.)
 #[derive(Clone, Copy)]
 pub enum Reply {
     Bad,
@@ -20,7 +21,8 @@ pub enum Reply {
     Run(Kind),
 }
 
-// Totals: refusals by number, runs by the number of their kind.
+// Totals: refusals by number, runs by the number of their kind. (Arrays with a place for each number, as the definitions `held`, `numbers` and
+// `kinds` and the theorem `CodeTells` have them; no heap, so no map.)
 #[derive(Clone, Copy)]
 pub struct Totals {
     pub lines: u64,
@@ -48,7 +50,7 @@ struct Range {
     largest: Option<i64>,
 }
 
-// The smaller of two rows, where there are two.
+// The smaller of two rows, where there are two. (`lower` and `higher` are two: one over a closure could promise its `post` alone.)
 pub fn lower(a: Option<i64>, b: Option<i64>) -> Option<i64>
     ensures { result ≡ of_two lower a b }
 {
@@ -101,7 +103,7 @@ fn add_each<const N: usize>(counts: [u64; N], more: [u64; N]) -> [u64; N]
     sums
 }
 
-// Where a refusal is counted.
+// Where a refusal is counted. (By its number, as `Refusal` of the format has it and the definition `slot` takes it.)
 fn slot(number: u8) -> usize
     ensures { result ≡ slot number }
 {
@@ -125,18 +127,15 @@ fn too_many(a: u64, b: u64) -> bool
     LIMIT < a.saturating_add(b)
 }
 
-impl Reply {
-    // The reply to a line that is not bad: what the run reader answers.
-    pub fn to(answer: Answer) -> Self
-        ensures { result ≡ reply_to answer }
-    {
+// The reply to a line that is not bad: what the run reader answers.
+impl From<Answer> for Reply {
+    ghost from_gives = { λ answer reply. reply ≡ reply_to answer };
+
+    fn from(answer: Answer) -> Self {
         match answer {
             Ok(None) => Reply::End,
-            Ok(Some(run)) => {
-                let kind = run.kind;
-                Reply::Run(kind)
-            }
-            Err(f) => Reply::Refused(f.number),
+            Ok(Some(run)) => Reply::Run(run.kind),
+            Err(refusal) => Reply::Refused(refusal.number),
         }
     }
 }

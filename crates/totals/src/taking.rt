@@ -9,6 +9,7 @@ use format::Kind;
 use tally::totals::{Reply, Stopped, Totals};
 
 // From where to where in the input a line has begun; that the input has ended; that refusal 20 ended the reading; or that reading failed.
+// (Four cases: no Option or Result has that shape, and `AfterBlock`, `AfterEnd` and `Over` speak of each.)
 #[derive(Clone, Copy)]
 pub(crate) enum Next {
     Begun(usize, usize),
@@ -51,7 +52,7 @@ fn take_line(before: Totals, line: &[u8], rows: &mut [i64]) -> Result<Totals, St
         None => before.take(Reply::Bad, &[]),
         Some(answer) => {
             let count = format::answer::rows(answer);
-            before.take(Reply::to(answer), &rows[..count.rows])
+            before.take(Reply::from(answer), &rows[..count.rows])
         }
     }
 }

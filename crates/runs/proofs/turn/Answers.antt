@@ -1,5 +1,5 @@
 -- `runs::turn` meets its contract, and hands on as many bytes as the system says that came. Assumes nothing.
-use Rattle.std.proofs.Common.{sym, refl, arith, length-take-le, to_z-of_z, w32, w64}
+use Rattle.std.proofs.Common.{sym, refl, arith, length-take-le}
 use Rattle.runs.proofs.TextSaid.{read-given}
 use Rattle.runs.proofs.turn.Goals as goal
 

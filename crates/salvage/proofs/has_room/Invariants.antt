@@ -5,4 +5,4 @@ use Rattle.salvage.proofs.has_room.Given as goal
 
 abbrev pub invariant-loop-i : goal.invariant-loop-i
 invariant-loop-i l =
-    Measured l.signed l.fill l.input l.starts l.counts (length l.out) (length l.report) l.stream l.lines l.i
+    Measured l.signed l.fill l.groups.input.now l.groups.starts.now l.groups.counts.now (length l.out) (length l.report) l.stream l.lines l.i

@@ -19,4 +19,4 @@ returns-in-None c =
 
 pub returns-in-Some : goal.returns-in-Some
 returns-in-Some c =
-    took _ _ _ _ _ _ c.requires (rw c.in-Some.is at c.read_line.ensures) (rw (c.to.ensures, c.rows-count.ensures) at c.take-in-Some.ensures)
+    took _ _ _ _ _ _ c.requires (rw c.in-Some.is at c.read_line.ensures) (rw (c.from.ensures, c.rows-count.ensures) at c.take-in-Some.ensures)
