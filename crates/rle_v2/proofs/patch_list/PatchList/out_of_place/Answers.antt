@@ -1,11 +1,7 @@
-use mathlib.Core.Path.{◌≡◌, refl, sym, ◌∙◌}
-use mathlib.Core.List.{◌∷◌}
-use Prim.Native.Nat.{◌+◌}
-use lib.ListN.{drop}
+use mathlib.Core.Path.{refl, sym, ◌∙◌}
 use Rattle.util.specs.Packed.{fields}
 use Rattle.util.proofs.Window.{length_fields}
 use Rattle.rle_v2.proofs.PatchWalk.{large-next, large-here, large-none}
-use native.Mathlib.Omega.{arith}
 use Rattle.rle_v2.proofs.patch_list.PatchList.out_of_place.Goals as goal
 
 pub returns-then-limit-e : goal.returns-then-limit-e

@@ -1,9 +1,8 @@
 use mathlib.Core.Path.{◌≡◌}
 use mathlib.Core.Bool.{false}
-use mathlib.Core.List.{◌∷◌}
 use Prim.Native.Nat.{◌+◌, ◌<◌}
 use native.Mathlib.Nat.{add-mod-mod}
-use lib.ListN.{length, drop, get_or}
+use lib.ListN.{length, get_or}
 use borrow.Author.Tests.{not-true, not-false}
 use Rattle.util.specs.Packed.{fields}
 use Rattle.util.proofs.Window.{length_fields}
