@@ -1,8 +1,8 @@
 -- A patched base header's fields are in range; the widths that it names, the parts of the body behind it, and where the input ends in these.
 -- Assumes nothing.
-use Rattle.std.specs.Prelude.{◌≡◌, ℕ, ◌+◌, ◌-◌, ◌*◌, ◌≤◌, ◌<◌, List, ◌++◌, map, length, take, drop, ℤ, false, ltb, Some, None, Result, MatchResult}
+use Rattle.std.specs.Prelude.{◌≡◌, ℕ, ◌+◌, ◌-◌, ◌*◌, ◌≤◌, ◌<◌, List, ◌++◌, map, length, take, drop, ℤ, false, ltb, Result, MatchResult}
 use Rattle.format.specs.Fields.{pick, width, bytes_for}
-use Rattle.format.specs.Answers.{CutField, cutting}
+use Rattle.format.specs.Answers.{cutting}
 use Rattle.format.specs.Runs.{Description, entry_width, out_of_place}
 use Rattle.format.specs.Rows.{as_i64, base_value}
 use Rattle.format.specs.Parse.{Parsed, patched_body}

@@ -26,7 +26,7 @@ pub fn measure(input: &[u8], at: ByteOffset) -> Answer
     if input.len() <= p {
         return Ok(None);
     }
-    // the top two bits are the kind
+    // the top two bits are the kind; the arms are calls that the compiler knows, which a table of functions would hide from it
     match input[p] / 64 {
         0 => short_repeat::measure(input, at),
         1 => direct::measure(input, at),
@@ -44,7 +44,8 @@ pub fn read_run(input: &[u8], at: ByteOffset, signed: bool, out: &mut [i64]) -> 
     if input.len() <= p {
         return Ok(None);
     }
-    // the top two bits are the kind
+    // The top two bits are the kind. No twin of `measure`: the four readers take more than the four measures, so that one function of both
+    // would take the four as parameters, and be no plainer.
     match input[p] / 64 {
         0 => short_repeat::read(input, at, signed, out),
         1 => direct::read(input, at, signed, out),
@@ -69,9 +70,7 @@ pub fn read_gathered(input: &[u8], signed: bool, out: &mut [i64]) -> Answer
     ensures { RunRead input.now 0 signed out.old out.new result }
 {
     if !input.is_empty() && input[0] / 64 == 1 {
-        if let Err(f) = direct::measure(input, ByteOffset { bytes: 0 }) {
-            return Err(f);
-        }
+        let _ = direct::measure(input, ByteOffset { bytes: 0 })?;
     }
     read_run(input, ByteOffset { bytes: 0 }, signed, out)
 }
@@ -85,6 +84,8 @@ pub fn read_stream(input: &[u8], at: ByteOffset, signed: bool, out: &mut [i64]) 
     let mut p = from;
     let mut k: usize = 0;
     let mut last = None;
+    // The step is a run's bytes, which is no count. Three ends: one for all would carry the refusal out of the loop in an Option, and match it
+    // again.
     while p < input.len() {
         let a = read_run(input, ByteOffset { bytes: p }, signed, &mut out[k..]);
         match a {
@@ -118,18 +119,14 @@ fn in_places(measured: Answer, at: ByteOffset, places: RowNumber) -> Answer
     ensures { (total : ℕ) (m : Parsed Description)
         → measured ≡ answer_of at.bytes total m → result ≡ answer_of at.bytes total (into places.rows m) }
 {
-    let room = places.rows;
-    match measured {
-        Ok(Some(r)) => {
-            let count = r.rows;
-            if room < count.rows {
-                return Err(Refusal::new(8, at));
-            }
-            Ok(Some(r))
-        }
-        Err(f) => Err(f),
-        Ok(None) => Ok(None),
+    let Some(run) = measured? else {
+        return Ok(None);
+    };
+    let count = run.rows;
+    if places.rows < count.rows {
+        return Err(Refusal::new(8, at));
     }
+    Ok(Some(run))
 }
 
 // What the stream reader answers with as many places as a count can name, for callers that want no rows.
@@ -140,6 +137,7 @@ pub fn measure_stream(input: &[u8], at: ByteOffset) -> Stream
     let mut place = from;
     let mut count: usize = 0;
     let mut last = None;
+    // the step is a run's bytes, as in `read_stream`
     while place < input.len() {
         let here = ByteOffset { bytes: place };
         let m = measure(input, here);

@@ -45,6 +45,7 @@ pub fn read(
     if input.len() <= p || input[p] / 64 != 1 {
         return None;
     }
+    // no `let Ok(Some(r)) = .. else`: tried, and its `else` has no fact that the Option is None, so that the proof didn't close
     match direct::measure(input, at) {
         Ok(Some(r)) => {
             let count = r.rows;

@@ -9,7 +9,8 @@ ghost use Rattle.rle_v2.specs.PatchedHead.{InRange, IsWidths, IsParts, body_at, 
 ghost use Rattle.rle_v2.specs.PatchedHead.{Ready, patched_places};
 ghost use Rattle.rle_v2.specs.RunAt.{run_at, MeasuredAs, ReadAs};
 
-use crate::{header, patch_list, rows};
+use crate::patch_list::PatchList;
+use crate::{header, rows};
 use format::{Answer, ByteOffset, Kind, Refusal, RowNumber, Run};
 use util::{big_endian, packed, width};
 
@@ -161,16 +162,16 @@ fn checked(input: &[u8], at: ByteOffset) -> Result<Found, Refusal>
     ensures { IsChecked input.now at.bytes (run_at patched_run input.now at.bytes) result }
 {
     let f = headed(input, at)?;
-    let list = f.list;
-    let from = list.bytes;
-    if let Some(number) = patch_list::refused_with(
-        &input[from..],
-        f.entry,
-        f.patch,
-        f.entries,
-        f.bits,
-        f.rows,
-    ) {
+    let from = f.list;
+    let patches = PatchList {
+        list: &input[from.bytes..],
+        bits: f.entry,
+        pw: f.patch,
+        n: f.entries,
+        width: f.bits,
+        count: f.rows,
+    };
+    if let Some(number) = patches.refused_with() {
         return Err(Refusal::new(number, at));
     }
     Ok(f)
@@ -207,20 +208,18 @@ fn put(input: &[u8], at: ByteOffset, f: Found, out: &mut [i64])
     let p = at.bytes;
     let rows = f.rows;
     let values = f.values;
-    let list = f.list;
-    let first = values.bytes;
-    let from = list.bytes;
+    let from = f.list;
     let base = big_endian::base_value(input, p + 4, f.base);
-    lay(&input[first..], f.bits, rows, base, out);
-    patch_list::put(
-        &input[from..],
-        f.entry,
-        f.patch,
-        f.entries,
-        f.bits,
-        rows,
-        out,
-    );
+    lay(&input[values.bytes..], f.bits, rows, base, out);
+    let patches = PatchList {
+        list: &input[from.bytes..],
+        bits: f.entry,
+        pw: f.patch,
+        n: f.entries,
+        width: f.bits,
+        count: rows,
+    };
+    patches.put(out);
 }
 
 // Patched rows are never zigzag decoded, whatever the flag.

@@ -32,6 +32,8 @@ pub(crate) fn read(input: &[u8], at: ByteOffset, signed: bool, out: &mut [i64]) 
     ensures { ReadAs short_run input.now at.bytes signed out.old out.new result }
 {
     let measured = measure(input, at);
+    // no `?` and no `let Ok(Some(r)) = measured else`: the one makes the answer again (below), and the other's `else` has no fact that the
+    // Option is None, so that the proof didn't close
     match measured {
         Ok(Some(r)) => {
             let count = r.rows;

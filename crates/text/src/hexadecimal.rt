@@ -15,7 +15,7 @@ fn digit(c: u8) -> Option<u8>
 }
 
 // Whether every character of the line is a digit. The bytes that its pairs of digits write go into the first places of the frame, up to the
-// first pair that is none; the places after them are not touched.
+// first pair that is none; the places after them are not touched. A bool, since `HexRead` (specs) says it of one.
 pub fn bytes(line: &[u8], frame: &mut [u8]) -> bool
     requires { (length line.now % 2 ≡ 0) × (length line.now ≤ 2 * length frame.old) }
     ensures { HexRead line.now frame.old frame.new result }

@@ -16,7 +16,7 @@ pub fn put(c: u8, out: &mut [u8], at: usize) -> usize
     at + 1
 }
 
-// A fixed word.
+// A fixed word. Here and below the buffer and the place in it stay two parameters: `TextWritten` (specs) names both.
 pub fn put_word(word: &[u8], out: &mut [u8], at: usize) -> usize
     requires { at + length word.now ≤ length out.old }
     ensures { TextWritten word.now out.old at out.new result }

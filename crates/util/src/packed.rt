@@ -86,6 +86,9 @@ pub fn block_size(w: usize, n: usize) -> usize
     (n * w).div_ceil(8)
 }
 
+// The bytes, the eight's first, its word and the width stay parameters of these three: a struct of them with an invariant was tried, and its
+// methods' proofs didn't close, for want of the fact that its bytes are below 256.
+
 // Field j of the eight that start with byte b: two or four bytes, or bits of x, the word at b, or bits of a word of its own.
 fn one_of_eight(s: &[u8], b: usize, x: u64, j: usize, w: usize) -> u64
     requires width { Width w }
@@ -180,7 +183,7 @@ fn eights(s: &[u8], w: usize, v: usize, n: usize, out: &mut [i64]) -> usize
 }
 
 // The same, with a copy of the loop for each width of the table. No const parameter: the last arm, whose width is no constant, would need a
-// second function beside it.
+// second function beside it; and no table of functions, which would hide from the compiler which loop is called.
 fn eights_at(s: &[u8], w: usize, n: usize, out: &mut [i64]) -> usize
     requires width { Width w }
     requires room { Room w n s.now out.old }

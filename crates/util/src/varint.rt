@@ -10,7 +10,7 @@ pub struct Varint {
     pub next: usize,
 }
 
-// Why there is none.
+// Why there is none: an enum of its own, since the callers turn each reason into a refusal of the format by its number.
 #[derive(Clone, Copy)]
 pub enum VarintError {
     // The input ends in it: refusal 12.

@@ -1,6 +1,4 @@
 -- The answer names what the tests found. Assumes nothing.
-use Rattle.std.specs.Prelude.{Some, Ok}
-use mathlib.Core.Path.{ap}
 use native.Mathlib.Omega.{arith}
 use mathlib.Core.Path.{◌∙◌}
 use Rattle.rle_v2.specs.DeltaStart.{Passed}

@@ -1,6 +1,4 @@
 -- The delta reader meets its contract: what the tests found is laid down where there is room. Assumes nothing.
-use Rattle.std.specs.Prelude.{Some, Ok, Err}
-use mathlib.Core.Path.{ap}
 use native.Mathlib.Omega.{arith}
 use Rattle.rle_v2.specs.DeltaStart.{Passed}
 use Rattle.rle_v2.proofs.RefusedBy.{refused_none}

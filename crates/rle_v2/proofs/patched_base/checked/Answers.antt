@@ -7,13 +7,13 @@ use Rattle.util.proofs.Grow.{rest-is}
 use Rattle.rle_v2.proofs.PatchedFound.{found-list, found-3-7}
 use Rattle.rle_v2.proofs.patched_base.checked.Goals as goal
 
-pub refused_with-requires-clause-listed : goal.refused_with-requires-clause-listed
-refused_with-requires-clause-listed c =
+pub invariant_of-patches-clause-listed : goal.invariant_of-patches-clause-listed
+invariant_of-patches-clause-listed c =
     let a = c.args in
     rw (rest-is a.input.now c.in_ok-f.f.list.bytes) (found-list a.input.now a.at.bytes _ _ c.in_ok-f.ensures)
 
-pub refused_with-requires-clause-width_nonzero : goal.refused_with-requires-clause-width_nonzero
-refused_with-requires-clause-width_nonzero c =
+pub invariant_of-patches-clause-widths : goal.invariant_of-patches-clause-widths
+invariant_of-patches-clause-widths c =
     let h = c.in_ok-f.ensures.headed in
     (rw h.widths.bits_is (width-pos _), rw h.widths.bits_is (width-le _), h.fields_fit.rows)
 

@@ -1,5 +1,5 @@
 -- The answer names what was found, where the list passes. Assumes nothing.
-use Rattle.std.specs.Prelude.{Some, Ok, Err}
+use Rattle.std.specs.Prelude.{Some, Ok}
 use mathlib.Core.Path.{ap, ◌∙◌}
 use Rattle.rle_v2.proofs.PatchedFound.{passed-answer, passes}
 use Rattle.rle_v2.proofs.patched_base.measure.Goals as goal

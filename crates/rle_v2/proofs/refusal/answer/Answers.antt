@@ -1,6 +1,4 @@
 -- A field that begins at 0 is none. Assumes nothing.
-use Rattle.std.specs.Prelude.{Err}
-use mathlib.Core.Path.{ap}
 use borrow.Author.Tests.{ne_eqb}
 use Rattle.rle_v2.proofs.refusal.answer.Goals as goal
 

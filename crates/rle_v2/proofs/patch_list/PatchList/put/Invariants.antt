@@ -2,7 +2,7 @@
 
 use Rattle.util.specs.Packed.{fields}
 use Rattle.rle_v2.proofs.PatchWalk.{Put}
-use Rattle.rle_v2.proofs.patch_list.put.Given as goal
+use Rattle.rle_v2.proofs.patch_list.PatchList.put.Given as goal
 
 abbrev pub invariant-loop-k : goal.invariant-loop-k
-invariant-loop-k l = Put l.width l.pw l.rows (fields l.bits l.n l.list) l.initial.out l.out l.k l.row
+invariant-loop-k l = Put l.self.width l.self.pw l.self.count.rows (fields l.self.bits l.self.n l.self.list.now) l.initial.out l.out l.k l.row

@@ -3,7 +3,7 @@ use mathlib.Core.Path.{◌≡◌}
 use lib.ListN.{drop}
 use Rattle.util.specs.Packed.{fields}
 use Rattle.rle_v2.specs.PatchList.{large}
-use Rattle.rle_v2.proofs.patch_list.out_of_place.Given as goal
+use Rattle.rle_v2.proofs.patch_list.PatchList.out_of_place.Given as goal
 
 abbrev pub invariant-loop-k : goal.invariant-loop-k
-invariant-loop-k l = large l.width l.pw (drop l.k (fields l.bits l.n l.list)) ≡ large l.width l.pw (drop l.from (fields l.bits l.n l.list))
+invariant-loop-k l = large l.self.width l.self.pw (drop l.k (fields l.self.bits l.self.n l.self.list.now)) ≡ large l.self.width l.self.pw (drop l.from (fields l.self.bits l.self.n l.self.list.now))
