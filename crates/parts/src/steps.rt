@@ -118,7 +118,10 @@ pub(crate) fn from_first(at: ByteOffset, f: Refusal) -> Refusal
 pub(crate) fn cut_short(f: Refusal) -> bool
     ensures { result ≡ cut_short f.number f.cut }
 {
-    f.cut.is_some() || f.number == 1
+    match f.cut {
+        None => f.number == 1,
+        Some(_) => true,
+    }
 }
 
 // A call with a part, by what reading gave of the bytes looked at: those held, and as many of the part's after them as a run can have.
