@@ -4,7 +4,9 @@ ghost use Rattle.std.specs.Prelude.{◌≡◌, ◌-◌};
 ghost use Rattle.parts.specs.Steps.{still, too_few, holds, stops, refuses, hands, from_first, cut_short, is_cut, is_whole, is_refused};
 ghost use Rattle.parts.specs.Steps.{by_answer, by_last};
 
-use format::{Answer, ByteOffset, PartAnswer, PartReader, PartStep, Refusal, RowNumber, Run, Standing};
+use format::{
+    Answer, ByteOffset, PartAnswer, PartReader, PartStep, Refusal, RowNumber, Run, Standing,
+};
 
 // Nothing is taken, and nothing changes.
 pub(crate) fn idle(reader: PartReader, answer: PartAnswer) -> PartStep
@@ -48,7 +50,7 @@ pub(crate) fn hand(reader: PartReader, taken: ByteOffset, run: Run) -> PartStep
 {
     let at = reader.at;
     let consumed = run.consumed;
-    let next = std::num::wrapping_add_usize(at.bytes, consumed.bytes);
+    let next = at.bytes.wrapping_add(consumed.bytes);
     // field by field: a run that is moved whole goes through memory in pieces, padding too
     let rows = run.rows;
     let kind = run.kind;
@@ -106,7 +108,7 @@ pub(crate) fn from_first(at: ByteOffset, f: Refusal) -> Refusal
     match cut {
         None => Refusal::new(number, at),
         Some(field) => {
-            let byte = std::num::wrapping_add_usize(at.bytes, field.bytes);
+            let byte = at.bytes.wrapping_add(field.bytes);
             Refusal::cut(number, at, ByteOffset { bytes: byte })
         }
     }
@@ -116,24 +118,10 @@ pub(crate) fn from_first(at: ByteOffset, f: Refusal) -> Refusal
 pub(crate) fn cut_short(f: Refusal) -> bool
     ensures { result ≡ cut_short f.number f.cut }
 {
-    let number = f.number;
-    let cut = f.cut;
-    match cut {
-        None => number == 1,
+    match f.cut {
+        None => f.number == 1,
         Some(_) => true,
     }
-}
-
-// What is above a number: 0 where nothing is.
-pub(crate) fn beyond(n: ByteOffset, most: ByteOffset) -> ByteOffset
-    ensures { result.bytes ≡ n.bytes - most.bytes }
-{
-    let all = n.bytes;
-    let least = most.bytes;
-    if all < least {
-        return ByteOffset { bytes: 0 };
-    }
-    ByteOffset { bytes: all - least }
 }
 
 // A call with a part, by what reading gave of the bytes looked at: those held, and as many of the part's after them as a run can have.
@@ -150,7 +138,9 @@ pub(crate) fn on_part(
     match a {
         Ok(Some(r)) => {
             let consumed = r.consumed;
-            let taken = beyond(consumed, held);
+            let taken = ByteOffset {
+                bytes: consumed.bytes.saturating_sub(held.bytes),
+            };
             hand(reader, taken, r)
         }
         Err(f) => {
@@ -169,9 +159,8 @@ pub(crate) fn is_cut(a: Answer) -> bool
     ensures { result ≡ is_cut a }
 {
     match a {
-        Ok(Some(_)) => false,
         Err(f) => cut_short(f),
-        Ok(None) => false,
+        Ok(_) => false,
     }
 }
 
@@ -180,8 +169,7 @@ pub(crate) fn is_whole(a: Answer) -> bool
     ensures { result ≡ is_whole a }
 {
     match a {
-        Ok(Some(_)) => true,
-        Ok(None) => false,
+        Ok(run) => run.is_some(),
         Err(_) => false,
     }
 }
@@ -190,13 +178,7 @@ pub(crate) fn is_whole(a: Answer) -> bool
 pub(crate) fn is_refused(step: PartStep) -> bool
     ensures { result ≡ is_refused step.answer }
 {
-    let answer = step.answer;
-    match answer {
-        PartAnswer::Run(_, _) => false,
-        PartAnswer::More => false,
-        PartAnswer::Refused(_) => true,
-        PartAnswer::End => false,
-    }
+    matches!(step.answer, PartAnswer::Refused(_))
 }
 
 // The closing call of an open reader, by what reading gave of the bytes held: an unfinished run is refused.

@@ -8,4 +8,4 @@ returns-in-None c = rw (c.new.ensures, c.in-None.is)
 
 pub returns-in-Some : goal.returns-in-Some
 unfolding field_from
-returns-in-Some c = rw (c.cut.ensures, c.wrapping_add_usize-byte.ensures.value, c.in-Some.is)
+returns-in-Some c = rw (c.cut.ensures, c.in-Some.is)

@@ -1,17 +1,18 @@
 -- One answer of three is a run. Assumes nothing.
-use mathlib.Core.Path.{◌∙◌, ap}
-use Rattle.std.specs.Prelude.{Ok}
+use Rattle.std.proofs.Common.{◌≡◌, sym, refl, ap, ◌∙◌}
+use Rattle.std.specs.Prelude.{Option, Some, None, Ok, is_some}
+use Rattle.format.specs.declared.Run as run
 use Rattle.parts.specs.Steps.{is_whole}
 use Rattle.parts.proofs.steps.is_whole.Goals as goal
 
-pub returns-in-Ok-Some : goal.returns-in-Ok-Some
+whole : (m : Option run.Run) → is_some m ≡ is_whole (Ok m)
 unfolding is_whole
-returns-in-Ok-Some c = rw (c.in-Ok-Some.is ∙ ap Ok (rw c.in-Ok-Some.is at c.in-Ok-Some.field-0-is))
+whole None = refl
+whole (Some r) = refl
+
+pub returns-in-Ok : goal.returns-in-Ok
+returns-in-Ok c = c.is_some.ensures ∙ whole _ ∙ ap is_whole (sym c.in-Ok.is)
 
 pub returns-in-Err : goal.returns-in-Err
 unfolding is_whole
 returns-in-Err c = rw c.in-Err.is
-
-pub returns-in-Ok-None : goal.returns-in-Ok-None
-unfolding is_whole
-returns-in-Ok-None c = rw (c.in-Ok-None.is ∙ ap Ok (rw c.in-Ok-None.is at c.in-Ok-None.field-0-is))

@@ -6,7 +6,7 @@ use Rattle.parts.proofs.steps.on_part.Goals as goal
 
 pub returns-in-Ok-Some : goal.returns-in-Ok-Some
 unfolding by_answer
-returns-in-Ok-Some c = rw ((c.in-Ok-Some.is ∙ ap Ok (rw c.in-Ok-Some.is at c.in-Ok-Some.field-0-is)), c.hand.ensures, c.beyond-taken.ensures)
+returns-in-Ok-Some c = rw ((c.in-Ok-Some.is ∙ ap Ok (rw c.in-Ok-Some.is at c.in-Ok-Some.field-0-is)), c.hand.ensures, c.saturating_sub.ensures)
 
 pub returns-then-cut_short : goal.returns-then-cut_short
 unfolding by_answer
