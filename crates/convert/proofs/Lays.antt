@@ -1,9 +1,9 @@
 -- Bytes laid behind others, in so much room. Assumes nothing.
 use Rattle.format.proofs.Common.{◌≡◌, refl, sym, ap, ◌∙◌, ℕ, ◌+◌, ◌-◌, ◌<◌, ◌≤◌, arith, List, ◌++◌, length, take, drop}
 use Rattle.format.proofs.Common.{length-append, length-drop, length-take-le, take_at, drop_at, drop-drop}
-use Rattle.std.specs.Prelude.{Option, Some, None}
+use Rattle.std.specs.Prelude.{Some, None}
 use Rattle.format.specs.declared.ByteOffset.{ByteOffset}
-use Rattle.convert.specs.Walk.{Put, Filled, Lays}
+use Rattle.convert.specs.Walk.{Put, Lays}
 
 module _ (run : List ℕ) (n : ℕ) (room : ℕ) (out : List ℕ) (some : n ≤ length run) where
   longer : (l : List ℕ) → length (l ++ take n run) ≡ length l + n

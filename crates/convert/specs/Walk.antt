@@ -3,7 +3,7 @@ use Rattle.std.specs.Prelude.{⊤, ◌≡◌, ℕ, ◌+◌, ◌<◌, ◌≤◌, 
 use Rattle.std.proofs.Math.Seq.{paste}
 use Rattle.format.specs.Fields.{pick}
 use Rattle.format.specs.Answers.{refusing}
-use Rattle.std.specs.Prelude.{Option, Some, None, Result, Ok, Err}
+use Rattle.std.specs.Prelude.{Option, Some, None, Result, Err}
 use Rattle.format.specs.declared.ByteOffset.{ByteOffset}
 use Rattle.format.specs.declared.Refusal.{Refusal}
 use Rattle.convert.specs.declared.Conversion.{Conversion}

@@ -1,6 +1,6 @@
 -- A run that has no room fills the output for good; any other stands after those that are laid. Assumes nothing.
 use Rattle.format.proofs.Common.{rules}
-use Rattle.convert.proofs.Lays.{lays-full, lays-over, lays_more}
+use Rattle.convert.proofs.Lays.{lays_more}
 use Rattle.convert.proofs.lay.Goals as goal
 
 pub returns : goal.returns

@@ -4,7 +4,6 @@ use Rattle.format.proofs.Common.{arith, rules}
 use Rattle.format.proofs.Below.{below_all}
 use Rattle.format.proofs.Runs.{layout-pos}
 use Rattle.convert.specs.Turn.{Turned}
-use Rattle.convert.specs.Walk.{Within, Filled}
 use Rattle.convert.proofs.Walks.{along-first, along-next, along-end, along-refused, counted-le, within}
 use Rattle.convert.proofs.walk.Goals as goal
 
