@@ -19,6 +19,7 @@ pub const STREAM_COUNT: usize = 14;
 // What a call with fewer words answers.
 pub const TOO_FEW: u64 = ALL_BITS;
 
+// A number, as each case, kind and flag here: words are the C interface, and each function is its definition in specs/Words.antt, arm by arm.
 fn case(answer: Answer) -> u64
     ensures { result ≡ answer_case answer }
 {
@@ -81,7 +82,8 @@ fn store_answer(answer: Answer, words: &mut [u64]) -> u64
     answer::number(answer) as u64
 }
 
-// The words of a call's answer, in the first of the words lent. Answers the refusal's number.
+// The words of a call's answer, in the first of the words lent. Answers the refusal's number. `put_stream` and `parts::put_reader` test their own
+// counts in the same way: a common function would take the stores as a closure, whose contract (`Put`) is longer than the test.
 pub fn put_answer(answer: Answer, words: &mut [u64]) -> u64
     ensures { Told answer_words answer_number answer words.old words.new result }
 {

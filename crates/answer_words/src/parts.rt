@@ -94,6 +94,7 @@ pub fn reader_of(state: &[u64]) -> PartReader
     reader_in(state)
 }
 
+// An arm for each variant: `repeated` in specs/Parts.antt says it in the same way.
 fn repeats(standing: Standing) -> Answer
     ensures { result ≡ repeated standing }
 {
@@ -104,6 +105,7 @@ fn repeats(standing: Standing) -> Answer
     }
 }
 
+// The numbers are the C interface (`standing_case` in specs/Parts.antt).
 fn standing_case(standing: Standing) -> u64
     ensures { result ≡ standing_case standing }
 {
@@ -157,6 +159,7 @@ fn plain(answer: PartAnswer) -> Answer
     }
 }
 
+// The numbers are the C interface (`part_case` in specs/Parts.antt).
 fn case(answer: PartAnswer) -> u64
     ensures { result ≡ part_case answer }
 {

@@ -3,10 +3,13 @@ ghost use Rattle.std.specs.Prelude.{◌≡◌};
 ghost use Rattle.exports.specs.Batches.{rows_words, flags_words, bytes_words};
 
 use answer_words::{cut_byte, cut_case};
+use batches::BatchRead;
 use boolean_rle::bytes::BytesRead;
 use boolean_rle::flags::FlagsRead;
 use format::Refusal;
-use batches::BatchRead;
+
+// These three, and `of` in the other modules of words, stay apart: each lays down columns of its own (the C interface, specs/), and one function over
+// closures for the columns would say the same two arms with more.
 
 // How many words each has.
 pub const ROWS_COUNT: usize = 8;
@@ -52,6 +55,7 @@ pub(crate) fn of_rows(batch: Result<Option<BatchRead>, Refusal>) -> [u64; ROWS_C
 }
 
 // Of flags.
+#[tactic(auto, unfolding(crate::specs::Batches::flags_words))]
 pub(crate) fn of_flags(batch: Result<FlagsRead, Refusal>) -> [u64; FLAGS_COUNT]
     ensures { result ≡ flags_words batch }
 {
@@ -88,6 +92,7 @@ pub(crate) fn of_flags(batch: Result<FlagsRead, Refusal>) -> [u64; FLAGS_COUNT]
 }
 
 // Of bytes.
+#[tactic(auto, unfolding(crate::specs::Batches::bytes_words))]
 pub(crate) fn of_bytes(batch: Result<BytesRead, Refusal>) -> [u64; BYTES_COUNT]
     ensures { result ≡ bytes_words batch }
 {

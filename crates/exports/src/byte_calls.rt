@@ -11,6 +11,7 @@ use format::Refusal;
 pub const COUNT: usize = 5;
 
 // What writing bytes came to, as words.
+#[tactic(auto, unfolding(crate::specs::ByteRuns::byte_run_words))]
 pub(crate) fn words_of(answer: Result<Written, Refusal>) -> [u64; COUNT]
     ensures { result ≡ byte_run_words answer }
 {

@@ -11,7 +11,8 @@ pub const CHECK_COUNT: usize = 4;
 
 pub const COUNT: usize = 6;
 
-// Of what the check says.
+// Of what the check says: a list for each variant (`check_words`), as in `of` below.
+#[tactic(auto, unfolding(crate::specs::Columns::check_words))]
 pub(crate) fn of_checked(checked: Option<Columned>) -> [u64; CHECK_COUNT]
     ensures { result ≡ check_words checked }
 {
@@ -22,6 +23,7 @@ pub(crate) fn of_checked(checked: Option<Columned>) -> [u64; CHECK_COUNT]
 }
 
 // Of what the writer did.
+#[tactic(auto, unfolding(crate::specs::Columns::column_words))]
 pub(crate) fn of(answer: Result<ColumnRuns, Refusal>) -> [u64; COUNT]
     ensures { result ≡ column_words answer }
 {

@@ -10,6 +10,7 @@ use format::Refusal;
 // How many words it has.
 pub const COUNT: usize = 7;
 
+#[tactic(auto, unfolding(crate::specs::Converting::convert_words))]
 pub(crate) fn of(converted: Result<Conversion, Refusal>) -> [u64; COUNT]
     ensures { result ≡ convert_words converted }
 {

@@ -8,6 +8,7 @@ use format::Refusal;
 // How many words a count has.
 pub const COUNT: usize = 6;
 
+#[tactic(auto, unfolding(crate::specs::Counts::count_words))]
 pub(crate) fn of(count: Result<usize, Refusal>) -> [u64; COUNT]
     ensures { result ≡ count_words count }
 {

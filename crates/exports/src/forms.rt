@@ -5,6 +5,7 @@ ghost use Rattle.format.specs.PatchedWriting.{PatchedWritten};
 
 use format::{Answer, ByteOffset, Form, Refusal};
 
+// The numbers are the C interface: any number names a form (`form_of` in specs/Runs.antt), so no TryFrom, which would refuse.
 fn form_of(form: u64) -> Form
     ensures { result ≡ form_of form }
 {

@@ -8,6 +8,7 @@ use labels::Label;
 // How many words a label has.
 pub const COUNT: usize = 5;
 
+#[tactic(auto, unfolding(crate::specs::Labels::label_words))]
 pub(crate) fn of(label: Result<Label, Refusal>) -> [u64; COUNT]
     ensures { result ≡ label_words label }
 {

@@ -1,26 +1,13 @@
-// A column with missing rows and the labels of a column, as words: the case, the refusal's number and place, how many rows; of labels also the refused row.
+// The labels of a column, as words: the case, the refusal's number and place, how many rows, and the refused row.
 ghost use Rattle.std.specs.Prelude.{◌≡◌};
-ghost use Rattle.exports.specs.LinedUp.{spread_words, labels_words, refused_row};
+ghost use Rattle.exports.specs.LinedUp.{labels_words, refused_row};
 
-use format::{Refusal, RowNumber};
 use labels::ColumnRefusal;
 
-// How many words each has.
-pub const SPREAD_COUNT: usize = 4;
-
+// How many words they have.
 pub const LABELS_COUNT: usize = 5;
 
-// Of a column with missing rows.
-pub(crate) fn of_spread(spread: Result<RowNumber, Refusal>) -> [u64; SPREAD_COUNT]
-    ensures { result ≡ spread_words spread }
-{
-    match spread {
-        Ok(n) => [1, 0, 0, n.rows as u64],
-        Err(f) => [2, f.number as u64, f.place.bytes as u64, 0],
-    }
-}
-
-// The first row that is refused, 0 if none is.
+// The first row that is refused, 0 if none is. A match as plain as `map_or` with a closure, whose contract would say the same once more.
 fn refused_row(row: Option<RowNumber>) -> u64
     ensures { result ≡ refused_row row }
 {
@@ -31,6 +18,7 @@ fn refused_row(row: Option<RowNumber>) -> u64
 }
 
 // Of the labels of a column.
+#[tactic(auto, unfolding(crate::specs::LinedUp::labels_words))]
 pub(crate) fn of_labels(labels: Result<RowNumber, ColumnRefusal>) -> [u64; LABELS_COUNT]
     ensures { result ≡ labels_words labels }
 {

@@ -8,6 +8,7 @@ use salvage::Sizes;
 // How many words it has.
 pub const COUNT: usize = 5;
 
+#[tactic(auto, unfolding(crate::specs::Salvage::salvage_words))]
 pub(crate) fn of(outcome: Result<Sizes, Refusal>) -> [u64; COUNT]
     ensures { result ≡ salvage_words outcome }
 {
