@@ -21,7 +21,7 @@ use Rattle.format.proofs.Streams.{into-end, into-got, into-refused}
 use Rattle.rle_v2.proofs.ByKind.{is-short}
 use Rattle.rle_v2.proofs.ShortRun.{is-run, Measured, measured}
 
-pub run-not-end : (r : Run) → Ok (Some r) ≡ Ok None → ⊥
+pub run-not-end : (r : Run) → ◌≡◌ {A = Answer} (Ok (Some r)) (Ok None) → ⊥
 run-not-end r e = let z : ◌≡◌ {A = ℕ} 0 1 = cc in omega arith
 
 into_few : (n : ℕ) (d : Description) (rest : List ℕ) → n < row_count d → into n (got d rest) ≡ refused (plain 8)

@@ -1,5 +1,5 @@
-// Rows as 64-bit patterns: the i64 with the same bits and back, sums modulo 2^64, zigzag.
-ghost use Rattle.std.specs.Prelude.{◌≡◌, ◌+◌, ◌-◌, ◌%◌, ◌^◌};
+// Rows as 64-bit patterns: the i64 with the same bits and back, zigzag.
+ghost use Rattle.std.specs.Prelude.{◌≡◌};
 ghost use Rattle.format.specs.Fields as Fields;
 ghost use Rattle.format.specs.Rows.{as_i64, as_u64};
 
@@ -17,20 +17,6 @@ pub fn to_u64(x: i64) -> u64
     ensures { result ≡ as_u64 x }
 {
     x.cast_unsigned()
-}
-
-// The sum of two rows.
-pub fn add(a: u64, b: u64) -> u64
-    ensures { result ≡ (a + b) % 2 ^ 64 }
-{
-    a.wrapping_add(b)
-}
-
-// The difference of two rows.
-pub fn sub(a: u64, b: u64) -> u64
-    ensures { result ≡ (a + (2 ^ 64 - b)) % 2 ^ 64 }
-{
-    a.wrapping_sub(b)
 }
 
 // The row that u stands for under zigzag: its half, with the bits turned over if u is odd.

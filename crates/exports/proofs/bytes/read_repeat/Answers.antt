@@ -1,6 +1,6 @@
 -- `read_repeat` meets its contract: what the measure named is laid down as bytes where there is room. Assumes nothing.
 use mathlib.Core.Path.{ap}
-use Rattle.std.specs.Prelude.{Some, Ok}
+use Rattle.std.specs.Prelude.{Some, Ok, ◌≡◌}
 use mathlib.Core.Path.{sym, ◌∙◌}
 use native.Mathlib.Omega.{arith}
 use Rattle.format.specs.Promises.{RunMeasured}
@@ -22,9 +22,10 @@ read-requires c =
 
 pub packed-requires : goal.packed-requires
 packed-requires c =
+    let is : c.measure-measured.result ≡ Ok (Some c.in-Ok-Some.r) = c.in-Ok-Some.is ∙ ap Ok (rw c.in-Ok-Some.is at c.in-Ok-Some.field-0-is) in
     let run-told : (let a = c.args in RunMeasured a.input.now 0 (Ok (Some c.in-Ok-Some.r))) = sym (c.in-Ok-Some.is ∙ ap Ok (rw c.in-Ok-Some.is at c.in-Ok-Some.field-0-is)) ∙ c.measure-measured.ensures in
     let told : (let a = c.args in Measured a.input.now 0 c.in-Ok-Some.r) = named c.args.input.now c.args.signed c.args.out.now c.requires.0 c.requires.1 _ (run-told) in
-    let m = told in (omega (arith, m.rows_are), omega (arith, m.bytes-are, m.there))
+    let m = told in (rw is (omega (arith, m.rows_are)), rw is (omega (arith, m.bytes-are, m.there)))
 
 pub packed-requires-in-Err : goal.packed-requires-in-Err
 packed-requires-in-Err c =
@@ -40,9 +41,10 @@ packed-requires-in-Ok-None c =
 
 pub returns-else-out-count : goal.returns-else-out-count
 returns-else-out-count c =
+    let is : c.measure-measured.result ≡ Ok (Some c.in-Ok-Some.r) = c.in-Ok-Some.is ∙ ap Ok (rw c.in-Ok-Some.is at c.in-Ok-Some.field-0-is) in
     let run-told : (let a = c.args in RunMeasured a.input.now 0 (Ok (Some c.in-Ok-Some.r))) = sym (c.in-Ok-Some.is ∙ ap Ok (rw c.in-Ok-Some.is at c.in-Ok-Some.field-0-is)) ∙ c.measure-measured.ensures in
     let v = rw c.read.ensures at c.row-x.ensures in
-    rw c.packed.ensures
+    rw (c.packed.ensures, is)
     (repeats c.args.input.now c.args.signed c.args.out.now c.requires.0 c.requires.1 _ (run-told) _ c.if-out-count.false (rw v at c.put_repeat.ensures))
 
 pub returns-in-Err : goal.returns-in-Err
