@@ -2,6 +2,7 @@
 ghost use Rattle.std.specs.Prelude.{◌≡◌};
 ghost use Rattle.exports.specs.LinedUp.{labels_words, refused_row};
 
+use format::RowNumber;
 use labels::ColumnRefusal;
 
 // How many words they have.
