@@ -11,13 +11,9 @@ fn rest(input: &[u8], at: ByteOffset) -> ByteOffset
     ensures { (result.bytes ≤ length input.now)
         × (drop result.bytes input.now ≡ drop at.bytes input.now) }
 {
-    let position = at.bytes;
-    let start = if position <= input.len() {
-        position
-    } else {
-        input.len()
-    };
-    ByteOffset { bytes: start }
+    ByteOffset {
+        bytes: at.bytes.min(input.len()),
+    }
 }
 
 // The value's counts, or refusal 6 if the input ends before the value does: the cut field begins at the call's position.
