@@ -6,11 +6,7 @@ use Rattle.format.specs.Digits.{AllBelow, number, digits}
 use Rattle.format.specs.Fields.{pick, bytes_for}
 use Rattle.format.specs.Booleans.{bits}
 use Rattle.format.proofs.Digits.{number_lt, digits_number}
-use Rattle.byte_writer.specs.Flags.{bit, eight, first_byte, bytes_in, flag_bytes}
-use Rattle.byte_writer.specs.Steps.{bytes_of}
-use Rattle.byte_writer.specs.declared.source.Source.{Source}
-use Rattle.byte_writer.specs.declared.source.Source.TheVariants as given
-use denote.Bor.{Bor}
+use Rattle.byte_writer.specs.Flags.{bit, eight, first_byte, bytes_in, flag_bytes, source}
 
 pub bit_below : (f : ℕ) → bit f < 2
 bit_below f = by (eqb f 0)
@@ -161,9 +157,7 @@ module _ (fs : List ℕ) (k byte weight flag : ℕ) (h : k < 7) (e : flag ≡ ge
 pub weighing-ends : (fs : List ℕ) (k byte weight : ℕ) → k ≤ 8 → length fs ≤ k → Weighing fs k byte weight → byte ≡ first_byte fs
 weighing-ends fs k byte weight l h w = omega (arith, w.so_far, bits-end (8 - k) k fs (omega arith) h)
 
--- a source has fewer bytes than the address space, as the slice in it has
-pub source-few : (s : Source)
-    → ((bytes : Bor (List ℕ)) → s ≡ given.Bytes bytes → length bytes.now * 1 < 9223372036854775808)
-    → ((flags : Bor (List ℕ)) → s ≡ given.Flags flags → length flags.now * 1 < 9223372036854775808) → length (bytes_of s) < 9223372036854775808
-source-few (given.Bytes bytes) b f = omega (arith, b bytes refl)
-source-few (given.Flags flags) b f = omega (arith, f flags refl, length-flags flags.now)
+-- there are no more bytes to write than were given
+pub source-le : (packed : Bool) (s : List ℕ) → length (source packed s) ≤ length s
+source-le true s = omega (arith, length-flags s)
+source-le false s = omega arith

@@ -1,5 +1,5 @@
 -- Flags as bytes: eight to a byte, highest bit first, padding bits zero. Assumes nothing.
-use Rattle.std.specs.Prelude.{ℕ, zero, suc, List, [], ◌∷◌, length, get_or, drop, eqb}
+use Rattle.std.specs.Prelude.{ℕ, zero, suc, Bool, true, false, List, [], ◌∷◌, length, get_or, drop, eqb}
 use Rattle.format.specs.Digits.{number}
 use Rattle.format.specs.Fields.{pick, bytes_for}
 
@@ -23,3 +23,8 @@ bytes_in (suc m) fs = first_byte fs ∷ bytes_in m (drop 8 fs)
 -- n flags take n / 8 bytes, rounded up
 unfoldable pub flag_bytes : List ℕ → List ℕ
 flag_bytes fs = bytes_in (bytes_for (length fs)) fs
+
+-- what is to be written: the bytes that the flags make, or the bytes themselves
+abbrev pub source : Bool → List ℕ → List ℕ
+source true s = flag_bytes s
+source false s = s

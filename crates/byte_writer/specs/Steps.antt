@@ -3,16 +3,8 @@ use Rattle.std.specs.Prelude.{◌≡◌, ℕ, ◌+◌, ◌≤◌, ◌<◌, Bool,
 use Rattle.format.specs.Fields.{pick}
 use Rattle.format.specs.Booleans.{ByteRun, repeat, literals, run_layout}
 use Rattle.byte_writer.specs.Choice.{next_run}
-use Rattle.byte_writer.specs.Flags.{flag_bytes}
 use Rattle.byte_writer.specs.declared.run.Next.{Next}
 use Rattle.byte_writer.specs.declared.run.Next.TheVariants as next
-use Rattle.byte_writer.specs.declared.source.Source.{Source}
-use Rattle.byte_writer.specs.declared.source.Source.TheVariants as given
-
--- what is to be written: the bytes themselves, or those that the flags make
-abbrev pub bytes_of : Source → List ℕ
-bytes_of (given.Bytes bytes) = bytes.now
-bytes_of (given.Flags flags) = flag_bytes flags.now
 
 -- three bytes are equal
 abbrev pub are_equal : ℕ → ℕ → ℕ → Bool

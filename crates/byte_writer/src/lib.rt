@@ -4,16 +4,13 @@
 
 ghost use Rattle.std.specs.Prelude.{◌≡◌, ◌≤◌, length};
 ghost use Rattle.byte_writer.specs.Choice.{written};
-ghost use Rattle.byte_writer.specs.Flags.{flag_bytes};
-ghost use Rattle.byte_writer.specs.Steps.{bytes_of};
+ghost use Rattle.byte_writer.specs.Flags.{flag_bytes, source};
 ghost use Rattle.byte_writer.specs.Written.{in_front, BytesWritten, BooleansWritten};
 
 use format::{Answer, ByteOffset, Kind, Refusal, RowNumber, Run};
 
 mod run;
 mod source;
-
-use source::Source;
 
 // What writing bytes comes to: how many were taken, and how many their runs have.
 #[derive(Clone, Copy)]
@@ -23,14 +20,14 @@ pub struct Written {
 }
 
 // The first pass: how many bytes the runs have.
-fn measure(s: Source<'_>) -> usize
-    ensures { result ≡ length (written (bytes_of s.entry)) }
+fn measure(s: &[u8], packed: bool) -> usize
+    ensures { result ≡ length (written (source packed s.now)) }
 {
-    let n = s.count();
+    let n = source::count(s, packed);
     let mut at = 0;
     let mut size = 0;
     while at < n {
-        let next = run::next_at(s, at);
+        let next = run::next_at(s, packed, at);
         size += next.size();
         at += next.count();
     }
@@ -38,16 +35,16 @@ fn measure(s: Source<'_>) -> usize
 }
 
 // The second pass: the runs, in the first places.
-fn lay(s: Source<'_>, out: &mut [u8])
-    requires { length (written (bytes_of s)) ≤ length out.old }
-    ensures { out.new ≡ in_front (written (bytes_of s.entry)) out.old }
+fn lay(s: &[u8], packed: bool, out: &mut [u8])
+    requires { length (written (source packed s.now)) ≤ length out.old }
+    ensures { out.new ≡ in_front (written (source packed s.now)) out.old }
 {
-    let n = s.count();
+    let n = source::count(s, packed);
     let mut at = 0;
     let mut place = 0;
     while at < n {
-        let next = run::next_at(s, at);
-        run::put(s, at, next, out, place);
+        let next = run::next_at(s, packed, at);
+        run::put(s, packed, at, next, out, place);
         place += next.size();
         at += next.count();
     }
@@ -58,7 +55,7 @@ pub fn size_of_bytes(bytes: &[u8]) -> ByteOffset
     ensures { result.bytes ≡ length (written bytes.now) }
 {
     ByteOffset {
-        bytes: measure(Source::Bytes(bytes)),
+        bytes: measure(bytes, false),
     }
 }
 
@@ -67,7 +64,7 @@ pub fn size_of_booleans(flags: &[u8]) -> ByteOffset
     ensures { result.bytes ≡ length (written (flag_bytes flags.now)) }
 {
     ByteOffset {
-        bytes: measure(Source::Flags(flags)),
+        bytes: measure(flags, true),
     }
 }
 
@@ -75,11 +72,11 @@ pub fn size_of_booleans(flags: &[u8]) -> ByteOffset
 pub fn write_bytes(bytes: &[u8], out: &mut [u8]) -> Result<Written, Refusal>
     ensures { BytesWritten bytes.now out.old out.new result }
 {
-    let size = measure(Source::Bytes(bytes));
+    let size = measure(bytes, false);
     if out.len() < size {
         return Err(Refusal::new(8, ByteOffset { bytes: 0 }));
     }
-    lay(Source::Bytes(bytes), out);
+    lay(bytes, false, out);
     Ok(Written {
         rows: RowNumber { rows: bytes.len() },
         size: ByteOffset { bytes: size },
@@ -90,11 +87,11 @@ pub fn write_bytes(bytes: &[u8], out: &mut [u8]) -> Result<Written, Refusal>
 pub fn write_booleans(flags: &[u8], out: &mut [u8]) -> Answer
     ensures { BooleansWritten flags.now out.old out.new result }
 {
-    let size = measure(Source::Flags(flags));
+    let size = measure(flags, true);
     if out.len() < size {
         return Err(Refusal::new(8, ByteOffset { bytes: 0 }));
     }
-    lay(Source::Flags(flags), out);
+    lay(flags, true, out);
     Ok(Some(Run::new(
         Kind::Booleans,
         1,

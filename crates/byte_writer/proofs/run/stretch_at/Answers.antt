@@ -1,16 +1,22 @@
 use Rattle.format.proofs.Common.{◌≡◌, sym, ◌∙◌, List, ℕ, ◌+◌, arith, drop, get_or, length-drop}
-use Rattle.byte_writer.specs.Steps.{bytes_of}
+use Rattle.byte_writer.specs.Flags.{source}
 use Rattle.byte_writer.proofs.Stretches.{stretch-le, stretch-here, equal-more, equal-stop}
+use Rattle.byte_writer.proofs.Packing.{source-le}
 use Rattle.byte_writer.proofs.run.stretch_at.Goals as goal
 
 pub loop-i-init : goal.loop-i-init
 loop-i-init c =
     let a = c.args in
-    (rw c.byte_at-first.ensures (stretch-here (bytes_of a.s) a.at (omega arith)))
+    (rw c.byte_at-first.ensures (stretch-here (source a.packed a.s.now) a.at (omega arith)))
+
+pub overflow_add-at : goal.overflow_add-at
+overflow_add-at c =
+    let a = c.args in
+    omega (arith, source-le a.packed a.s.now)
 
 pub returns-then-byte_at-first : goal.returns-then-byte_at-first
 returns-then-byte_at-first c =
-    let bytes : List ℕ = bytes_of c.args.s in
+    let bytes : List ℕ = source c.args.packed c.args.s.now in
     let first : ℕ = c.byte_at-first.result in
     let l = c.loop-i in
     let e =
@@ -19,7 +25,7 @@ returns-then-byte_at-first c =
 
 pub loop-i-preserved : goal.loop-i-preserved
 loop-i-preserved c =
-    let bytes : List ℕ = bytes_of c.args.s in
+    let bytes : List ℕ = source c.args.packed c.args.s.now in
     let first : ℕ = c.byte_at-first.result in
     let l = c.loop-i in
     let same : get_or (bytes) (c.args.at + l.i) 0 ≡ first = sym c.byte_at.ensures ∙ c.if-byte_at-first.false in
@@ -28,5 +34,5 @@ loop-i-preserved c =
 pub returns : goal.returns
 returns c =
     let a = c.args in
-    let bs = bytes_of a.s in
+    let bs = source a.packed a.s.now in
     omega (arith, stretch-le (drop a.at bs), length-drop a.at bs)
