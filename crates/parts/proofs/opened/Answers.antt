@@ -16,6 +16,14 @@ returns-then-h-eq0 c =
     from-part a.reader none-held a.part.now a.buffer.now a.signed a.out.now _ _ _ part_bytes (omega arith) (omega arith)
     c.read_first-a.ensures c.on_part-step.ensures _ (pasted-first a.buffer.now a.part.now _ _ c.copy_from_slice.ensures.after)
 
+pub returns-then-kept-eq0 : goal.returns-then-kept-eq0
+returns-then-kept-eq0 c =
+    let part_bytes : AllBelow 256 c.args.part.now = below_all 256 c.args.part.now (search rules) in
+    let none-held : c.args.reader.held ≡ 0 = omega arith in
+    let a = c.args in
+    from-part a.reader none-held a.part.now a.buffer.now a.signed a.out.now _ _ _ part_bytes (omega arith) (omega arith)
+    c.read_first-a.ensures c.on_part-step.ensures _ (rw c.if-kept-eq0.true)
+
 pub returns : goal.returns
 returns c =
     let part_bytes : AllBelow 256 c.args.part.now = below_all 256 c.args.part.now (search rules) in
