@@ -149,7 +149,7 @@ def blank(text, begin, end):
 def parsed(path):
     """A file's code, with comments, contracts and lines for the proofs made blank; and the contracts, by where they begin."""
     text, contracts = read(path), {}
-    for match in re.finditer(r"//[^\n]*|^\s*ghost [^\n]*", text, re.M):
+    for match in re.finditer(r"//[^\n]*|^\s*(?:pub(?:\(\w+\))? )?ghost [^\n]*", text, re.M):
         text = blank(text, *match.span())
     for match in re.finditer(r"\b(requires|ensures)\*?(?:\s+\w+)?\s*\{", text):
         end, depth = match.end(), 1
@@ -187,14 +187,14 @@ def public():
 
 def is_equation(f):
     """Whether the contract, one clause alone, says what the answer is (of a unit, what its one field is), and nothing is lent to be changed; or, with
-    no answer, what the one lent slice is."""
+    no answer, what the one lent slice is. A case of `Result` or `Option` says what it holds."""
     match = re.fullmatch(r"(.+?) ≡ (.+)", f.ensures, re.S)
     if not match or " & " in f.ensures or re.search(r"\.\s*new\b", match[2]) or names_in(match[2])["result"]:
         return False
     if "->" in f.head:
         unit = re.search(r"-> (ByteOffset|RowNumber)\b", f.head)
         field = {None: "", "ByteOffset": ".bytes", "RowNumber": ".rows"}[unit and unit[1]]
-        return match[1] in ("result", "result" + field) and not re.search(r"&\s*('\w+ )?mut\b", f.head)
+        return re.sub(r"^(Ok|Err|Some) ", "", match[1]) in ("result", "result" + field) and not re.search(r"&\s*('\w+ )?mut\b", f.head)
     return [match[1]] == [f"{lent}.new" for lent in re.findall(r"(\w+): &(?:'\w+ )?mut ", f.head)]
 
 

@@ -1,4 +1,5 @@
 -- The reader in parts over words: what a state's words stand for, and what is left in the words lent. Assumes nothing.
+use Rattle.std.specs.Prelude.{Some, None}
 use mathlib.Core.Path.{◌≡◌, refl}
 use mathlib.Core.Logic.{◌≢◌}
 use Prim.Native.Nat.{ℕ, zero, suc, ◌<◌, ◌≤◌, ◌%◌}
@@ -7,14 +8,12 @@ use mathlib.Core.Bool.{true, false}
 use mathlib.Core.List.{List, ◌++◌}
 use lib.ListN.{length}
 use borrow.Author.Tests.{le-leb, lt-leb}
-use Rattle.format.specs.declared.CutField.{CutField}
-use Rattle.format.specs.declared.CutField.TheVariants as field
 use Rattle.format.specs.declared.Refusal.{Refusal}
 use Rattle.format.specs.declared.Standing.{Standing}
 use Rattle.format.specs.declared.Standing.TheVariants.{Opened, Broken, Closed}
 use Rattle.format.specs.declared.PartReader.{PartReader}
 use Rattle.format.specs.declared.PartStep.{PartStep}
-use Rattle.format.specs.Answers.{answer_number}
+use Rattle.format.specs.Answers.{CutField, answer_number}
 use Rattle.answer_words.specs.Words.{too_few_words}
 use Rattle.answer_words.specs.Parts.{repeated, standing_of, cut_of, state_words, state_word_count, reader_of, StateKept, part_words, part_word_count, enough, PartPut, StepTold}
 
@@ -27,7 +26,7 @@ unfolding part_words
 part-long s = refl
 
 -- every number but 0 says that a field is cut, and every one but 0 and 1 that the reader is closed
-pub cut_at : (n b : ℕ) → n ≢ 0 → field.At (record { bytes = b }) ≡ cut_of n b
+pub cut_at : (n b : ℕ) → n ≢ 0 → Some (record { bytes = b }) ≡ cut_of n b
 unfolding cut_of
 cut_at zero b h = absurd (h refl)
 cut_at (suc n) b h = refl
@@ -90,5 +89,5 @@ state-kept s ws h = go s.standing refl h
         small = omega arith
 
         by-cut : (c : CutField) → f.cut ≡ c → reader_of (state_words (with-standing (Broken f)) ++ ws) ≡ with-standing (Broken f)
-        by-cut field.None z = rw (small, z)
-        by-cut (field.At b) z = rw (small, z)
+        by-cut None z = rw (small, z)
+        by-cut (Some b) z = rw (small, z)

@@ -4,8 +4,7 @@ use Prim.Native.Nat.{ℕ, ◌<◌, ◌≤◌}
 use mathlib.Core.List.{List}
 use lib.ListN.{length}
 use borrow.Author.Tests.{le-leb, lt-leb}
-use Rattle.format.specs.declared.Answer.{Answer}
-use Rattle.format.specs.declared.Stream.{Stream}
+use Rattle.format.specs.Answers.{Answer, Stream}
 use Rattle.answer_words.specs.Words.{answer_words, stream_words, word_count, stream_word_count, too_few_words, Put, Told}
 
 -- over any answers whose words are counted

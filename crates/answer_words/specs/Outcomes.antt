@@ -1,11 +1,10 @@
 -- Any two outcomes that a promise of this room allows are equal: the number or the reader that comes back, and every lent word at exit.
 -- Assumes nothing.
 use Rattle.std.specs.Prelude.{◌≡◌, ℕ, List, ◌++◌, length, drop, leb}
-use Rattle.format.specs.declared.CutField.{CutField}
 use Rattle.format.specs.declared.PartReader.{PartReader}
 use Rattle.format.specs.declared.PartStep.{PartStep}
 use Rattle.format.specs.Fields.{pick}
-use Rattle.format.specs.Answers.{answer_number}
+use Rattle.format.specs.Answers.{CutField, answer_number}
 use Rattle.format.specs.Answers.{stream_number}
 use Rattle.answer_words.specs.Words.{answer_words, stream_words, cut_case, cut_byte, Told}
 use Rattle.answer_words.specs.Parts.{state_words, reader_of, StepTold}

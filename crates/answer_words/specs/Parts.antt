@@ -1,10 +1,6 @@
 -- The reader in parts as words: its state, what a call does, and what is left in the words that are lent for both. Assumes nothing.
-use Rattle.std.specs.Prelude.{◌≡◌, ℕ, zero, suc, ◌%◌, ◌<◌, Bool, false, List, [], ◌∷◌, ◌++◌, length, drop, get_or, leb}
-use Rattle.format.specs.declared.CutField.{CutField}
-use Rattle.format.specs.declared.CutField.TheVariants as field
+use Rattle.std.specs.Prelude.{◌≡◌, ℕ, zero, suc, ◌%◌, ◌<◌, Bool, false, List, [], ◌∷◌, ◌++◌, length, drop, get_or, leb, Some, None, Ok, Err}
 use Rattle.format.specs.declared.Refusal.{Refusal}
-use Rattle.format.specs.declared.Answer.{Answer}
-use Rattle.format.specs.declared.Answer.TheVariants as answer
 use Rattle.format.specs.declared.Standing.{Standing}
 use Rattle.format.specs.declared.Standing.TheVariants.{Opened, Broken, Closed}
 use Rattle.format.specs.declared.PartReader.{PartReader}
@@ -12,16 +8,16 @@ use Rattle.format.specs.declared.PartAnswer.{PartAnswer}
 use Rattle.format.specs.declared.PartAnswer.TheVariants.{Run, More, Refused, End}
 use Rattle.format.specs.declared.PartStep.{PartStep}
 use Rattle.format.specs.Fields.{pick}
-use Rattle.format.specs.Answers.{answer_number, answer_place, answer_cut, answer_width, answer_rows, answer_bytes}
+use Rattle.format.specs.Answers.{CutField, Answer, answer_number, answer_place, answer_cut, answer_width, answer_rows, answer_bytes}
 use Rattle.answer_words.specs.Words.{answer_kind, cut_case, cut_byte, too_few_words, Put}
 
 -- ---- THE STATE AS WORDS
 
 -- the refusal that a stopped reader repeats: none where it is open or closed
 abbrev pub repeated : Standing → Answer
-repeated Opened = answer.End
-repeated (Broken f) = answer.Refused f
-repeated Closed = answer.End
+repeated Opened = Ok None
+repeated (Broken f) = Err f
+repeated Closed = Ok None
 
 abbrev pub standing_case : Standing → ℕ
 standing_case Opened = 0
@@ -56,8 +52,8 @@ standing_of (suc zero) f = Broken f
 standing_of (suc (suc n)) f = Closed
 
 unfoldable pub cut_of : ℕ → ℕ → CutField
-cut_of zero b = field.None
-cut_of (suc n) b = field.At (record { bytes = b })
+cut_of zero b = None
+cut_of (suc n) b = Some (record { bytes = b })
 
 abbrev pub refusal_of : List ℕ → Refusal
 refusal_of ws = record { number = get_or ws 3 0 % 256; place = record { bytes = get_or ws 4 0 }; cut = cut_of (get_or ws 5 0) (get_or ws 6 0) }
@@ -73,10 +69,10 @@ StateKept = (s : PartReader) (ws : List ℕ) → answer_number (repeated s.stand
 
 -- the run or the refusal, as the answer that it would have by itself; end where there is neither
 abbrev pub plain_answer : PartAnswer → Answer
-plain_answer (Run at r) = answer.Run r
-plain_answer More = answer.End
-plain_answer (Refused f) = answer.Refused f
-plain_answer End = answer.End
+plain_answer (Run at r) = Ok (Some r)
+plain_answer More = Ok None
+plain_answer (Refused f) = Err f
+plain_answer End = Ok None
 
 abbrev pub part_case : PartAnswer → ℕ
 part_case (Run at r) = 1

@@ -1,38 +1,30 @@
 -- Answers as words, and words lent: what each word of an answer says, and what a call leaves in the words that it is lent (FORMAT.md, "Exported functions").
 -- Assumes nothing.
-use Rattle.std.specs.Prelude.{◌≡◌, ℕ, ◌-◌, List, [], ◌∷◌, ◌++◌, length, drop, leb}
-use Rattle.format.specs.declared.CutField.{CutField}
-use Rattle.format.specs.declared.CutField.TheVariants as field
-use Rattle.format.specs.declared.LastRun.{LastRun}
-use Rattle.format.specs.declared.LastRun.TheVariants as last
-use Rattle.format.specs.declared.Answer.{Answer}
-use Rattle.format.specs.declared.Answer.TheVariants.{End, Run, Refused}
-use Rattle.format.specs.declared.Stream as stream
-use Rattle.format.specs.declared.Stream.{Stream}
+use Rattle.std.specs.Prelude.{◌≡◌, ℕ, ◌-◌, List, [], ◌∷◌, ◌++◌, length, drop, leb, Some, None, Ok, Err}
 use Rattle.format.specs.Fields.{pick, two64}
-use Rattle.format.specs.Answers.{kind_number, answer_number, answer_place, answer_cut, answer_width, answer_rows, answer_bytes, stream_number, stream_place, stream_cut, stream_rows, stream_bytes, stream_last}
+use Rattle.format.specs.Answers.{CutField, LastRun, Answer, Stream, kind_number, answer_number, answer_place, answer_cut, answer_width, answer_rows, answer_bytes, stream_number, stream_place, stream_cut, stream_rows, stream_bytes, stream_last}
 
 -- ---- AN ANSWER AS WORDS: a word's meaning never changes, and what is added later stands after the last
 
 -- the case: end, a run (or booleans, or a value), refused
 abbrev pub answer_case : Answer → ℕ
-answer_case End = 0
-answer_case (Run r) = 1
-answer_case (Refused f) = 2
+answer_case (Ok None) = 0
+answer_case (Ok (Some r)) = 1
+answer_case (Err f) = 2
 
 abbrev pub answer_kind : Answer → ℕ
-answer_kind End = 0
-answer_kind (Run r) = kind_number r.kind
-answer_kind (Refused f) = 0
+answer_kind (Ok None) = 0
+answer_kind (Ok (Some r)) = kind_number r.kind
+answer_kind (Err f) = 0
 
 -- the cut field: whether there is one, and the byte where it begins
 abbrev pub cut_case : CutField → ℕ
-cut_case field.None = 0
-cut_case (field.At b) = 1
+cut_case None = 0
+cut_case (Some b) = 1
 
 abbrev pub cut_byte : CutField → ℕ
-cut_byte field.None = 0
-cut_byte (field.At b) = b.bytes
+cut_byte None = 0
+cut_byte (Some b) = b.bytes
 
 unfoldable pub answer_words : Answer → List ℕ
 answer_words a =
@@ -58,13 +50,12 @@ answer_words a =
 
 -- a stream is whole, or a run of it is refused: in both cases with the counts of the runs that were read, and the last of them
 abbrev pub stream_case : Stream → ℕ
-stream_case (stream.TheVariants.Whole n) = 1
-stream_case (stream.TheVariants.Refused f n) = 2
+stream_case (Ok n) = 1
+stream_case (Err s) = 2
 
 -- the last run, as the answer that it would have by itself; end where no run was read
 abbrev pub last_answer : LastRun → Answer
-last_answer last.None = End
-last_answer (last.Run r) = Run r
+last_answer last = Ok last
 
 unfoldable pub stream_words : Stream → List ℕ
 stream_words s =

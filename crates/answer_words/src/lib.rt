@@ -4,11 +4,10 @@
 
 ghost use Rattle.std.specs.Prelude.{◌≡◌, ◌++◌, ◌≤◌, length, drop, leb};
 ghost use Rattle.format.specs.Fields.{pick};
-ghost use Rattle.format.specs.Answers.{stream_number, stream_place, stream_cut, stream_rows, stream_bytes, stream_last};
-ghost use Rattle.answer_words.specs.Words.{answer_case, answer_kind, answer_words, cut_case, cut_byte, stream_case, last_answer, stream_words, word_count, stream_word_count, Put, Told};
-ghost use Rattle.format.specs.Answers.{answer_number};
+ghost use Rattle.format.specs.Answers.{answer_number, answer_place, answer_cut, stream_number, stream_place, stream_cut, stream_rows, stream_bytes, stream_last};
+ghost use Rattle.answer_words.specs.Words.{answer_case, answer_kind, answer_words, cut_case, cut_byte, stream_case, stream_words, word_count, stream_word_count, Put, Told};
 
-use format::{ALL_BITS, Answer, ByteOffset, CutField, LastRun, RowNumber, Stream};
+use format::{ALL_BITS, Answer, ByteOffset, Counts, Stream, answer};
 
 pub mod parts;
 
@@ -20,13 +19,14 @@ pub const STREAM_COUNT: usize = 14;
 // What a call with fewer words answers.
 pub const TOO_FEW: u64 = ALL_BITS;
 
+// A number, as each case, kind and flag here: words are the C interface, and each function is its definition in specs/Words.antt, arm by arm.
 fn case(answer: Answer) -> u64
     ensures { result ≡ answer_case answer }
 {
     match answer {
-        Answer::End => 0,
-        Answer::Run(_) => 1,
-        Answer::Refused(_) => 2,
+        Ok(None) => 0,
+        Ok(Some(_)) => 1,
+        Err(_) => 2,
     }
 }
 
@@ -34,32 +34,25 @@ pub(crate) fn kind(answer: Answer) -> u8
     ensures { result ≡ answer_kind answer }
 {
     match answer {
-        Answer::Run(r) => {
-            let kind = r.kind;
+        Ok(Some(run)) => {
+            let kind = run.kind;
             kind.number()
         }
-        Answer::Refused(_) => 0,
-        Answer::End => 0,
+        _ => 0,
     }
 }
 
 // Whether a field was cut, and the byte where it begins: 0 where none was.
-pub fn cut_case(field: CutField) -> u64
+pub fn cut_case(field: Option<ByteOffset>) -> u64
     ensures { result ≡ cut_case field }
 {
-    match field {
-        CutField::None => 0,
-        CutField::At(_) => 1,
-    }
+    u64::from(field.is_some())
 }
 
-pub fn cut_byte(field: CutField) -> ByteOffset
+pub fn cut_byte(field: Option<ByteOffset>) -> ByteOffset
     ensures { result.bytes ≡ cut_byte field }
 {
-    match field {
-        CutField::None => ByteOffset { bytes: 0 },
-        CutField::At(b) => b,
-    }
+    field.unwrap_or(ByteOffset { bytes: 0 })
 }
 
 // Words in the first of the words lent, where there is one for each.
@@ -69,11 +62,7 @@ pub fn lay(said: &[u64], words: &mut [u64])
     if words.len() < said.len() {
         return;
     }
-    let mut i: usize = 0;
-    while i < said.len() {
-        words[i] = said[i];
-        i += 1;
-    }
+    words[..said.len()].copy_from_slice(said);
 }
 
 // That there are words enough is for the caller to show, here and in each function below that stores.
@@ -82,18 +71,19 @@ fn store_answer(answer: Answer, words: &mut [u64]) -> u64
     ensures { Put answer_words answer_number answer words.old words.new result }
 {
     words[0] = case(answer);
-    words[1] = answer.number() as u64;
-    words[2] = answer.place().bytes as u64;
+    words[1] = answer::number(answer) as u64;
+    words[2] = answer::place(answer).bytes as u64;
     words[3] = kind(answer) as u64;
-    words[4] = answer.rows().rows as u64;
-    words[5] = answer.consumed().bytes as u64;
-    words[6] = cut_case(answer.cut_field());
-    words[7] = cut_byte(answer.cut_field()).bytes as u64;
-    words[8] = answer.width() as u64;
-    answer.number() as u64
+    words[4] = answer::rows(answer).rows as u64;
+    words[5] = answer::consumed(answer).bytes as u64;
+    words[6] = cut_case(answer::cut_field(answer));
+    words[7] = cut_byte(answer::cut_field(answer)).bytes as u64;
+    words[8] = answer::width(answer) as u64;
+    answer::number(answer) as u64
 }
 
-// The words of a call's answer, in the first of the words lent. Answers the refusal's number.
+// The words of a call's answer, in the first of the words lent. Answers the refusal's number. `put_stream` and `parts::put_reader` test their own
+// counts in the same way: a common function would take the stores as a closure, whose contract (`Put`) is longer than the test.
 pub fn put_answer(answer: Answer, words: &mut [u64]) -> u64
     ensures { Told answer_words answer_number answer words.old words.new result }
 {
@@ -107,72 +97,32 @@ fn stream_case(stream: Stream) -> u64
     ensures { result ≡ stream_case stream }
 {
     match stream {
-        Stream::Whole(_) => 1,
-        Stream::Refused(_, _) => 2,
+        Ok(_) => 1,
+        Err(_) => 2,
     }
 }
 
-fn stream_number(stream: Stream) -> u8
-    ensures { result ≡ stream_number stream }
+// The refusal as the answer that a call would give; end where the whole stream was read.
+fn refusal_of(stream: Stream) -> Answer
+    ensures number { answer_number result ≡ stream_number stream }
+    ensures place { answer_place result ≡ stream_place stream }
+    ensures cut { answer_cut result ≡ stream_cut stream }
 {
     match stream {
-        Stream::Whole(_) => 0,
-        Stream::Refused(f, _) => f.number,
+        Ok(_) => Ok(None),
+        Err(stopped) => Err(stopped.by),
     }
 }
 
-fn stream_place(stream: Stream) -> ByteOffset
-    ensures { result.bytes ≡ stream_place stream }
+// The runs that were read.
+fn runs_of(stream: Stream) -> Counts
+    ensures rows { result.rows.rows ≡ stream_rows stream }
+    ensures bytes { result.consumed.bytes ≡ stream_bytes stream }
+    ensures last { result.last ≡ stream_last stream }
 {
     match stream {
-        Stream::Whole(_) => ByteOffset { bytes: 0 },
-        Stream::Refused(f, _) => f.place,
-    }
-}
-
-fn stream_cut(stream: Stream) -> CutField
-    ensures { result ≡ stream_cut stream }
-{
-    match stream {
-        Stream::Whole(_) => CutField::None,
-        Stream::Refused(f, _) => f.cut,
-    }
-}
-
-fn stream_rows(stream: Stream) -> RowNumber
-    ensures { result.rows ≡ stream_rows stream }
-{
-    match stream {
-        Stream::Whole(c) => c.rows,
-        Stream::Refused(_, c) => c.rows,
-    }
-}
-
-fn stream_consumed(stream: Stream) -> ByteOffset
-    ensures { result.bytes ≡ stream_bytes stream }
-{
-    match stream {
-        Stream::Whole(c) => c.consumed,
-        Stream::Refused(_, c) => c.consumed,
-    }
-}
-
-fn stream_last(stream: Stream) -> LastRun
-    ensures { result ≡ stream_last stream }
-{
-    match stream {
-        Stream::Whole(c) => c.last,
-        Stream::Refused(_, c) => c.last,
-    }
-}
-
-// The last run as the answer that it would have by itself: end where there is none.
-fn last_answer(last: LastRun) -> Answer
-    ensures { result ≡ last_answer last }
-{
-    match last {
-        LastRun::None => Answer::End,
-        LastRun::Run(r) => Answer::Run(r),
+        Ok(counts) => counts,
+        Err(stopped) => stopped.before,
     }
 }
 
@@ -180,22 +130,27 @@ fn store_stream(stream: Stream, words: &mut [u64]) -> u64
     requires { stream_word_count ≤ length words.old }
     ensures { Put stream_words stream_number stream words.old words.new result }
 {
-    let last = last_answer(stream_last(stream));
+    let refusal = refusal_of(stream);
+    let counts = runs_of(stream);
+    let rows = counts.rows;
+    let consumed = counts.consumed;
+    // the last run as the answer that it would have by itself
+    let last = Ok(counts.last);
     words[0] = stream_case(stream);
-    words[1] = stream_number(stream) as u64;
-    words[2] = stream_place(stream).bytes as u64;
+    words[1] = answer::number(refusal) as u64;
+    words[2] = answer::place(refusal).bytes as u64;
     words[3] = 0;
-    words[4] = stream_rows(stream).rows as u64;
-    words[5] = stream_consumed(stream).bytes as u64;
-    words[6] = cut_case(stream_cut(stream));
-    words[7] = cut_byte(stream_cut(stream)).bytes as u64;
+    words[4] = rows.rows as u64;
+    words[5] = consumed.bytes as u64;
+    words[6] = cut_case(answer::cut_field(refusal));
+    words[7] = cut_byte(answer::cut_field(refusal)).bytes as u64;
     words[8] = 0;
     words[9] = case(last);
     words[10] = kind(last) as u64;
-    words[11] = last.width() as u64;
-    words[12] = last.rows().rows as u64;
-    words[13] = last.consumed().bytes as u64;
-    stream_number(stream) as u64
+    words[11] = answer::width(last) as u64;
+    words[12] = answer::rows(last).rows as u64;
+    words[13] = answer::consumed(last).bytes as u64;
+    answer::number(refusal) as u64
 }
 
 // The words of a stream's answer: of no one kind and width, with the counts of the runs that were read and the last of them, also where a

@@ -5,7 +5,7 @@ ghost use Rattle.answer_words.specs.Parts.{repeated, standing_case, standing_of,
 
 use crate::{TOO_FEW, cut_byte, cut_case, kind};
 use format::{
-    Answer, ByteOffset, CutField, PartAnswer, PartReader, PartStep, Refusal, RowNumber, Standing,
+    Answer, ByteOffset, PartAnswer, PartReader, PartStep, Refusal, RowNumber, Run, Standing, answer,
 };
 
 // How many words a state has, and a call's answer.
@@ -13,13 +13,13 @@ pub const STATE_COUNT: usize = 7;
 
 pub const COUNT: usize = 11;
 
-fn cut_of(flag: u64, byte: ByteOffset) -> CutField
+fn cut_of(flag: u64, byte: ByteOffset) -> Option<ByteOffset>
     ensures { result ≡ cut_of flag byte.bytes }
 {
     if flag == 0 {
-        return CutField::None;
+        return None;
     }
-    CutField::At(byte)
+    Some(byte)
 }
 
 // The refusal that the words stand for.
@@ -72,10 +72,7 @@ fn reader_in(state: &[u64]) -> PartReader
 fn word(state: &[u64], i: usize) -> u64
     ensures { result ≡ get_or state.now i 0 }
 {
-    if i < state.len() {
-        return state[i];
-    }
-    0
+    state.get(i).copied().unwrap_or(0)
 }
 
 // The reader that the words stand for; a word that is missing stands for 0.
@@ -97,16 +94,18 @@ pub fn reader_of(state: &[u64]) -> PartReader
     reader_in(state)
 }
 
+// An arm for each variant: `repeated` in specs/Parts.antt says it in the same way.
 fn repeats(standing: Standing) -> Answer
     ensures { result ≡ repeated standing }
 {
     match standing {
-        Standing::Broken(f) => Answer::Refused(f),
-        Standing::Opened => Answer::End,
-        Standing::Closed => Answer::End,
+        Standing::Broken(f) => Err(f),
+        Standing::Opened => Ok(None),
+        Standing::Closed => Ok(None),
     }
 }
 
+// The numbers are the C interface (`standing_case` in specs/Parts.antt).
 fn standing_case(standing: Standing) -> u64
     ensures { result ≡ standing_case standing }
 {
@@ -126,10 +125,10 @@ fn store_reader(reader: PartReader, state: &mut [u64]) -> u64
     state[0] = standing_case(standing);
     state[1] = reader.held as u64;
     state[2] = reader.at.bytes as u64;
-    state[3] = again.number() as u64;
-    state[4] = again.place().bytes as u64;
-    state[5] = cut_case(again.cut_field());
-    state[6] = cut_byte(again.cut_field()).bytes as u64;
+    state[3] = answer::number(again) as u64;
+    state[4] = answer::place(again).bytes as u64;
+    state[5] = cut_case(answer::cut_field(again));
+    state[6] = cut_byte(answer::cut_field(again)).bytes as u64;
     0
 }
 
@@ -152,14 +151,15 @@ fn plain(answer: PartAnswer) -> Answer
             let kind = r.kind;
             let rows = r.rows;
             let consumed = r.consumed;
-            Answer::run(kind, r.width, rows, consumed)
+            Ok(Some(Run::new(kind, r.width, rows, consumed)))
         }
-        PartAnswer::Refused(f) => Answer::Refused(f),
-        PartAnswer::More => Answer::End,
-        PartAnswer::End => Answer::End,
+        PartAnswer::Refused(f) => Err(f),
+        PartAnswer::More => Ok(None),
+        PartAnswer::End => Ok(None),
     }
 }
 
+// The numbers are the C interface (`part_case` in specs/Parts.antt).
 fn case(answer: PartAnswer) -> u64
     ensures { result ≡ part_case answer }
 {
@@ -190,17 +190,17 @@ fn store_part(step: PartStep, words: &mut [u64]) -> u64
     let said = step.answer;
     let a = plain(said);
     words[0] = case(said);
-    words[1] = a.number() as u64;
-    words[2] = a.place().bytes as u64;
+    words[1] = answer::number(a) as u64;
+    words[2] = answer::place(a).bytes as u64;
     words[3] = kind(a) as u64;
-    words[4] = a.rows().rows as u64;
-    words[5] = a.consumed().bytes as u64;
-    words[6] = cut_case(a.cut_field());
-    words[7] = cut_byte(a.cut_field()).bytes as u64;
-    words[8] = a.width() as u64;
+    words[4] = answer::rows(a).rows as u64;
+    words[5] = answer::consumed(a).bytes as u64;
+    words[6] = cut_case(answer::cut_field(a));
+    words[7] = cut_byte(answer::cut_field(a)).bytes as u64;
+    words[8] = answer::width(a) as u64;
     words[9] = start(said).bytes as u64;
     words[10] = step.taken.bytes as u64;
-    a.number() as u64
+    answer::number(a) as u64
 }
 
 fn store_step(step: PartStep, state: &mut [u64], words: &mut [u64]) -> u64

@@ -13,12 +13,11 @@ use Rattle.format.specs.declared.ByteOffset.{ByteOffset}
 use Rattle.format.specs.declared.Refusal.{Refusal}
 use Rattle.format.specs.declared.Run.{Run}
 use Rattle.batches.specs.Batches.{BatchOutcome, gives, ended, refuses, rows_left, first_rows, batch_of, batch}
-use Rattle.batches.specs.BatchPromise.{position_in, batch_answer, laid_over, places_after, RowsRead}
+use Rattle.batches.specs.BatchPromise.{Batch, position_in, batch_answer, laid_over, places_after, RowsRead}
 use Rattle.batches.specs.BatchSteps.{RunHolds, SameRow, BatchFrom}
 use Rattle.batches.specs.declared.RowPosition.{RowPosition}
 use Rattle.batches.specs.declared.BatchRead.{BatchRead}
-use Rattle.batches.specs.declared.Batch.{Batch}
-use Rattle.batches.specs.declared.Batch.TheVariants as answer
+use Rattle.std.specs.Prelude.{Some, None, Ok, Err}
 use Rattle.batches.proofs.RowPositions.{position}
 use Rattle.batches.proofs.BatchRuns.{held-some}
 use Rattle.batches.proofs.RunAtByte.{Ran, Broke}
@@ -41,17 +40,17 @@ module _ (s : List ℕ) (p : RowPosition) (signed : Bool) (out : List ℤ) where
   abbrev outcome : BatchOutcome
   outcome = batch signed (length out) s (position_in p)
 
-  pub answered-refused : (f : Refusal) → outcome ≡ refuses f → RowsRead s p signed out out (answer.Refused f)
+  pub answered-refused : (f : Refusal) → outcome ≡ refuses f → RowsRead s p signed out out (Err f)
   answered-refused f e = record { answer = sym (ap batch_answer e); places = sym (ap (places_after out) e) }
 
-  pub answered-ended : outcome ≡ ended → RowsRead s p signed out out answer.End
+  pub answered-ended : outcome ≡ ended → RowsRead s p signed out out (Ok None)
   answered-ended e = record { answer = sym (ap batch_answer e); places = sym (ap (places_after out) e) }
 
   pub answered-rows : {out' : List ℤ} {r : BatchRead} → BatchFrom s (position_in p) signed out out' r
       → outcome ≡ gives (first_rows signed (length out) (position_in p) (stream (drop p.run.bytes s)))
-      → RowsRead s p signed out out' (answer.Rows r)
+      → RowsRead s p signed out out' (Ok (Some r))
   answered-rows g e = record {
-    answer = ap answer.Rows g.read.answer ∙ sym (ap batch_answer e);
+    answer = ap (λ (b : BatchRead). Ok (Some b)) g.read.answer ∙ sym (ap batch_answer e);
     places = g.read.places ∙ sym (ap (places_after out) e);
   }
 
@@ -78,7 +77,7 @@ module _ {s : List ℕ} {at : ByteOffset} {signed : Bool} {out out' : List ℤ} 
   abbrev reading : Reading
   reading = stream (drop at.bytes s)
 
-  pub begun-some : 0 < r.rows.rows → RowsRead s here signed out out' (answer.Rows r)
+  pub begun-some : 0 < r.rows.rows → RowsRead s here signed out out' (Ok (Some r))
   unfolding batch
   begun-some l =
       let rows = rows_left signed (position at.bytes 0) reading in
@@ -91,7 +90,7 @@ module _ {s : List ℕ} {at : ByteOffset} {signed : Bool} {out out' : List ℤ} 
       ) in
       answered-rows s here signed out w (rw (lt-leb (total_rows (runs_of reading)) 0 some))
 
-  pub begun-run : {x : Run} → Ran s at.bytes x → RowsRead s here signed out out' (answer.Rows r)
+  pub begun-run : {x : Run} → Ran s at.bytes x → RowsRead s here signed out out' (Ok (Some r))
   begun-run o = answered-rows s here signed out w
       (some-given signed (length out) (record { run = o.run; stands = o.stands; skips = o.stands.some }))
 
@@ -101,11 +100,11 @@ module _ {s : List ℕ} {at : ByteOffset} {signed : Bool} {out out' : List ℤ} 
         let rows = take (length out) (rows_left signed (position at.bytes 0) reading) in
         sym (w.read.places ∙ none-laid rows out (omega (arith, ap (λ (x : BatchRead). x.rows.rows) w.read.answer)))
 
-    pub begun-refused : {f : Refusal} → Broke s at.bytes f → RowsRead s here signed out out' (answer.Refused f)
+    pub begun-refused : {f : Refusal} → Broke s at.bytes f → RowsRead s here signed out out' (Err f)
     begun-refused {f} q =
         rw (← unlaid) (answered-refused s here signed out f
         (refused-there (record { same = λ b n. refl }) q signed (length out)))
 
-    pub begun-ended : reading ≡ whole [] → RowsRead s here signed out out' answer.End
+    pub begun-ended : reading ≡ whole [] → RowsRead s here signed out out' (Ok None)
     unfolding batch total_rows
     begun-ended e = rw (← unlaid) (answered-ended s here signed out (rw e))

@@ -11,9 +11,9 @@ use lib.Seq.{take-add, take-nil}
 use lib.Dec.{ltb}
 use lib.IntN.{ℤ}
 use borrow.Author.Tests.{ltb-false, le-ltb, lt-ltb}
-use Rattle.format.specs.declared.LastRun.{LastRun}
 use Rattle.format.specs.declared.Refusal.{Refusal}
-use Rattle.format.specs.Answers.{refusing, broke_at}
+use Rattle.format.specs.Answers.{LastRun, Stream, refusing, broke_at}
+use Rattle.std.specs.Prelude.{Ok, Err}
 use Rattle.format.specs.Digits.{AllBelow, sum}
 use Rattle.format.specs.Fields.{pick}
 use Rattle.format.specs.Promises.{stream_answer}
@@ -97,7 +97,11 @@ no-row-so p x ds e l = ap (empty_of p) e ∙ rw (lt-ltb (total_rows ds) p.skip l
 own-refusal-so : (p : Position) (x : Reading) (f : Refusal) (rows bytes : ℕ) (last : LastRun)
     → stream_answer p.run x ≡ broke_at f rows bytes last → empty_of p x ≡ refuses f
 own-refusal-so p (whole ds) f rows bytes last e = never (cc)
-own-refusal-so p (broken ds r rest) f rows bytes last e = cc
+own-refusal-so p (broken ds r rest) f rows bytes last e = ap (λ s. refuses (by_of s)) e
+  where
+    by_of : Stream → Refusal
+    by_of (Ok c) = f
+    by_of (Err s) = s.by
 
 -- a batch is none of the answers without rows
 empty-exactly : (signed : Bool) (bs : List ℕ) (p : Position) (n : ℕ)

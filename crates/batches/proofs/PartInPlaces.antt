@@ -17,8 +17,7 @@ use Rattle.format.specs.Promises.{run_of}
 use Rattle.format.specs.declared.Run.{Run}
 use Rattle.format.proofs.Tests.{never}
 use Rattle.rle_v2.specs.Part.{rows_from, part_rows, part_of, part_answer, laid_first, DirectPartRead}
-use Rattle.rle_v2.specs.declared.part.DirectPart.{DirectPart}
-use Rattle.rle_v2.specs.declared.part.DirectPart.TheVariants as part
+use Rattle.std.specs.Prelude.{Option, Some, None}
 use Rattle.batches.specs.BatchPromise.{batch_read_as}
 use Rattle.batches.specs.BatchSteps.{RunHolds, RunPart}
 use Rattle.batches.specs.declared.RowPosition.{RowPosition}
@@ -26,10 +25,10 @@ use Rattle.batches.proofs.RowPositions.{rest-long}
 use Rattle.batches.proofs.BatchRuns.{first-cut, first_alone}
 use Rattle.batches.proofs.PartOfRun.{stands_one}
 
-read-not : (r : Run) → part.NotRead ≡ part.Read r → ⊥
+read-not : (r : Run) → None ≡ Some r → ⊥
 read-not r e = never (cc)
 
-module _ {s : List ℕ} {p : RowPosition} {signed : Bool} {out out' : List ℤ} {a : DirectPart} (y : RunHolds s p)
+module _ {s : List ℕ} {p : RowPosition} {signed : Bool} {out out' : List ℤ} {a : Option Run} (y : RunHolds s p)
     (g : DirectPartRead s p.run.bytes p.skip.rows signed out out' a) where
   abbrev d : Description
   d = y.run
@@ -50,13 +49,13 @@ module _ {s : List ℕ} {p : RowPosition} {signed : Bool} {out out' : List ℤ} 
   places-are = g.places ∙ ap (λ m. laid_first (part_rows signed skip m) out) y.stands.parsed
 
   -- another kind of run: no place is touched
-  pub untouched : a ≡ part.NotRead → out' ≡ out
+  pub untouched : a ≡ None → out' ≡ out
   untouched e = go d y.skips (sym e ∙ answer-is) places-are
     where
       none : out' ≡ laid_first [] out → out' ≡ out
       none q = q ∙ rw (take-nil {A = ℤ} n)
 
-      go : (c : Description) → skip < row_count c → part.NotRead ≡ part_of skip c → out' ≡ laid_first (rows_from signed skip c) out → out' ≡ out
+      go : (c : Description) → skip < row_count c → None ≡ part_of skip c → out' ≡ laid_first (rows_from signed skip c) out → out' ≡ out
       go (short count value) h f q = none q
       go (direct code k) h f q = absurd (read-not _ (rw (lt-ltb skip (length k.values) h) at f))
       go (fixed rows first base) h f q = none q
@@ -64,15 +63,15 @@ module _ {s : List ℕ} {p : RowPosition} {signed : Bool} {out out' : List ℤ} 
       go (patched code base pc gw k l) h f q = none q
 
   -- a direct run
-  module _ {run : Run} (e : a ≡ part.Read run) where
+  module _ {run : Run} (e : a ≡ Some run) where
     named : (run ≡ run_of d) × (out' ≡ laid_first (drop skip (i64_rows signed d)) out)
     named = go d y.skips (sym answer-is ∙ e) places-are
       where
-        go : (c : Description) → skip < row_count c → part_of skip c ≡ part.Read run → out' ≡ laid_first (rows_from signed skip c) out
+        go : (c : Description) → skip < row_count c → part_of skip c ≡ Some run → out' ≡ laid_first (rows_from signed skip c) out
             → (run ≡ run_of c) × (out' ≡ laid_first (drop skip (i64_rows signed c)) out)
         go (short count value) h f q = absurd (read-not run f)
         go (direct code k) h f q =
-            let same : part.Read (run_of (direct code k)) ≡ part.Read run = rw (lt-ltb skip (length k.values) h) at f in
+            let same : Some (run_of (direct code k)) ≡ Some run = rw (lt-ltb skip (length k.values) h) at f in
             (cc, q)
         go (fixed rows first base) h f q = absurd (read-not run f)
         go (delta code first base k) h f q = absurd (read-not run f)

@@ -1,5 +1,6 @@
 -- One run read aside: the places hold its rows, so what is copied of them is the batch of that run alone.
 -- Assumes nothing.
+use Rattle.std.specs.Prelude.{Some, None, Ok, Err}
 use mathlib.Core.Path.{◌≡◌, refl, sym, ap, ◌∙◌}
 use Prim.Native.Nat.{ℕ, ◌+◌, ◌-◌, ◌<◌, ◌≤◌}
 use native.Mathlib.Omega.{arith}
@@ -18,8 +19,7 @@ use Rattle.format.specs.Streams.{whole}
 use Rattle.format.specs.Promises.{run_of, answer_of, RunRead}
 use Rattle.format.specs.declared.Refusal.{Refusal}
 use Rattle.format.specs.declared.Run.{Run}
-use Rattle.format.specs.declared.Answer.{Answer}
-use Rattle.format.specs.declared.Answer.TheVariants as answer
+use Rattle.format.specs.Answers.{Answer}
 use Rattle.format.proofs.Reading.{run-inj, run-not-refused}
 use Rattle.format.proofs.Rows.{i64-count}
 use Rattle.format.proofs.Runs.{got-inj}
@@ -48,22 +48,22 @@ module _ {s : List ℕ} {p : RowPosition} {signed : Bool} {held held' : List ℤ
   at = p.run.bytes
 
   -- with room for the run ..
-  ran : row_count d ≤ length held → a ≡ answer.Run (run_of d)
+  ran : row_count d ≤ length held → a ≡ Ok (Some (run_of d))
   ran l =
       g.answer
       ∙ ap (answer_of at (length s - at)) (ap (into (length held)) y.stands.parsed
       ∙ into-got (length held) d (drop (at + length (layout d)) s) l)
 
-  pub not-refused : length held ≡ 512 → (f : Refusal) → a ≡ answer.Refused f → ⊥
+  pub not-refused : length held ≡ 512 → (f : Refusal) → a ≡ Err f → ⊥
   not-refused l f e = run-not-refused (run_of d) f (sym (ran (omega (arith, l, y.stands.few))) ∙ e)
 
-  pub not-ended : length held ≡ 512 → a ≡ answer.End → ⊥
+  pub not-ended : length held ≡ 512 → a ≡ Ok None → ⊥
   not-ended l e =
-      let q : answer.Run (run_of d) ≡ answer.End = sym (ran (omega (arith, l, y.stands.few))) ∙ e in
+      let q : Ok (Some (run_of d)) ≡ (Ok None) = sym (ran (omega (arith, l, y.stands.few))) ∙ e in
       never (cc)
 
   -- .. and there is room if a run is answered
-  module _ {r : Run} (e : a ≡ answer.Run r) where
+  module _ {r : Run} (e : a ≡ Ok (Some r)) where
     room : row_count d ≤ length held
     unfolding into
     room =
@@ -71,7 +71,7 @@ module _ {s : List ℕ} {p : RowPosition} {signed : Bool} {held held' : List ℤ
         (sym e ∙ g.answer ∙ ap (λ m. answer_of at (length s - at) (into (length held) m)) y.stands.parsed)
       where
         go : (t : Bool) → ltb (length held) (row_count d) ≡ t
-            → answer.Run r ≡ answer_of at (length s - at) (unless t 8 (got d (drop (at + length (layout d)) s))) → row_count d ≤ length held
+            → Ok (Some r) ≡ answer_of at (length s - at) (unless t 8 (got d (drop (at + length (layout d)) s))) → row_count d ≤ length held
         go true l f = never (cc)
         go false l f = ltb-false (length held) (row_count d) l
 

@@ -1,4 +1,5 @@
 -- At a byte of the input stands nothing, a run with the stream after it, or a refusal; what is answered there says which. Assumes nothing.
+use Rattle.std.specs.Prelude.{Some, None, Ok, Err}
 use mathlib.Core.Path.{◌≡◌, refl, sym, ap, ◌∙◌}
 use mathlib.Core.Logic.{◌≢◌}
 use Prim.Native.Nat.{ℕ, ◌+◌, ◌-◌, ◌<◌, ◌≤◌}
@@ -10,8 +11,7 @@ use lib.IntN.{ℤ}
 use borrow.Author.Tests.{ltb-true, ltb-false}
 use Rattle.format.specs.declared.Run.{Run}
 use Rattle.format.specs.declared.Refusal.{Refusal}
-use Rattle.format.specs.declared.Answer.{Answer}
-use Rattle.format.specs.declared.Answer.TheVariants as answer
+use Rattle.format.specs.Answers.{Answer}
 use Rattle.format.specs.Answers as answers
 use Rattle.format.specs.Digits.{AllBelow}
 use Rattle.format.specs.Runs.{Description, row_count, layout}
@@ -95,9 +95,9 @@ module _ (s : List ℕ) (p : ℕ) where
 
   -- by the measure ..
   abbrev pub Step : Answer → Type 0
-  Step answer.End = stream (drop p s) ≡ whole []
-  Step (answer.Run r) = Ran r
-  Step (answer.Refused f) = Broke f
+  Step (Ok None) = stream (drop p s) ≡ whole []
+  Step (Ok (Some r)) = Ran r
+  Step (Err f) = Broke f
 
   pub step : (a : Answer) → AllBelow 256 s → RunMeasured s p a → Step a
   step a h e = rw e (go (there s p h))
@@ -124,9 +124,9 @@ module _ (s : List ℕ) (p : ℕ) where
 
     -- .. and in n places
     abbrev pub Turn : Answer → Type 0
-    Turn answer.End = stream (drop p s) ≡ whole []
-    Turn (answer.Run r) = Fits r
-    Turn (answer.Refused f) = Stops f
+    Turn (Ok None) = stream (drop p s) ≡ whole []
+    Turn (Ok (Some r)) = Fits r
+    Turn (Err f) = Stops f
 
     own : (r : Reason) → stream (drop p s) ≡ broken [] r (drop p s) → reason_number r ≢ 8 → Stops (answers.refusal p (length s - p) r)
     own (plain k) q z = record { cut = λ e. absurd (z e); broke = λ e. (plain k, q) }

@@ -16,7 +16,7 @@ use Rattle.format.specs.Promises.{RunRead}
 use Rattle.format.specs.Streams.{whole, stream}
 use Rattle.format.specs.declared.Refusal.{Refusal}
 use Rattle.format.specs.declared.Run.{Run}
-use Rattle.format.specs.declared.Answer.{Answer}
+use Rattle.format.specs.Answers.{Answer}
 use Rattle.format.proofs.Reading.{NoRun}
 use Rattle.format.proofs.Rows.{i64-count}
 use Rattle.util.proofs.Grow.{back_is, front-is, kept_by, long-by}

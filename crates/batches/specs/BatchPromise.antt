@@ -1,10 +1,13 @@
 -- What the call promises: its answer and every lent place, for every input, position, flag and number of places. Assumes nothing.
-use Rattle.std.specs.Prelude.{◌≡◌, ℕ, Bool, List, ◌++◌, length, drop, ℤ}
+use Rattle.std.specs.Prelude.{◌≡◌, ℕ, Bool, List, ◌++◌, length, drop, ℤ, Option, Some, None, Result, Ok, Err}
 use Rattle.batches.specs.Batches.{Position, RowBatch, BatchOutcome, gives, ended, refuses, batch}
 use Rattle.batches.specs.declared.RowPosition.{RowPosition}
 use Rattle.batches.specs.declared.BatchRead.{BatchRead}
-use Rattle.batches.specs.declared.Batch.{Batch}
-use Rattle.batches.specs.declared.Batch.TheVariants as answer
+use Rattle.format.specs.declared.Refusal.{Refusal}
+
+-- what a call answers: rows, none at the end, or a refusal
+abbrev pub Batch : Type 0
+Batch = Result (Option BatchRead) Refusal
 
 abbrev pub position_in : RowPosition → Position
 position_in p = record { run = p.run.bytes; skip = p.skip.rows }
@@ -18,9 +21,9 @@ abbrev pub batch_read_of : RowBatch → BatchRead
 batch_read_of g = batch_read_as (length g.rows) g.next.run g.next.skip
 
 abbrev pub batch_answer : BatchOutcome → Batch
-batch_answer (gives g) = answer.Rows (batch_read_of g)
-batch_answer ended = answer.End
-batch_answer (refuses f) = answer.Refused f
+batch_answer (gives g) = Ok (Some (batch_read_of g))
+batch_answer ended = Ok None
+batch_answer (refuses f) = Err f
 
 -- the rows in the first places, and what stood in the others
 abbrev pub laid_over : List ℤ → List ℤ → List ℤ

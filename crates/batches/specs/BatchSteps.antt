@@ -1,6 +1,6 @@
 -- For the functions of the code: the run that begins at a byte, what seeking a position finds, and what a part of the work gives.
 -- Assumes nothing.
-use Rattle.std.specs.Prelude.{◌≡◌, ℕ, ◌+◌, ◌<◌, ◌≤◌, Bool, List, [], ◌∷◌, length, take, drop, ℤ}
+use Rattle.std.specs.Prelude.{◌≡◌, ℕ, ◌+◌, ◌<◌, ◌≤◌, Bool, List, [], ◌∷◌, length, take, drop, ℤ, Result, Ok, Err}
 use Rattle.format.specs.declared.Run.{Run}
 use Rattle.format.specs.Fields.{two64}
 use Rattle.format.specs.Rows.{i64_rows}
@@ -11,8 +11,7 @@ use Rattle.batches.specs.Batches.{Position, RowBatch, refuses, first_rows, batch
 use Rattle.batches.specs.BatchPromise.{position_in, batch_read_as, batch_read_of, laid_over}
 use Rattle.batches.specs.declared.RowPosition.{RowPosition}
 use Rattle.batches.specs.declared.BatchRead.{BatchRead}
-use Rattle.batches.specs.declared.Sought.{Sought}
-use Rattle.batches.specs.declared.Sought.TheVariants as sought
+use Rattle.format.specs.declared.Refusal.{Refusal}
 
 -- a run begins at a byte of the input
 pub record Stands (s : List ℕ) (p : ℕ) (d : Description) : Type 0 where
@@ -33,11 +32,11 @@ pub record RunHolds (s : List ℕ) (p : RowPosition) : Type 0 where
 pub record SameRow (s : List ℕ) (p q : Position) : Type 0 where
   pub same : (signed : Bool) (n : ℕ) → batch signed n s p ≡ batch signed n s q
 
--- Seeking a position finds its row at a byte, where a run begins or none does; or within a run; or else the call is refused.
-abbrev pub Finds : List ℕ → RowPosition → Sought → Type 0
-Finds s p (sought.Begins at) = SameRow s (position_in p) (record { run = at.bytes; skip = 0 })
-Finds s p (sought.Within q) = RunHolds s q × SameRow s (position_in p) (position_in q)
-Finds s p (sought.Refused f) = (signed : Bool) (n : ℕ) → batch signed n s (position_in p) ≡ refuses f
+-- Seeking a position finds its row: within a run, or with no row to skip at a byte, where a run begins or none does; or else the call is
+-- refused.
+abbrev pub Finds : List ℕ → RowPosition → Result RowPosition Refusal → Type 0
+Finds s p (Ok q) = (0 < q.skip.rows → RunHolds s q) × SameRow s (position_in p) (position_in q)
+Finds s p (Err f) = (signed : Bool) (n : ℕ) → batch signed n s (position_in p) ≡ refuses f
 
 -- rows that stand before those of a batch
 abbrev pub more : ℕ → BatchRead → BatchRead

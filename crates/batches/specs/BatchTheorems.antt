@@ -1,9 +1,8 @@
 -- What is proved of batches: statements over every input of bytes, every position and every number of places. Assumes nothing.
 use Rattle.std.specs.Prelude.{◌≡◌, ◌↔◌, ℕ, ◌+◌, ◌-◌, ◌<◌, ◌≤◌, min, Bool, length, take, drop, ℤ}
 use mathlib.Core.List.{List, [], ◌∷◌, ◌++◌, Memᴰ}
-use Rattle.format.specs.declared.LastRun.{LastRun}
 use Rattle.format.specs.declared.Refusal.{Refusal}
-use Rattle.format.specs.Answers.{refusing, broke_at}
+use Rattle.format.specs.Answers.{LastRun, refusing, broke_at}
 use Rattle.format.specs.Digits.{AllBelow, sum}
 use Rattle.format.specs.Promises.{stream_answer}
 use Rattle.format.specs.Runs.{Description, row_count}
@@ -12,9 +11,8 @@ use Rattle.index.specs.Entries.{Entry}
 use Rattle.index.specs.Theorems.{IsIndex, Holds}
 use Rattle.batches.specs.Batches.{Position, RowBatch, BatchOutcome, gives, ended, refuses, rows_left, count_left, empty_of}
 use Rattle.batches.specs.Batches.{reading_at, batch}
-use Rattle.batches.specs.BatchPromise.{RowsRead}
+use Rattle.batches.specs.BatchPromise.{Batch, RowsRead}
 use Rattle.batches.specs.declared.RowPosition.{RowPosition}
-use Rattle.batches.specs.declared.Batch.{Batch}
 
 -- the rows from a position of the input on
 abbrev pub rows_at : Bool → List ℕ → Position → List ℤ

@@ -7,9 +7,8 @@ ghost use Rattle.format.specs.Fields.{two64};
 ghost use Rattle.batches.specs.BatchPromise.{position_in, batch_read_as, RowsRead};
 ghost use Rattle.batches.specs.BatchSteps.{RunHolds, Finds, more, HeldRun, PartLaid, RunPart, BatchFrom};
 
-use format::{Answer, ByteOffset, Kind, Refusal, RowNumber, Run};
+use format::{ByteOffset, Kind, Refusal, RowNumber, Run};
 use rle_v2::part;
-use rle_v2::part::DirectPart;
 use util::rows;
 
 // Where a row stands: the byte where a run begins, and how many rows to skip from there.
@@ -24,22 +23,6 @@ pub struct RowPosition {
 pub struct BatchRead {
     pub rows: RowNumber,
     pub next: RowPosition,
-}
-
-// What a call answers.
-#[derive(Clone, Copy)]
-pub enum Batch {
-    Rows(BatchRead),
-    End,
-    Refused(Refusal),
-}
-
-// Where a position's row is: at a byte, which is not looked at yet; or within a run. Refused: it is not reached.
-#[derive(Clone, Copy)]
-enum Sought {
-    Begins(ByteOffset),
-    Within(RowPosition),
-    Refused(Refusal),
 }
 
 impl BatchRead {
@@ -73,8 +56,10 @@ impl BatchRead {
     }
 }
 
-// Finds a position's row. Runs that are skipped as a whole are measured and not decoded; with no row to skip nothing is looked at.
-fn seek(input: &[u8], from: RowPosition) -> Sought
+// Finds a position's row: the run that holds it and the rows to skip in it, or the byte that it begins at, which is not looked at. Runs that
+// are skipped as a whole are measured and not decoded; with no row to skip nothing is looked at.
+// rescue's make_plain is the same walk, and not this one: here the promise is the same batches, there it is the position itself (plain_in).
+fn seek(input: &[u8], from: RowPosition) -> Result<RowPosition, Refusal>
     ensures { Finds input.now from result }
 {
     let at = from.run;
@@ -82,30 +67,25 @@ fn seek(input: &[u8], from: RowPosition) -> Sought
     let mut place = at.bytes;
     let mut left = skip.rows;
     while 0 < left {
-        let a = rle_v2::measure(input, ByteOffset { bytes: place });
-        match a {
-            Answer::Run(r) => {
-                let rows = r.rows;
-                let consumed = r.consumed;
-                if left < rows.rows {
-                    return Sought::Within(RowPosition {
-                        run: ByteOffset { bytes: place },
-                        skip: RowNumber { rows: left },
-                    });
-                }
-                left -= rows.rows;
-                place += consumed.bytes;
-            }
-            Answer::Refused(f) => {
-                return Sought::Refused(f);
-            }
+        let Some(run) = rle_v2::measure(input, ByteOffset { bytes: place })? else {
             // more rows to skip than there are
-            Answer::End => {
-                return Sought::Refused(Refusal::new(16, ByteOffset { bytes: 0 }));
-            }
+            return Err(Refusal::new(16, ByteOffset { bytes: 0 }));
+        };
+        let rows = run.rows;
+        let consumed = run.consumed;
+        if left < rows.rows {
+            return Ok(RowPosition {
+                run: ByteOffset { bytes: place },
+                skip: RowNumber { rows: left },
+            });
         }
+        left -= rows.rows;
+        place += consumed.bytes;
     }
-    Sought::Begins(ByteOffset { bytes: place })
+    Ok(RowPosition {
+        run: ByteOffset { bytes: place },
+        skip: RowNumber { rows: 0 },
+    })
 }
 
 // Fewer places, for a short run: they are less to clear.
@@ -127,6 +107,7 @@ fn lay_part(run: Run, held: &[i64], from: RowPosition, out: &mut [i64]) -> Batch
     let left = rows.rows - skip.rows;
     let places = out.len();
     if places < left {
+        // by its units: with copy_from_slice these are two ranges of bare numbers
         rows::copy(held, skip, RowNumber { rows: places }, out);
         let next = RowNumber {
             rows: skip.rows + places,
@@ -148,16 +129,16 @@ fn read_aside(input: &[u8], from: RowPosition, signed: bool, out: &mut [i64]) ->
     let at = from.run;
     let mut few = short_scratch();
     let a = rle_v2::read_run(input, at, signed, &mut few);
-    if let Answer::Run(run) = a {
+    if let Ok(Some(run)) = a {
         return lay_part(run, &few, from, out);
     }
     let mut held = rows::scratch();
     let b = rle_v2::read_run(input, at, signed, &mut held);
     match b {
-        Answer::Run(run) => lay_part(run, &held, from, out),
-        // neither is: a run begins there
-        Answer::Refused(_) => BatchRead::up_to(RowNumber { rows: 0 }, at),
-        Answer::End => BatchRead::up_to(RowNumber { rows: 0 }, at),
+        Ok(Some(run)) => lay_part(run, &held, from, out),
+        // neither is: a run begins there. Two arms: a `_` for both does not tell the proof that the answer is none.
+        Err(_) => BatchRead::up_to(RowNumber { rows: 0 }, at),
+        Ok(None) => BatchRead::up_to(RowNumber { rows: 0 }, at),
     }
 }
 
@@ -170,7 +151,7 @@ fn read_part(input: &[u8], from: RowPosition, signed: bool, out: &mut [i64]) -> 
     let skip = from.skip;
     let room = out.len();
     match part::read(input, at, skip, signed, out) {
-        DirectPart::Read(run) => {
+        Some(run) => {
             let rows = run.rows;
             let consumed = run.consumed;
             let left = rows.rows - skip.rows;
@@ -185,7 +166,7 @@ fn read_part(input: &[u8], from: RowPosition, signed: bool, out: &mut [i64]) -> 
             };
             BatchRead::up_to(RowNumber { rows: left }, end)
         }
-        DirectPart::NotRead => read_aside(input, from, signed, out),
+        None => read_aside(input, from, signed, out),
     }
 }
 
@@ -200,14 +181,14 @@ fn read_runs(input: &[u8], at: ByteOffset, signed: bool, out: &mut [i64]) -> Bat
     while k < out.len() {
         let a = rle_v2::read_run(input, ByteOffset { bytes: p }, signed, &mut out[k..]);
         match a {
-            Answer::Run(r) => {
+            Ok(Some(r)) => {
                 let rows = r.rows;
                 let consumed = r.consumed;
                 k += rows.rows;
                 p += consumed.bytes;
             }
-            Answer::Refused(f) => {
-                // the run has more rows than there are places left
+            Err(f) => {
+                // the run has more rows than there are places left; by its number, which `Refusal` has because C does
                 if f.number == 8 {
                     let from = RowPosition {
                         run: ByteOffset { bytes: p },
@@ -218,7 +199,7 @@ fn read_runs(input: &[u8], at: ByteOffset, signed: bool, out: &mut [i64]) -> Bat
                 }
                 return BatchRead::up_to(RowNumber { rows: k }, ByteOffset { bytes: p });
             }
-            Answer::End => {
+            Ok(None) => {
                 return BatchRead::up_to(RowNumber { rows: k }, ByteOffset { bytes: p });
             }
         }
@@ -231,7 +212,7 @@ fn read_within(input: &[u8], from: RowPosition, signed: bool, out: &mut [i64]) -
     requires { RunHolds input.now from }
     ensures { BatchFrom input.now (position_in from) signed out.old out.new result }
 {
-    if out.len() == 0 {
+    if out.is_empty() {
         return BatchRead::new(RowNumber { rows: 0 }, from.run, from.skip);
     }
     let first = read_part(input, from, signed, out);
@@ -245,32 +226,44 @@ fn read_within(input: &[u8], from: RowPosition, signed: bool, out: &mut [i64]) -
     rest.after(rows)
 }
 
-// The rows from a byte on. Only if none was read is the byte looked at again: there are no places, the run is refused, or the input ends.
-fn read_begun(input: &[u8], at: ByteOffset, signed: bool, out: &mut [i64]) -> Batch
+// The rows from a byte on, or none at the end. Only if none was read is the byte looked at again: there are no places, the run is refused, or the input ends.
+fn read_begun(
+    input: &[u8],
+    at: ByteOffset,
+    signed: bool,
+    out: &mut [i64],
+) -> Result<Option<BatchRead>, Refusal>
     ensures { RowsRead input.now (record { run = at; skip = record { rows = 0 } }) signed
         out.old out.new result }
 {
     let read = read_runs(input, at, signed, out);
     let rows = read.rows;
     if 0 < rows.rows {
-        return Batch::Rows(read);
+        return Ok(Some(read));
     }
+    // three arms and no `?`: the edit end_for_broken changes what a refusal gives
     match rle_v2::measure(input, at) {
-        Answer::Run(_) => Batch::Rows(read),
-        Answer::Refused(f) => Batch::Refused(f),
-        Answer::End => Batch::End,
+        Ok(Some(_)) => Ok(Some(read)),
+        Err(f) => Err(f),
+        Ok(None) => Ok(None),
     }
 }
 
 // As many rows as there are places, or as are left before the end or the first refused run, from a position on. They go into the
-// first places, and the answer names the position of the row after them. If none is left it answers the end, the stream's own refusal,
-// or 16 if more rows are to be skipped than there are, and touches no place.
-pub fn read_rows(input: &[u8], from: RowPosition, signed: bool, out: &mut [i64]) -> Batch
+// first places, and the answer names the position of the row after them. If none is left it answers none at the end, the stream's own
+// refusal, or 16 if more rows are to be skipped than there are, and touches no place.
+pub fn read_rows(
+    input: &[u8],
+    from: RowPosition,
+    signed: bool,
+    out: &mut [i64],
+) -> Result<Option<BatchRead>, Refusal>
     ensures { RowsRead input.now from signed out.old out.new result }
 {
-    match seek(input, from) {
-        Sought::Refused(f) => Batch::Refused(f),
-        Sought::Begins(at) => read_begun(input, at, signed, out),
-        Sought::Within(p) => Batch::Rows(read_within(input, p, signed, out)),
+    let found = seek(input, from)?;
+    let skip = found.skip;
+    if skip.rows == 0 {
+        return read_begun(input, found.run, signed, out);
     }
+    Ok(Some(read_within(input, found, signed, out)))
 }

@@ -1,21 +1,37 @@
 -- A line's beginning moved to the front of the input. Assumes nothing.
-use Rattle.std.proofs.Common.{◌≡◌, ℕ, ◌+◌, ◌-◌, ◌<◌, ◌≤◌, min, List, [], ◌∷◌, ◌++◌, length, get_or, take, drop, set, sym, ap, ◌∙◌, add-one, arith, length-drop, drop_of_length-le, length-take, length-take-le, get_or-drop, take_all, take-suc, take-take, take-suc-set, take-add, drop_at}
+use Rattle.std.proofs.Common.{◌≡◌, ℕ, ◌+◌, ◌-◌, ◌<◌, ◌≤◌, min, List, length, take, drop, sym, ap, ◌∙◌, arith, length-drop, drop_of_length-le, length-take, length-take-le, take_all, take-take, take-add, drop_at}
+use Rattle.std.specs.List.{copy_within}
+use Rattle.std.proofs.Math.Seq.{paste}
+use Rattle.std.proofs.lemmas.List.Edits.{take-paste, drop-paste}
 use native.Mathlib.Decide.{dec_lt}
 use Rattle.format.proofs.Parts.{take_min}
 use Rattle.blocks.specs.Blocks.{too_long, kept, part, Kept}
 
--- one byte more is moved to the front
-module _ (x x₀ : List ℕ) (from i : ℕ) (h : from + i < length x) (l : length x ≡ length x₀) (f : take i x ≡ take i (drop from x₀))
-    (d : drop i x ≡ drop i x₀) where
-  moved-is : get_or x (from + i) 0 ≡ get_or (drop from x₀) i 0
-  moved-is =
-      let z : from + i ≡ i + from = omega arith in
-      rw (get_or-drop from x₀ i 0, z, ← get_or-drop i x from 0, ← get_or-drop i x₀ from 0, d)
+-- the bytes from a place on, copied to the front: the others are as they were
+module _ (x x' : List ℕ) (from n : ℕ) (h : from + n ≤ length x) (e : x' ≡ copy_within x from (from + n) 0) where
+  zero : 0 + n ≡ n
+  zero = omega arith
 
-  pub moved_front : take (i + 1) (set x i (get_or x (from + i) 0)) ≡ take (i + 1) (drop from x₀)
+  room : n ≤ length (drop from x)
+  room = rw length-drop (omega arith)
+
+  pasted : x' ≡ paste x 0 (drop from x) n
+  pasted =
+      let m : from + n - from ≡ n = omega arith in
+      e ∙ ap (λ (k : ℕ). paste x 0 (drop from x) k) m
+
+  pub moved_front : take n x' ≡ take n (drop from x)
   moved_front =
-      rw (add-one, take-suc-set x i (get_or x (from + i) 0) (omega arith), take-suc (drop from x₀) i 0 (rw length-drop (omega arith)), f)
-      (ap (λ (c : ℕ). take i (drop from x₀) ++ (c ∷ [])) moved-is)
+      ap (λ (l : List ℕ). take n l) pasted
+      ∙ ap (λ (k : ℕ). take k (paste x 0 (drop from x) n)) (sym zero)
+      ∙ take-paste x 0 (drop from x) n (omega arith) room
+
+  pub unmoved : drop n x' ≡ drop n x
+  unmoved =
+      ap (λ (l : List ℕ). drop n l) pasted
+      ∙ ap (λ (k : ℕ). drop k (paste x 0 (drop from x) n)) (sym zero)
+      ∙ drop-paste x 0 (drop from x) n (omega arith) room
+      ∙ ap (λ (k : ℕ). drop k x) zero
 
 -- the bytes from a place on, as many as there are to another place
 pub slice_is : (from m : ℕ) (s : List ℕ) → from + m ≤ length s → part from (from + m) s ≡ take m (drop from s)

@@ -10,7 +10,6 @@ ghost use Rattle.blocks.specs.Blocks.{line_length, part, Kept, came, Came, not_r
 
 use std::io;
 use std::io::{ErrorKind, Read};
-use util::number;
 
 // As many characters of a line as show that it is over 8,800.
 pub const MAX_HELD: usize = 8801;
@@ -28,14 +27,16 @@ pub const EAGAIN: i32 = 11;
 
 const EIO: i32 = 5;
 
-// What the system answered to a read: how many bytes came, or -1 and its error.
+// What the system answered to a read: how many bytes came, or -1 and its error. No Result: `came`, `not_ready` and `one_more` (specs/) speak of
+// the two numbers.
 #[derive(Clone, Copy)]
 struct Answer {
     got: isize,
     error: i32,
 }
 
-// What stands in the input after a read: the beginning of a line that was kept, what came behind it, and what the system answered.
+// What stands in the input after a read: the beginning of a line that was kept, what came behind it, and what the system answered. (No Result:
+// `Came` speaks of `got`, -1 with the rest.)
 #[derive(Clone, Copy)]
 pub(crate) struct Block {
     pub held: usize,
@@ -56,14 +57,12 @@ pub fn input_places() -> [u8; MAX_HELD + BLOCK]
 pub fn line_end(input: &[u8], at: usize) -> usize
     ensures { result ≡ at + line_length (drop at input.now) }
 {
-    let mut i = at;
-    while i < input.len() {
+    for i in at..input.len() {
         if input[i] == NEWLINE {
             return i;
         }
-        i += 1;
     }
-    i
+    at.max(input.len())
 }
 
 // Moves what is left of a block, the beginning of a line, to the front of the input: how much it is. A line that is too long is bad however
@@ -72,12 +71,8 @@ fn keep(input: &mut [u8], from: usize, end: usize) -> usize
     requires { (from ≤ end) × (end ≤ length input.old) }
     ensures { Kept (part from end input.old) input.old input.new result }
 {
-    let n = number::least(end - from, MAX_HELD);
-    let mut i = 0;
-    while i < n {
-        input[i] = input[from + i];
-        i += 1;
-    }
+    let n = (end - from).min(MAX_HELD);
+    input.copy_within(from..from + n, 0);
     n
 }
 
@@ -134,7 +129,7 @@ fn count(got: isize, places: &[u8]) -> usize
     ensures value { result ≡ min (came got) (length places.now) }
 {
     if got > 0 {
-        number::least(got as usize, places.len())
+        (got as usize).min(places.len())
     } else {
         0
     }
@@ -145,8 +140,8 @@ fn count(got: isize, places: &[u8]) -> usize
 pub(crate) fn read_on(rt: &impl Input, input: &mut [u8], from: usize, end: usize) -> Block
     ensures { Came (part from end input.old) input.new result.held result.stop result.got }
 {
-    let last = number::least(end, input.len());
-    let held = keep(input, number::least(from, last), last);
+    let last = end.min(input.len());
+    let held = keep(input, from.min(last), last);
     let answer = read_into(rt, &mut input[held..]);
     let got = answer.got;
     let stop = held + count(got, &input[held..]);

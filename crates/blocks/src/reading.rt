@@ -6,7 +6,7 @@ ghost use Rattle.blocks.specs.Reading.{no_reads, counted, ReadOnce};
 use crate::read_on;
 
 // How often was read and how many bytes came by it, what the system answered last, and its error then, which says something only of a read
-// that failed.
+// that failed. (No Result: `no_reads`, `one_more` and `is_broken` speak of both numbers, and `one_more` keeps them whatever was answered.)
 #[derive(Clone, Copy)]
 pub struct Reads {
     count: u64,
@@ -15,7 +15,8 @@ pub struct Reads {
     error: i32,
 }
 
-// A read: what was held before what came, where that ends, what the system answered, and the reads with this one.
+// A read: what was held before what came, where that ends, what the system answered, and the reads with this one. (No Result: `ReadOnce` speaks of
+// `got` and `error`.)
 #[derive(Clone, Copy)]
 pub struct Read {
     pub held: usize,
@@ -41,7 +42,7 @@ pub fn none() -> Reads
 fn count_on(count: u64) -> u64
     ensures { result ≡ counted count }
 {
-    if count < u64::MAX { count + 1 } else { count }
+    count.saturating_add(1)
 }
 
 // One read more.
@@ -51,7 +52,7 @@ pub fn one_more(rt: &impl Input, reads: Reads, input: &mut [u8], from: usize, en
     let block = read_on(rt, input, from, end);
     let error = block.error;
     let came = block.stop - block.held;
-    let bytes = std::num::wrapping_add_u64(reads.bytes, came as u64);
+    let bytes = reads.bytes.wrapping_add(came as u64);
     let count = count_on(reads.count);
     let got = block.got;
     let more = Reads {

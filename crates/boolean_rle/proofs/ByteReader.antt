@@ -3,25 +3,27 @@ use mathlib.Core.Path.{◌≡◌, sym, ap, ◌∙◌}
 use Prim.Native.Nat.{ℕ, ◌+◌, ◌-◌, ◌<◌, ◌≤◌, max}
 use native.Mathlib.Omega.{arith}
 use mathlib.Core.List.{List}
+use Rattle.std.specs.Prelude.{Ok, Err}
 use lib.ListN.{length, drop, length-drop}
 use Rattle.format.specs.Digits.{AllBelow}
 use Rattle.format.specs.Answers.{cutting, refusing}
 use Rattle.format.specs.Booleans.{joined_bytes}
 use Rattle.boolean_rle.specs.declared.positions.BytePosition.{BytePosition}
-use Rattle.boolean_rle.specs.declared.positions.ByteEnd.TheVariants as end
-use Rattle.boolean_rle.specs.declared.bytes.ByteBatch.TheVariants as byte
+use Rattle.boolean_rle.specs.declared.Cut.{Cut}
 use Rattle.boolean_rle.specs.Column.{runs_at, column}
 use Rattle.boolean_rle.specs.Positions.{past}
-use Rattle.boolean_rle.specs.Batches.{read_bytes, BytesGiven}
+use Rattle.boolean_rle.specs.Batches.{ByteBatch, read_bytes, BytesGiven}
 use Rattle.boolean_rle.specs.Found.{bytes_ahead, Wrote, byte_end}
 use Rattle.boolean_rle.proofs.Onward.{OnwardIn, onward}
 use Rattle.boolean_rle.proofs.FlagsOnward.{plain-le}
 use Rattle.boolean_rle.proofs.Batches.{bytes-seen}
 use Rattle.boolean_rle.proofs.Ends.{byte_cut, byte-at}
+use native.Mathlib.Nat.{add-zero, le_refl}
+use Rattle.boolean_rle.specs.Walked.{Walked, cut_before, cut_within, no_room, whole}
 use Rattle.boolean_rle.proofs.Placed.{scan-cut, cut-is, placed-short, placed-8, placed-all, laid, leb-shift}
 
 -- from a position q that was found, k bytes after the byte `at`
-module _ (s : List ℕ) (b : AllBelow 256 s) (at k : ℕ) (q : BytePosition) (e : byte_end s at k ≡ end.At q) where
+module _ (s : List ℕ) (b : AllBelow 256 s) (at k : ℕ) (q : BytePosition) (e : byte_end s at k ≡ Ok q) where
   on : OnwardIn s at k q
   on = let (h, y) = byte-at s at k q e in rw y at (onward s b at k h)
 
@@ -40,19 +42,19 @@ module _ (s : List ℕ) (b : AllBelow 256 s) (at k : ℕ) (q : BytePosition) (e 
       rw (leb-shift k (length js) q.bytes.bytes (length js') x (byte-at s at k q e).0 inside left, on.0.past-on x, on.1)
 
 module _ (s : List ℕ) (b : AllBelow 256 s) (p : BytePosition) (n : ℕ) (out : List ℕ) where
-  pub bytes_cut : (k r f : ℕ) → k ≤ p.bytes.bytes + n → byte_end s p.run.bytes k ≡ end.Cut r f
-      → BytesGiven s p n out out (byte.Refused (cutting r p.run.bytes (max p.run.bytes f)))
+  pub bytes_cut : (k : ℕ) (f : Cut) → k ≤ p.bytes.bytes + n → byte_end s p.run.bytes k ≡ Err f
+      → BytesGiven s p n out out (Err (cutting f.number p.run.bytes (max p.run.bytes f.field)))
   unfolding column
-  bytes_cut k r f l e =
+  bytes_cut k f l e =
       let at = p.run.bytes in
-      let (h, y, z) = byte_cut s at k r f e in
+      let (h, y) = byte_cut s at k f e in
       let next = past at (p.bytes.bytes + n) (runs_at s at).runs in
       let g = placed-short p.bytes.bytes n (length out) (column (drop at s)) next (runs_at s at).why (omega arith) in
-      let c = cut-is (length s) at r f (runs_at s at).why (scan-cut (length (drop at s)) (drop at s)) y z in
+      let c = cut-is (length s) at (runs_at s at).why f (scan-cut (length (drop at s)) (drop at s)) y in
       record { answer = rw (bytes-seen s b p n, g, c); places = rw (bytes-seen s b p n, g) }
 
-  module _ (q : BytePosition) (e : byte_end s p.run.bytes (p.bytes.bytes + n) ≡ end.At q) where
-    pub bytes_8 : length out < n → BytesGiven s p n out out (byte.Refused (refusing 8 p.run.bytes))
+  module _ (q : BytePosition) (e : byte_end s p.run.bytes (p.bytes.bytes + n) ≡ Ok q) where
+    pub bytes_8 : length out < n → BytesGiven s p n out out (Err (refusing 8 p.run.bytes))
     unfolding column
     bytes_8 l =
         let at = p.run.bytes in
@@ -74,3 +76,18 @@ module _ (s : List ℕ) (b : AllBelow 256 s) (p : BytePosition) (n : ℕ) (out :
         let next = past at (p.bytes.bytes + n) (runs_at s at).runs in
         let g = placed-all p.bytes.bytes n (length out) (column (drop at s)) next (runs_at s at).why h l in
         record { answer = rw (bytes-seen s b p n, g, y); places = rw (bytes-seen s b p n, g) (laid n _ out out' w) }
+
+  -- what the reader of a batch comes to is what is promised
+  pub bytes-given : (out' : List ℕ) (r : ByteBatch) → Walked (λ p n. byte_end s p.run.bytes (p.bytes.bytes + n)) (bytes_ahead s) p.run.bytes p n out out' r
+      → BytesGiven s p n out out' r
+  bytes-given out' r (cut_before f e o a) = rw (o, a) (bytes_cut (p.bytes.bytes + 0) f (omega arith) e)
+  bytes-given out' r (cut_within q f e g o a) =
+      let on = bytes_on s b p.run.bytes p.bytes.bytes q (rw add-zero at e) n in
+      rw (o, a) (bytes_cut (p.bytes.bytes + n) f (le_refl _) (on ∙ g))
+  bytes-given out' r (no_room q q' e g l o a) =
+      let on = bytes_on s b p.run.bytes p.bytes.bytes q (rw add-zero at e) n in
+      rw (o, a) (bytes_8 q' (on ∙ g) l)
+  bytes-given out' r (whole q q' e g l w a) =
+      let h = rw add-zero at e in
+      let on = bytes_on s b p.run.bytes p.bytes.bytes q h n in
+      rw a (bytes-all q' (on ∙ g) out' l (rw (bytes_same s b p.run.bytes p.bytes.bytes q h) w))

@@ -5,6 +5,7 @@ use Prim.Native.Nat.{ℕ, ◌+◌, ◌-◌}
 use native.Mathlib.Omega.{arith}
 use mathlib.Core.Bool.{Bool, true, false}
 use mathlib.Core.List.{List, ◌++◌}
+use Rattle.std.specs.Prelude.{Ok, Err}
 use lib.ListN.{length, take, drop, length-append, length-drop}
 use lib.Dec.{ltb}
 use lib.Seq.{take_at, length-take-le}
@@ -15,13 +16,9 @@ use Rattle.format.specs.Booleans.{bits}
 use Rattle.format.proofs.Tests.{never}
 use Rattle.boolean_rle.specs.declared.positions.BytePosition.{BytePosition}
 use Rattle.boolean_rle.specs.declared.positions.FlagPosition.{FlagPosition}
-use Rattle.boolean_rle.specs.declared.bytes.ByteBatch.{ByteBatch}
-use Rattle.boolean_rle.specs.declared.bytes.ByteBatch.TheVariants as byte
-use Rattle.boolean_rle.specs.declared.flags.FlagBatch.{FlagBatch}
-use Rattle.boolean_rle.specs.declared.flags.FlagBatch.TheVariants as flag
 use Rattle.boolean_rle.specs.Column.{whole_runs, column}
 use Rattle.boolean_rle.specs.Positions.{skipped, past, past_flags}
-use Rattle.boolean_rle.specs.Batches.{Batch, took, missing, bytes_from, flags_from, placed, read_bytes, read_flags, bytes_answer, flags_answer}
+use Rattle.boolean_rle.specs.Batches.{ByteBatch, FlagBatch, Batch, took, missing, bytes_from, flags_from, placed, read_bytes, read_flags, bytes_answer, flags_answer}
 use Rattle.boolean_rle.specs.Batches.{places_after, BytesGiven, FlagsGiven}
 use Rattle.boolean_rle.specs.BatchTheorems.{InParts, CallsInParts}
 use Rattle.boolean_rle.proofs.Batches.{seen, bytes-seen, flags-seen}
@@ -93,12 +90,12 @@ module _ (s : List ℕ) (b : AllBelow 256 s) (n : ℕ) (vs : List ℕ) where
       seen-length (skipped p) n (bits (column bs)) next q (whole_runs bs).why vs (sym (flags-seen s b p n) ∙ e)
 
 abbrev next_byte : BytePosition → ByteBatch → BytePosition
-next_byte q (byte.Read x) = x.next
-next_byte q (byte.Refused f) = q
+next_byte q (Ok x) = x.next
+next_byte q (Err f) = q
 
 abbrev next_flag : FlagPosition → FlagBatch → FlagPosition
-next_flag q (flag.Read x) = x.next
-next_flag q (flag.Refused f) = q
+next_flag q (Ok x) = x.next
+next_flag q (Err f) = q
 
 pub bytes-calls-in-parts : (s : List ℕ) → AllBelow 256 s → CallsInParts (BytesGiven s) read_bytes
 bytes-calls-in-parts s b =

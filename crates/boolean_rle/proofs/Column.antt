@@ -6,6 +6,7 @@ use native.Mathlib.Omega.{arith}
 use native.Mathlib.Nat.{le_refl}
 use mathlib.Core.Bool.{Bool, true, false, not}
 use mathlib.Core.List.{List, [], ◌∷◌, ◌++◌, append_assoc}
+use Rattle.std.specs.Prelude.{Err}
 use lib.ListN.{length, take, drop, length-append, length-drop}
 use lib.Dec.{T, ltb, leb, eqb, eqb→eq}
 use mir.Facts.{eqb_no}
@@ -16,8 +17,8 @@ use Rattle.format.proofs.Posts.{Post, at-got, at-refused, then-post, pick_post}
 use Rattle.format.proofs.Booleans.{length_run}
 use Rattle.format.proofs.Tests.{never}
 use Rattle.boolean_rle.specs.Column.{no_runs, run_then, scanned, scan, whole_runs}
-use Rattle.boolean_rle.specs.Found.{number_of, field_in, found_in}
-use Rattle.boolean_rle.specs.declared.Found.TheVariants as found
+use Rattle.boolean_rle.specs.Found.{cut_of, found_in}
+use Rattle.boolean_rle.specs.declared.Cut.{Cut}
 
 -- ---- every run takes a byte at least, so the length is fuel enough
 
@@ -73,14 +74,14 @@ joined-append [] es = refl
 joined-append (d ∷ ds) es = rw (joined-append ds es, append_assoc)
 
 -- no run is found: there is none, and the field that is cut is the one that was found
-pub none_found : (total : ℕ) (bs : List ℕ) (n q : ℕ) → found_in total (byte_run bs) ≡ found.Cut n q
-    → (r : Reason) × (whole_runs bs ≡ no_runs r) × (found.Cut (number_of r) (field_in total r) ≡ found.Cut n q)
-none_found total bs n q f = go (byte_run bs) refl (run-shorter bs) f
+pub none_found : (total : ℕ) (bs : List ℕ) (q : Cut) → found_in total (byte_run bs) ≡ Err q
+    → (r : Reason) × (whole_runs bs ≡ no_runs r) × (cut_of total r ≡ q)
+none_found total bs q f = go (byte_run bs) refl (run-shorter bs) f
   where
-    go : (m : Parsed ByteRun) → byte_run bs ≡ m → Post (Shorter bs) m → found_in total m ≡ found.Cut n q
-        → (r : Reason) × (whole_runs bs ≡ no_runs r) × (found.Cut (number_of r) (field_in total r) ≡ found.Cut n q)
+    go : (m : Parsed ByteRun) → byte_run bs ≡ m → Post (Shorter bs) m → found_in total m ≡ Err q
+        → (r : Reason) × (whole_runs bs ≡ no_runs r) × (cut_of total r ≡ q)
     go m e (at-got k) f = never (cc)
-    go m e (at-refused {r}) f = (r, all-refused bs r e, f)
+    go m e (at-refused {r}) f = (r, all-refused bs r e, cc)
 
 -- ---- the runs that m bytes need are the first of all; or the bytes of all are fewer than m
 

@@ -6,6 +6,7 @@ use native.Mathlib.Omega.{arith}
 use native.Mathlib.Decide.{dec_lt}
 use mathlib.Core.Bool.{Bool, true, false}
 use mathlib.Core.List.{List, [], ◌∷◌, ◌++◌}
+use Rattle.std.specs.Prelude.{Ok, Err}
 use lib.ListN.{length, drop, length-append, length-drop}
 use lib.Dec.{leb}
 use borrow.Author.Tests.{lt-ltb, le-ltb, le-leb, lt-leb, leb-true, leb-false}
@@ -17,12 +18,10 @@ use Rattle.format.proofs.Tests.{never}
 use Rattle.boolean_rle.specs.declared.ByteRun as code
 use Rattle.boolean_rle.specs.declared.positions.BytePosition.{BytePosition}
 use Rattle.boolean_rle.specs.declared.positions.FlagPosition.{FlagPosition}
-use Rattle.boolean_rle.specs.declared.Found.TheVariants as found
-use Rattle.boolean_rle.specs.declared.positions.ByteEnd.TheVariants as byte
-use Rattle.boolean_rle.specs.declared.positions.FlagEnd.TheVariants as flag
+use Rattle.boolean_rle.specs.declared.Cut.{Cut}
 use Rattle.boolean_rle.specs.Column.{run_then, runs_at}
 use Rattle.boolean_rle.specs.Positions.{byte_at, flag_at, past, past_flags, Plain}
-use Rattle.boolean_rle.specs.Found.{number_of, field_in, found_in, byte_end, flag_end}
+use Rattle.boolean_rle.specs.Found.{cut_of, found_in, byte_end, flag_end}
 use Rattle.boolean_rle.proofs.FirstPass.{Here, layout-pos}
 use Rattle.boolean_rle.proofs.Column.{all-got, none_found}
 use Rattle.boolean_rle.proofs.Onward.{onward}
@@ -47,7 +46,7 @@ past-zero at [] v = refl
 past-zero at (d ∷ ds) v = rw (lt-ltb 0 (byte_count d) (omega (arith, layout-pos d v.0)))
 
 module _ (s : List ℕ) (p : ℕ) where
-  pub end_none : AllBelow 256 s → byte_end s p 0 ≡ byte.At (byte_at p 0)
+  pub end_none : AllBelow 256 s → byte_end s p 0 ≡ Ok (byte_at p 0)
   end_none b = rw (le-leb 0 (length (joined_bytes (runs_at s p).runs)) (omega arith), past-zero p (runs_at s p).runs (all_valid s b p))
 
   module _ (e : code.ByteRun) (d : ByteRun) (h : Here s p e d) (m : ℕ) where
@@ -55,7 +54,7 @@ module _ (s : List ℕ) (p : ℕ) where
     pub runs_here : runs_at s p ≡ run_then d (runs_at s (p + e.size))
     runs_here = all-got (drop p s) d (drop (p + e.size) s) h.is-run
 
-    pub end-inside : m < e.count → byte_end s p m ≡ byte.At (byte_at p m)
+    pub end-inside : m < e.count → byte_end s p m ≡ Ok (byte_at p m)
     unfolding past joined_bytes
     end-inside l =
         let js = joined_bytes (runs_at s (p + e.size)).runs in
@@ -78,13 +77,11 @@ module _ (s : List ℕ) (p : ℕ) where
         let n : length (run_bytes d ++ js) ≡ e.count + length js = length-append (run_bytes d) js ∙ rw (length_run d, h.count-is) in
         rw (runs_here, n, leb-less m e.count (length js) l, le-ltb m (byte_count d) (rw h.count-is l), h.count-is, h.size_is)
 
-  pub end-cut : (m n q : ℕ) → 0 < m → found_in (length s) (byte_run (drop p s)) ≡ found.Cut n q → byte_end s p m ≡ byte.Cut n q
+  pub end-cut : (m : ℕ) (q : Cut) → 0 < m → found_in (length s) (byte_run (drop p s)) ≡ Err q → byte_end s p m ≡ Err q
   unfolding joined_bytes
-  end-cut m n q l f =
-      let (r, e, g) = none_found (length s) (drop p s) n q f in
-      let y : number_of r ≡ n = cc in
-      let z : field_in (length s) r ≡ q = cc in
-      rw (e, lt-leb m 0 l, y, z)
+  end-cut m q l f =
+      let (r, e, g) = none_found (length s) (drop p s) q f in
+      rw (e, lt-leb m 0 l) (ap Err g)
 
 -- ---- flags: k of them are m whole bytes and c bits
 
@@ -97,47 +94,45 @@ picked-second true x y z n e = absurd (n e)
 picked-second false x y z n e = (refl, e)
 
 module _ (s : List ℕ) (at m : ℕ) where
-  pub byte_cut : (n f : ℕ) → byte_end s at m ≡ byte.Cut n f
-      → (length (joined_bytes (runs_at s at).runs) < m) × (number_of (runs_at s at).why ≡ n) × (field_in (length s) (runs_at s at).why ≡ f)
-  byte_cut n f e =
-      let (t, g) = picked-second (leb m (length (joined_bytes (runs_at s at).runs))) _ _ (byte.Cut n f)
+  pub byte_cut : (q : Cut) → byte_end s at m ≡ Err q → (length (joined_bytes (runs_at s at).runs) < m) × (cut_of (length s) (runs_at s at).why ≡ q)
+  byte_cut q e =
+      let (t, g) = picked-second (leb m (length (joined_bytes (runs_at s at).runs))) _ _ (Err q)
       (λ u. never (cc)) e in
-      (leb-false m (length (joined_bytes (runs_at s at).runs)) t, cc, cc)
+      (leb-false m (length (joined_bytes (runs_at s at).runs)) t, cc)
 
-  pub byte-at : (q : BytePosition) → byte_end s at m ≡ byte.At q → (m ≤ length (joined_bytes (runs_at s at).runs))
+  pub byte-at : (q : BytePosition) → byte_end s at m ≡ Ok q → (m ≤ length (joined_bytes (runs_at s at).runs))
       × (past at m (runs_at s at).runs ≡ q)
   byte-at q e =
-      let (t, g) = picked_first (leb m (length (joined_bytes (runs_at s at).runs))) _ _ (byte.At q)
+      let (t, g) = picked_first (leb m (length (joined_bytes (runs_at s at).runs))) _ _ (Ok q)
       (λ u. never (cc)) e in
       (leb-true m (length (joined_bytes (runs_at s at).runs)) t, cc)
 
-  pub flag-cut : (n f : ℕ) → flag_end s at m ≡ flag.Cut n f
-      → (8 * length (joined_bytes (runs_at s at).runs) < m) × (number_of (runs_at s at).why ≡ n) × (field_in (length s) (runs_at s at).why ≡ f)
-  flag-cut n f e =
-      let (t, g) = picked-second (leb m (8 * length (joined_bytes (runs_at s at).runs))) _ _ (flag.Cut n f)
+  pub flag-cut : (q : Cut) → flag_end s at m ≡ Err q → (8 * length (joined_bytes (runs_at s at).runs) < m) × (cut_of (length s) (runs_at s at).why ≡ q)
+  flag-cut q e =
+      let (t, g) = picked-second (leb m (8 * length (joined_bytes (runs_at s at).runs))) _ _ (Err q)
       (λ u. never (cc)) e in
-      (leb-false m (8 * length (joined_bytes (runs_at s at).runs)) t, cc, cc)
+      (leb-false m (8 * length (joined_bytes (runs_at s at).runs)) t, cc)
 
-  pub flag_at_lem : (q : FlagPosition) → flag_end s at m ≡ flag.At q → (m ≤ 8 * length (joined_bytes (runs_at s at).runs))
+  pub flag_at_lem : (q : FlagPosition) → flag_end s at m ≡ Ok q → (m ≤ 8 * length (joined_bytes (runs_at s at).runs))
       × (past_flags at m (runs_at s at).runs ≡ q)
   flag_at_lem q e =
-      let (t, g) = picked_first (leb m (8 * length (joined_bytes (runs_at s at).runs))) _ _ (flag.At q)
+      let (t, g) = picked_first (leb m (8 * length (joined_bytes (runs_at s at).runs))) _ _ (Ok q)
       (λ u. never (cc)) e in
       (leb-true m (8 * length (joined_bytes (runs_at s at).runs)) t, cc)
 
-  pub flags-cut : (k n f : ℕ) → 8 * m ≤ k → byte_end s at m ≡ byte.Cut n f → flag_end s at k ≡ flag.Cut n f
-  flags-cut k n f h e =
-      let (l, y, z) = byte_cut n f e in
-      rw (lt-leb k (8 * length (joined_bytes (runs_at s at).runs)) (omega arith), y, z)
+  pub flags-cut : (k : ℕ) (q : Cut) → 8 * m ≤ k → byte_end s at m ≡ Err q → flag_end s at k ≡ Err q
+  flags-cut k q h e =
+      let (l, y) = byte_cut q e in
+      rw (lt-leb k (8 * length (joined_bytes (runs_at s at).runs)) (omega arith)) (ap Err y)
 
-  module _ (q : BytePosition) (e : byte_end s at m ≡ byte.At q) (k c : ℕ) (i : k ≡ 8 * m + c) (j : c < 8) where
-    flags-at : k ≤ 8 * length (joined_bytes (runs_at s at).runs) → flag_end s at k ≡ flag.At (flag_at q c)
+  module _ (q : BytePosition) (e : byte_end s at m ≡ Ok q) (k c : ℕ) (i : k ≡ 8 * m + c) (j : c < 8) where
+    flags-at : k ≤ 8 * length (joined_bytes (runs_at s at).runs) → flag_end s at k ≡ Ok (flag_at q c)
     flags-at h =
         let y : k / 8 ≡ m = omega arith in
         let z : k % 8 ≡ c = omega arith in
         rw (le-leb k (8 * length (joined_bytes (runs_at s at).runs)) h, y, z, (byte-at q e).1)
 
-    pub flags-even : c ≡ 0 → flag_end s at k ≡ flag.At (flag_at q c)
+    pub flags-even : c ≡ 0 → flag_end s at k ≡ Ok (flag_at q c)
     flags-even h = flags-at (omega (arith, (byte-at q e).0))
 
     -- as many bytes are left there as here
@@ -152,7 +147,7 @@ module _ (s : List ℕ) (at m : ℕ) where
           w,
         )
 
-    pub flags-run : AllBelow 256 s → (r : code.ByteRun) (d : ByteRun) → Here s q.run.bytes r d → flag_end s at k ≡ flag.At (flag_at q c)
+    pub flags-run : AllBelow 256 s → (r : code.ByteRun) (d : ByteRun) → Here s q.run.bytes r d → flag_end s at k ≡ Ok (flag_at q c)
     unfolding joined_bytes
     flags-run b r d h =
         let (y, z, w) = left b in
@@ -160,13 +155,11 @@ module _ (s : List ℕ) (at m : ℕ) where
         let js = joined_bytes (runs_at s (q.run.bytes + r.size)).runs in
         flags-at (omega (arith, rw u at z, rw u at y, length-append (run_bytes d) js, length_run d, (byte-at q e).0))
 
-    pub flags-missing : AllBelow 256 s → (n f : ℕ) → (c ≡ 0 → ⊥) → found_in (length s) (byte_run (drop q.run.bytes s)) ≡ found.Cut n f
-        → flag_end s at k ≡ flag.Cut n f
+    pub flags-missing : AllBelow 256 s → (f : Cut) → (c ≡ 0 → ⊥) → found_in (length s) (byte_run (drop q.run.bytes s)) ≡ Err f
+        → flag_end s at k ≡ Err f
     unfolding joined_bytes
-    flags-missing b n f h g =
+    flags-missing b f h g =
         let (y, z, w) = left b in
-        let (r, u, v) = none_found (length s) (drop q.run.bytes s) n f g in
-        let t : number_of r ≡ n = cc in
-        let t' : field_in (length s) r ≡ f = cc in
+        let (r, u, v) = none_found (length s) (drop q.run.bytes s) f g in
         let x : (runs_at s at).why ≡ r = w ∙ rw u in
-        rw (lt-leb k (8 * length (joined_bytes (runs_at s at).runs)) (omega (arith, rw u at z, rw u at y, (byte-at q e).0)), x, t, t')
+        rw (lt-leb k (8 * length (joined_bytes (runs_at s at).runs)) (omega (arith, rw u at z, rw u at y, (byte-at q e).0)), x) (ap Err v)

@@ -4,6 +4,7 @@ use Prim.Native.Nat.{ℕ, suc, ◌+◌, ◌-◌, ◌*◌, ◌<◌, ◌≤◌}
 use native.Mathlib.Omega.{arith}
 use native.Mathlib.Nat.{zero-add}
 use mathlib.Core.List.{List, [], ◌∷◌, ◌++◌}
+use Rattle.std.specs.Prelude.{Err}
 use lib.ListN.{length, drop, get_or, length-append, length-drop, get_or-append}
 use lib.Seq.{drop-drop, drop-append-le}
 use Rattle.format.specs.Digits.{AllBelow, digits}
@@ -12,7 +13,7 @@ use Rattle.format.proofs.Digits.{length_digits}
 use Rattle.format.proofs.Booleans.{length_run, length-bits}
 use Rattle.boolean_rle.specs.declared.ByteRun as code
 use Rattle.boolean_rle.specs.declared.positions.FlagPosition.{FlagPosition}
-use Rattle.boolean_rle.specs.declared.Found.TheVariants as found
+use Rattle.boolean_rle.specs.declared.Cut.{Cut}
 use Rattle.boolean_rle.specs.Column.{column, runs_at}
 use Rattle.boolean_rle.specs.Positions.{skipped, Plain}
 use Rattle.boolean_rle.specs.Found.{found_in, Wrote, flags_ahead, Ready}
@@ -31,8 +32,8 @@ module _ (s : List ℕ) (p : FlagPosition) (n : ℕ) (ready : Ready s p n) where
       ap (λ (x : ℕ). drop x (bits (column (drop p.run.bytes s)))) z ∙ bits-drop p.bytes.bytes (column (drop p.run.bytes s))
 
   -- a run is there, if a flag is
-  pub first_found : 0 < skipped p + n → (r q : ℕ) → found_in (length s) (byte_run (drop p.run.bytes s)) ≡ found.Cut r q → ⊥
-  first_found h r q f = omega (arith, ready.there, ap length (column-none (length s) (drop p.run.bytes s) r q f))
+  pub first_found : 0 < skipped p + n → (q : Cut) → found_in (length s) (byte_run (drop p.run.bytes s)) ≡ Err q → ⊥
+  first_found h q f = omega (arith, ready.there, ap length (column-none (length s) (drop p.run.bytes s) q f))
 
   module _ (e : code.ByteRun) (d : ByteRun) (h : Here s p.run.bytes e d) where
     -- the byte is in its run

@@ -1,12 +1,14 @@
 -- A byte run at a place of the input, and the first pass: how many bytes the runs take. Assumes nothing.
 use mathlib.Core.Path.{◌≡◌, refl, sym, ap, ◌∙◌}
-use Prim.Native.Nat.{ℕ, zero, suc, ◌+◌, ◌-◌, ◌<◌, ◌≤◌}
+use Prim.Native.Nat.{ℕ, zero, suc, ◌+◌, ◌-◌, ◌/◌, ◌%◌, ◌<◌, ◌≤◌, min}
 use native.Mathlib.Omega.{arith}
 use native.Mathlib.Nat.{add_assoc}
 use mathlib.Core.List.{List, [], ◌∷◌, ◌++◌}
+use Rattle.std.specs.Prelude.{Ok, Err}
 use lib.ListN.{length, get_or, take, drop, length-append, length-drop, drop_of_length-le}
 use lib.Seq.{drop-drop, drop_at}
 use borrow.Author.Tests.{lt-ltb, le-ltb, ne_eqb}
+use Rattle.format.specs.Fields.{bytes_for}
 use Rattle.format.specs.Parse.{Parsed, end, got, refused, cut_in, then}
 use Rattle.format.specs.Booleans.{ByteRun, repeat, literals, ValidRun, run_layout, byte_count, joined_runs, repeat_run, byte_run, byte_runs}
 use Rattle.format.proofs.Posts.{Post, at-got, at-refused, Took}
@@ -15,11 +17,8 @@ use Rattle.format.proofs.ByteRuns.{run_sound}
 use Rattle.format.proofs.Reading.{byte-here, bytes-here, bytes_cut}
 use Rattle.format.proofs.Tests.{never}
 use Rattle.boolean_rle.specs.declared.ByteRun as code
-use Rattle.boolean_rle.specs.declared.Found.{Found}
-use Rattle.boolean_rle.specs.declared.Found.TheVariants as found
-use Rattle.boolean_rle.specs.declared.Span.{Span}
-use Rattle.boolean_rle.specs.declared.Span.TheVariants as span
-use Rattle.boolean_rle.specs.Found.{found_in, span_of}
+use Rattle.boolean_rle.specs.declared.Cut.{Cut}
+use Rattle.boolean_rle.specs.Found.{Found, Span, found_in, span_of}
 
 -- the field of which `left` bytes are left begins at p
 pub field_is : (s : List ℕ) (p : ℕ) → p ≤ length s → length s - length (drop p s) ≡ p
@@ -64,12 +63,12 @@ pub record Here (s : List ℕ) (p : ℕ) (e : code.ByteRun) (d : ByteRun) : Type
   pub valid : ValidRun d
 
 size_in : Found → ℕ
-size_in (found.Run e) = e.size
-size_in (found.Cut n f) = 0
+size_in (Ok e) = e.size
+size_in (Err q) = 0
 
 unfoldable pub count_in : Found → ℕ
-count_in (found.Run e) = e.count
-count_in (found.Cut n f) = 0
+count_in (Ok e) = e.count
+count_in (Err q) = 0
 
 pub layout-pos : (d : ByteRun) → ValidRun d → (1 ≤ length (run_layout d)) × (1 ≤ byte_count d)
 unfolding run_layout byte_count
@@ -81,11 +80,11 @@ unfolding byte_count
 count-le (repeat count byte) v = v.many
 count-le (literals bs) v = omega (arith, v)
 
-pub here : (s : List ℕ) (p : ℕ) (e : code.ByteRun) → ((i : ℕ) → get_or s i 0 < 256) → found_in (length s) (byte_run (drop p s)) ≡ found.Run e → (d : ByteRun) × Here s p e d
+pub here : (s : List ℕ) (p : ℕ) (e : code.ByteRun) → ((i : ℕ) → get_or s i 0 < 256) → found_in (length s) (byte_run (drop p s)) ≡ Ok e → (d : ByteRun) × Here s p e d
 unfolding size_in count_in
 here s p e b f = go (byte_run (drop p s)) refl (run_sound (drop p s) (below-drop 256 p s (below_all 256 s b))) f
   where
-    go : (m : Parsed ByteRun) → byte_run (drop p s) ≡ m → Post (Took (drop p s) run_layout ValidRun) m → found_in (length s) m ≡ found.Run e → (d : ByteRun) × Here s p e d
+    go : (m : Parsed ByteRun) → byte_run (drop p s) ≡ m → Post (Took (drop p s) run_layout ValidRun) m → found_in (length s) m ≡ Ok e → (d : ByteRun) × Here s p e d
     go m g (at-got {a = d} {s = rest} t) f =
         let z : length (run_layout d) ≡ e.size = ap size_in f in
         let n : byte_count d ≡ e.count = ap count_in f in
@@ -108,26 +107,30 @@ here s p e b f = go (byte_run (drop p s)) refl (run_sound (drop p s) (below-drop
 
 -- ---- the first pass: how many bytes the runs take
 
+-- the bytes that n booleans need
+pub ceil-is : (n : ℕ) → n / 8 + min 1 (n % 8) ≡ bytes_for n
+ceil-is n = omega arith
+
 abbrev pub further : ℕ → Span → Span
-further n (span.Whole k) = span.Whole (n + k)
-further n (span.Cut r f) = span.Cut r f
+further n (Ok k) = Ok (n + k)
+further n (Err q) = Err q
 
 further-further : (m n : ℕ) (w : Span) → further m (further n w) ≡ further (m + n) w
-further-further m n (span.Whole k) = ap span.Whole (sym (add_assoc m n k))
-further-further m n (span.Cut r f) = refl
+further-further m n (Ok k) = ap Ok (sym (add_assoc m n k))
+further-further m n (Err q) = refl
 
 pub further-zero : (n : ℕ) (w : Span) → w ≡ further (n - n) w
-further-zero n (span.Whole k) = ap span.Whole (omega arith)
-further-zero n (span.Cut r f) = refl
+further-zero n (Ok k) = ap Ok (omega arith)
+further-zero n (Err q) = refl
 
 -- where a run is cut, so are the runs, in the same field
-pub span-cut : (total g m : ℕ) (bs : List ℕ) (r q : ℕ) → 0 < m → length bs ≤ g → found_in total (byte_run bs) ≡ found.Cut r q → span_of total (byte_runs g m bs) ≡ span.Cut r q
+pub span-cut : (total g m : ℕ) (bs : List ℕ) (q : Cut) → 0 < m → length bs ≤ g → found_in total (byte_run bs) ≡ Err q → span_of total (byte_runs g m bs) ≡ Err q
 unfolding byte_runs byte_run
-span-cut total zero m [] r q h l f = rw (ne_eqb m 0 (omega arith)) cc
-span-cut total zero m (x ∷ bs) r q h l f = absurd (omega arith)
-span-cut total (suc g) m bs r q h l f = rw (ne_eqb m 0 (omega arith)) (go (byte_run bs) f)
+span-cut total zero m [] q h l f = rw (ne_eqb m 0 (omega arith)) cc
+span-cut total zero m (x ∷ bs) q h l f = absurd (omega arith)
+span-cut total (suc g) m bs q h l f = rw (ne_eqb m 0 (omega arith)) (go (byte_run bs) f)
   where
-    go : (p : Parsed ByteRun) → found_in total p ≡ found.Cut r q → span_of total (then p λ d s. then (byte_runs g (m - byte_count d) s) λ ds rest. got (d ∷ ds) rest) ≡ span.Cut r q
+    go : (p : Parsed ByteRun) → found_in total p ≡ Err q → span_of total (then p λ d s. then (byte_runs g (m - byte_count d) s) λ ds rest. got (d ∷ ds) rest) ≡ Err q
     go end f = cc
     go (got d rest) f = never (cc)
     go (refused n) f = cc
@@ -140,7 +143,7 @@ span_run total g m bs d s h e = rw (ne_eqb m 0 (omega arith), e) (go (byte_runs 
   where
     go : (r : Parsed (List ByteRun)) → span_of total (then r λ ds rest. got (d ∷ ds) rest) ≡ further (length (run_layout d)) (span_of total r)
     go end = refl
-    go (got ds rest) = ap span.Whole (length-append (run_layout d) (joined_runs ds))
+    go (got ds rest) = ap Ok (length-append (run_layout d) (joined_runs ds))
     go (refused r) = refl
 
 -- what the first pass knows at the place p, with `left` bytes still needed: w is the whole answer

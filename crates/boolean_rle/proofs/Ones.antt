@@ -6,6 +6,7 @@ use native.Mathlib.Decide.{dec_le, dec_lt}
 use native.Mathlib.Nat.{mod-lt, zero-lt-suc, pow-suc}
 use mathlib.Core.Bool.{Bool, true, false}
 use mathlib.Core.List.{List, [], ◌∷◌, ◌++◌}
+use Rattle.std.specs.Prelude.{Ok, Err}
 use lib.ListN.{length, take, get_or, replicate}
 use lib.Seq.{take-append-le, take-append-add, take_at, take-nil}
 use lib.Dec.{leb, ltb, eqb}
@@ -16,7 +17,6 @@ use borrow.Author.Tests.{le-leb, lt-leb, le-ltb, lt-ltb, ltb-true}
 use Rattle.format.specs.Digits.{AllBelow, digits}
 use Rattle.format.specs.Fields.{pick, bytes_for}
 use Rattle.format.specs.Answers.{cutting}
-use Rattle.boolean_rle.specs.declared.count.Count.TheVariants.{True, Refused}
 use Rattle.format.specs.Booleans.{ByteRun, repeat, literals, AllValidRuns, run_bytes, bits, joined_bytes, booleans_of}
 use Rattle.format.proofs.Digits.{digits-snoc, digits-add, length_digits}
 use Rattle.format.proofs.Below.{below-append}
@@ -79,7 +79,7 @@ ones-hold n bytes h = record {
   six = (λ e. short (ltb (8 * length bytes) n) refl e, λ l. rw (lt-ltb (8 * length bytes) n l));
 }
   where
-    short : (t : Bool) → ltb (8 * length bytes) n ≡ t → pick t (Refused (cutting 6 0 0)) (True (ones_in n bytes)) ≡ Refused (cutting 6 0 0) → 8 * length bytes < n
+    short : (t : Bool) → ltb (8 * length bytes) n ≡ t → pick t (Err (cutting 6 0 0)) (Ok (ones_in n bytes)) ≡ Err (cutting 6 0 0) → 8 * length bytes < n
     short true f e = ltb-true (8 * length bytes) n f
     short false f e = never (cc)
 
@@ -147,11 +147,11 @@ ones-part k b h l =
     ones-le k (b / 2 ^ (8 - k)) (shr_lt k (8 - k) s)
 
 -- the answers
-pub too_few : (n : ℕ) (bs : List ℕ) → 8 * length bs < n → count_true n bs ≡ Refused (cutting 6 0 0)
+pub too_few : (n : ℕ) (bs : List ℕ) → 8 * length bs < n → count_true n bs ≡ Err (cutting 6 0 0)
 unfolding count_true
 too_few n bs h = rw (lt-ltb (8 * length bs) n h)
 
-pub enough : (n : ℕ) (bs : List ℕ) → n ≤ 8 * length bs → count_true n bs ≡ True (ones_in n bs)
+pub enough : (n : ℕ) (bs : List ℕ) → n ≤ 8 * length bs → count_true n bs ≡ Ok (ones_in n bs)
 unfolding count_true
 enough n bs h = rw (le-ltb (8 * length bs) n h)
 
@@ -159,10 +159,10 @@ pub count-determined : CountDetermined
 count-determined bytes n r r' p q = p ∙ sym q
 
 -- padding bits are not counted; 6 for more than the bytes hold
-padding : count_true 9 (0xF1 ∷ 0x7F ∷ []) ≡ True 5
+padding : count_true 9 (0xF1 ∷ 0x7F ∷ []) ≡ Ok 5
 unfolding n.ones_in n.ones ones_in count_true
 padding = refl
 
-too_many : count_true 17 (0xF1 ∷ 0x7F ∷ []) ≡ Refused (cutting 6 0 0)
+too_many : count_true 17 (0xF1 ∷ 0x7F ∷ []) ≡ Err (cutting 6 0 0)
 unfolding n.ones_in n.ones ones_in count_true
 too_many = refl

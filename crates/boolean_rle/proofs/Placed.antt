@@ -5,6 +5,9 @@ use Prim.Native.Nat.{ℕ, zero, suc, ◌+◌, ◌-◌, ◌<◌, ◌≤◌, max}
 use native.Mathlib.Omega.{arith}
 use native.Mathlib.Decide.{dec_lt}
 use mathlib.Core.List.{List, [], ◌++◌, append-nil}
+use Rattle.std.specs.Result.{MatchResult, IsErrAnd}
+use Rattle.std.specs.Prelude.{Result, Ok, Err}
+use Rattle.std.proofs.lemmas.Result.{err_from_is_err_and}
 use lib.ListN.{length, take, drop}
 use lib.Dec.{leb}
 use borrow.Author.Tests.{lt-ltb, le-ltb, le-leb, lt-leb}
@@ -12,9 +15,11 @@ use Rattle.format.specs.Parse.{Reason, plain, cut, Parsed}
 use Rattle.format.specs.Answers.{refusal, cutting}
 use Rattle.format.specs.Booleans.{ByteRun, byte_run}
 use Rattle.format.proofs.ByteRuns.{OnlyCut, any-got, any-cut, run_only}
+use Rattle.format.proofs.Tests.{never}
+use Rattle.boolean_rle.specs.declared.Cut.{Cut}
 use Rattle.boolean_rle.specs.Column.{scanned, scan}
 use Rattle.boolean_rle.specs.Batches.{took, missing, placed}
-use Rattle.boolean_rle.specs.Found.{number_of, field_in, Wrote}
+use Rattle.boolean_rle.specs.Found.{cut_of, Wrote}
 use Rattle.boolean_rle.proofs.Batches.{seen}
 
 -- ---- why there are no more runs: a field is cut
@@ -32,11 +37,10 @@ scan-cut (suc f) bs = go (byte_run bs) (run_only bs) (scan-cut f)
     go m any-cut again = is_cut
 
 -- the field's byte, or the call's if that is past the end
-pub cut-is : (total at n f : ℕ) (r : Reason) → IsCut r → number_of r ≡ n → field_in total r ≡ f
-    → refusal at (total - at) r ≡ cutting n at (max at f)
-cut-is total at n f r (is_cut {n = k} {left}) e g =
-    let z : at + (total - at - left) ≡ max at f = omega arith in
-    rw (e, z)
+pub cut-is : (total at : ℕ) (r : Reason) (q : Cut) → IsCut r → cut_of total r ≡ q → refusal at (total - at) r ≡ cutting q.number at (max at q.field)
+cut-is total at r q (is_cut {n = k} {left}) e =
+    let z : at + (total - at - left) ≡ max at (total - left) = omega arith in
+    rw (← e, z)
 
 -- ---- what is placed
 
@@ -61,3 +65,19 @@ leb-shift k l k' l' x h h' e = by (dec_lt l (k + x))
     by : Dec (l < k + x) → leb (k + x) l ≡ leb (k' + x) l'
     by (yes t) = rw (lt-leb (k + x) l t, lt-leb (k' + x) l' (omega arith))
     by (no t) = rw (le-leb (k + x) l (omega arith), le-leb (k' + x) l' (omega arith))
+
+-- what a call answers, by what `map_err` gave: s is the call's answer, m that of `map_err`
+pub was-err : {A E D : Type 0} {s e : Result A E} {m : Result A D} (Q : E → D → Type 0) {r : D}
+    → s ≡ e → MatchResult s (λ x. m ≡ Ok x) (λ f. IsErrAnd m (Q f)) → m ≡ Err r → (f : E) × (e ≡ Err f) × Q f r
+was-err {s = Ok x} Q h w g = never (cc)
+was-err {s = Err f} {m = Ok y} Q h w g = never (cc)
+was-err {s = Err f} {m = Err z} Q {r} h w g =
+    let y : z ≡ r = cc in
+    (f, sym h, rw y at w)
+
+pub was-ok : {A E D : Type 0} {s e : Result A E} {m : Result A D} (Q : E → D → Type 0) {x : A}
+    → s ≡ e → MatchResult s (λ y. m ≡ Ok y) (λ f. IsErrAnd m (Q f)) → m ≡ Ok x → e ≡ Ok x
+was-ok {s = Ok y} Q h w g = cc
+was-ok {s = Err f} {m} Q h w g =
+    let (z, k, q) = err_from_is_err_and {Q = Q f} m w in
+    never (cc)

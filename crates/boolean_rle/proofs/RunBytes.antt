@@ -4,6 +4,8 @@ use Prim.Native.Nat.{ℕ, zero, suc, ◌+◌, ◌-◌, ◌*◌, ◌/◌, ◌%◌
 use native.Mathlib.Omega.{arith}
 use native.Mathlib.Nat.{add-zero}
 use mathlib.Core.List.{List, [], ◌∷◌, ◌++◌, append_assoc}
+use Rattle.std.specs.Prelude.{Ok}
+use Rattle.std.proofs.Common.{Fits, w8}
 use lib.ListN.{length, get_or, take, drop, set, get_or-replicate, length-append, length-drop, get_or-append}
 use lib.Seq.{drop-drop, drop-cons, drop-append-le, drop-append-add, set_at, take-suc, append_snoc, length-take-le, get_or-drop}
 use Rattle.format.specs.Digits.{digits}
@@ -12,9 +14,9 @@ use Rattle.format.specs.Booleans.{ByteRun, repeat, literals, run_layout, run_byt
 use Rattle.format.proofs.Digits.{length_digits, getD-digits}
 use Rattle.format.proofs.Booleans.{length_run, length-bits}
 use Rattle.boolean_rle.specs.declared.ByteRun as code
-use Rattle.boolean_rle.specs.declared.Found.TheVariants as found
-use Rattle.boolean_rle.specs.Found.{found_in, run_bytes_in, Wrote}
-use Rattle.boolean_rle.proofs.FirstPass.{Here, count_in}
+use Rattle.boolean_rle.specs.declared.run.RunAt.{RunAt}
+use Rattle.boolean_rle.specs.Found.{found_in, run_bytes_in, bytes_at, Wrote}
+use Rattle.boolean_rle.proofs.FirstPass.{Here, here, count_in}
 
 -- ---- a run's bytes
 
@@ -49,7 +51,14 @@ byte-at s p e (literals bs) h i l =
 pub bytes-are : (s : List ℕ) (p : ℕ) (e : code.ByteRun) (d : ByteRun) → Here s p e d → run_bytes_in (byte_run (drop p s)) ≡ run_bytes d
 bytes-are s p e d h = ap run_bytes_in h.is-run
 
-pub length-bytes : (total : ℕ) (m : Parsed ByteRun) (e : code.ByteRun) → found_in total m ≡ found.Run e → length (run_bytes_in m) ≡ e.count
+-- byte i of the run that was found
+pub byte_of : (r : RunAt) → ((i : ℕ) → Fits w8 (get_or r.input.now i 0)) → (i : ℕ) → i < r.run.count
+    → ByteAt r.input.now r.at i (bytes_at r.input.now r.at)
+byte_of r b i l =
+    let (d, h) = here r.input.now r.at r.run (λ i. (b i).fits) r.found in
+    rw (bytes-are r.input.now r.at r.run d h) (byte-at r.input.now r.at r.run d h i l)
+
+pub length-bytes : (total : ℕ) (m : Parsed ByteRun) (e : code.ByteRun) → found_in total m ≡ Ok e → length (run_bytes_in m) ≡ e.count
 unfolding count_in
 length-bytes total end e f = ap count_in f
 length-bytes total (got d rest) e f = length_run d ∙ ap count_in f

@@ -4,13 +4,17 @@ use Prim.Native.Nat.{ℕ, zero, suc, ◌+◌, ◌-◌, ◌<◌, ◌≤◌}
 use native.Mathlib.Omega.{arith}
 use native.Mathlib.Nat.{add-zero}
 use mathlib.Core.List.{List, ◌∷◌, ◌++◌, append_assoc}
-use lib.ListN.{length, get_or, take, drop, replicate, length-append, length-drop, take-append-drop}
-use lib.Seq.{drop-drop, drop-append-le, drop-append-add, take-add, take_at, take-append-le, length-take-le, paste, paste-zero}
+use Rattle.std.proofs.Common.{Fits, w8}
+use Rattle.std.proofs.lemmas.Slice.{put_mid-paste}
+use borrow.Rule.Slice.PartMut.{put_mid}
+use lib.ListN.{length, get_or, take, drop, replicate, length-append, length-drop, length-take, take-append-drop}
+use lib.Seq.{drop-drop, drop-append-le, drop-append-add, take-add, take_at, take-append-le, length-take-le, take_all, paste, paste-zero}
 use Rattle.format.specs.Booleans.{ByteRun, repeat, literals, run_layout, run_bytes, byte_count}
 use Rattle.boolean_rle.specs.declared.ByteRun as code
-use Rattle.boolean_rle.specs.Found.{Wrote}
-use Rattle.boolean_rle.proofs.FirstPass.{Here}
-use Rattle.boolean_rle.proofs.RunBytes.{at_place, wrote-more}
+use Rattle.boolean_rle.specs.declared.run.RunAt.{RunAt}
+use Rattle.boolean_rle.specs.Found.{bytes_at, Wrote}
+use Rattle.boolean_rle.proofs.FirstPass.{Here, here}
+use Rattle.boolean_rle.proofs.RunBytes.{at_place, bytes-are, wrote-more}
 
 copies : (n first count b : ℕ) → count ≤ n - first → take count (drop first (replicate n b)) ≡ replicate count b
 copies n first zero b h = refl
@@ -52,6 +56,13 @@ part_at s p e (literals bs) h first count some l =
       );
     }
 
+-- a part of the run that was found
+pub part_of : (r : RunAt) → ((i : ℕ) → Fits w8 (get_or r.input.now i 0)) → (first count : ℕ) → 0 < count → count ≤ r.run.count - first
+    → PartAt r.input.now r.at first count (bytes_at r.input.now r.at)
+part_of r b first count some l =
+    let (d, h) = here r.input.now r.at r.run (λ i. (b i).fits) r.found in
+    rw (bytes-are r.input.now r.at r.run d h) (part_at r.input.now r.at r.run d h first count some l)
+
 -- ---- values in places, that were stored as a part
 
 -- the first bytes of ys are zs, whose values were stored: a byte stands for itself, or for its bits
@@ -76,3 +87,9 @@ wrote-copy k (suc c) ys part o out h t p all d more e f =
     ∙ drop-drop (suc c) k d in
     let here : take (suc c) part ≡ take (suc c) (drop k all) = sym t ∙ sym (ap (take (suc c)) e ∙ take-append-le (suc c) ys more h) in
     p ∙ rw (before, after, here, take-add k (suc c) all, append_assoc)
+
+-- c of them, laid into a part of the places
+pub wrote-part : (k c : ℕ) (ys part o : List ℕ) → take c ys ≡ part → length part ≡ c → Wrote k (k + c) ys o (put_mid k (k + c - k) o part)
+wrote-part k c ys part o e l =
+    wrote-copy k c ys part o _ (omega (arith, ap length e, length-take c ys)) (e ∙ sym (take_all c part (omega arith)))
+    (put_mid-paste k (k + c - k) o part part c refl (omega arith) (omega arith))

@@ -5,6 +5,7 @@ use Prim.Native.Nat.{ℕ, zero, suc, ◌+◌, ◌-◌, ◌*◌, ◌<◌, ◌≤�
 use native.Mathlib.Omega.{arith}
 use native.Mathlib.Nat.{sub-zero, le_refl}
 use mathlib.Core.List.{List, [], ◌∷◌, ◌++◌, append-nil}
+use Rattle.std.specs.Prelude.{Ok, Err}
 use lib.ListN.{length, take, drop, length-drop, length-append}
 use lib.Seq.{drop-drop, drop_at, drop-nil, take-append-le}
 use borrow.Author.Tests.{lt-ltb, le-ltb}
@@ -18,10 +19,9 @@ use Rattle.format.proofs.ByteRuns.{OnlyCut, runs-only}
 use Rattle.format.proofs.Booleans.{length_run, length-bits}
 use Rattle.format.proofs.Tests.{never}
 use Rattle.boolean_rle.specs.declared.ByteRun as code
-use Rattle.boolean_rle.specs.declared.Found.TheVariants as found
-use Rattle.boolean_rle.specs.declared.Span.TheVariants as span
+use Rattle.boolean_rle.specs.declared.Cut.{Cut}
 use Rattle.boolean_rle.specs.Column.{whole_runs, column}
-use Rattle.boolean_rle.specs.Found.{found_in, span_of, Wrote}
+use Rattle.boolean_rle.specs.Found.{cut_of, found_in, span_of, Wrote}
 use Rattle.boolean_rle.proofs.FirstPass.{Here}
 use Rattle.boolean_rle.proofs.RunBytes.{wrote-more, wrote_on}
 use Rattle.boolean_rle.proofs.Column.{none_found, all-got, joined-append, reads, of-enough}
@@ -44,10 +44,10 @@ unfolding column joined_bytes
 column-here s p e d h = rw (all-got (drop p s) d (drop (p + e.size) s) h.is-run)
 
 -- if no run is found, the column is empty
-pub column-none : (total : ℕ) (bs : List ℕ) (r q : ℕ) → found_in total (byte_run bs) ≡ found.Cut r q → column bs ≡ []
+pub column-none : (total : ℕ) (bs : List ℕ) (q : Cut) → found_in total (byte_run bs) ≡ Err q → column bs ≡ []
 unfolding column joined_bytes
-column-none total bs r q f =
-    let (why, e, g) = none_found total bs r q f in
+column-none total bs q f =
+    let (why, e, g) = none_found total bs q f in
     rw e
 
 -- a pass that goes on stays in the places
@@ -98,38 +98,38 @@ module _ (values : List ℕ → List ℕ) (join : (a b : List ℕ) → values (a
       }
 
   -- no run is missing that is still wanted
-  pub laid-whole : values [] ≡ [] → (ys : List ℕ) (k n : ℕ) (out₀ : List ℕ) (place left done : ℕ) (out : List ℕ) (r q : ℕ) → done < n
-      → found_in (length s) (byte_run (drop place s)) ≡ found.Cut r q → Laid values s ys k n out₀ place left done out → ⊥
-  laid-whole none ys k n out₀ place left done out r q l f g =
+  pub laid-whole : values [] ≡ [] → (ys : List ℕ) (k n : ℕ) (out₀ : List ℕ) (place left done : ℕ) (out : List ℕ) (q : Cut) → done < n
+      → found_in (length s) (byte_run (drop place s)) ≡ Err q → Laid values s ys k n out₀ place left done out → ⊥
+  laid-whole none ys k n out₀ place left done out q l f g =
       let z : length (values (drop left (column (drop place s)))) ≡ 0 = rw
-      (column-none (length s) (drop place s) r q f, drop-nil left, none) in
+      (column-none (length s) (drop place s) q f, drop-nil left, none) in
       omega (arith, g.room)
 
 -- ---- what the call gives, by what the first pass finds
 
 module _ (input : List ℕ) (at n : ℕ) (out : List ℕ) where
   -- the field's byte, or the call's position where that is past the end
-  pub reads-cut : (r q : ℕ) → span_of (length input) (booleans n (drop at input)) ≡ span.Cut r q → BooleansRead input at n out out (cut_at r at (max at q))
+  pub reads-cut : (q : Cut) → span_of (length input) (booleans n (drop at input)) ≡ Err q
+      → BooleansRead input at n out out (cut_at q.number at (max at q.field))
   unfolding booleans_into booleans
-  reads-cut r q e = go (booleans n (drop at input)) refl (runs-only (length (drop at input)) (bytes_for n) (drop at input)) e
+  reads-cut q e = go (booleans n (drop at input)) refl (runs-only (length (drop at input)) (bytes_for n) (drop at input)) e
     where
-      go : (m : Parsed (List ByteRun)) → booleans n (drop at input) ≡ m → OnlyCut m → span_of (length input) m ≡ span.Cut r q
-          → BooleansRead input at n out out (cut_at r at (max at q))
+      go : (m : Parsed (List ByteRun)) → booleans n (drop at input) ≡ m → OnlyCut m → span_of (length input) m ≡ Err q
+          → BooleansRead input at n out out (cut_at q.number at (max at q.field))
       go end f o e = elim o [ ]
       go (got ds rest) f o e = never (cc)
       go (refused (plain n)) f o e = elim o [ ]
       go (refused (cut k left)) f o e =
           let z : max at (length input - left) ≡ at + (length input - at - left) = omega arith in
-          let i : k ≡ r = cc in
-          let j : length input - left ≡ q = cc in
-          record { answer = rw (f, ← i, ← j, z); places = rw f }
+          let i : cut_of (length input) (cut k left) ≡ q = cc in
+          record { answer = rw (f, ← i, z); places = rw f }
 
-  module _ (k : ℕ) (e : span_of (length input) (booleans n (drop at input)) ≡ span.Whole k) where
+  module _ (k : ℕ) (e : span_of (length input) (booleans n (drop at input)) ≡ Ok k) where
     -- the runs that were found
     whole : (ds : List ByteRun) × ((rest : List ℕ) × (booleans n (drop at input) ≡ got ds rest) × (length (joined_runs ds) ≡ k))
     whole = go (booleans n (drop at input)) refl e
       where
-        go : (m : Parsed (List ByteRun)) → booleans n (drop at input) ≡ m → span_of (length input) m ≡ span.Whole k
+        go : (m : Parsed (List ByteRun)) → booleans n (drop at input) ≡ m → span_of (length input) m ≡ Ok k
             → (ds : List ByteRun) × ((rest : List ℕ) × (booleans n (drop at input) ≡ got ds rest) × (length (joined_runs ds) ≡ k))
         go end f e = never (cc)
         go (got ds rest) f e = (ds, (rest, f, cc))

@@ -1,16 +1,14 @@
 -- Bytes and flags in batches (FORMAT.md, "Flags and bytes in batches"): what is read from a position, the position after it, and what the
 -- two readers promise. Assumes nothing.
-use Rattle.std.specs.Prelude.{◌≡◌, ℕ, ◌+◌, ◌-◌, List, [], ◌++◌, length, take, drop, ltb}
+use Rattle.std.specs.Prelude.{◌≡◌, ℕ, ◌+◌, ◌-◌, List, [], ◌++◌, length, take, drop, ltb, Result, Ok, Err}
 use Rattle.format.specs.Fields.{pick}
 use Rattle.format.specs.Parse.{Reason, plain, cut_in, Parsed, end, got, refused}
 use Rattle.format.specs.Answers.{refusal}
+use Rattle.format.specs.declared.Refusal.{Refusal}
 use Rattle.format.specs.Booleans.{ByteRun, joined_bytes, booleans_of, byte_runs, booleans}
 use Rattle.boolean_rle.specs.declared.positions.BytePosition.{BytePosition}
 use Rattle.boolean_rle.specs.declared.positions.FlagPosition.{FlagPosition}
-use Rattle.boolean_rle.specs.declared.bytes.ByteBatch.{ByteBatch}
-use Rattle.boolean_rle.specs.declared.bytes.ByteBatch.TheVariants as byte
-use Rattle.boolean_rle.specs.declared.flags.FlagBatch.{FlagBatch}
-use Rattle.boolean_rle.specs.declared.flags.FlagBatch.TheVariants as flag
+use Rattle.boolean_rle.specs.declared.batch.Read.{Read}
 use Rattle.boolean_rle.specs.Positions.{skipped, past, past_flags}
 
 -- what was taken, with the position after it; or why it can't be
@@ -46,21 +44,28 @@ placed places n (missing r) = missing r
 
 -- ---- THE PROMISES
 
+-- what a reader answers: a batch, or a refusal
+abbrev pub ByteBatch : Type 0
+ByteBatch = Result (Read BytePosition) Refusal
+
+abbrev pub FlagBatch : Type 0
+FlagBatch = Result (Read FlagPosition) Refusal
+
 -- n are read, and q is the position after them
 abbrev pub read_bytes : ℕ → BytePosition → ByteBatch
-read_bytes n q = byte.Read (record { rows = record { rows = n }; next = q })
+read_bytes n q = Ok (record { rows = record { rows = n }; next = q })
 
 abbrev pub read_flags : ℕ → FlagPosition → FlagBatch
-read_flags n q = flag.Read (record { rows = record { rows = n }; next = q })
+read_flags n q = Ok (record { rows = record { rows = n }; next = q })
 
 -- what is answered: that, or a refusal, at the byte of the call's position, from which on the input has `total` bytes
 abbrev pub bytes_answer : ℕ → ℕ → ℕ → Batch BytePosition → ByteBatch
 bytes_answer at total n (took vs q) = read_bytes n q
-bytes_answer at total n (missing r) = byte.Refused (refusal at total r)
+bytes_answer at total n (missing r) = Err (refusal at total r)
 
 abbrev pub flags_answer : ℕ → ℕ → ℕ → Batch FlagPosition → FlagBatch
 flags_answer at total n (took vs q) = read_flags n q
-flags_answer at total n (missing r) = flag.Refused (refusal at total r)
+flags_answer at total n (missing r) = Err (refusal at total r)
 
 -- what was taken in the first n places, and what stood in the others; a refused call leaves every place unchanged
 abbrev pub places_after : {P : Type 0} → ℕ → List ℕ → Batch P → List ℕ

@@ -5,3 +5,4 @@ pub mod Batches
 pub mod BatchTheorems
 pub mod Found
 pub mod Ones
+pub mod Walked

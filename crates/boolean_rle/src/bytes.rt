@@ -1,62 +1,29 @@
-// Bytes in batches, from a position of the row index. The positions before and after them are found first; only then is a place written.
-ghost use Rattle.std.specs.Prelude.{◌≡◌, ◌+◌, ◌-◌, ◌≤◌, length, drop, replicate};
+// Bytes in batches, from a position of the row index.
+ghost use Rattle.std.specs.Prelude.{◌+◌, ◌≤◌, length};
 ghost use Rattle.boolean_rle.specs.Batches.{BytesGiven};
-ghost use Rattle.boolean_rle.specs.Found.{found_at, bytes_at, bytes_ahead, Wrote};
+ghost use Rattle.boolean_rle.specs.Found.{byte_end, bytes_ahead, Wrote};
 
-use crate::positions::{ByteEnd, BytePosition};
-use crate::{ByteRun, Found, positions};
+use crate::batch::{Position, Read};
+use crate::positions::BytePosition;
+use crate::run::RunAt;
+use crate::{Cut, batch, positions};
 use format::{Refusal, RowNumber};
-use util::bytes;
 
 // A batch: how many bytes, and the position after them.
-#[derive(Clone, Copy)]
-pub struct BytesRead {
-    pub rows: RowNumber,
-    pub next: BytePosition,
-}
+pub type BytesRead = Read<BytePosition>;
 
-// What the reader answers.
-#[derive(Clone, Copy)]
-pub enum ByteBatch {
-    Read(BytesRead),
-    Refused(Refusal),
-}
+impl Position for BytePosition {
+    ghost end = { λ s p n. byte_end s p.run.bytes (p.bytes.bytes + n) };
 
-// Copies of a byte in the places from k on.
-fn fill(byte: u8, count: usize, out: &mut [u8], k: usize)
-    requires { k + count ≤ length out.old }
-    ensures { Wrote k (k + count) (replicate count byte) out.old out.new }
-{
-    let mut i = 0;
-    while i < count {
-        out[k + i] = byte;
-        i += 1;
-    }
-}
+    ghost ahead = { bytes_ahead };
 
-// Some bytes of the run at a place, from byte `first` on, in the places from k on: copies of its one byte, or a part of its literals.
-fn put_part(
-    input: &[u8],
-    at: usize,
-    run: ByteRun,
-    first: usize,
-    count: usize,
-    out: &mut [u8],
-    k: usize,
-)
-    requires { (found_at input.now at ≡ Found.Run run) × (count ≤ run.count - first) × (k + count ≤ length out.old) }
-    ensures { Wrote k (k + count) (drop first (bytes_at input.now at)) out.old out.new }
-{
-    // none of a run that is skipped whole, after which the input may end
-    if count == 0 {
-        return;
+    fn after(self, input: &[u8], n: usize) -> Result<BytePosition, Cut> {
+        positions::byte_end(input, self, n)
     }
-    if input[at] < 128 {
-        fill(input[at + 1], count, out, k);
-        return;
+
+    fn put(self, input: &[u8], n: usize, out: &mut [u8]) {
+        put_values(input, self, n, out);
     }
-    let start = at + 1 + first;
-    bytes::copy(&input[start..], count, out, k);
 }
 
 // The bytes after a position, run by run, in the first n places.
@@ -69,39 +36,32 @@ fn put_values(input: &[u8], from: BytePosition, n: usize, out: &mut [u8])
     let mut place = start.bytes;
     let mut left = skip.bytes;
     let mut done = 0;
+    // from run to run: the step is a run's size, so no range has these places
     while done < n {
-        let Found::Run(run) = crate::run_at(input, place) else {
+        let Ok(run) = crate::run_at(input, place) else {
             return;
         };
-        let count = crate::lesser(n - done, crate::less(run.count, left));
-        put_part(input, place, run, left, count, out, done);
-        done = done + count;
-        left = crate::less(left, run.count);
-        place = place + run.size;
+        let count = (n - done).min(run.count.saturating_sub(left));
+        let here = RunAt {
+            input,
+            at: place,
+            run,
+        };
+        here.put_bytes(left, count, out, done);
+        done += count;
+        left = left.saturating_sub(run.count);
+        place += run.size;
     }
 }
 
 // The n bytes after a position, in the first n places, and the position after them.
-pub fn read_bytes(input: &[u8], from: BytePosition, n: RowNumber, out: &mut [u8]) -> ByteBatch
+pub fn read_bytes(
+    input: &[u8],
+    from: BytePosition,
+    n: RowNumber,
+    out: &mut [u8],
+) -> Result<BytesRead, Refusal>
     ensures { BytesGiven input.now from n.rows out.old out.new result }
 {
-    let at = from.run;
-    let rows = n.rows;
-    let begin = match positions::byte_end(input, from, 0) {
-        ByteEnd::At(begin) => begin,
-        ByteEnd::Cut(number, field) => {
-            return ByteBatch::Refused(positions::cut(number, at, field));
-        }
-    };
-    let next = match positions::byte_end(input, begin, rows) {
-        ByteEnd::At(next) => next,
-        ByteEnd::Cut(number, field) => {
-            return ByteBatch::Refused(positions::cut(number, at, field));
-        }
-    };
-    if out.len() < rows {
-        return ByteBatch::Refused(Refusal::new(8, at));
-    }
-    put_values(input, begin, rows, out);
-    ByteBatch::Read(BytesRead { rows: n, next })
+    batch::read_batch(input, from, from.run, n, out)
 }

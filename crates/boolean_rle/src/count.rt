@@ -5,13 +5,6 @@ ghost use Rattle.boolean_rle.specs.Ones.{ones_in, count_true};
 
 use format::{ByteOffset, Refusal, RowNumber};
 
-// How many booleans are true, or refusal 6.
-#[derive(Clone, Copy)]
-pub enum Count {
-    True(usize),
-    Refused(Refusal),
-}
-
 // The ones of the highest bits of a byte.
 fn ones_of(byte: u8, bits: usize) -> usize
     requires { (1 ≤ bits) × (bits ≤ 8) }
@@ -25,18 +18,16 @@ fn ones_in(bytes: &[u8], whole: ByteOffset) -> RowNumber
     requires { (whole.bytes ≤ length bytes.now) × (8 * whole.bytes < 2 ^ 64) }
     ensures { result.rows ≡ ones_in (8 * whole.bytes) bytes.now }
 {
-    let count = whole.bytes;
     let mut ones: usize = 0;
-    let mut i: usize = 0;
-    while i < count {
-        ones += ones_of(bytes[i], 8);
-        i += 1;
+    for &byte in &bytes[..whole.bytes] {
+        ones += ones_of(byte, 8);
     }
     RowNumber { rows: ones }
 }
 
-// How many of the first n booleans are true, highest bit first: a byte at a time, and of the last only the bits that are asked for.
-pub fn count_true(bytes: &[u8], n: RowNumber) -> Count
+// How many of the first n booleans are true, highest bit first: a byte at a time, and of the last only the bits that are asked for. Or
+// refusal 6.
+pub fn count_true(bytes: &[u8], n: RowNumber) -> Result<usize, Refusal>
     ensures { result ≡ count_true n.rows bytes.now }
 {
     let rows = n.rows;
@@ -44,14 +35,14 @@ pub fn count_true(bytes: &[u8], n: RowNumber) -> Count
     let left = rows % 8;
     let start = ByteOffset { bytes: 0 };
     if bytes.len() < whole {
-        return Count::Refused(Refusal::cut(6, start, start));
+        return Err(Refusal::cut(6, start, start));
     }
     let ones = ones_in(bytes, ByteOffset { bytes: whole }).rows;
     if left == 0 {
-        return Count::True(ones);
+        return Ok(ones);
     }
     if bytes.len() == whole {
-        return Count::Refused(Refusal::cut(6, start, start));
+        return Err(Refusal::cut(6, start, start));
     }
-    Count::True(ones + ones_of(bytes[whole], left))
+    Ok(ones + ones_of(bytes[whole], left))
 }

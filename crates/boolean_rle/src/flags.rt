@@ -1,24 +1,30 @@
-// Flags in batches, from a position of the row index. The positions before and after them are found first; only then is a place written.
-ghost use Rattle.std.specs.Prelude.{◌≡◌, ◌-◌, ◌≤◌, ◌<◌, min, length};
+// Flags in batches, from a position of the row index.
+ghost use Rattle.std.specs.Prelude.{◌≡◌, ◌+◌, ◌-◌, ◌≤◌, ◌<◌, min, length};
 ghost use Rattle.boolean_rle.specs.Batches.{FlagsGiven};
-ghost use Rattle.boolean_rle.specs.Found.{Wrote, flags_ahead, Ready};
+ghost use Rattle.boolean_rle.specs.Found.{flag_end, flags_ahead, Ready, Wrote};
+ghost use Rattle.boolean_rle.specs.Positions.{skipped};
 
-use crate::positions::{FlagEnd, FlagPosition};
-use crate::{Found, positions};
+use crate::batch::{Position, Read};
+use crate::positions::FlagPosition;
+use crate::run::RunAt;
+use crate::{Cut, batch, positions};
 use format::{Refusal, RowNumber};
 
 // A batch: how many flags, and the position after them.
-#[derive(Clone, Copy)]
-pub struct FlagsRead {
-    pub rows: RowNumber,
-    pub next: FlagPosition,
-}
+pub type FlagsRead = Read<FlagPosition>;
 
-// What the reader answers.
-#[derive(Clone, Copy)]
-pub enum FlagBatch {
-    Read(FlagsRead),
-    Refused(Refusal),
+impl Position for FlagPosition {
+    ghost end = { λ s p n. flag_end s p.run.bytes (skipped p + n) };
+
+    ghost ahead = { flags_ahead };
+
+    fn after(self, input: &[u8], n: usize) -> Result<FlagPosition, Cut> {
+        positions::flag_end(input, self, n)
+    }
+
+    fn put(self, input: &[u8], n: usize, out: &mut [u8]) {
+        put_flags(input, self, n, out);
+    }
 }
 
 // Of the byte in which a plain position stands, the flags that it does not skip, as far as n are wanted: how many they are.
@@ -29,11 +35,16 @@ fn put_first(input: &[u8], from: FlagPosition, n: usize, out: &mut [u8]) -> usiz
 {
     let start = from.run;
     let skip = from.bytes;
-    let Found::Run(run) = crate::run_at(input, start.bytes) else {
+    let Ok(run) = crate::run_at(input, start.bytes) else {
         return 0;
     };
-    let byte = crate::run_byte(input, start.bytes, run, skip.bytes);
-    let count = crate::lesser(n, 8 - from.bits);
+    let here = RunAt {
+        input,
+        at: start.bytes,
+        run,
+    };
+    let byte = here.byte(skip.bytes);
+    let count = n.min(8 - from.bits);
     crate::put_bits(byte, from.bits, count, out, 0);
     count
 }
@@ -57,26 +68,13 @@ fn put_flags(input: &[u8], from: FlagPosition, n: usize, out: &mut [u8])
 }
 
 // The n flags after a position, as bytes of 0 or 1 in the first n places, and the position after them.
-pub fn read_flags(input: &[u8], from: FlagPosition, n: RowNumber, out: &mut [u8]) -> FlagBatch
+pub fn read_flags(
+    input: &[u8],
+    from: FlagPosition,
+    n: RowNumber,
+    out: &mut [u8],
+) -> Result<FlagsRead, Refusal>
     ensures { FlagsGiven input.now from n.rows out.old out.new result }
 {
-    let at = from.run;
-    let rows = n.rows;
-    let begin = match positions::flag_end(input, from, 0) {
-        FlagEnd::At(begin) => begin,
-        FlagEnd::Cut(number, field) => {
-            return FlagBatch::Refused(positions::cut(number, at, field));
-        }
-    };
-    let next = match positions::flag_end(input, begin, rows) {
-        FlagEnd::At(next) => next,
-        FlagEnd::Cut(number, field) => {
-            return FlagBatch::Refused(positions::cut(number, at, field));
-        }
-    };
-    if out.len() < rows {
-        return FlagBatch::Refused(Refusal::new(8, at));
-    }
-    put_flags(input, begin, rows, out);
-    FlagBatch::Read(FlagsRead { rows: n, next })
+    batch::read_batch(input, from, from.run, n, out)
 }

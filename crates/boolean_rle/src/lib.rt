@@ -2,20 +2,22 @@
 // only then is a place written.
 #![tactic(auto)]
 
-ghost use Rattle.std.specs.Prelude.{◌≡◌, ◌+◌, ◌-◌, ◌*◌, ◌≤◌, ◌<◌, min, max, length, take, drop, get_or, replicate};
+ghost use Rattle.std.specs.Prelude.{◌≡◌, ◌+◌, ◌-◌, ◌*◌, ◌≤◌, ◌<◌, min, max, length, take, drop, get_or, replicate, Ok};
 ghost use Rattle.format.specs.Digits.{digits, lowest_first};
-ghost use Rattle.format.specs.Fields.{bytes_for};
+ghost use Rattle.format.specs.Answers.{cutting};
 ghost use Rattle.format.specs.Booleans.{booleans, bits, BooleansRead};
 ghost use Rattle.boolean_rle.specs.Column.{column};
 ghost use Rattle.boolean_rle.specs.Found.{found_at, bytes_at, span_of, Wrote};
 
-use format::{Answer, ByteOffset, Kind, RowNumber};
-use util::number;
+use crate::run::RunAt;
+use format::{Answer, ByteOffset, Kind, Refusal, RowNumber, Run};
 
+pub mod batch;
 pub mod bytes;
 pub mod count;
 pub mod flags;
 pub mod positions;
+mod run;
 
 // A byte run's size in the input, and how many bytes it stands for.
 #[derive(Clone, Copy)]
@@ -24,117 +26,90 @@ struct ByteRun {
     count: usize,
 }
 
-// What stands at a place: a run, or too few bytes for one: the refusal's number, and the byte where the cut field begins.
+// Where the input has too few bytes: the refusal's number, and the byte where the cut field begins. The number stays a number: it is docs/FORMAT.md's,
+// which `Refusal::cut` takes, the promises name (`byte_runs`, `BooleansRead`) and C is given.
 #[derive(Clone, Copy)]
-enum Found {
-    Run(ByteRun),
-    Cut(u8, usize),
+pub(crate) struct Cut {
+    number: u8,
+    field: usize,
 }
 
-// The bytes that several runs take together, or where the input ends before them.
-#[derive(Clone, Copy)]
-enum Span {
-    Whole(usize),
-    Cut(u8, usize),
+impl Cut {
+    // The refusal of the input, at the call's byte: a field that is missing past the end of the input begins there.
+    pub(crate) fn refusal(self, at: ByteOffset) -> Refusal
+        ensures { result ≡ cutting self.number at.bytes (max at.bytes self.field) }
+    {
+        Refusal::cut(
+            self.number,
+            at,
+            ByteOffset {
+                bytes: at.bytes.max(self.field),
+            },
+        )
+    }
 }
 
 // Control c from 0 to 127: c+3 copies of the next byte. From 128 to 255: 256-c literal bytes. A missing control would stand at the input's end.
-fn run_at(input: &[u8], at: usize) -> Found
+fn run_at(input: &[u8], at: usize) -> Result<ByteRun, Cut>
     ensures { result ≡ found_at input.now at }
 {
     if input.len() <= at {
-        return Found::Cut(6, input.len());
+        return Err(Cut {
+            number: 6,
+            field: input.len(),
+        });
     }
     let control = input[at] as usize;
     let behind = at + 1;
     let left = input.len() - behind;
     if control < 128 {
         if left == 0 {
-            return Found::Cut(13, behind);
+            return Err(Cut {
+                number: 13,
+                field: behind,
+            });
         }
-        return Found::Run(ByteRun {
+        return Ok(ByteRun {
             size: 2,
             count: control + 3,
         });
     }
     let count = 256 - control;
     if left < count {
-        return Found::Cut(13, behind);
+        return Err(Cut {
+            number: 13,
+            field: behind,
+        });
     }
-    Found::Run(ByteRun {
+    Ok(ByteRun {
         size: count + 1,
         count,
     })
 }
 
-// How many bytes hold n booleans.
-fn bytes_for(n: usize) -> usize
-    ensures { result ≡ bytes_for n }
-{
-    if n % 8 == 0 { n / 8 } else { n / 8 + 1 }
-}
-
-// a - b, or 0.
-fn less(a: usize, b: usize) -> usize
-    ensures { result ≡ a - b }
-{
-    if b <= a { a - b } else { 0 }
-}
-
-// The lesser of the two.
-fn lesser(a: usize, b: usize) -> usize
-    ensures { result ≡ min a b }
-{
-    if a <= b { a } else { b }
-}
-
-// The greater of the two: a field that is missing past the end of the input begins at the call's position.
-fn later(a: usize, b: usize) -> usize
-    ensures { result ≡ max a b }
-{
-    if a <= b { b } else { a }
-}
-
 // The first pass: how many bytes the runs take that n booleans need, from a position on.
-fn span_from(input: &[u8], at: usize, n: usize) -> Span
+fn span_from(input: &[u8], at: usize, n: usize) -> Result<usize, Cut>
     ensures { result ≡ span_of (length input.now) (booleans n (drop at input.now)) }
 {
     let mut end = at;
-    let mut left = bytes_for(n);
+    let mut left = n.div_ceil(8);
+    // from run to run: the step is a run's size, so no range has these places
     while 0 < left {
-        match run_at(input, end) {
-            Found::Run(run) => {
-                end = end + run.size;
-                left = less(left, run.count);
-            }
-            Found::Cut(number, field) => {
-                return Span::Cut(number, field);
-            }
-        }
+        let run = run_at(input, end)?;
+        end += run.size;
+        left = left.saturating_sub(run.count);
     }
-    Span::Whole(end - at)
+    Ok(end - at)
 }
 
-// Byte i of the run at a place.
-fn run_byte(input: &[u8], at: usize, run: ByteRun, i: usize) -> u8
-    requires { (found_at input.now at ≡ Found.Run run) × (i < run.count) }
-    ensures { result ≡ get_or (bytes_at input.now at) i 0 }
-{
-    if input[at] < 128 {
-        return input[at + 1];
-    }
-    input[at + 1 + i]
-}
-
-// m bits of a byte after its first `skip`, highest first, in the places from k on.
+// m bits of a byte after its first `skip`, highest first, in the places from k on. Here and below the whole of the places is lent, with k beside it: the
+// next run goes on at the place that is left, and of parts each one would have to be split off and its length be said again.
 fn put_bits(byte: u8, skip: usize, m: usize, out: &mut [u8], k: usize)
     requires { (skip + m ≤ 8) × (k + m ≤ length out.old) }
     ensures { Wrote k (k + m) (drop skip (digits 2 8 byte)) out.old out.new }
 {
-    let mut j = 0;
-    while j < m {
+    for j in 0..m {
         out[k + j] = (byte >> (7 - (skip + j))) % 2;
-        j += 1;
     }
 }
 
@@ -143,7 +118,7 @@ fn put_bits(byte: u8, skip: usize, m: usize, out: &mut [u8], k: usize)
 fn spread(byte: u8) -> u64
     ensures { lowest_first 8 result ≡ digits 2 8 byte }
 {
-    let zeros = 255 - number::wide(byte);
+    let zeros = 255 - u64::from(byte);
     let product = zeros * 0x0040201008040201 + zeros % 2 * 0x8000000000000000;
     0x0101010101010101 - ((product >> 7) & 0x0101010101010101)
 }
@@ -154,23 +129,20 @@ fn put_byte(byte: u8, out: &mut [u8], k: usize)
     ensures { Wrote k (k + 8) (digits 2 8 byte) out.old out.new }
 {
     let mut left = spread(byte);
-    let mut j = 0;
-    while j < 8 {
+    for j in 0..8 {
         out[k + j] = (left % 256) as u8;
-        left = left / 256;
-        j += 1;
+        left /= 256;
     }
 }
 
-// The bits of copies of a byte, in eight places each, from k on.
+// The bits of copies of a byte, in eight places each, from k on. This and `put_literals` stay two loops, for speed: one byte is read before the loop and
+// not in it.
 fn put_copies(byte: u8, count: usize, out: &mut [u8], k: usize)
     requires { k + 8 * count ≤ length out.old }
     ensures { Wrote k (k + 8 * count) (bits (replicate count byte)) out.old out.new }
 {
-    let mut i = 0;
-    while i < count {
+    for i in 0..count {
         put_byte(byte, out, k + 8 * i);
-        i += 1;
     }
 }
 
@@ -179,67 +151,9 @@ fn put_literals(bytes: &[u8], first: usize, count: usize, out: &mut [u8], k: usi
     requires { (first + count ≤ length bytes.now) × (k + 8 * count ≤ length out.old) }
     ensures { Wrote k (k + 8 * count) (bits (take count (drop first bytes.now))) out.old out.new }
 {
-    let mut i = 0;
-    while i < count {
+    for i in 0..count {
         put_byte(bytes[first + i], out, k + 8 * i);
-        i += 1;
     }
-}
-
-// The bits of some bytes of the run at a place, from byte `first` on, in eight places each, from k on. The control is looked at once for
-// all: a look at it for each byte keeps the compiler from vectors.
-fn put_bytes(
-    input: &[u8],
-    at: usize,
-    run: ByteRun,
-    first: usize,
-    count: usize,
-    out: &mut [u8],
-    k: usize,
-)
-    requires { (found_at input.now at ≡ Found.Run run) × (count ≤ run.count - first) × (k + 8 * count ≤ length out.old) }
-    ensures { Wrote k (k + 8 * count) (bits (drop first (bytes_at input.now at))) out.old out.new }
-{
-    // none of a run that is skipped whole, after which the input may end
-    if count == 0 {
-        return;
-    }
-    if input[at] < 128 {
-        put_copies(input[at + 1], count, out, k);
-        return;
-    }
-    put_literals(input, at + 1 + first, count, out, k);
-}
-
-// The booleans of the run at a place, without its first bytes, from place k on and up to place n: the place after them.
-fn put_run(
-    input: &[u8],
-    at: usize,
-    run: ByteRun,
-    skip: usize,
-    n: usize,
-    out: &mut [u8],
-    k: usize,
-) -> usize
-    requires { (found_at input.now at ≡ Found.Run run) × (k ≤ n) × (n ≤ length out.old) }
-    ensures value { result ≡ min n (k + 8 * (run.count - skip)) }
-    ensures wrote { Wrote k result (bits (drop skip (bytes_at input.now at))) out.old out.new }
-{
-    let whole = (n - k) / 8;
-    let count = less(run.count, skip);
-    if count <= whole {
-        put_bytes(input, at, run, skip, count, out, k);
-        return k + 8 * count;
-    }
-    put_bytes(input, at, run, skip, whole, out, k);
-    put_bits(
-        run_byte(input, at, run, skip + whole),
-        0,
-        (n - k) % 8,
-        out,
-        k + 8 * whole,
-    );
-    n
 }
 
 // The booleans of the column from a place on, without its first bytes, in the places from k up to n. A run that is skipped whole is
@@ -251,13 +165,19 @@ fn put_booleans(input: &[u8], at: usize, skip: usize, n: usize, out: &mut [u8], 
     let mut place = at;
     let mut left = skip;
     let mut done = k;
+    // from run to run: the step is a run's size, so no range has these places
     while done < n {
-        let Found::Run(run) = run_at(input, place) else {
+        let Ok(run) = run_at(input, place) else {
             return;
         };
-        done = put_run(input, place, run, left, n, out, done);
-        left = less(left, run.count);
-        place = place + run.size;
+        let here = RunAt {
+            input,
+            at: place,
+            run,
+        };
+        done = here.put(left, n, out, done);
+        left = left.saturating_sub(run.count);
+        place += run.size;
     }
 }
 
@@ -267,16 +187,10 @@ pub fn read_booleans(input: &[u8], at: ByteOffset, n: RowNumber, out: &mut [u8])
 {
     let position = at.bytes;
     let rows = n.rows;
-    let consumed = match span_from(input, position, rows) {
-        Span::Whole(consumed) => consumed,
-        Span::Cut(number, field) => {
-            let cut = later(position, field);
-            return Answer::cut(number, at, ByteOffset { bytes: cut });
-        }
-    };
+    let consumed = span_from(input, position, rows).map_err(|cut| cut.refusal(at))?;
     if out.len() < rows {
-        return Answer::refused(8, at);
+        return Err(Refusal::new(8, at));
     }
     put_booleans(input, position, 0, rows, out, 0);
-    Answer::run(Kind::Booleans, 1, n, ByteOffset { bytes: consumed })
+    Ok(Some(Run::new(Kind::Booleans, 1, n, ByteOffset { bytes: consumed })))
 }

@@ -1,11 +1,10 @@
 // Positions of ORC's row index, and the plain one after some bytes or flags, by the controls alone: no run is unpacked.
-ghost use Rattle.std.specs.Prelude.{◌≡◌, ◌+◌, max};
-ghost use Rattle.format.specs.Answers.{cutting};
+ghost use Rattle.std.specs.Prelude.{◌≡◌, ◌+◌};
 ghost use Rattle.boolean_rle.specs.Positions.{skipped};
 ghost use Rattle.boolean_rle.specs.Found.{byte_end, flag_end};
 
-use crate::Found;
-use format::{ByteOffset, Refusal};
+use crate::Cut;
+use format::ByteOffset;
 
 // A position of a byte stream: the byte where a byte run begins, and how many bytes of what the runs stand for to skip from there.
 #[derive(Clone, Copy)]
@@ -14,7 +13,8 @@ pub struct BytePosition {
     pub bytes: ByteOffset,
 }
 
-// A position of a boolean stream: the same, and how many bits of the next byte to skip.
+// A position of a boolean stream: the same, and how many bits of the next byte to skip. It has the fields of a byte position and not one of that type:
+// the definitions `flag_at` and `skipped`, and so the promises, name these fields.
 #[derive(Clone, Copy)]
 pub struct FlagPosition {
     pub run: ByteOffset,
@@ -22,22 +22,8 @@ pub struct FlagPosition {
     pub bits: usize,
 }
 
-// The plain position after some bytes; or the refusal's number, and the byte where the cut field begins.
-#[derive(Clone, Copy)]
-pub(crate) enum ByteEnd {
-    At(BytePosition),
-    Cut(u8, usize),
-}
-
-// The same after some flags.
-#[derive(Clone, Copy)]
-pub(crate) enum FlagEnd {
-    At(FlagPosition),
-    Cut(u8, usize),
-}
-
-// After n bytes from a position on. With those that it skips they can pass 2^64, so the two numbers are counted down beside each other.
-pub(crate) fn byte_end(input: &[u8], from: BytePosition, n: usize) -> ByteEnd
+// The plain position after n bytes from a position on. With those that it skips they can pass 2^64, so the two numbers are counted down beside each other.
+pub(crate) fn byte_end(input: &[u8], from: BytePosition, n: usize) -> Result<BytePosition, Cut>
     ensures { result ≡ byte_end input.now from.run.bytes (from.bytes.bytes + n) }
 {
     let start = from.run;
@@ -45,33 +31,28 @@ pub(crate) fn byte_end(input: &[u8], from: BytePosition, n: usize) -> ByteEnd
     let mut place = start.bytes;
     let mut left = skip.bytes;
     let mut rest = n;
-    while 0 < crate::later(left, rest) {
-        match crate::run_at(input, place) {
-            Found::Run(run) => {
-                let unused = crate::less(run.count, left);
-                if rest < unused {
-                    return ByteEnd::At(BytePosition {
-                        run: ByteOffset { bytes: place },
-                        bytes: ByteOffset { bytes: left + rest },
-                    });
-                }
-                left = crate::less(left, run.count);
-                rest = rest - unused;
-                place = place + run.size;
-            }
-            Found::Cut(number, field) => {
-                return ByteEnd::Cut(number, field);
-            }
+    // from run to run: the step is a run's size, so no range has these places
+    while 0 < left.max(rest) {
+        let run = crate::run_at(input, place)?;
+        let unused = run.count.saturating_sub(left);
+        if rest < unused {
+            return Ok(BytePosition {
+                run: ByteOffset { bytes: place },
+                bytes: ByteOffset { bytes: left + rest },
+            });
         }
+        left = left.saturating_sub(run.count);
+        rest -= unused;
+        place += run.size;
     }
-    ByteEnd::At(BytePosition {
+    Ok(BytePosition {
         run: ByteOffset { bytes: place },
         bytes: ByteOffset { bytes: 0 },
     })
 }
 
-// After n flags from a position on. A byte of which some bits are used must be there, and so must its run.
-pub(crate) fn flag_end(input: &[u8], from: FlagPosition, n: usize) -> FlagEnd
+// The plain position after n flags from a position on. A byte of which some bits are used must be there, and so must its run.
+pub(crate) fn flag_end(input: &[u8], from: FlagPosition, n: usize) -> Result<FlagPosition, Cut>
     ensures { result ≡ flag_end input.now from.run.bytes (skipped from + n) }
 {
     let start = from.run;
@@ -82,28 +63,12 @@ pub(crate) fn flag_end(input: &[u8], from: FlagPosition, n: usize) -> FlagEnd
     };
     let over = from.bits % 8 + n % 8;
     let whole = from.bits / 8 + n / 8 + over / 8;
-    let end = match byte_end(input, begin, whole) {
-        ByteEnd::At(end) => end,
-        ByteEnd::Cut(number, field) => {
-            return FlagEnd::Cut(number, field);
-        }
-    };
+    let end = byte_end(input, begin, whole)?;
     let run = end.run;
     let bytes = end.bytes;
     let bits = over % 8;
-    if bits == 0 {
-        return FlagEnd::At(FlagPosition { run, bytes, bits });
+    if bits != 0 {
+        crate::run_at(input, run.bytes)?;
     }
-    match crate::run_at(input, run.bytes) {
-        Found::Run(_) => FlagEnd::At(FlagPosition { run, bytes, bits }),
-        Found::Cut(number, field) => FlagEnd::Cut(number, field),
-    }
-}
-
-// The refusal of an input that is cut, at the call's byte: a field that is missing past the end of the input begins there.
-pub(crate) fn cut(number: u8, at: ByteOffset, field: usize) -> Refusal
-    ensures { result ≡ cutting number at.bytes (max at.bytes field) }
-{
-    let place = crate::later(at.bytes, field);
-    Refusal::cut(number, at, ByteOffset { bytes: place })
+    Ok(FlagPosition { run, bytes, bits })
 }

@@ -2,8 +2,7 @@
 use Rattle.format.proofs.Common.{◌≡◌, refl, sym, ap, ◌∙◌, ℕ, zero, suc, ◌<◌, ◌≤◌, arith, ◌↔◌, le_refl, dec_lt, List, [], ◌∷◌, ◌++◌, map}
 use Rattle.format.proofs.Common.{length, drop, length-drop, drop-append_seam, lt-ltb, le-ltb}
 use Rattle.format.specs.declared.Kind.TheVariants.{Booleans}
-use Rattle.format.specs.declared.Answer.{Answer}
-use Rattle.format.specs.Answers.{ran, refused_at, answer_number}
+use Rattle.format.specs.Answers.{Answer, ran, refused_at, answer_number}
 use Rattle.format.specs.Fields.{bytes_for}
 use Rattle.format.specs.Parse.{got}
 use Rattle.format.specs.Booleans.{Needed, byte_count, booleans, booleans_into, booleans_of, BooleansRead}
@@ -14,9 +13,8 @@ use Rattle.byte_writer.specs.Choice.{next_run, runs_in, runs_of, written}
 use Rattle.byte_writer.specs.Flags.{bit, flag_bytes}
 use Rattle.byte_writer.specs.Laws.{enough_for, Exactly, EveryBytes, EveryFlags, BytesCall, BooleansCall}
 use Rattle.byte_writer.specs.Laws.{BytesDetermined, BooleansDetermined, RoundTrip}
-use Rattle.byte_writer.specs.Written.{refused_with, wrote_bytes, in_front, Outcome}
-use Rattle.byte_writer.specs.declared.Written.{Written}
-use Rattle.byte_writer.specs.declared.Written.TheVariants as answer
+use Rattle.byte_writer.specs.Written.{BytesAnswer, refused_with, wrote_bytes, in_front, Outcome}
+use Rattle.std.specs.Prelude.{Ok, Err}
 use Rattle.byte_writer.proofs.Choosing.{after, after_less, runs-valid, runs-bytes}
 use Rattle.byte_writer.proofs.Least.{written-enough}
 use Rattle.byte_writer.proofs.Packing.{flags-below, length-flags, flags-bits}
@@ -107,9 +105,9 @@ determined : {A : Type 0} {refusal wrote : A} {w out o o' : List ℕ} {r r' : A}
     → Outcome refusal wrote w out o r → Outcome refusal wrote w out o' r' → (o ≡ o') × (r ≡ r')
 determined p q = (p.places ∙ sym q.places, p.answer ∙ sym q.answer)
 
-number_of : Written → ℕ
-number_of (answer.Bytes rows size) = 0
-number_of (answer.Refused f) = f.number
+number_of : BytesAnswer → ℕ
+number_of (Ok w) = 0
+number_of (Err f) = f.number
 
 bytes_apart : (rows size k : ℕ) → wrote_bytes rows size ≡ refused_with k → ⊥
 bytes_apart rows size k e = never (cc)

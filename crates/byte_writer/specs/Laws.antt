@@ -2,16 +2,14 @@
 -- what was written. Assumes nothing.
 use Rattle.std.specs.Prelude.{◌≡◌, ◌↔◌, ℕ, ◌+◌, ◌/◌, ◌<◌, ◌≤◌, List, ◌++◌, map, length, drop}
 use Rattle.format.specs.declared.Kind.TheVariants.{Booleans}
-use Rattle.format.specs.declared.Answer.{Answer}
-use Rattle.format.specs.Answers.{ran, refused_at}
+use Rattle.format.specs.Answers.{Answer, ran, refused_at}
 use Rattle.format.specs.Digits.{AllBelow}
 use Rattle.format.specs.Fields.{bytes_for}
 use Rattle.format.specs.Parse.{got}
 use Rattle.format.specs.Booleans.{ByteRun, AllValidRuns, joined_runs, joined_bytes, byte_runs, booleans, booleans_of, BooleansRead}
 use Rattle.byte_writer.specs.Choice.{runs_of, written}
 use Rattle.byte_writer.specs.Flags.{bit, flag_bytes}
-use Rattle.byte_writer.specs.Written.{refused_with, wrote_bytes, in_front, BytesWritten, BooleansWritten}
-use Rattle.byte_writer.specs.declared.Written.{Written}
+use Rattle.byte_writer.specs.Written.{BytesAnswer, refused_with, wrote_bytes, in_front, BytesWritten, BooleansWritten}
 
 -- enough places for m bytes, whatever they are: a control byte for each 128 begun
 abbrev pub enough_for : ℕ → ℕ
@@ -52,7 +50,7 @@ pub record Exactly {A : Type 0} (refuse : ℕ → A) (wrote : A) (m : ℕ) (w ou
 
 abbrev pub BytesCall : Type 0
 BytesCall =
-    (bytes out out' : List ℕ) (r : Written)
+    (bytes out out' : List ℕ) (r : BytesAnswer)
     → BytesWritten bytes out out' r
     → Exactly refused_with (wrote_bytes (length bytes) (length (written bytes))) (length bytes) (written bytes) out out' r
 
@@ -66,7 +64,7 @@ BooleansCall =
 -- any two outcomes that the promise allows are equal
 abbrev pub BytesDetermined : Type 0
 BytesDetermined =
-    (bytes out o o' : List ℕ) (r r' : Written) → BytesWritten bytes out o r → BytesWritten bytes out o' r' → (o ≡ o') × (r ≡ r')
+    (bytes out o o' : List ℕ) (r r' : BytesAnswer) → BytesWritten bytes out o r → BytesWritten bytes out o' r' → (o ≡ o') × (r ≡ r')
 
 abbrev pub BooleansDetermined : Type 0
 BooleansDetermined =

@@ -5,32 +5,18 @@
 ghost use Rattle.std.specs.Prelude.{◌≡◌, ◌≤◌, length};
 ghost use Rattle.byte_writer.specs.Choice.{written};
 ghost use Rattle.byte_writer.specs.Flags.{flag_bytes, source};
-ghost use Rattle.byte_writer.specs.Written.{wrote_bytes, refused_with, in_front, BytesWritten, BooleansWritten};
+ghost use Rattle.byte_writer.specs.Written.{in_front, BytesWritten, BooleansWritten};
 
-use format::{Answer, ByteOffset, Kind, Refusal, RowNumber};
+use format::{Answer, ByteOffset, Kind, Refusal, RowNumber, Run};
 
 mod run;
 mod source;
 
 // What writing bytes comes to: how many were taken, and how many their runs have.
 #[derive(Clone, Copy)]
-pub enum Written {
-    Bytes(RowNumber, ByteOffset),
-    Refused(Refusal),
-}
-
-impl Written {
-    pub(crate) fn bytes(rows: RowNumber, size: ByteOffset) -> Self
-        ensures { result ≡ wrote_bytes rows.rows size.bytes }
-    {
-        Written::Bytes(rows, size)
-    }
-
-    pub(crate) fn refused(number: u8) -> Self
-        ensures { result ≡ refused_with number }
-    {
-        Written::Refused(Refusal::new(number, ByteOffset { bytes: 0 }))
-    }
+pub struct Written {
+    pub rows: RowNumber,
+    pub size: ByteOffset,
 }
 
 // The first pass: how many bytes the runs have.
@@ -42,8 +28,8 @@ fn measure(s: &[u8], packed: bool) -> usize
     let mut size = 0;
     while at < n {
         let next = run::next_at(s, packed, at);
-        size += run::size(next);
-        at += run::count(next);
+        size += next.size();
+        at += next.count();
     }
     size
 }
@@ -59,8 +45,8 @@ fn lay(s: &[u8], packed: bool, out: &mut [u8])
     while at < n {
         let next = run::next_at(s, packed, at);
         run::put(s, packed, at, next, out, place);
-        place += run::size(next);
-        at += run::count(next);
+        place += next.size();
+        at += next.count();
     }
 }
 
@@ -83,15 +69,18 @@ pub fn size_of_booleans(flags: &[u8]) -> ByteOffset
 }
 
 // Writes bytes as byte runs. Refusal 8: too few places, and nothing is written.
-pub fn write_bytes(bytes: &[u8], out: &mut [u8]) -> Written
+pub fn write_bytes(bytes: &[u8], out: &mut [u8]) -> Result<Written, Refusal>
     ensures { BytesWritten bytes.now out.old out.new result }
 {
     let size = measure(bytes, false);
     if out.len() < size {
-        return Written::refused(8);
+        return Err(Refusal::new(8, ByteOffset { bytes: 0 }));
     }
     lay(bytes, false, out);
-    Written::bytes(RowNumber { rows: bytes.len() }, ByteOffset { bytes: size })
+    Ok(Written {
+        rows: RowNumber { rows: bytes.len() },
+        size: ByteOffset { bytes: size },
+    })
 }
 
 // Writes flags as booleans: a flag other than 0 is true. Refusal 8: too few places, and nothing is written.
@@ -100,13 +89,13 @@ pub fn write_booleans(flags: &[u8], out: &mut [u8]) -> Answer
 {
     let size = measure(flags, true);
     if out.len() < size {
-        return Answer::refused(8, ByteOffset { bytes: 0 });
+        return Err(Refusal::new(8, ByteOffset { bytes: 0 }));
     }
     lay(flags, true, out);
-    Answer::run(
+    Ok(Some(Run::new(
         Kind::Booleans,
         1,
         RowNumber { rows: flags.len() },
         ByteOffset { bytes: size },
-    )
+    )))
 }

@@ -6,13 +6,34 @@ ghost use Rattle.byte_writer.specs.Flags as Flags;
 ghost use Rattle.byte_writer.specs.Steps.{are_equal, next_of, Laid, Ready, size_in, count_in};
 
 use crate::source;
-use util::number;
 
-// The next run: copies of one byte, or literal bytes. How many.
+// The next run: copies of one byte, or literal bytes. How many. Neither is a lack or a failure, so it is no Option and no Result.
 #[derive(Clone, Copy)]
 pub(crate) enum Next {
     Repeat(usize),
     Literals(usize),
+}
+
+impl Next {
+    // How many bytes it stands for.
+    pub(crate) fn count(self) -> usize
+        ensures { result ≡ count_in self }
+    {
+        match self {
+            Next::Repeat(count) | Next::Literals(count) => count,
+        }
+    }
+
+    // How many bytes its layout has. This is counted and no conversion, so there is nothing to derive.
+    pub(crate) fn size(self) -> usize
+        requires { count_in self ≤ 130 }
+        ensures { result ≡ size_in self }
+    {
+        match self {
+            Next::Repeat(_) => 2,
+            Next::Literals(count) => count + 1,
+        }
+    }
 }
 
 // How many equal bytes stand at a place, counted up to `most`.
@@ -20,16 +41,14 @@ fn stretch_at(s: &[u8], packed: bool, at: usize, most: usize) -> usize
     requires { (at < length (Flags.source packed s.now)) × (1 ≤ most) }
     ensures { result ≡ min most (stretch (drop at (Flags.source packed s.now))) }
 {
-    let stop = number::least(most, source::count(s, packed) - at);
+    let stop = most.min(source::count(s, packed) - at);
     let first = source::byte_at(s, packed, at);
-    let mut i = 1;
-    while i < stop {
+    for i in 1..stop {
         if source::byte_at(s, packed, at + i) != first {
             return i;
         }
-        i += 1;
     }
-    i
+    stop
 }
 
 // How many of n equal bytes the first repeat has. Of 132 it leaves three, and not two.
@@ -39,7 +58,7 @@ fn first_repeat(n: usize) -> usize
     if n == 132 {
         return 129;
     }
-    number::least(130, n)
+    n.min(130)
 }
 
 // Whether repeats leave a byte alone of the stretch at a place: one or none.
@@ -61,10 +80,7 @@ fn alone_at(s: &[u8], packed: bool, at: usize) -> usize
 fn are_equal(first: u8, second: u8, third: u8) -> bool
     ensures { result ≡ are_equal first second third }
 {
-    if second != first {
-        return false;
-    }
-    third == first
+    second == first && third == first
 }
 
 // How many bytes stand before three equal ones, counted up to 128. Each byte is asked for once; the last two bytes begin no three.
@@ -73,22 +89,20 @@ fn before_at(s: &[u8], packed: bool, at: usize) -> usize
     ensures { result ≡ min 128 (before (drop at (Flags.source packed s.now))) }
 {
     let left = source::count(s, packed) - at;
-    let most = number::least(128, left);
+    let most = left.min(128);
     if left < 3 {
         return most;
     }
-    let stop = number::least(128, left - 2);
+    let stop = (left - 2).min(128);
     let mut first = source::byte_at(s, packed, at);
     let mut second = source::byte_at(s, packed, at + 1);
-    let mut i = 0;
-    while i < stop {
+    for i in 0..stop {
         let third = source::byte_at(s, packed, at + i + 2);
         if are_equal(first, second, third) {
             return i;
         }
         first = second;
         second = third;
-        i += 1;
     }
     most
 }
@@ -117,36 +131,13 @@ pub(crate) fn next_at(s: &[u8], packed: bool, at: usize) -> Next
     Next::Literals(literals_at(s, packed, at))
 }
 
-// How many bytes it stands for.
-pub(crate) fn count(run: Next) -> usize
-    ensures { result ≡ count_in run }
-{
-    match run {
-        Next::Repeat(count) => count,
-        Next::Literals(count) => count,
-    }
-}
-
-// How many bytes its layout has.
-pub(crate) fn size(run: Next) -> usize
-    requires { count_in run ≤ 130 }
-    ensures { result ≡ size_in run }
-{
-    match run {
-        Next::Repeat(_) => 2,
-        Next::Literals(count) => count + 1,
-    }
-}
-
 // Literal bytes in the places from k on.
 fn put_bytes(s: &[u8], packed: bool, at: usize, count: usize, out: &mut [u8], k: usize)
     requires { (at + count ≤ length (Flags.source packed s.now)) × (k + count ≤ length out.old) }
     ensures { Laid (take count (drop at (Flags.source packed s.now))) k out.old out.new }
 {
-    let mut i = 0;
-    while i < count {
+    for i in 0..count {
         out[k + i] = source::byte_at(s, packed, at + i);
-        i += 1;
     }
 }
 

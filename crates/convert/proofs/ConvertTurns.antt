@@ -1,9 +1,8 @@
 -- What a turn of the conversion finds at its byte, and what that is converted to:
 -- the run's first byte says its form and whether its width is odd. Assumes nothing.
+use Rattle.std.specs.Prelude.{Some, None, Ok, Err}
 use Rattle.format.proofs.Common.{◌≡◌, refl, sym, ap, ◌∙◌, ℕ, ◌+◌, ◌-◌, ◌*◌, ◌/◌, ◌%◌, ◌≤◌, arith, Bool, true, false, List, [], ◌++◌, map, ℤ}
-use Rattle.format.proofs.Common.{length, get_or, take, drop, take_at, get_or-drop, paste, lt-ltb, le-ltb}
-use Rattle.format.specs.declared.Answer.{Answer}
-use Rattle.format.specs.declared.Answer.TheVariants as answer
+use Rattle.format.proofs.Common.{length, get_or, take, drop, take_at, get_or-drop, lt-ltb, le-ltb}
 use Rattle.format.specs.declared.ByteOffset.{ByteOffset}
 use Rattle.format.specs.declared.Run.{Run}
 use Rattle.format.specs.Digits.{AllBelow}
@@ -12,7 +11,7 @@ use Rattle.format.specs.Runs.{Description, short, direct, fixed, delta, patched,
 use Rattle.format.specs.Rows.{as_u64, i64_rows}
 use Rattle.format.specs.Parse.{Parsed, got, parse, into}
 use Rattle.format.specs.Promises.{answer_of, RunRead}
-use Rattle.format.specs.Answers.{answer_bytes}
+use Rattle.format.specs.Answers.{Answer, answer_bytes}
 use Rattle.format.specs.Writing.{writing, Written}
 use Rattle.format.proofs.Below.{below-drop}
 use Rattle.format.proofs.Rows.{byte-bounds, i64-count}
@@ -67,19 +66,19 @@ module _ (signed : Bool) (s : List ℕ) (p : ℕ) where
     pub rows_are : take r.rows.rows rows ≡ i64_rows signed at.run
 
   abbrev pub Found : List ℤ → Answer → Type 0
-  Found rows answer.End = drop p s ≡ []
-  Found rows (answer.Run r) = One rows r
-  Found rows (answer.Refused f) = NoRun signed s p f
+  Found rows (Ok None) = drop p s ≡ []
+  Found rows (Ok (Some r)) = One rows r
+  Found rows (Err f) = NoRun signed s p f
 
   pub found : (rows rows' : List ℤ) (a : Answer) → AllBelow 256 s → length rows ≡ 512 → RunRead s p signed rows rows' a → Found rows' a
   found rows rows' a h l g = by a (stands_at s p read a (in-places 512 (drop p s) (below-drop 256 p s h)) (rw l at g.answer))
     where
       by : (a : Answer) → StandsAt s p read a → Found rows' a
-      by answer.End z = z
-      by (answer.Run r) o =
+      by (Ok None) z = z
+      by (Ok (Some r)) o =
           let e : rows' ≡ i64_rows signed o.run ++ drop (row_count o.run) rows = rw (l, o.read) at g.places in
           record { at = o; rows_are = rw e (take_at (i64_rows signed o.run) _ r.rows.rows (i64-count signed o.run ∙ sym o.rows_are)) }
-      by (answer.Refused f) q = record { reason = q.reason; read = q.read; refusal_is = q.refusal_is }
+      by (Err f) q = record { reason = q.reason; read = q.read; refusal_is = q.refusal_is }
 
 -- ---- the two ways of a run. Its first byte is the one at the place.
 
@@ -121,12 +120,11 @@ module _ {signed : Bool} {s : List ℕ} {p : ℕ} {rows : List ℤ} {r : Run} (o
       turned (sym t ∙ is_odd_lem) (rw (g, q)) (rw (g, q) (byte-bounds c (runs-hold signed d o.at.valid).valid))
       (rw (g, q, b) (take_at (layout c) (drop (length (layout c)) run) (length (layout c)) refl))
 
-  pub turned-even : (run : List ℕ) {run' : List ℕ} → odd_first (get_or s p 0) ≡ false → run' ≡ paste run 0 (drop p s) n
+  pub turned-even : (run : List ℕ) {run' : List ℕ} → odd_first (get_or s p 0) ≡ false → run' ≡ take n (drop p s) ++ drop n run
       → Turned signed s p run' (record { taken = r.consumed; given = r.consumed; odd = false })
   turned-even run {run'} t b =
       let d = o.at.run in
       let c : converted signed d ≡ d = (runs-hold signed d o.at.valid).copied (sym is_odd_lem ∙ t) in
-      let z : 0 + n ≡ n = omega arith in
       let k : take n (drop p s) ≡ layout d = rw o.at.split (take_at (layout d) (drop (p + n) s) n (sym o.at.bytes-are)) in
       turned (sym t ∙ is_odd_lem) (rw c o.at.bytes-are) (omega (arith, o.at.bytes-are, byte-bounds d o.at.valid))
-      (rw (c, b, k, z) (take_at (layout d) (drop n run) n (sym o.at.bytes-are)))
+      (rw (c, b, k) (take_at (layout d) (drop n run) n (sym o.at.bytes-are)))

@@ -1,6 +1,6 @@
 -- The turns of the walk: the runs so far, the runs that they are converted to, and where the stream ends or is refused. Assumes nothing.
 use Rattle.format.proofs.Common.{◌≡◌, refl, sym, ap, ◌∙◌, ℕ, ◌+◌, ◌-◌, ◌*◌, ◌≤◌, arith, Bool, true, false, List, [], ◌∷◌, ◌++◌}
-use Rattle.format.proofs.Common.{append_assoc, append-nil, length, drop, length-append, ltb, le-ltb}
+use Rattle.format.proofs.Common.{append_assoc, append-nil, length, drop, length-append, ltb, lt-ltb, le-ltb}
 use Rattle.format.specs.declared.Refusal.{Refusal}
 use Rattle.format.specs.Digits.{AllBelow}
 use Rattle.format.specs.Runs.{Description, AllValid, Valid, layout, joined}
@@ -11,12 +11,12 @@ use Rattle.format.proofs.Streams.{stream-broken}
 use Rattle.format.proofs.StreamRoom.{more_room}
 use Rattle.format.proofs.Joined.{joined_snoc, rows-le}
 use Rattle.format.proofs.Tests.{never}
-use Rattle.convert.specs.declared.LaidOutput.{LaidOutput}
-use Rattle.convert.specs.declared.Converted.TheVariants.{Refused}
+use Rattle.std.specs.Prelude.{Option, Some, None, Err}
+use Rattle.format.specs.declared.ByteOffset.{ByteOffset}
 use Rattle.convert.specs.declared.turn.Turn.{Turn}
 use Rattle.convert.specs.Convert.{is_odd, converted, converted_all, odd_runs, result, convert}
 use Rattle.convert.specs.Turn.{Turned, NoRun}
-use Rattle.convert.specs.Walk.{counted, finished, Filled, Lays, Walked}
+use Rattle.convert.specs.Walk.{counted, finished, Within, Filled, Lays, Walked}
 use Rattle.convert.proofs.Streams.{whole_in}
 
 -- ---- one run more
@@ -42,9 +42,13 @@ counted-le false = omega arith
 result-inj : {a a' : ℕ} {l l' : List ℕ} → result a l ≡ result a' l' → l ≡ l'
 result-inj e = cc
 
+pub within : (l : List ℕ) (room : ℕ) (out₀ out : List ℕ) (at : Option ByteOffset) → Filled l room out₀ out at → Within at room
+within l room out₀ out None f = tt
+within l room out₀ out (Some end) f = f.end-in
+
 module _ (signed : Bool) (bs : List ℕ) (limit : ℕ) (out₀ : List ℕ) where
   -- the runs ds are behind the walk
-  pub record Along (out : List ℕ) (p altered : ℕ) (at : LaidOutput) : Type 0 where
+  pub record Along (out : List ℕ) (p altered : ℕ) (at : Option ByteOffset) : Type 0 where
     pub ds : List Description
     pub valid : AllValid ds
     pub split : bs ≡ joined ds ++ drop p bs
@@ -54,7 +58,7 @@ module _ (signed : Bool) (bs : List ℕ) (limit : ℕ) (out₀ : List ℕ) where
     pub long : length out ≡ length out₀
     pub fill : Filled (joined (converted_all signed ds)) limit out₀ out at
 
-  pub along-first : Along out₀ 0 0 (record { end = record { bytes = 0 }; full = false })
+  pub along-first : Along out₀ 0 0 (Some (record { bytes = 0 }))
   unfolding joined odd_runs
   along-first = record {
     ds = [];
@@ -64,11 +68,11 @@ module _ (signed : Bool) (bs : List ℕ) (limit : ℕ) (out₀ : List ℕ) where
     count = refl;
     few = omega arith;
     long = refl;
-    fill = record { full_is = sym (le-ltb limit 0 (omega arith)); end_is = λ t. refl; end-in = omega arith; laid = λ e t. refl };
+    fill = record { end_is = refl; end-in = omega arith; laid = λ e. refl };
   }
 
-  module _ (out : List ℕ) (p altered : ℕ) (at : LaidOutput) (w : Along out p altered at) where
-    pub along-next : (made out' : List ℕ) (t : Turn) (at' : LaidOutput) → Turned signed bs p made t → Lays made t.given.bytes at limit out out' at'
+  module _ (out : List ℕ) (p altered : ℕ) (at : Option ByteOffset) (w : Along out p altered at) where
+    pub along-next : (made out' : List ℕ) (t : Turn) (at' : Option ByteOffset) → Turned signed bs p made t → Lays made t.given.bytes at limit out out' at'
         → Along out' (p + t.taken.bytes) (altered + counted t.odd) at'
     along-next made out' t at' u l =
         let d = u.which in
@@ -89,27 +93,30 @@ module _ (signed : Bool) (bs : List ℕ) (limit : ℕ) (out₀ : List ℕ) where
     -- the bytes end
     pub along-end : drop p bs ≡ [] → Walked signed bs limit out₀ out (finished altered at)
     unfolding convert
-    along-end z =
-        let e : stream bs ≡ whole w.ds = whole_in bs w.ds w.valid (w.split ∙ rw (z, append-nil)) in
-        by e at.full refl (sym w.fill.full_is)
+    along-end z = by at w.fill
       where
-        by : stream bs ≡ whole w.ds → (f : Bool) → at.full ≡ f → ltb limit (length (joined (converted_all signed w.ds))) ≡ at.full
-            → Walked signed bs limit out₀ out (finished altered at)
-        by e true g h = record {
-          answer = rw (e, h, g);
-          long = w.long;
-          places = λ q a bytes r. never (cc (rw (e, h, g) at r));
-        }
-        by e false g h = record {
-          answer = rw (e, h, g, w.count, w.fill.end_is g);
-          long = w.long;
-          places = λ q a bytes r.
-              let b : joined (converted_all signed w.ds) ≡ bytes = result-inj (rw (e, h, g) at r) in
-              rw (← b) (w.fill.laid q g);
-        }
+        e : stream bs ≡ whole w.ds
+        e = whole_in bs w.ds w.valid (w.split ∙ rw (z, append-nil))
+
+        made : List ℕ
+        made = joined (converted_all signed w.ds)
+
+        by : (at : Option ByteOffset) → Filled made limit out₀ out at → Walked signed bs limit out₀ out (finished altered at)
+        by None f =
+            let h : ltb limit (length made) ≡ true = lt-ltb limit (length made) f in
+            record { answer = rw (e, h); long = w.long; places = λ q a bytes r. never (cc (rw (e, h) at r)) }
+        by (Some end) f =
+            let h : ltb limit (length made) ≡ false = le-ltb limit (length made) (omega (arith, f.end_is, f.end-in)) in
+            record {
+              answer = rw (e, h, w.count, f.end_is);
+              long = w.long;
+              places = λ q a bytes r.
+                  let b : made ≡ bytes = result-inj (rw (e, h) at r) in
+                  rw (← b) (f.laid q);
+            }
 
     -- a run is refused
-    pub along-refused : (f : Refusal) → AllBelow 256 bs → NoRun signed bs p f → Walked signed bs limit out₀ out (Refused f)
+    pub along-refused : (f : Refusal) → AllBelow 256 bs → NoRun signed bs p f → Walked signed bs limit out₀ out (Err f)
     unfolding convert stream
     along-refused f h n =
         let n₀ = 512 * length bs in
@@ -117,7 +124,7 @@ module _ (signed : Bool) (bs : List ℕ) (limit : ℕ) (out₀ : List ℕ) where
         let k : total_rows w.ds ≤ n₀ = omega (arith, rows-le w.ds w.valid, ap length w.split, length-append (joined w.ds) (drop p bs)) in
         let e : stream bs ≡ broken w.ds n.reason (drop p bs) = rw (← w.split) at (stream-broken n₀ w.ds (drop p bs) n.reason w.valid k r) in
         record {
-          answer = rw (e, ← w.place) (ap Refused n.refusal_is);
+          answer = rw (e, ← w.place) (ap Err n.refusal_is);
           long = w.long;
           places = λ q a bytes r. never (cc (rw e at r));
         }

@@ -11,8 +11,10 @@ use Rattle.format.specs.Parse.{Reason}
 use Rattle.format.specs.Streams.{Reading, whole, broken, stream}
 use Rattle.format.specs.Writing.{described}
 use Rattle.format.specs.Answers.{refusing, refusal}
-use Rattle.convert.specs.declared.Converted.{Converted}
-use Rattle.convert.specs.declared.Converted.TheVariants.{Done, Refused}
+use Rattle.std.specs.Prelude.{Result}
+use Rattle.format.specs.declared.Refusal.{Refusal}
+use Rattle.convert.specs.declared.Conversion.{Conversion}
+use Rattle.std.specs.Prelude.{Ok, Err}
 
 -- ---- ONE RUN
 
@@ -71,14 +73,14 @@ outcome_bytes out eight = out
 
 -- as the call tells it, of an input of so many bytes: the runs altered and how
 -- many bytes; or the refusal, a stream's own with its place and its cut field
-abbrev pub done : ℕ → ℕ → Converted
-done altered bytes = Done (record { altered = altered; bytes = record { bytes = bytes } })
+abbrev pub done : ℕ → ℕ → Result Conversion Refusal
+done altered bytes = Ok (record { altered = altered; bytes = record { bytes = bytes } })
 
-abbrev pub told_as : ℕ → Outcome → Converted
+abbrev pub told_as : ℕ → Outcome → Result Conversion Refusal
 told_as total (result altered bytes) = done altered (length bytes)
-told_as total (own r place) = Refused (refusal place (total - place) r)
-told_as total eight = Refused (refusing 8 0)
+told_as total (own r place) = Err (refusal place (total - place) r)
+told_as total eight = Err (refusing 8 0)
 
-pub record Converts (signed : Bool) (bs out out' : List ℕ) (r : Converted) : Type 0 where
+pub record Converts (signed : Bool) (bs out out' : List ℕ) (r : Result Conversion Refusal) : Type 0 where
   pub answer : r ≡ told_as (length bs) (convert signed bs (length out))
   pub places : out' ≡ outcome_bytes out (convert signed bs (length out))

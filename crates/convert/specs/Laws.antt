@@ -9,7 +9,9 @@ use Rattle.format.specs.Parse.{Reason, got}
 use Rattle.format.specs.Streams.{whole, broken, read_all, total_rows, joined_rows, stream}
 use Rattle.format.specs.Writing.{padded, writing}
 use Rattle.format.specs.Kept.{next_kept}
-use Rattle.convert.specs.declared.Converted.{Converted}
+use Rattle.std.specs.Prelude as Std
+use Rattle.format.specs.declared.Refusal.{Refusal}
+use Rattle.convert.specs.declared.Conversion.{Conversion}
 use Rattle.convert.specs.Convert.{is_odd, rewritten, converted, converted_all, odd_runs, Outcome, result, own, eight, convert, Converts}
 
 -- ---- ONE RUN
@@ -109,5 +111,5 @@ RoomEnough = (bs : List ℕ) (n : ℕ) → AllBelow 256 bs → 512 * length bs �
 -- any two outcomes that the promise allows are equal
 abbrev pub ConvertDetermined : Type 0
 ConvertDetermined =
-    (signed : Bool) (bs out o o' : List ℕ) (r r' : Converted) → Converts signed bs out o r → Converts signed bs out o' r'
+    (signed : Bool) (bs out o o' : List ℕ) (r r' : Std.Result Conversion Refusal) → Converts signed bs out o r → Converts signed bs out o' r'
     → (r ≡ r') × (o ≡ o')

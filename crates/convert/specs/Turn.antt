@@ -1,5 +1,5 @@
 -- One run converted, as the functions of a turn are stated. Assumes nothing.
-use Rattle.std.specs.Prelude.{◌≡◌, ℕ, ◌+◌, ◌-◌, ◌/◌, ◌%◌, ◌≤◌, Bool, not, ◌&&◌, List, [], ◌++◌, length, take, drop, ltb, eqb}
+use Rattle.std.specs.Prelude.{Option, Some, None, Result, Ok, Err, ◌≡◌, ℕ, ◌+◌, ◌-◌, ◌/◌, ◌%◌, ◌≤◌, Bool, not, ◌&&◌, List, [], ◌++◌, length, take, drop, ltb, eqb}
 use Rattle.format.specs.declared.Form.{Form}
 use Rattle.format.specs.declared.Form.TheVariants.{Direct, PackedDelta}
 use Rattle.format.specs.declared.Refusal.{Refusal}
@@ -9,8 +9,6 @@ use Rattle.format.specs.Runs.{Description, Valid, layout}
 use Rattle.format.specs.Parse.{Reason, refused, parse, into}
 use Rattle.format.specs.Answers.{refusal}
 use Rattle.convert.specs.declared.turn.Turn.{Turn}
-use Rattle.convert.specs.declared.turn.Step.{Step}
-use Rattle.convert.specs.declared.turn.Step.TheVariants as step
 use Rattle.convert.specs.Convert.{is_odd, converted}
 
 -- by the first byte of a run: whether its width is odd, and the form that it is then written in
@@ -39,7 +37,7 @@ module _ (signed : Bool) (s : List ℕ) (p : ℕ) where
     pub read : into 512 (parse (drop p s)) ≡ refused reason
     pub refusal_is : f ≡ refusal p (length s - p) reason
 
-  abbrev pub StepIs : List ℕ → Step → Type 0
-  StepIs run step.End = drop p s ≡ []
-  StepIs run (step.Run t) = Turned run t
-  StepIs run (step.Refused f) = NoRun f
+  abbrev pub StepIs : List ℕ → Result (Option Turn) Refusal → Type 0
+  StepIs run (Ok None) = drop p s ≡ []
+  StepIs run (Ok (Some t)) = Turned run t
+  StepIs run (Err f) = NoRun f

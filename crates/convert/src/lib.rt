@@ -2,16 +2,13 @@
 // written on a refusal, wherever in the stream it stands; then it writes.
 #![tactic(auto)]
 
-ghost use Rattle.std.specs.Prelude.{◌≡◌, ◌≤◌, length};
+ghost use Rattle.std.specs.Prelude.{◌≡◌, ◌≤◌, Ok, length};
 ghost use Rattle.convert.specs.Convert.{done, Converts};
-ghost use Rattle.convert.specs.Walk.{counted, finished, Put, Lays, Walked};
+ghost use Rattle.convert.specs.Walk.{counted, finished, Put, Within, Lays, Walked};
 
 use format::{ByteOffset, Refusal};
 
 mod turn;
-
-use turn::Step;
-use util::bytes;
 
 // What was converted: how many runs were altered, and how many bytes the stream now has.
 #[derive(Clone, Copy)]
@@ -20,32 +17,19 @@ pub struct Conversion {
     pub bytes: ByteOffset,
 }
 
-// What the converter answers.
-#[derive(Clone, Copy)]
-pub enum Converted {
-    Done(Conversion),
-    Refused(Refusal),
-}
-
-// How far the output is filled, and whether the runs have no room.
-#[derive(Clone, Copy)]
-struct LaidOutput {
-    end: ByteOffset,
-    full: bool,
-}
-
-impl Converted {
-    pub fn done(altered: usize, bytes: ByteOffset) -> Self
-        ensures { result ≡ done altered bytes.bytes }
+impl Conversion {
+    pub fn new(altered: usize, bytes: ByteOffset) -> Self
+        ensures { Ok result ≡ done altered bytes.bytes }
     {
-        Converted::Done(Conversion { altered, bytes })
+        Conversion { altered, bytes }
     }
 }
 
+// One altered run or none.
 fn count(odd: bool) -> usize
     ensures { result ≡ counted odd }
 {
-    if odd { 1 } else { 0 }
+    usize::from(odd)
 }
 
 // The first n bytes of a run at a place of the output, where it has room: the first walk has none.
@@ -61,84 +45,65 @@ fn put(run: &[u8], n: ByteOffset, out: &mut [u8], at: ByteOffset)
     if out.len() - place < size {
         return;
     }
-    bytes::copy(run, size, out, place);
+    out[place..place + size].copy_from_slice(&run[..size]);
 }
 
-// The first n bytes of a run behind those that are laid, in so much room.
-fn lay(run: &[u8], n: ByteOffset, at: LaidOutput, room: ByteOffset, out: &mut [u8]) -> LaidOutput
-    requires { (n.bytes ≤ length run.now) × (at.end.bytes ≤ room.bytes) }
+// The first n bytes of a run behind those that are laid, in so much room: where the bytes end then. None is no room, now or before.
+fn lay(
+    run: &[u8],
+    n: ByteOffset,
+    at: Option<ByteOffset>,
+    room: ByteOffset,
+    out: &mut [u8],
+) -> Option<ByteOffset>
+    requires { (n.bytes ≤ length run.now) × Within at room.bytes }
     ensures { Lays run.now n.bytes at room.bytes out.old out.new result }
 {
-    let end = at.end;
+    let end = at?;
     let filled = end.bytes;
     let size = n.bytes;
     let all = room.bytes;
-    if at.full {
-        return LaidOutput { end, full: true };
-    }
     if all - filled < size {
-        return LaidOutput { end, full: true };
+        return None;
     }
     put(run, n, out, end);
-    let next = ByteOffset {
+    Some(ByteOffset {
         bytes: filled + size,
-    };
-    LaidOutput {
-        end: next,
-        full: false,
-    }
+    })
 }
 
-fn finish(altered: usize, at: LaidOutput) -> Converted
+fn finish(altered: usize, at: Option<ByteOffset>) -> Result<Conversion, Refusal>
     ensures { result ≡ finished altered at }
 {
-    if at.full {
-        return Converted::Refused(Refusal::new(8, ByteOffset { bytes: 0 }));
-    }
-    Converted::done(altered, at.end)
+    let Some(end) = at else {
+        return Err(Refusal::new(8, ByteOffset { bytes: 0 }));
+    };
+    Ok(Conversion::new(altered, end))
 }
 
 // Every run of the stream, converted, one behind the other in so much room. Where the output is not that long, only the answer counts.
-fn walk(input: &[u8], signed: bool, room: ByteOffset, out: &mut [u8]) -> Converted
+fn walk(input: &[u8], signed: bool, room: ByteOffset, out: &mut [u8]) -> Result<Conversion, Refusal>
     ensures { Walked signed input.now room.bytes out.old out.new result }
 {
+    let mut run = turn::bytes_room();
     let mut p: usize = 0;
     let mut altered: usize = 0;
-    let none = ByteOffset { bytes: 0 };
-    let mut at = LaidOutput {
-        end: none,
-        full: false,
-    };
-    while p < input.len() {
-        let mut run = turn::bytes_room();
-        let step = turn::convert_run(input, ByteOffset { bytes: p }, signed, &mut run);
-        match step {
-            Step::Run(t) => {
-                at = lay(&run, t.given, at, room, out);
-                altered += count(t.odd);
-                p += t.taken.bytes;
-            }
-            Step::Refused(f) => {
-                return Converted::Refused(f);
-            }
-            Step::End => {
-                return finish(altered, at);
-            }
-        }
+    let mut at = Some(ByteOffset { bytes: 0 });
+    while let Some(t) = turn::convert_run(input, ByteOffset { bytes: p }, signed, &mut run)? {
+        at = lay(&run, t.given, at, room, out);
+        altered += count(t.odd);
+        p += t.taken.bytes;
     }
     finish(altered, at)
 }
 
 // Replaces each direct or packed delta run of an odd width by the writer's run of the same rows at the next kept width, and copies every
 // other run. The stream's own refusal comes first, then 8; nothing is written on either.
-pub fn convert(input: &[u8], signed: bool, out: &mut [u8]) -> Converted
+pub fn convert(input: &[u8], signed: bool, out: &mut [u8]) -> Result<Conversion, Refusal>
     ensures { Converts signed input.now out.old out.new result }
 {
     let n = out.len();
     let room = ByteOffset { bytes: n };
-    let first = walk(input, signed, room, &mut out[n..]);
-    match first {
-        Converted::Done(_) => walk(input, signed, room, out),
-        Converted::Refused(f) => Converted::Refused(f),
-    }
+    walk(input, signed, room, &mut out[n..])?;
+    walk(input, signed, room, out)
 }

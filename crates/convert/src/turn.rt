@@ -4,8 +4,8 @@ ghost use Rattle.format.specs.Kept.{next_kept};
 ghost use Rattle.format.specs.Writing.{Written};
 ghost use Rattle.convert.specs.Turn.{odd_first, form_first, StepIs};
 
-use format::{Answer, ByteOffset, Form, Kind, Refusal, RowNumber};
-use util::{bytes, width};
+use format::{Answer, ByteOffset, Form, Kind, Refusal, RowNumber, answer};
+use util::width;
 
 // A run: the bytes that it takes up, those of the run that it is converted to, and whether its width is odd.
 #[derive(Clone, Copy)]
@@ -13,14 +13,6 @@ pub(crate) struct Turn {
     pub taken: ByteOffset,
     pub given: ByteOffset,
     pub odd: bool,
-}
-
-// What stands at a place of the stream.
-#[derive(Clone, Copy)]
-pub(crate) enum Step {
-    End,
-    Run(Turn),
-    Refused(Refusal),
 }
 
 // Room for the rows of a run, and for its bytes.
@@ -36,12 +28,10 @@ pub(crate) fn bytes_room() -> [u8; Kind::MAX_BYTES] {
 fn is_odd(first: u8) -> bool
     ensures { result ≡ odd_first first }
 {
-    if first / 64 % 2 == 0 {
-        return false;
-    }
-    !width::is_kept(first / 2 % 32)
+    first / 64 % 2 != 0 && !width::is_kept(first / 2 % 32)
 }
 
+// (A byte of the stream, whose bits FORMAT.md gives their meaning: a type of kinds would only be read from it, here and above.)
 fn form_of(first: u8) -> Form
     ensures { result ≡ form_first first }
 {
@@ -68,36 +58,37 @@ fn rewrite(first: u8, rows: &[i64], count: RowNumber, signed: bool, out: &mut [u
     )
 }
 
-// The run at a place, converted, in the first bytes of `run`.
-pub(crate) fn convert_run(input: &[u8], at: ByteOffset, signed: bool, run: &mut [u8]) -> Step
+// The run at a place, converted, in the first bytes of `run`; none where the stream ends.
+pub(crate) fn convert_run(
+    input: &[u8],
+    at: ByteOffset,
+    signed: bool,
+    run: &mut [u8],
+) -> Result<Option<Turn>, Refusal>
     requires { length run.old ≡ 4356 }
     ensures { StepIs signed input.now at.bytes run.new result }
 {
     let p = at.bytes;
     let mut rows = rows_room();
-    let a = rle_v2::read_run(input, at, signed, &mut rows);
-    match a {
-        Answer::Run(r) => {
-            let count = r.rows;
-            let taken = r.consumed;
-            let first = input[p];
-            if is_odd(first) {
-                let w = rewrite(first, &rows, count, signed, run);
-                let given = w.consumed();
-                return Step::Run(Turn {
-                    taken,
-                    given,
-                    odd: true,
-                });
-            }
-            bytes::copy(&input[p..], taken.bytes, run, 0);
-            Step::Run(Turn {
-                taken,
-                given: taken,
-                odd: false,
-            })
-        }
-        Answer::Refused(f) => Step::Refused(f),
-        Answer::End => Step::End,
+    let Some(r) = rle_v2::read_run(input, at, signed, &mut rows)? else {
+        return Ok(None);
+    };
+    let taken = r.consumed;
+    let first = input[p];
+    if is_odd(first) {
+        let w = rewrite(first, &rows, r.rows, signed, run);
+        return Ok(Some(Turn {
+            taken,
+            given: answer::consumed(w),
+            odd: true,
+        }));
     }
+    let size = taken.bytes;
+    let source = &input[p..p + size];
+    run[..size].copy_from_slice(source);
+    Ok(Some(Turn {
+        taken,
+        given: taken,
+        odd: false,
+    }))
 }

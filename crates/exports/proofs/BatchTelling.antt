@@ -6,16 +6,12 @@ use mathlib.Core.List.{List}
 use lib.ListN.{length}
 use borrow.Author.Tests.{le-leb, lt-leb}
 use lib.IntN.{ℤ}
-use Rattle.batches.specs.declared.Batch.{Batch}
-use Rattle.batches.specs.declared.Batch.TheVariants as row
-use Rattle.boolean_rle.specs.declared.bytes.ByteBatch.{ByteBatch}
-use Rattle.boolean_rle.specs.declared.bytes.ByteBatch.TheVariants as byte
-use Rattle.boolean_rle.specs.declared.flags.FlagBatch.{FlagBatch}
-use Rattle.boolean_rle.specs.declared.flags.FlagBatch.TheVariants as flag
-use Rattle.present.specs.declared.answer.Spread.{Spread}
-use Rattle.present.specs.declared.answer.Spread.TheVariants as spread
-use Rattle.labels.specs.declared.LabelColumn.{LabelColumn}
-use Rattle.labels.specs.declared.LabelColumn.TheVariants as column
+use Rattle.std.specs.Prelude.{Ok, Err, Result, Some, None}
+use Rattle.boolean_rle.specs.Batches.{ByteBatch, FlagBatch}
+use Rattle.present.specs.Present.{Spread}
+use Rattle.format.specs.declared.RowNumber.{RowNumber}
+use Rattle.labels.specs.declared.ColumnRefusal.{ColumnRefusal}
+use Rattle.batches.specs.BatchPromise.{Batch}
 use Rattle.labels.specs.Column.{LabelPlaces, LabelledAll}
 use Rattle.answer_words.specs.Words.{too_few_words, Told, ToldOf}
 use Rattle.answer_words.proofs.Telling.{few}
@@ -32,37 +28,36 @@ told-of-one p q = (p.places-are ∙ sym q.places-are, p.told.words_are ∙ sym q
 
 pub rows_long : (b : Batch) → length (rows_words b) ≡ rows_word_count
 unfolding rows_words
-rows_long (row.Rows b) = refl
-rows_long row.End = refl
-rows_long (row.Refused f) = refl
+rows_long (Ok (Some b)) = refl
+rows_long (Ok None) = refl
+rows_long (Err f) = refl
 
 pub flags_long : (b : FlagBatch) → length (flags_words b) ≡ flags_word_count
 unfolding flags_words
-flags_long (flag.Read b) = refl
-flags_long (flag.Refused f) = refl
+flags_long (Ok b) = refl
+flags_long (Err f) = refl
 
 pub bytes-long : (b : ByteBatch) → length (bytes_words b) ≡ bytes_word_count
 unfolding bytes_words
-bytes-long (byte.Read b) = refl
-bytes-long (byte.Refused f) = refl
+bytes-long (Ok b) = refl
+bytes-long (Err f) = refl
 
 pub spread-long : (s : Spread) → length (spread_words s) ≡ spread_word_count
 unfolding spread_words
-spread-long (spread.Rows n) = refl
-spread-long (spread.Refused f) = refl
+spread-long (Ok n) = refl
+spread-long (Err f) = refl
 
-pub labels-long : (l : LabelColumn) → length (labels_words l) ≡ labels_word_count
+pub labels-long : (l : Result RowNumber ColumnRefusal) → length (labels_words l) ≡ labels_word_count
 unfolding labels_words
-labels-long (column.Rows n) = refl
-labels-long (column.Refused f) = refl
-labels-long (column.RefusedRow f row) = refl
+labels-long (Ok n) = refl
+labels-long (Err f) = refl
 
 -- the labels' three columns: too few words, or the answer laid into them
 module _ {flags : List ℕ} {numbers lengths : List ℤ} {block : ℕ} {p : LabelPlaces} {words : List ℕ} where
   pub labels-few : length words < labels_word_count → LabelsTold flags numbers lengths block p p words words too_few_words
   labels-few h = record { told = few labels-long h; columns-are = rw (lt-leb labels_word_count (length words) h) }
 
-  pub labels-told : {p' : LabelPlaces} {words' : List ℕ} {a : LabelColumn} {r : ℕ} → LabelledAll flags numbers lengths block p p' a → labels_word_count ≤ length words
+  pub labels-told : {p' : LabelPlaces} {words' : List ℕ} {a : Result RowNumber ColumnRefusal} {r : ℕ} → LabelledAll flags numbers lengths block p p' a → labels_word_count ≤ length words
       → Told labels_words (number_in labels_words) a words words' r → LabelsTold flags numbers lengths block p p' words words' r
   labels-told q h t = record { told = told q.answer t; columns-are = rw (le-leb labels_word_count (length words) h) q.places }
 

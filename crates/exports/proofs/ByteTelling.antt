@@ -2,15 +2,15 @@
 -- Assumes nothing.
 use mathlib.Core.Path.{◌≡◌, refl}
 use lib.ListN.{length}
-use Rattle.byte_writer.specs.declared.Written.{Written}
-use Rattle.byte_writer.specs.declared.Written.TheVariants as written
+use Rattle.std.specs.Prelude.{Ok, Err}
+use Rattle.byte_writer.specs.Written.{BytesAnswer}
 use Rattle.exports.specs.ByteRuns.{byte_run_words, byte_run_word_count, BooleansWrittenToldDetermined, BytesWrittenToldDetermined}
 use Rattle.exports.proofs.BatchTelling.{told-of-one}
 
-pub byte-runs-long : (w : Written) → length (byte_run_words w) ≡ byte_run_word_count
+pub byte-runs-long : (w : BytesAnswer) → length (byte_run_words w) ≡ byte_run_word_count
 unfolding byte_run_words
-byte-runs-long (written.Bytes n size) = refl
-byte-runs-long (written.Refused f) = refl
+byte-runs-long (Ok w) = refl
+byte-runs-long (Err f) = refl
 
 pub booleans-written-determined : BooleansWrittenToldDetermined
 booleans-written-determined flags out out' out'' words words' words'' r r' p q = told-of-one p q

@@ -12,10 +12,9 @@ use Rattle.format.specs.Digits.{AllBelow}
 use Rattle.format.specs.Runs.{Description, row_count}
 use Rattle.format.specs.Rows.{i64_rows}
 use Rattle.format.specs.Parse.{Parsed, parse, into}
-use Rattle.format.specs.Answers.{answer_rows, answer_bytes}
+use Rattle.format.specs.Answers.{Answer, answer_rows, answer_bytes}
 use Rattle.format.specs.Promises.{answer_of, run_places, RunRead}
 use Rattle.exports.specs.RowBytes.{row_bytes, bytes_of, places_in, LoadedAs}
-use Rattle.format.specs.declared.Answer.{Answer}
 use Rattle.format.proofs.Rows.{row-bounds, byte-bounds, i64-count}
 use Rattle.format.proofs.Runs.{parse-empty}
 use Rattle.format.proofs.Streams.{into-end, Into, into-nothing, into-run, into-refusal, into-outcome}

@@ -5,9 +5,8 @@ use Prim.Native.Nat.{ℕ, ◌<◌, ◌≤◌}
 use mathlib.Core.List.{List}
 use lib.ListN.{length}
 use lib.IntN.{ℤ}
-use Rattle.rescue.specs.RescuePromise.{RowsRescued}
-use Rattle.rescue.specs.declared.Rescued.{Rescued}
-use Rattle.rescue.specs.declared.Rescued.TheVariants.{Rows, Refused}
+use Rattle.rescue.specs.RescuePromise.{Rescued, RowsRescued}
+use Rattle.std.specs.Prelude.{Ok, Err}
 use Rattle.answer_words.specs.Words.{too_few_words, Told}
 use Rattle.exports.specs.RowBytes.{is_signed}
 use Rattle.exports.specs.Numbers.{number_in}
@@ -17,8 +16,8 @@ use Rattle.exports.proofs.BatchTelling.{told-of-one}
 
 pub rescue-long : (a : Rescued) → length (rescue_words a) ≡ rescue_word_count
 unfolding rescue_words
-rescue-long (Rows n) = refl
-rescue-long (Refused f) = refl
+rescue-long (Ok n) = refl
+rescue-long (Err f) = refl
 
 -- too few words, or the answer laid into them
 module _ {input runs skips counts : List ℕ} {fill : ℤ} {flag : ℕ} {rows : List ℤ} {marks words : List ℕ} where

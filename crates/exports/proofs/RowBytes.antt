@@ -1,4 +1,4 @@
--- Rows as bytes, one byte more and one row more. Assumes nothing.
+-- Rows as bytes, one row more. Assumes nothing.
 use Prim.Native.Nat.{ℕ, zero, suc, ◌+◌, ◌-◌, ◌/◌, ◌%◌, ◌<◌, ◌≤◌}
 use mathlib.Core.Path.{◌≡◌, refl, ap}
 use mathlib.Core.List.{List, ◌∷◌, ◌++◌, map}
@@ -7,17 +7,24 @@ use native.Mathlib.Omega.{arith}
 use lib.ListN.{length, take, drop, get_or, replicate}
 use lib.Seq.{drop-cons}
 use lib.IntN.{ℤ, pos}
+use Rattle.std.specs.Int.{w64, to_le_bytes}
 use Rattle.format.specs.Fields.{two64}
 use Rattle.format.specs.Rows.{as_u64, as_i64}
 use Rattle.format.specs.Digits.{lowest_first}
 use Rattle.exports.specs.RowBytes.{row_bytes}
 use Rattle.format.proofs.Patterns.{as-back}
 
-pub byte_more : (j x : ℕ) → j < 8 → lowest_first (8 - j) x ≡ x % 256 ∷ lowest_first (8 - (j + 1)) (x / 256)
+-- the library's bytes of a number are its eight lowest bytes, lowest first
+pub low-first : (x : ℕ) → to_le_bytes w64 x ≡ lowest_first 8 x
 unfolding lowest_first
-byte_more j x h =
-    let e : 8 - j ≡ suc (8 - (j + 1)) = omega arith in
-    rw e
+low-first x =
+    let second : x / 256 / 256 ≡ x / 65536 = omega arith in
+    let third : x / 65536 / 256 ≡ x / 16777216 = omega arith in
+    let fourth : x / 16777216 / 256 ≡ x / 4294967296 = omega arith in
+    let fifth : x / 4294967296 / 256 ≡ x / 1099511627776 = omega arith in
+    let sixth : x / 1099511627776 / 256 ≡ x / 281474976710656 = omega arith in
+    let seventh : x / 281474976710656 / 256 ≡ x / 72057594037927936 = omega arith in
+    rw (second, third, fourth, fifth, sixth, seventh) refl
 
 pub bytes-long : (n x : ℕ) → length (lowest_first n x) ≡ n
 unfolding lowest_first

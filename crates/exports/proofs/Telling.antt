@@ -6,33 +6,28 @@ use lib.ListN.{length, drop, get_or}
 use lib.Dec.{leb}
 use borrow.Author.Tests.{le-leb, lt-leb}
 use Rattle.format.specs.Fields.{pick}
+use Rattle.std.specs.Prelude.{Option, Some, None, Result, Ok, Err}
+use Rattle.format.specs.declared.Refusal.{Refusal}
 use Rattle.labels.specs.declared.Label.{Label}
 use Rattle.labels.specs.declared.Label.TheVariants as label
 use Rattle.index.specs.Columns.{Columns}
-use Rattle.index.specs.Promises.{BuiltIn}
-use Rattle.index.specs.declared.Built.{Built}
-use Rattle.index.specs.declared.Built.TheVariants as built
-use Rattle.index.specs.declared.Found.{Found}
-use Rattle.index.specs.declared.Found.TheVariants as found
-use Rattle.index.specs.declared.Preview.{Preview}
-use Rattle.index.specs.declared.Preview.TheVariants as preview
+use Rattle.index.specs.Promises.{Built, Found, Preview, BuiltIn}
+use Rattle.std.specs.Prelude.{Ok, Err}
 use Rattle.exports.specs.Numbers.{number_in}
 use Rattle.exports.specs.Index.{built_words, built_word_count, IndexTold, IndexToldDetermined, found_words, found_word_count, LookUpToldDetermined, preview_words, preview_word_count, ReadFromToldDetermined}
 use Rattle.exports.specs.Labels.{label_words, label_word_count, LabelToldDetermined}
 use Rattle.exports.specs.Patched.{PatchedToldDetermined}
-use Rattle.convert.specs.declared.Converted.{Converted}
-use Rattle.convert.specs.declared.Converted.TheVariants as convert
+use Rattle.convert.specs.declared.Conversion.{Conversion}
 use Rattle.exports.specs.Converting.{convert_words, convert_word_count, ConvertToldDetermined}
-use Rattle.boolean_rle.specs.declared.count.Count.{Count}
-use Rattle.boolean_rle.specs.declared.count.Count.TheVariants as count
+use Rattle.std.specs.Prelude.{Ok, Err}
+use Rattle.boolean_rle.specs.Ones.{Count}
 use Rattle.exports.specs.Counts.{count_words, count_word_count, CountToldDetermined}
-use Rattle.salvage.specs.declared.Outcome.{Outcome}
-use Rattle.salvage.specs.declared.Outcome.TheVariants as salvage
+use Rattle.std.specs.Prelude.{Ok, Err}
+use Rattle.salvage.specs.Salvage.{Outcome}
 use Rattle.exports.specs.Salvage.{salvage_words, salvage_word_count, SalvageToldDetermined}
-use Rattle.planner.specs.declared.Checked.{Checked}
-use Rattle.planner.specs.declared.Checked.TheVariants as check
-use Rattle.planner.specs.declared.ColumnAnswer.{ColumnAnswer}
-use Rattle.planner.specs.declared.ColumnAnswer.TheVariants as column
+use Rattle.planner.specs.declared.Columned.{Columned}
+use Rattle.planner.specs.declared.ColumnRuns.{ColumnRuns}
+use Rattle.planner.specs.declared.ColumnRuns.TheVariants as column
 use Rattle.exports.specs.Columns.{check_words, check_word_count, CheckToldDetermined, column_words, column_word_count, ColumnToldDetermined}
 use Rattle.answer_words.specs.Words.{too_few_words, Told, ToldOf}
 use Rattle.answer_words.proofs.Telling.{few}
@@ -65,11 +60,11 @@ laid long h e q = laid_by long h (ap (λ w. get_or w 1 0) e) e q
 
 -- every answer has as many words as its function says, and its promise determines the number, the words and every other lent place
 
-pub label-long : (l : Label) → length (label_words l) ≡ label_word_count
+pub label-long : (l : Result Label Refusal) → length (label_words l) ≡ label_word_count
 unfolding label_words
-label-long (label.Name n) = refl
-label-long (label.Fallback n) = refl
-label-long (label.Refused f) = refl
+label-long (Ok (label.Name n)) = refl
+label-long (Ok (label.Fallback n)) = refl
+label-long (Err f) = refl
 
 pub label-told-determined : LabelToldDetermined
 label-told-determined lengths numbers flags block fall row words words' words'' r r' p q =
@@ -81,16 +76,16 @@ patched-told-determined rows base w out out' out'' words words' words'' r r' p q
 
 pub count_long : (c : Count) → length (count_words c) ≡ count_word_count
 unfolding count_words
-count_long (count.True n) = refl
-count_long (count.Refused f) = refl
+count_long (Ok n) = refl
+count_long (Err f) = refl
 
 pub count-told-determined : CountToldDetermined
 count-told-determined packed n words words' words'' r r' p q = (p.words_are ∙ sym q.words_are, p.number_is ∙ sym q.number_is)
 
 pub built-long : (b : Built) → length (built_words b) ≡ built_word_count
 unfolding built_words
-built-long (built.Index s) = refl
-built-long (built.Refused f) = refl
+built-long (Ok s) = refl
+built-long (Err f) = refl
 
 -- what building told: too few words, or what was built laid into them
 module _ {input first at counts words : List ℕ} where
@@ -113,16 +108,16 @@ index-told-determined input first at counts f o n f' o' n' words words' words'' 
 
 pub found-long : (v : Found) → length (found_words v) ≡ found_word_count
 unfolding found_words
-found-long (found.Entry e) = refl
-found-long (found.Refused f) = refl
+found-long (Ok e) = refl
+found-long (Err f) = refl
 
 pub look-up-told-determined : LookUpToldDetermined
 look-up-told-determined input c row words words' words'' r r' p q = (p.words_are ∙ sym q.words_are, p.number_is ∙ sym q.number_is)
 
 pub preview-long : (p : Preview) → length (preview_words p) ≡ preview_word_count
 unfolding preview_words
-preview-long (preview.Rows n) = refl
-preview-long (preview.Refused f) = refl
+preview-long (Ok n) = refl
+preview-long (Err f) = refl
 
 pub read-from-told-determined : ReadFromToldDetermined
 read-from-told-determined input c row flag rows rows' rows'' words words' words'' r r' p q =
@@ -130,8 +125,8 @@ read-from-told-determined input c row flag rows rows' rows'' words words' words'
 
 pub salvage-long : (m : Outcome) → length (salvage_words m) ≡ salvage_word_count
 unfolding salvage_words
-salvage-long (salvage.Written n) = refl
-salvage-long (salvage.Refused f) = refl
+salvage-long (Ok n) = refl
+salvage-long (Err f) = refl
 
 pub salvage-told-determined : SalvageToldDetermined
 salvage-told-determined input starts counts fill flag out out' out'' lines lines' lines'' words words' words'' r r' p q = (
@@ -141,28 +136,28 @@ salvage-told-determined input starts counts fill flag out out' out'' lines lines
   p.stream-told.told.number_is ∙ sym q.stream-told.told.number_is,
 )
 
-pub convert-long : (c : Converted) → length (convert_words c) ≡ convert_word_count
+pub convert-long : (c : Result Conversion Refusal) → length (convert_words c) ≡ convert_word_count
 unfolding convert_words
-convert-long (convert.Done n) = refl
-convert-long (convert.Refused f) = refl
+convert-long (Ok n) = refl
+convert-long (Err f) = refl
 
 pub convert-told-determined : ConvertToldDetermined
 convert-told-determined input flag out out' out'' words words' words'' r r' p q =
     (p.places-are ∙ sym q.places-are, p.told.words_are ∙ sym q.told.words_are, p.told.number_is ∙ sym q.told.number_is)
 
-pub check-long : (c : Checked) → length (check_words c) ≡ check_word_count
+pub check-long : (c : Option Columned) → length (check_words c) ≡ check_word_count
 unfolding check_words
-check-long (check.Accepted n) = refl
-check-long check.Rejected = refl
+check-long (Some n) = refl
+check-long None = refl
 
 pub check-told-determined : CheckToldDetermined
 check-told-determined rows flag c room words words' words'' r r' p q = (p.words_are ∙ sym q.words_are, p.number_is ∙ sym q.number_is)
 
-pub column-long : (a : ColumnAnswer) → length (column_words a) ≡ column_word_count
+pub column-long : (a : Result ColumnRuns Refusal) → length (column_words a) ≡ column_word_count
 unfolding column_words
-column-long (column.Planned n) = refl
-column-long (column.Direct n) = refl
-column-long (column.Refused f) = refl
+column-long (Ok (column.Planned n)) = refl
+column-long (Ok (column.Direct n)) = refl
+column-long (Err f) = refl
 
 pub column-told-determined : ColumnToldDetermined
 column-told-determined rows flag c out out' out'' words words' words'' r r' p q =

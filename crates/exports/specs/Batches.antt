@@ -1,17 +1,12 @@
 -- Batches as words, and what `orc_read_rows`, `orc_read_flags` and `orc_read_bytes` promise: the number that comes back, and every row, flag, byte and word
 -- at exit, for every input, position and count. Assumes nothing.
-use Rattle.std.specs.Prelude.{◌≡◌, ℕ, ◌-◌, List, [], ◌∷◌, length, ℤ}
+use Rattle.std.specs.Prelude.{◌≡◌, ℕ, ◌-◌, List, [], ◌∷◌, length, ℤ, Ok, Err, Some, None}
 use Rattle.batches.specs.Batches.{batch}
 use Rattle.batches.specs.BatchPromise as rows
-use Rattle.batches.specs.declared.Batch.{Batch}
-use Rattle.batches.specs.declared.Batch.TheVariants as row
 use Rattle.boolean_rle.specs.Batches as run
 use Rattle.boolean_rle.specs.declared.positions.BytePosition.{BytePosition}
 use Rattle.boolean_rle.specs.declared.positions.FlagPosition.{FlagPosition}
-use Rattle.boolean_rle.specs.declared.bytes.ByteBatch.{ByteBatch}
-use Rattle.boolean_rle.specs.declared.bytes.ByteBatch.TheVariants as byte
-use Rattle.boolean_rle.specs.declared.flags.FlagBatch.{FlagBatch}
-use Rattle.boolean_rle.specs.declared.flags.FlagBatch.TheVariants as flag
+use Rattle.boolean_rle.specs.Batches.{ByteBatch, FlagBatch}
 use Rattle.answer_words.specs.Words.{cut_case, cut_byte, ToldOf}
 use Rattle.exports.specs.RowBytes.{is_signed}
 use Rattle.exports.specs.Numbers.{number_in}
@@ -21,10 +16,10 @@ use Rattle.exports.specs.Numbers.{number_in}
 -- word 0 is the case: 0 end, 1 rows, 2 refused; words 1 and 2 are the refusal's number and place; word 3 is how many rows were read, words 4 and 5 are the
 -- position after them: the byte of its run, and the rows to skip; word 6 is 1 if the input ends in a field of the refused run, and word 7 the byte where
 -- that field begins. A word that the case does not have is 0.
-unfoldable pub rows_words : Batch → List ℕ
-rows_words (row.Rows b) = 1 ∷ 0 ∷ 0 ∷ b.rows.rows ∷ b.next.run.bytes ∷ b.next.skip.rows ∷ 0 ∷ 0 ∷ []
-rows_words row.End = 0 ∷ 0 ∷ 0 ∷ 0 ∷ 0 ∷ 0 ∷ 0 ∷ 0 ∷ []
-rows_words (row.Refused f) = 2 ∷ f.number ∷ f.place.bytes ∷ 0 ∷ 0 ∷ 0 ∷ cut_case f.cut ∷ cut_byte f.cut ∷ []
+unfoldable pub rows_words : rows.Batch → List ℕ
+rows_words (Ok (Some b)) = 1 ∷ 0 ∷ 0 ∷ b.rows.rows ∷ b.next.run.bytes ∷ b.next.skip.rows ∷ 0 ∷ 0 ∷ []
+rows_words (Ok None) = 0 ∷ 0 ∷ 0 ∷ 0 ∷ 0 ∷ 0 ∷ 0 ∷ 0 ∷ []
+rows_words (Err f) = 2 ∷ f.number ∷ f.place.bytes ∷ 0 ∷ 0 ∷ 0 ∷ cut_case f.cut ∷ cut_byte f.cut ∷ []
 
 abbrev pub rows_word_count : ℕ
 rows_word_count = 8
@@ -40,8 +35,8 @@ RowsTold input at skip flag out out' words words' r =
 -- word 0 is the case: 1 flags, 2 refused; words 1 and 2 are the refusal's number and place; word 3 is how many flags were read, words 4, 5 and 6 are the
 -- position after them: the byte of its run, the bytes and the bits to skip; words 7 and 8 are the cut field, as above
 unfoldable pub flags_words : FlagBatch → List ℕ
-flags_words (flag.Read b) = 1 ∷ 0 ∷ 0 ∷ b.rows.rows ∷ b.next.run.bytes ∷ b.next.bytes.bytes ∷ b.next.bits ∷ 0 ∷ 0 ∷ []
-flags_words (flag.Refused f) = 2 ∷ f.number ∷ f.place.bytes ∷ 0 ∷ 0 ∷ 0 ∷ 0 ∷ cut_case f.cut ∷ cut_byte f.cut ∷ []
+flags_words (Ok b) = 1 ∷ 0 ∷ 0 ∷ b.rows.rows ∷ b.next.run.bytes ∷ b.next.bytes.bytes ∷ b.next.bits ∷ 0 ∷ 0 ∷ []
+flags_words (Err f) = 2 ∷ f.number ∷ f.place.bytes ∷ 0 ∷ 0 ∷ 0 ∷ 0 ∷ cut_case f.cut ∷ cut_byte f.cut ∷ []
 
 abbrev pub flags_word_count : ℕ
 flags_word_count = 9
@@ -58,8 +53,8 @@ FlagsTold input at bytes bits n out out' words words' r =
 -- ---- BYTES: the same without bits
 
 unfoldable pub bytes_words : ByteBatch → List ℕ
-bytes_words (byte.Read b) = 1 ∷ 0 ∷ 0 ∷ b.rows.rows ∷ b.next.run.bytes ∷ b.next.bytes.bytes ∷ 0 ∷ 0 ∷ []
-bytes_words (byte.Refused f) = 2 ∷ f.number ∷ f.place.bytes ∷ 0 ∷ 0 ∷ 0 ∷ cut_case f.cut ∷ cut_byte f.cut ∷ []
+bytes_words (Ok b) = 1 ∷ 0 ∷ 0 ∷ b.rows.rows ∷ b.next.run.bytes ∷ b.next.bytes.bytes ∷ 0 ∷ 0 ∷ []
+bytes_words (Err f) = 2 ∷ f.number ∷ f.place.bytes ∷ 0 ∷ 0 ∷ 0 ∷ cut_case f.cut ∷ cut_byte f.cut ∷ []
 
 abbrev pub bytes_word_count : ℕ
 bytes_word_count = 8

@@ -1,14 +1,12 @@
 -- What `orc_write_booleans`, `orc_write_bytes` and the sizes of both promise: the number that comes back, and every byte and word at exit, for all flags and
 -- bytes. Assumes nothing.
-use Rattle.std.specs.Prelude.{◌≡◌, ℕ, List, [], ◌∷◌, length, ltb}
+use Rattle.std.specs.Prelude.{◌≡◌, ℕ, List, [], ◌∷◌, length, ltb, Ok, Err}
 use Rattle.format.specs.declared.Kind.TheVariants.{Booleans}
 use Rattle.format.specs.Fields.{pick}
 use Rattle.format.specs.Answers.{ran, refused_at, answer_number}
-use Rattle.byte_writer.specs.declared.Written.{Written}
-use Rattle.byte_writer.specs.declared.Written.TheVariants as written
 use Rattle.byte_writer.specs.Choice as choice
 use Rattle.byte_writer.specs.Flags.{flag_bytes}
-use Rattle.byte_writer.specs.Written.{wrote_bytes, refused_with, in_front}
+use Rattle.byte_writer.specs.Written.{BytesAnswer, wrote_bytes, refused_with, in_front}
 use Rattle.answer_words.specs.Words.{answer_words, ToldOf}
 use Rattle.exports.specs.Numbers.{number_in}
 
@@ -21,9 +19,9 @@ BooleansWrittenTold flags out out' words words' r =
 
 -- word 0 is the case: 1 done, 2 refused; words 1 and 2 are the refusal's number and place, 0 unless refused; words 3 and 4 are how many bytes were taken, and
 -- how many were written, 0 if refused
-unfoldable pub byte_run_words : Written → List ℕ
-byte_run_words (written.Bytes n size) = 1 ∷ 0 ∷ 0 ∷ n.rows ∷ size.bytes ∷ []
-byte_run_words (written.Refused f) = 2 ∷ f.number ∷ f.place.bytes ∷ 0 ∷ 0 ∷ []
+unfoldable pub byte_run_words : BytesAnswer → List ℕ
+byte_run_words (Ok w) = 1 ∷ 0 ∷ 0 ∷ w.rows.rows ∷ w.size.bytes ∷ []
+byte_run_words (Err f) = 2 ∷ f.number ∷ f.place.bytes ∷ 0 ∷ 0 ∷ []
 
 abbrev pub byte_run_word_count : ℕ
 byte_run_word_count = 5

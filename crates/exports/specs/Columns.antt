@@ -1,10 +1,10 @@
 -- What `orc_plan`, `orc_check_column` and `orc_write_column` promise: the number that comes back, and every lent byte and word at exit. Of what `orc_plan`
 -- proposes it promises that it is sound: it has no one right value. Assumes nothing.
-use Rattle.std.specs.Prelude.{◌≡◌, ℕ, List, [], ◌∷◌, length, ℤ}
-use Rattle.planner.specs.declared.Checked.{Checked}
-use Rattle.planner.specs.declared.Checked.TheVariants.{Accepted, Rejected}
-use Rattle.planner.specs.declared.ColumnAnswer.{ColumnAnswer}
-use Rattle.planner.specs.declared.ColumnAnswer.TheVariants.{Planned, Direct, Refused}
+use Rattle.std.specs.Prelude.{◌≡◌, ℕ, List, [], ◌∷◌, length, ℤ, Option, Some, None, Result, Ok, Err}
+use Rattle.format.specs.declared.Refusal.{Refusal}
+use Rattle.planner.specs.declared.Columned.{Columned}
+use Rattle.planner.specs.declared.ColumnRuns.{ColumnRuns}
+use Rattle.planner.specs.declared.ColumnRuns.TheVariants.{Planned, Direct}
 use Rattle.planner.specs.Check.{Columns, checked_as, column, told_as, column_bytes}
 use Rattle.planner.specs.Plan.{Proposes}
 use Rattle.exports.specs.RowBytes.{is_signed}
@@ -18,12 +18,12 @@ PlanTold rows flag c r = Proposes (is_signed flag) rows c r
 -- ---- THE CHECK'S WORDS
 
 -- word 0 is 1 where the proposal is accepted, else 0; words 1, 2 and 3 are its runs, their rows and their bytes, 0 where it is not accepted
-unfoldable pub check_words : Checked → List ℕ
-check_words (Accepted c) = 1 ∷ c.runs ∷ c.rows.rows ∷ c.bytes.bytes ∷ []
-check_words Rejected = 0 ∷ 0 ∷ 0 ∷ 0 ∷ []
+unfoldable pub check_words : Option Columned → List ℕ
+check_words (Some c) = 1 ∷ c.runs ∷ c.rows.rows ∷ c.bytes.bytes ∷ []
+check_words None = 0 ∷ 0 ∷ 0 ∷ 0 ∷ []
 
 -- nothing is refused
-abbrev pub check_number : Checked → ℕ
+abbrev pub check_number : Option Columned → ℕ
 check_number c = 0
 
 -- how many words it has
@@ -38,10 +38,10 @@ CheckTold rows flag c room words words' r = Told check_words check_number (check
 
 -- word 0 is the case: 1 written as proposed, 2 refused, 3 written as direct runs of 64 bits; words 1 and 2 are the refusal's number and place, 0 unless
 -- refused; words 3, 4 and 5 are the runs that were written, their rows and their bytes, 0 where refused
-unfoldable pub column_words : ColumnAnswer → List ℕ
-column_words (Planned c) = 1 ∷ 0 ∷ 0 ∷ c.runs ∷ c.rows.rows ∷ c.bytes.bytes ∷ []
-column_words (Direct c) = 3 ∷ 0 ∷ 0 ∷ c.runs ∷ c.rows.rows ∷ c.bytes.bytes ∷ []
-column_words (Refused f) = 2 ∷ f.number ∷ f.place.bytes ∷ 0 ∷ 0 ∷ 0 ∷ []
+unfoldable pub column_words : Result ColumnRuns Refusal → List ℕ
+column_words (Ok (Planned c)) = 1 ∷ 0 ∷ 0 ∷ c.runs ∷ c.rows.rows ∷ c.bytes.bytes ∷ []
+column_words (Ok (Direct c)) = 3 ∷ 0 ∷ 0 ∷ c.runs ∷ c.rows.rows ∷ c.bytes.bytes ∷ []
+column_words (Err f) = 2 ∷ f.number ∷ f.place.bytes ∷ 0 ∷ 0 ∷ 0 ∷ []
 
 -- how many words it has
 abbrev pub column_word_count : ℕ

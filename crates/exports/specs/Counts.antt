@@ -1,17 +1,15 @@
 -- A count of true booleans as words, and what `orc_count_true` promises: the number that comes back, and every lent word at exit, for all bytes and
 -- every n. Assumes nothing.
-use Rattle.std.specs.Prelude.{◌≡◌, ℕ, List, [], ◌∷◌}
+use Rattle.std.specs.Prelude.{◌≡◌, ℕ, List, [], ◌∷◌, Ok, Err}
 use Rattle.answer_words.specs.Words.{cut_case, cut_byte, Told}
 use Rattle.exports.specs.Numbers.{number_in}
-use Rattle.boolean_rle.specs.declared.count.Count.{Count}
-use Rattle.boolean_rle.specs.declared.count.Count.TheVariants.{True, Refused}
-use Rattle.boolean_rle.specs.Ones.{count_true}
+use Rattle.boolean_rle.specs.Ones.{Count, count_true}
 
 -- word 0 is the case: 1 counted, 2 refused; words 1 and 2 are the refusal's number and place, 0 unless refused; word 3 is how many are
 -- true, 0 where refused; word 4 is 1 where a field was cut, else 0, and word 5 the byte where it begins, 0 unless one was cut
 unfoldable pub count_words : Count → List ℕ
-count_words (True n) = 1 ∷ 0 ∷ 0 ∷ n ∷ 0 ∷ 0 ∷ []
-count_words (Refused f) = 2 ∷ f.number ∷ f.place.bytes ∷ 0 ∷ cut_case f.cut ∷ cut_byte f.cut ∷ []
+count_words (Ok n) = 1 ∷ 0 ∷ 0 ∷ n ∷ 0 ∷ 0 ∷ []
+count_words (Err f) = 2 ∷ f.number ∷ f.place.bytes ∷ 0 ∷ cut_case f.cut ∷ cut_byte f.cut ∷ []
 
 -- how many words a count has
 abbrev pub count_word_count : ℕ

@@ -1,19 +1,13 @@
 -- The index's answers as words, and what its three exported functions promise: the number that comes back, and every lent word, column and row at exit,
 -- for every input, all columns and every row. Assumes nothing.
-use Rattle.std.specs.Prelude.{◌≡◌, ℕ, List, [], ◌∷◌, length, leb, ℤ}
+use Rattle.std.specs.Prelude.{◌≡◌, ℕ, List, [], ◌∷◌, length, leb, ℤ, Ok, Err}
 use Rattle.format.specs.Fields.{pick}
 use Rattle.exports.specs.RowBytes.{is_signed}
 use Rattle.answer_words.specs.Words.{cut_case, cut_byte, Told, ToldOf}
 use Rattle.exports.specs.Numbers.{number_in}
 use Rattle.index.specs.Entries.{preview_places}
 use Rattle.index.specs.Columns.{Columns, columns_at, building_in, lookup_in, reading_in}
-use Rattle.index.specs.Promises.{built_of, found_of, preview_of}
-use Rattle.index.specs.declared.Built.{Built}
-use Rattle.index.specs.declared.Built.TheVariants as built
-use Rattle.index.specs.declared.Found.{Found}
-use Rattle.index.specs.declared.Found.TheVariants as found
-use Rattle.index.specs.declared.Preview.{Preview}
-use Rattle.index.specs.declared.Preview.TheVariants as preview
+use Rattle.index.specs.Promises.{Built, Found, Preview, built_of, found_of, preview_of}
 
 -- ---- WHAT WAS BUILT
 
@@ -21,8 +15,8 @@ use Rattle.index.specs.declared.Preview.TheVariants as preview
 -- entries there are, and the rows and the bytes of the stream, 0 where refused; word 6 is 1 where the input ends in a field of the refused run,
 -- else 0, and word 7 the byte where that field begins, 0 where there is none
 unfoldable pub built_words : Built → List ℕ
-built_words (built.Index s) = 1 ∷ 0 ∷ 0 ∷ s.entries ∷ s.rows.rows ∷ s.consumed.bytes ∷ 0 ∷ 0 ∷ []
-built_words (built.Refused f) = 2 ∷ f.number ∷ f.place.bytes ∷ 0 ∷ 0 ∷ 0 ∷ cut_case f.cut ∷ cut_byte f.cut ∷ []
+built_words (Ok s) = 1 ∷ 0 ∷ 0 ∷ s.entries ∷ s.rows.rows ∷ s.consumed.bytes ∷ 0 ∷ 0 ∷ []
+built_words (Err f) = 2 ∷ f.number ∷ f.place.bytes ∷ 0 ∷ 0 ∷ 0 ∷ cut_case f.cut ∷ cut_byte f.cut ∷ []
 
 abbrev pub built_word_count : ℕ
 built_word_count = 8
@@ -32,8 +26,8 @@ built_word_count = 8
 -- word 0 is the case: 1 found, 2 refused; words 1 and 2 are the refusal's number and place, 0 unless refused; words 3, 4 and 5 are the
 -- entry's first row, its byte offset and its rows, 0 where refused
 unfoldable pub found_words : Found → List ℕ
-found_words (found.Entry e) = 1 ∷ 0 ∷ 0 ∷ e.first.rows ∷ e.at.bytes ∷ e.rows.rows ∷ []
-found_words (found.Refused f) = 2 ∷ f.number ∷ f.place.bytes ∷ 0 ∷ 0 ∷ 0 ∷ []
+found_words (Ok e) = 1 ∷ 0 ∷ 0 ∷ e.first.rows ∷ e.at.bytes ∷ e.rows.rows ∷ []
+found_words (Err f) = 2 ∷ f.number ∷ f.place.bytes ∷ 0 ∷ 0 ∷ 0 ∷ []
 
 abbrev pub found_word_count : ℕ
 found_word_count = 6
@@ -43,8 +37,8 @@ found_word_count = 6
 -- word 0 is the case: 1 rows, 2 refused; words 1 and 2 are the refusal's number and place, 0 unless refused; word 3 is how many rows
 -- were read, 0 where refused
 unfoldable pub preview_words : Preview → List ℕ
-preview_words (preview.Rows n) = 1 ∷ 0 ∷ 0 ∷ n.rows ∷ []
-preview_words (preview.Refused f) = 2 ∷ f.number ∷ f.place.bytes ∷ 0 ∷ []
+preview_words (Ok n) = 1 ∷ 0 ∷ 0 ∷ n.rows ∷ []
+preview_words (Err f) = 2 ∷ f.number ∷ f.place.bytes ∷ 0 ∷ []
 
 abbrev pub preview_word_count : ℕ
 preview_word_count = 4

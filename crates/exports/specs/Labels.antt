@@ -1,18 +1,19 @@
 -- A label as words, and what `orc_label` promises: the number that comes back, and every lent word at exit, for all columns, blocks,
 -- fallbacks and rows. Assumes nothing.
-use Rattle.std.specs.Prelude.{◌≡◌, ℕ, List, [], ◌∷◌, ℤ}
+use Rattle.std.specs.Prelude.{◌≡◌, ℕ, List, [], ◌∷◌, ℤ, Result, Ok, Err}
+use Rattle.format.specs.declared.Refusal.{Refusal}
 use Rattle.labels.specs.declared.Label.{Label}
-use Rattle.labels.specs.declared.Label.TheVariants.{Name, Fallback, Refused}
+use Rattle.labels.specs.declared.Label.TheVariants.{Name, Fallback}
 use Rattle.labels.specs.Labels.{label}
 use Rattle.answer_words.specs.Words.{Told}
 use Rattle.exports.specs.Numbers.{number_in}
 
 -- word 0 is the case: 1 a name, 2 refused, 3 the fallback; words 1 and 2 are the refusal's number and place, 0 unless refused; word 3 is the byte of the
 -- block where the name begins, 0 unless a name; word 4 is how many bytes the name or the fallback has, 0 where refused
-unfoldable pub label_words : Label → List ℕ
-label_words (Name n) = 1 ∷ 0 ∷ 0 ∷ n.start.bytes ∷ n.size.bytes ∷ []
-label_words (Fallback n) = 3 ∷ 0 ∷ 0 ∷ 0 ∷ n.bytes ∷ []
-label_words (Refused f) = 2 ∷ f.number ∷ f.place.bytes ∷ 0 ∷ 0 ∷ []
+unfoldable pub label_words : Result Label Refusal → List ℕ
+label_words (Ok (Name n)) = 1 ∷ 0 ∷ 0 ∷ n.start.bytes ∷ n.size.bytes ∷ []
+label_words (Ok (Fallback n)) = 3 ∷ 0 ∷ 0 ∷ 0 ∷ n.bytes ∷ []
+label_words (Err f) = 2 ∷ f.number ∷ f.place.bytes ∷ 0 ∷ 0 ∷ []
 
 -- how many words a label has
 abbrev pub label_word_count : ℕ

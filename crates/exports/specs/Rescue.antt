@@ -1,10 +1,8 @@
 -- Rows rescued by positions, as words, and what `orc_rescue` promises: the number that comes back, and every row, verdict and word at exit,
 -- for every input, all columns, every fill row and every flag. Assumes nothing.
-use Rattle.std.specs.Prelude.{◌≡◌, ℕ, List, [], ◌∷◌, length, ℤ}
+use Rattle.std.specs.Prelude.{◌≡◌, ℕ, List, [], ◌∷◌, length, ℤ, Ok, Err}
 use Rattle.rescue.specs.Rescue.{RescueOutcome, rescuing}
-use Rattle.rescue.specs.RescuePromise.{rescue_answer, rows_after, marks_after}
-use Rattle.rescue.specs.declared.Rescued.{Rescued}
-use Rattle.rescue.specs.declared.Rescued.TheVariants.{Rows, Refused}
+use Rattle.rescue.specs.RescuePromise.{Rescued, rescue_answer, rows_after, marks_after}
 use Rattle.answer_words.specs.Words.{ToldOf}
 use Rattle.exports.specs.RowBytes.{is_signed}
 use Rattle.exports.specs.Numbers.{number_in}
@@ -12,8 +10,8 @@ use Rattle.exports.specs.Numbers.{number_in}
 -- word 0 is the case: 1 rescued, 2 refused; words 1 and 2 are the refusal's number and place, 0 unless refused; word 3 is how many rows
 -- were written, and word 4 how many groups were kept, both 0 if refused
 unfoldable pub rescue_words : Rescued → List ℕ
-rescue_words (Rows n) = 1 ∷ 0 ∷ 0 ∷ n.rows.rows ∷ n.kept ∷ []
-rescue_words (Refused f) = 2 ∷ f.number ∷ f.place.bytes ∷ 0 ∷ 0 ∷ []
+rescue_words (Ok n) = 1 ∷ 0 ∷ 0 ∷ n.rows.rows ∷ n.kept ∷ []
+rescue_words (Err f) = 2 ∷ f.number ∷ f.place.bytes ∷ 0 ∷ 0 ∷ []
 
 abbrev pub rescue_word_count : ℕ
 rescue_word_count = 5

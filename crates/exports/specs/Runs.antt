@@ -1,14 +1,13 @@
 -- What the functions of one run, of a stream, of booleans, of a byte value and of the writer promise: the answer's words and number, and the rows or bytes of
 -- the output at exit, for every input and every output. Assumes nothing.
 use Rattle.std.specs.Prelude.{◌≡◌, ℕ, zero, suc, ◌-◌, Bool, List, ◌++◌, map, length, drop, ltb, ℤ}
-use Rattle.format.specs.declared.Answer.{Answer}
 use Rattle.format.specs.declared.Form.{Form}
 use Rattle.format.specs.declared.Form.TheVariants.{ShortRepeat, Direct, FixedDelta, PackedDelta}
 use Rattle.format.specs.Runs.{Description}
 use Rattle.format.specs.Rows.{as_u64}
 use Rattle.format.specs.Parse.{Parsed, parse, into, unless}
 use Rattle.format.specs.Streams.{Reading, read_all, runs_of, total_rows, joined_rows}
-use Rattle.format.specs.Answers.{answer_number, stream_number}
+use Rattle.format.specs.Answers.{Answer, answer_number, stream_number}
 use Rattle.format.specs.Promises.{answer_of, run_places, stream_answer}
 use Rattle.format.specs.Booleans.{booleans_into, booleans_answer, booleans_places}
 use Rattle.format.specs.ByteValues.{byte_value, value_answer}

@@ -1,9 +1,7 @@
 -- What a salvage came to, as words, and what `orc_salvage` promises: the number that comes back, every lent word and both outputs at exit, for
 -- every stream, all starts and counts, every fill row and every flag. Assumes nothing.
-use Rattle.std.specs.Prelude.{◌≡◌, ℕ, List, [], ◌∷◌, length, ℤ}
-use Rattle.salvage.specs.declared.Outcome.{Outcome}
-use Rattle.salvage.specs.declared.Outcome.TheVariants.{Written, Refused}
-use Rattle.salvage.specs.Salvage.{Call, salvaging, outcome_of, stream_in, report_in}
+use Rattle.std.specs.Prelude.{◌≡◌, ℕ, List, [], ◌∷◌, length, ℤ, Ok, Err}
+use Rattle.salvage.specs.Salvage.{Outcome, Call, salvaging, outcome_of, stream_in, report_in}
 use Rattle.exports.specs.RowBytes.{is_signed}
 use Rattle.answer_words.specs.Words.{ToldOf}
 use Rattle.exports.specs.Numbers.{number_in}
@@ -11,8 +9,8 @@ use Rattle.exports.specs.Numbers.{number_in}
 -- word 0 is the case: 1 salvaged, 2 refused; words 1 and 2 are the refusal's number and place, 0 unless refused; words 3 and 4 are
 -- how many bytes the new stream and the report have, 0 where refused
 unfoldable pub salvage_words : Outcome → List ℕ
-salvage_words (Written n) = 1 ∷ 0 ∷ 0 ∷ n.stream.bytes ∷ n.report.bytes ∷ []
-salvage_words (Refused f) = 2 ∷ f.number ∷ f.place.bytes ∷ 0 ∷ 0 ∷ []
+salvage_words (Ok n) = 1 ∷ 0 ∷ 0 ∷ n.stream.bytes ∷ n.report.bytes ∷ []
+salvage_words (Err f) = 2 ∷ f.number ∷ f.place.bytes ∷ 0 ∷ 0 ∷ []
 
 -- how many words that is
 abbrev pub salvage_word_count : ℕ

@@ -3,9 +3,13 @@ ghost use Rattle.std.specs.Prelude.{◌≡◌};
 ghost use Rattle.exports.specs.Batches.{rows_words, flags_words, bytes_words};
 
 use answer_words::{cut_byte, cut_case};
-use batches::Batch;
-use boolean_rle::bytes::ByteBatch;
-use boolean_rle::flags::FlagBatch;
+use batches::BatchRead;
+use boolean_rle::bytes::BytesRead;
+use boolean_rle::flags::FlagsRead;
+use format::Refusal;
+
+// These three, and `of` in the other modules of words, stay apart: each lays down columns of its own (the C interface, specs/), and one function over
+// closures for the columns would say the same two arms with more.
 
 // How many words each has.
 pub const ROWS_COUNT: usize = 8;
@@ -15,11 +19,12 @@ pub const FLAGS_COUNT: usize = 9;
 pub const BYTES_COUNT: usize = 8;
 
 // Of rows.
-pub(crate) fn of_rows(batch: Batch) -> [u64; ROWS_COUNT]
+#[tactic(auto, unfolding(crate::specs::Batches::rows_words))]
+pub(crate) fn of_rows(batch: Result<Option<BatchRead>, Refusal>) -> [u64; ROWS_COUNT]
     ensures { result ≡ rows_words batch }
 {
     match batch {
-        Batch::Rows(b) => {
+        Ok(Some(b)) => {
             let next = b.next;
             [
                 1,
@@ -32,8 +37,8 @@ pub(crate) fn of_rows(batch: Batch) -> [u64; ROWS_COUNT]
                 0,
             ]
         }
-        Batch::End => [0, 0, 0, 0, 0, 0, 0, 0],
-        Batch::Refused(f) => {
+        Ok(None) => [0, 0, 0, 0, 0, 0, 0, 0],
+        Err(f) => {
             let cut = f.cut;
             [
                 2,
@@ -50,11 +55,12 @@ pub(crate) fn of_rows(batch: Batch) -> [u64; ROWS_COUNT]
 }
 
 // Of flags.
-pub(crate) fn of_flags(batch: FlagBatch) -> [u64; FLAGS_COUNT]
+#[tactic(auto, unfolding(crate::specs::Batches::flags_words))]
+pub(crate) fn of_flags(batch: Result<FlagsRead, Refusal>) -> [u64; FLAGS_COUNT]
     ensures { result ≡ flags_words batch }
 {
     match batch {
-        FlagBatch::Read(b) => {
+        Ok(b) => {
             let next = b.next;
             [
                 1,
@@ -68,7 +74,7 @@ pub(crate) fn of_flags(batch: FlagBatch) -> [u64; FLAGS_COUNT]
                 0,
             ]
         }
-        FlagBatch::Refused(f) => {
+        Err(f) => {
             let cut = f.cut;
             [
                 2,
@@ -86,11 +92,12 @@ pub(crate) fn of_flags(batch: FlagBatch) -> [u64; FLAGS_COUNT]
 }
 
 // Of bytes.
-pub(crate) fn of_bytes(batch: ByteBatch) -> [u64; BYTES_COUNT]
+#[tactic(auto, unfolding(crate::specs::Batches::bytes_words))]
+pub(crate) fn of_bytes(batch: Result<BytesRead, Refusal>) -> [u64; BYTES_COUNT]
     ensures { result ≡ bytes_words batch }
 {
     match batch {
-        ByteBatch::Read(b) => {
+        Ok(b) => {
             let next = b.next;
             [
                 1,
@@ -103,7 +110,7 @@ pub(crate) fn of_bytes(batch: ByteBatch) -> [u64; BYTES_COUNT]
                 0,
             ]
         }
-        ByteBatch::Refused(f) => {
+        Err(f) => {
             let cut = f.cut;
             [
                 2,

@@ -5,17 +5,19 @@ ghost use Rattle.byte_writer.specs.Flags.{flag_bytes};
 ghost use Rattle.exports.specs.ByteRuns.{byte_run_words, BooleansWrittenTold, BytesWrittenTold};
 
 use byte_writer::Written;
+use format::Refusal;
 
 // How many words the answer of the byte writer has.
 pub const COUNT: usize = 5;
 
 // What writing bytes came to, as words.
-pub(crate) fn words_of(answer: Written) -> [u64; COUNT]
+#[tactic(auto, unfolding(crate::specs::ByteRuns::byte_run_words))]
+pub(crate) fn words_of(answer: Result<Written, Refusal>) -> [u64; COUNT]
     ensures { result ≡ byte_run_words answer }
 {
     match answer {
-        Written::Bytes(n, size) => [1, 0, 0, n.rows as u64, size.bytes as u64],
-        Written::Refused(f) => [2, f.number as u64, f.place.bytes as u64, 0, 0],
+        Ok(w) => [1, 0, 0, w.rows.rows as u64, w.size.bytes as u64],
+        Err(f) => [2, f.number as u64, f.place.bytes as u64, 0, 0],
     }
 }
 

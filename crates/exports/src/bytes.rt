@@ -5,23 +5,17 @@ ghost use Rattle.format.specs.Rows.{as_i64};
 ghost use Rattle.format.specs.Digits.{lowest_first};
 ghost use Rattle.exports.specs.RowBytes.{row_bytes, LoadedAs};
 
-use format::{Answer, ByteOffset, Kind, RowNumber};
-use util::{big_endian, number, pattern};
+use format::{ByteOffset, Kind, RowNumber, answer};
+use util::{big_endian, pattern};
 
-// The eight bytes of x at a place, lowest first: the eight stores become one.
+// The eight bytes of x at a place, lowest first: one store.
 fn put_row(x: u64, out: &mut [u8], at: ByteOffset)
     requires { at.bytes + 8 ≤ length out.old }
     ensures { out.new
         ≡ (take at.bytes out.old ++ lowest_first 8 x) ++ drop (at.bytes + 8) out.old }
 {
     let p = at.bytes;
-    let mut left = x;
-    let mut j = 0;
-    while j < 8 {
-        out[p + j] = (left % 256) as u8;
-        left = left / 256;
-        j += 1;
-    }
+    out[p..p + 8].copy_from_slice(&x.to_le_bytes());
 }
 
 // The first rows, so many, eight bytes each.
@@ -29,12 +23,9 @@ fn put_rows(rows: &[i64], count: RowNumber, out: &mut [u8])
     requires { (count.rows ≤ length rows.now) × (8 * count.rows ≤ length out.old) }
     ensures { out.new ≡ row_bytes (take count.rows rows.now) ++ drop (8 * count.rows) out.old }
 {
-    let n = count.rows;
-    let mut i = 0;
-    while i < n {
+    for i in 0..count.rows {
         let row = rows[i];
-        put_row(pattern::to_u64(row), out, ByteOffset { bytes: 8 * i });
-        i += 1;
+        put_row(row.cast_unsigned(), out, ByteOffset { bytes: 8 * i });
     }
 }
 
@@ -43,11 +34,8 @@ fn put_repeat(x: u64, count: RowNumber, out: &mut [u8])
     requires { 8 * count.rows ≤ length out.old }
     ensures { out.new ≡ row_bytes (map as_i64 (replicate count.rows x)) ++ drop (8 * count.rows) out.old }
 {
-    let n = count.rows;
-    let mut i = 0;
-    while i < n {
+    for i in 0..count.rows {
         put_row(x, out, ByteOffset { bytes: 8 * i });
-        i += 1;
     }
 }
 
@@ -58,17 +46,17 @@ pub(crate) fn read_repeat(input: &[u8], signed: bool, out: &mut [u8]) -> u64
 {
     let measured = rle_v2::measure(input, ByteOffset { bytes: 0 });
     match measured {
-        Answer::Run(r) => {
+        Ok(Some(r)) => {
             let count = r.rows;
             if out.len() / 8 < count.rows {
                 return 8;
             }
             let x = pattern::row(signed, big_endian::read(input, 1, r.width / 8));
             put_repeat(x, count, out);
-            measured.packed()
+            answer::packed(measured)
         }
-        Answer::Refused(_) => measured.packed(),
-        Answer::End => measured.packed(),
+        Err(_) => answer::packed(measured),
+        Ok(None) => answer::packed(measured),
     }
 }
 
@@ -77,10 +65,10 @@ pub(crate) fn read_by(input: &[u8], signed: bool, rows: &mut [i64], out: &mut [u
     requires { Enough (length rows.old) input.now }
     ensures { LoadedAs input.now signed out.old out.new result }
 {
-    let places = number::least(out.len() / 8, rows.len());
+    let places = (out.len() / 8).min(rows.len());
     let answer = rle_v2::read_run(input, ByteOffset::new(0), signed, &mut rows[..places]);
-    put_rows(rows, answer.rows(), out);
-    answer.packed()
+    put_rows(rows, answer::rows(answer), out);
+    answer::packed(answer)
 }
 
 // Places for the rows of a short run, and of any. What stands in them is of no account.

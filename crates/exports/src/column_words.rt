@@ -3,29 +3,32 @@
 ghost use Rattle.std.specs.Prelude.{◌≡◌};
 ghost use Rattle.exports.specs.Columns.{check_words, column_words};
 
-use planner::{Checked, ColumnAnswer};
+use format::Refusal;
+use planner::{ColumnRuns, Columned};
 
 // How many words the check's answer has, and the writer's.
 pub const CHECK_COUNT: usize = 4;
 
 pub const COUNT: usize = 6;
 
-// Of what the check says.
-pub(crate) fn of_checked(checked: Checked) -> [u64; CHECK_COUNT]
+// Of what the check says: a list for each variant (`check_words`), as in `of` below.
+#[tactic(auto, unfolding(crate::specs::Columns::check_words))]
+pub(crate) fn of_checked(checked: Option<Columned>) -> [u64; CHECK_COUNT]
     ensures { result ≡ check_words checked }
 {
     match checked {
-        Checked::Accepted(c) => [1, c.runs as u64, c.rows.rows as u64, c.bytes.bytes as u64],
-        Checked::Rejected => [0, 0, 0, 0],
+        Some(c) => [1, c.runs as u64, c.rows.rows as u64, c.bytes.bytes as u64],
+        None => [0, 0, 0, 0],
     }
 }
 
 // Of what the writer did.
-pub(crate) fn of(answer: ColumnAnswer) -> [u64; COUNT]
+#[tactic(auto, unfolding(crate::specs::Columns::column_words))]
+pub(crate) fn of(answer: Result<ColumnRuns, Refusal>) -> [u64; COUNT]
     ensures { result ≡ column_words answer }
 {
     match answer {
-        ColumnAnswer::Planned(c) => [
+        Ok(ColumnRuns::Planned(c)) => [
             1,
             0,
             0,
@@ -33,7 +36,7 @@ pub(crate) fn of(answer: ColumnAnswer) -> [u64; COUNT]
             c.rows.rows as u64,
             c.bytes.bytes as u64,
         ],
-        ColumnAnswer::Direct(c) => [
+        Ok(ColumnRuns::Direct(c)) => [
             3,
             0,
             0,
@@ -41,6 +44,6 @@ pub(crate) fn of(answer: ColumnAnswer) -> [u64; COUNT]
             c.rows.rows as u64,
             c.bytes.bytes as u64,
         ],
-        ColumnAnswer::Refused(f) => [2, f.number as u64, f.place.bytes as u64, 0, 0, 0],
+        Err(f) => [2, f.number as u64, f.place.bytes as u64, 0, 0, 0],
     }
 }

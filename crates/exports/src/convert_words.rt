@@ -4,17 +4,19 @@ ghost use Rattle.std.specs.Prelude.{◌≡◌};
 ghost use Rattle.exports.specs.Converting.{convert_words};
 
 use answer_words::{cut_byte, cut_case};
-use convert::Converted;
+use convert::Conversion;
+use format::Refusal;
 
 // How many words it has.
 pub const COUNT: usize = 7;
 
-pub(crate) fn of(converted: Converted) -> [u64; COUNT]
+#[tactic(auto, unfolding(crate::specs::Converting::convert_words))]
+pub(crate) fn of(converted: Result<Conversion, Refusal>) -> [u64; COUNT]
     ensures { result ≡ convert_words converted }
 {
     match converted {
-        Converted::Done(c) => [1, 0, 0, c.altered as u64, c.bytes.bytes as u64, 0, 0],
-        Converted::Refused(f) => {
+        Ok(c) => [1, 0, 0, c.altered as u64, c.bytes.bytes as u64, 0, 0],
+        Err(f) => {
             let cut = f.cut;
             [
                 2,

@@ -3,17 +3,18 @@ ghost use Rattle.std.specs.Prelude.{◌≡◌};
 ghost use Rattle.exports.specs.Counts.{count_words};
 
 use answer_words::{cut_byte, cut_case};
-use boolean_rle::count::Count;
+use format::Refusal;
 
 // How many words a count has.
 pub const COUNT: usize = 6;
 
-pub(crate) fn of(count: Count) -> [u64; COUNT]
+#[tactic(auto, unfolding(crate::specs::Counts::count_words))]
+pub(crate) fn of(count: Result<usize, Refusal>) -> [u64; COUNT]
     ensures { result ≡ count_words count }
 {
     match count {
-        Count::True(n) => [1, 0, 0, n as u64, 0, 0],
-        Count::Refused(f) => {
+        Ok(n) => [1, 0, 0, n as u64, 0, 0],
+        Err(f) => {
             let cut = f.cut;
             [
                 2,

@@ -3,8 +3,9 @@ ghost use Rattle.std.specs.Prelude.{◌≡◌, min};
 ghost use Rattle.exports.specs.Runs.{form_of, WrittenBy};
 ghost use Rattle.format.specs.PatchedWriting.{PatchedWritten};
 
-use format::{Answer, ByteOffset, Form};
+use format::{Answer, ByteOffset, Form, Refusal};
 
+// The numbers are the C interface: any number names a form (`form_of` in specs/Runs.antt), so no TryFrom, which would refuse.
 fn form_of(form: u64) -> Form
     ensures { result ≡ form_of form }
 {
@@ -28,7 +29,7 @@ pub(crate) fn write(rows: &[i64], signed: bool, form: u64, width: u64, out: &mut
     ensures { WrittenBy rows.now signed form width out.old out.new result }
 {
     if 3 < form {
-        return Answer::refused(10, ByteOffset { bytes: 0 });
+        return Err(Refusal::new(10, ByteOffset { bytes: 0 }));
     }
     writer::write_run(rows, signed, form_of(form), byte_width(width), out)
 }

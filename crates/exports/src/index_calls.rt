@@ -2,7 +2,7 @@
 ghost use Rattle.exports.specs.Index.{IndexTold, LookUpTold, ReadFromTold};
 ghost use Rattle.exports.specs.Salvage.{SalvageTold};
 
-use crate::{index_words, salvage_words};
+use crate::{index_words, row_words, salvage_words};
 use format::RowNumber;
 
 // The row index of a stream, in the first places of three columns: first row, byte offset and rows of each run.
@@ -60,12 +60,12 @@ pub extern "C" fn orc_read_from(
 ) -> u64
     ensures { ReadFromTold input.now (record { firsts = first.now; offsets = at.now; counts = counts.now }) row flag rows.old rows.new words.old words.new result }
 {
-    if words.len() < index_words::PREVIEW_COUNT {
+    if words.len() < row_words::COUNT {
         return answer_words::TOO_FEW;
     }
     let from = RowNumber { rows: row as usize };
     let preview = index::read_from(input, first, at, counts, from, flag != 0, rows);
-    let said = index_words::of_preview(preview);
+    let said = row_words::of(preview);
     answer_words::lay(&said, words);
     said[1]
 }

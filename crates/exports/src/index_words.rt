@@ -1,24 +1,24 @@
 // The index's answers as words: the case, the refusal's number and place; of what was built also how much, and the field that was cut; of what
-// was found the entry; of what was read how many rows.
+// was found the entry.
 ghost use Rattle.std.specs.Prelude.{◌≡◌};
-ghost use Rattle.exports.specs.Index.{built_words, found_words, preview_words};
+ghost use Rattle.exports.specs.Index.{built_words, found_words};
 
 use answer_words::{cut_byte, cut_case};
-use index::{Built, Found, Preview};
+use format::Refusal;
+use index::{Entry, Sizes};
 
 // How many words each has.
 pub const BUILT_COUNT: usize = 8;
 
 pub const FOUND_COUNT: usize = 6;
 
-pub const PREVIEW_COUNT: usize = 4;
-
 // Of what was built.
-pub(crate) fn of_built(built: Built) -> [u64; BUILT_COUNT]
+#[tactic(auto, unfolding(crate::specs::Index::built_words))]
+pub(crate) fn of_built(built: Result<Sizes, Refusal>) -> [u64; BUILT_COUNT]
     ensures { result ≡ built_words built }
 {
     match built {
-        Built::Index(s) => [
+        Ok(s) => [
             1,
             0,
             0,
@@ -28,7 +28,7 @@ pub(crate) fn of_built(built: Built) -> [u64; BUILT_COUNT]
             0,
             0,
         ],
-        Built::Refused(f) => {
+        Err(f) => {
             let cut = f.cut;
             [
                 2,
@@ -45,11 +45,12 @@ pub(crate) fn of_built(built: Built) -> [u64; BUILT_COUNT]
 }
 
 // Of what was found.
-pub(crate) fn of_found(found: Found) -> [u64; FOUND_COUNT]
+#[tactic(auto, unfolding(crate::specs::Index::found_words))]
+pub(crate) fn of_found(found: Result<Entry, Refusal>) -> [u64; FOUND_COUNT]
     ensures { result ≡ found_words found }
 {
     match found {
-        Found::Entry(e) => [
+        Ok(e) => [
             1,
             0,
             0,
@@ -57,16 +58,6 @@ pub(crate) fn of_found(found: Found) -> [u64; FOUND_COUNT]
             e.at.bytes as u64,
             e.rows.rows as u64,
         ],
-        Found::Refused(f) => [2, f.number as u64, f.place.bytes as u64, 0, 0, 0],
-    }
-}
-
-// Of what was read.
-pub(crate) fn of_preview(preview: Preview) -> [u64; PREVIEW_COUNT]
-    ensures { result ≡ preview_words preview }
-{
-    match preview {
-        Preview::Rows(n) => [1, 0, 0, n.rows as u64],
-        Preview::Refused(f) => [2, f.number as u64, f.place.bytes as u64, 0],
+        Err(f) => [2, f.number as u64, f.place.bytes as u64, 0, 0, 0],
     }
 }

@@ -1,6 +1,7 @@
 // The exported functions, which a caller in Rust or C calls: slices in and out, numbers, and one number back. `orc_read_run` answers by that number
 // alone and lays its rows out as bytes. All others lay their answer down in words of the caller's (`answer_words/specs/Words.antt` says what each word means),
-// and read and write the caller's rows in place; the number is then the refusal's.
+// and read and write the caller's rows in place; the number is then the refusal's. All of it is the C interface: flags, forms and refusals as numbers,
+// columns beside one another, and words with a length, stay so here, and nothing is lent before the words are counted.
 #![tactic(auto)]
 
 ghost use Rattle.std.specs.Prelude.{◌≡◌};
@@ -31,6 +32,7 @@ mod lined_up_words;
 pub mod part_calls;
 pub mod rescue_calls;
 mod rescue_words;
+mod row_words;
 mod salvage_words;
 
 // The version of these functions: one more with each change of what they take or answer.

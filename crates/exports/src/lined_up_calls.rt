@@ -2,7 +2,7 @@
 ghost use Rattle.labels.specs.Column.{places_in};
 ghost use Rattle.exports.specs.LinedUp.{SpreadTold, LabelsTold};
 
-use crate::lined_up_words;
+use crate::{lined_up_words, row_words};
 use format::ByteOffset;
 
 // The column whose present rows are given: each at the place of its flag, and the fill at the others.
@@ -16,11 +16,11 @@ pub extern "C" fn orc_spread(
 ) -> u64
     ensures { SpreadTold flags.now rows.now fill out.old out.new words.old words.new result }
 {
-    if words.len() < lined_up_words::SPREAD_COUNT {
+    if words.len() < row_words::COUNT {
         return answer_words::TOO_FEW;
     }
     let spread = present::spread(flags, rows, fill, out);
-    let said = lined_up_words::of_spread(spread);
+    let said = row_words::of(spread);
     answer_words::lay(&said, words);
     said[1]
 }

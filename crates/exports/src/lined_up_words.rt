@@ -1,38 +1,36 @@
-// A column with missing rows and the labels of a column, as words: the case, the refusal's number and place, how many rows; of labels also the refused row.
+// The labels of a column, as words: the case, the refusal's number and place, how many rows, and the refused row.
 ghost use Rattle.std.specs.Prelude.{◌≡◌};
-ghost use Rattle.exports.specs.LinedUp.{spread_words, labels_words};
+ghost use Rattle.exports.specs.LinedUp.{labels_words, refused_row};
 
-use labels::LabelColumn;
-use present::answer::Spread;
+use format::RowNumber;
+use labels::ColumnRefusal;
 
-// How many words each has.
-pub const SPREAD_COUNT: usize = 4;
-
+// How many words they have.
 pub const LABELS_COUNT: usize = 5;
 
-// Of a column with missing rows.
-pub(crate) fn of_spread(spread: Spread) -> [u64; SPREAD_COUNT]
-    ensures { result ≡ spread_words spread }
+// The first row that is refused, 0 if none is. A match as plain as `map_or` with a closure, whose contract would say the same once more.
+fn refused_row(row: Option<RowNumber>) -> u64
+    ensures { result ≡ refused_row row }
 {
-    match spread {
-        Spread::Rows(n) => [1, 0, 0, n.rows as u64],
-        Spread::Refused(f) => [2, f.number as u64, f.place.bytes as u64, 0],
+    match row {
+        Some(row) => row.rows as u64,
+        None => 0,
     }
 }
 
 // Of the labels of a column.
-pub(crate) fn of_labels(labels: LabelColumn) -> [u64; LABELS_COUNT]
+#[tactic(auto, unfolding(crate::specs::LinedUp::labels_words))]
+pub(crate) fn of_labels(labels: Result<RowNumber, ColumnRefusal>) -> [u64; LABELS_COUNT]
     ensures { result ≡ labels_words labels }
 {
     match labels {
-        LabelColumn::Rows(n) => [1, 0, 0, n.rows as u64, 0],
-        LabelColumn::Refused(f) => [2, f.number as u64, f.place.bytes as u64, 0, 0],
-        LabelColumn::RefusedRow(f, row) => [
+        Ok(n) => [1, 0, 0, n.rows as u64, 0],
+        Err(ColumnRefusal { refusal, row }) => [
             2,
-            f.number as u64,
-            f.place.bytes as u64,
+            refusal.number as u64,
+            refusal.place.bytes as u64,
             0,
-            row.rows as u64,
+            refused_row(row),
         ],
     }
 }

@@ -2,22 +2,24 @@
 ghost use Rattle.std.specs.Prelude.{◌≡◌};
 ghost use Rattle.exports.specs.Salvage.{salvage_words};
 
-use salvage::Outcome;
+use format::Refusal;
+use salvage::Sizes;
 
 // How many words it has.
 pub const COUNT: usize = 5;
 
-pub(crate) fn of(outcome: Outcome) -> [u64; COUNT]
+#[tactic(auto, unfolding(crate::specs::Salvage::salvage_words))]
+pub(crate) fn of(outcome: Result<Sizes, Refusal>) -> [u64; COUNT]
     ensures { result ≡ salvage_words outcome }
 {
     match outcome {
-        Outcome::Written(sizes) => [
+        Ok(sizes) => [
             1,
             0,
             0,
             sizes.stream.bytes as u64,
             sizes.report.bytes as u64,
         ],
-        Outcome::Refused(f) => [2, f.number as u64, f.place.bytes as u64, 0, 0],
+        Err(f) => [2, f.number as u64, f.place.bytes as u64, 0, 0],
     }
 }

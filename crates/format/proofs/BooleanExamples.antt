@@ -1,10 +1,9 @@
 -- The starred line of FORMAT.md's samples and the specification's own booleans, as theorems. Assumes nothing.
 use Rattle.format.proofs.Common.{◌≡◌, refl, ℕ, List, [], ◌∷◌, ◌++◌, length, replicate}
 use Rattle.format.specs.declared.Kind.TheVariants.{Booleans}
-use Rattle.format.specs.declared.Answer.{Answer}
 use Rattle.format.specs.Digits.{digits}
 use Rattle.format.specs.Parse.{bytes}
-use Rattle.format.specs.Answers.{ran, cut_at}
+use Rattle.format.specs.Answers.{Answer, ran, cut_at}
 use Rattle.format.specs.Booleans.{run_layout, run_bytes, byte_count, joined_runs, joined_bytes, booleans_of, repeat_run, byte_run}
 use Rattle.format.specs.Booleans.{byte_runs, booleans, booleans_into, booleans_answer, booleans_places}
 

@@ -1,5 +1,6 @@
 -- Booleans: reading n of them takes exactly the runs that n needs, a run that is cut is refused as cut, and no second list of valid
 -- runs has the same bytes. Assumes nothing.
+use Rattle.std.specs.Prelude.{Ok}
 use Rattle.format.proofs.Common.{◌≡◌, refl, sym, ap, ◌∙◌, ◌≢◌, ◌↔◌, ℕ, ◌-◌, ◌*◌, ◌≤◌, arith, le_refl, zero-lt-suc, length-take-le}
 use Rattle.format.proofs.Common.{List, [], ◌∷◌, ◌++◌, append_assoc, append-nil, length, length-append, length-replicate}
 use Rattle.format.specs.Digits.{AllBelow, digits}

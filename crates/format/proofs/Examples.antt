@@ -1,14 +1,12 @@
 -- A run for each easy slip that concerns integer runs, and for each limit that the laws leave open, by computation: an edit of the
 -- definitions that makes the slip is refused here. The starred table and the specification's examples stand in the crate `promises`.
 -- Assumes nothing.
+use Rattle.std.specs.Prelude.{Some, None}
 use Rattle.format.proofs.Common.{◌≡◌, refl, ℕ, ◌+◌, ◌*◌, Bool, true, false, List, [], ◌∷◌, ◌++◌, length, drop, replicate, ℤ, pos}
 use Rattle.format.proofs.Common.{negsuc}
 use Rattle.format.specs.declared.Kind.{Kind}
 use Rattle.format.specs.declared.Kind.TheVariants.{ShortRepeat, Direct, PatchedBase, Delta}
-use Rattle.format.specs.declared.Answer.{Answer}
-use Rattle.format.specs.declared.LastRun.TheVariants.{None, Run}
-use Rattle.format.specs.declared.Stream.{Stream}
-use Rattle.format.specs.Answers.{running, ran, refusing, cutting, refused_at, cut_at, read_whole, broke_at}
+use Rattle.format.specs.Answers.{Answer, Stream, running, ran, refusing, cutting, refused_at, cut_at, read_whole, broke_at}
 use Rattle.format.specs.Digits
 use Rattle.format.specs.Fields
 use Rattle.format.specs.Runs
@@ -160,21 +158,21 @@ cut_list = refl
 abbrev streamed : List ℕ → Stream × List ℤ
 streamed bs = (stream_answer 5 (read_all 6 bs), joined_rows false (runs_of (read_all 6 bs)))
 
-two_runs : streamed (0x00 ∷ 0x01 ∷ 0x00 ∷ 0x02 ∷ []) ≡ (read_whole 6 4 (Run (running ShortRepeat 8 3 2)), pos 1 ∷ pos 1 ∷ pos 1 ∷ pos 2 ∷ pos 2 ∷ pos 2 ∷ [])
+two_runs : streamed (0x00 ∷ 0x01 ∷ 0x00 ∷ 0x02 ∷ []) ≡ (read_whole 6 4 (Some (running ShortRepeat 8 3 2)), pos 1 ∷ pos 1 ∷ pos 1 ∷ pos 2 ∷ pos 2 ∷ pos 2 ∷ [])
 unfolding told
 two_runs = refl
 
-cut-run : streamed (0x00 ∷ 0x01 ∷ 0x46 ∷ []) ≡ (broke_at (refusing 1 7) 3 2 (Run (running ShortRepeat 8 3 2)), pos 1 ∷ pos 1 ∷ pos 1 ∷ [])
+cut-run : streamed (0x00 ∷ 0x01 ∷ 0x46 ∷ []) ≡ (broke_at (refusing 1 7) 3 2 (Some (running ShortRepeat 8 3 2)), pos 1 ∷ pos 1 ∷ pos 1 ∷ [])
 unfolding told
 cut-run = refl
 
 cut-list-later : streamed (0x00 ∷ 0x01 ∷ 0x86 ∷ 0x02 ∷ 0x03 ∷ 0x21 ∷ 0x64 ∷ 0x12 ∷ 0x34 ∷ [])
-    ≡ (broke_at (cutting 14 7 14) 3 2 (Run (running ShortRepeat 8 3 2)), pos 1 ∷ pos 1 ∷ pos 1 ∷ [])
+    ≡ (broke_at (cutting 14 7 14) 3 2 (Some (running ShortRepeat 8 3 2)), pos 1 ∷ pos 1 ∷ pos 1 ∷ [])
 unfolding told
 cut-list-later = refl
 
 -- the last run and not the first; and none
-last-of-two : streamed (0x00 ∷ 0x01 ∷ 0x46 ∷ 0x01 ∷ 0x12 ∷ []) ≡ (read_whole 5 5 (Run (running Direct 4 2 3)), pos 1 ∷ pos 1 ∷ pos 1 ∷ pos 1 ∷ pos 2 ∷ [])
+last-of-two : streamed (0x00 ∷ 0x01 ∷ 0x46 ∷ 0x01 ∷ 0x12 ∷ []) ≡ (read_whole 5 5 (Some (running Direct 4 2 3)), pos 1 ∷ pos 1 ∷ pos 1 ∷ pos 1 ∷ pos 2 ∷ [])
 unfolding told
 last-of-two = refl
 

@@ -1,4 +1,5 @@
 -- What holds of a thing that was got, and of the bytes after it (`Post`), through each step of a reader. Assumes nothing.
+use Rattle.std.specs.Prelude.{Ok}
 use Rattle.format.proofs.Common.{◌≡◌, refl, ℕ, Bool, true, false, not, List, ◌++◌, T}
 use Rattle.format.specs.Digits.{AllBelow}
 use Rattle.format.specs.Fields.{pick}

@@ -1,4 +1,5 @@
 -- What the small readers give at a place p of a lent slice s: by the tests that a reader makes on lengths. Assumes nothing.
+use Rattle.std.specs.Prelude.{Some, None, Ok, Err}
 use Rattle.format.proofs.Common.{◌≡◌, refl, sym, ap, ℕ, suc, ◌+◌, ◌-◌, ◌*◌, ◌<◌, ◌≤◌, arith, add-one, Bool, List, [], ◌∷◌, ◌++◌}
 use Rattle.format.proofs.Common.{length, get_or, take, drop, length-drop, drop_of_length-le, drop-cons, drop-drop, ℤ, le-leb, lt-leb}
 use Rattle.format.proofs.Common.{lt-ltb}
@@ -7,13 +8,11 @@ use Rattle.format.specs.Fields.{Block, bytes_for}
 use Rattle.format.specs.Runs.{Description, row_count, layout}
 use Rattle.format.specs.Rows.{i64_rows}
 use Rattle.format.specs.Parse.{plain, cut_in, Parsed, end, got, refused, bytes, unpack, block, into}
-use Rattle.format.specs.Answers.{ran, refusal, refused_at, cut_at, cutting}
+use Rattle.format.specs.Answers.{Answer, ran, refusal, refused_at, cut_at, cutting}
 use Rattle.format.specs.Promises.{kind_of, width_of, run_of, answer_of, Gives}
 use Rattle.format.specs.declared.Kind.{Kind}
 use Rattle.format.specs.declared.Run.{Run}
 use Rattle.format.specs.declared.Refusal.{Refusal}
-use Rattle.format.specs.declared.Answer.{Answer}
-use Rattle.format.specs.declared.Answer.TheVariants as answer
 use Rattle.format.proofs.Streams.{into-got, into-refused, into-end}
 use Rattle.format.proofs.Tests.{never}
 
@@ -69,21 +68,21 @@ module _ (at total : ℕ) (m : Parsed Description) where
 -- the input ends in the field that begins at p
 pub answer-cut : (s : List ℕ) (at p n : ℕ) (m : Parsed Description) → at ≤ p → p ≤ length s → m ≡ refused (cut_in n (drop p s))
     → cut_at n at p ≡ answer_of at (length s - at) m
-answer-cut s at p n m h l e = rw e (ap answer.Refused (sym (field-at s at p n h l)))
+answer-cut s at p n m h l e = rw e (ap Err (sym (field-at s at p n h l)))
 
 -- an answer that names a run names one run, and refuses nothing
-pub run-inj : (r r' : Run) → answer.Run r ≡ answer.Run r' → r ≡ r'
+pub run-inj : (r r' : Run) → ◌≡◌ {A = Answer} (Ok (Some r)) (Ok (Some r')) → r ≡ r'
 run-inj r r' e = cc
 
-pub run-not-refused : (r : Run) (f : Refusal) → answer.Run r ≡ answer.Refused f → ⊥
+pub run-not-refused : (r : Run) (f : Refusal) → Ok (Some r) ≡ Err f → ⊥
 run-not-refused r f e = never (cc)
 
 -- ---- what a call gives, by its measure: nothing but the answer, where no run is named ..
 
 abbrev pub NoRun : Answer → Type 0
-NoRun answer.End = Unit {0}
-NoRun (answer.Run r) = ⊥
-NoRun (answer.Refused f) = Unit {0}
+NoRun (Ok None) = Unit {0}
+NoRun (Ok (Some r)) = ⊥
+NoRun (Err f) = Unit {0}
 
 module _ (at total : ℕ) (signed : Bool) (m : Parsed Description) (out : List ℤ) where
   pub gives_none : (a : Answer) → NoRun a → a ≡ answer_of at total m → Gives at total signed m out out a
@@ -107,20 +106,20 @@ module _ (at total : ℕ) (signed : Bool) (m : Parsed Description) (out : List �
 -- ---- a measured run in so many places
 
 module _ (at total places : ℕ) (m : Parsed Description) where
-  module _ (r : Run) (e : answer.Run r ≡ answer_of at total m) where
+  module _ (r : Run) (e : Ok (Some r) ≡ answer_of at total m) where
     pub placed-8 : places < r.rows.rows → refused_at 8 at ≡ answer_of at total (into places m)
     unfolding into
     placed-8 h = go m e
       where
-        go : (x : Parsed Description) → answer.Run r ≡ answer_of at total x → refused_at 8 at ≡ answer_of at total (into places x)
+        go : (x : Parsed Description) → Ok (Some r) ≡ answer_of at total x → refused_at 8 at ≡ answer_of at total (into places x)
         go end q = never (cc)
         go (got d rest) q = rw (lt-ltb places (row_count d) (rw (run-inj r (run_of d) q) at h))
         go (refused f) q = absurd (run-not-refused r _ q)
 
-    pub placed-run : r.rows.rows ≤ places → answer.Run r ≡ answer_of at total (into places m)
+    pub placed-run : r.rows.rows ≤ places → Ok (Some r) ≡ answer_of at total (into places m)
     placed-run h = go m e
       where
-        go : (x : Parsed Description) → answer.Run r ≡ answer_of at total x → answer.Run r ≡ answer_of at total (into places x)
+        go : (x : Parsed Description) → Ok (Some r) ≡ answer_of at total x → Ok (Some r) ≡ answer_of at total (into places x)
         go end q = rw (into-end places) q
         go (got d rest) q = rw (into-got places d rest (rw (run-inj r (run_of d) q) at h)) q
         go (refused f) q = rw (into-refused places f) q

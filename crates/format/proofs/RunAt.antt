@@ -1,5 +1,6 @@
 -- One run at a byte: whoever reads or measures there finds the end, a run or a refusal, and a run's bytes say where the next one begins. The walks over a
 -- stream (`rle_v2`, `index`, `batches`, `convert`) go on from here. Assumes nothing.
+use Rattle.std.specs.Prelude.{Some, None, Ok, Err}
 use Rattle.format.proofs.Common.{◌≡◌, refl, sym, ap, ◌∙◌, ℕ, ◌+◌, ◌-◌, ◌≤◌, arith, Bool, true, false, List, [], ◌++◌, length, drop}
 use Rattle.format.proofs.Common.{length-append, length-drop, drop-drop, drop_at, ltb, ltb-false}
 use Rattle.format.specs.Digits.{AllBelow}
@@ -10,8 +11,7 @@ use Rattle.format.specs.Answers as answers
 use Rattle.format.specs.Promises.{run_of, answer_of}
 use Rattle.format.specs.declared.Refusal.{Refusal}
 use Rattle.format.specs.declared.Run.{Run}
-use Rattle.format.specs.declared.Answer.{Answer}
-use Rattle.format.specs.declared.Answer.TheVariants as answer
+use Rattle.format.specs.Answers.{Answer}
 use Rattle.format.proofs.Posts.{Took}
 use Rattle.format.proofs.Rows.{row-bounds}
 use Rattle.format.proofs.Runs.{layout-pos, got-inj, Outcome, nothing, run, refusal}
@@ -58,9 +58,9 @@ module _ (s : List ℕ) (p : ℕ) (m : Parsed Description) where
     pub refusal_is : f ≡ answers.refusal p (length s - p) reason
 
   abbrev pub StandsAt : Answer → Type 0
-  StandsAt answer.End = drop p s ≡ []
-  StandsAt (answer.Run r) = RunAt r
-  StandsAt (answer.Refused f) = NoRunAt f
+  StandsAt (Ok None) = drop p s ≡ []
+  StandsAt (Ok (Some r)) = RunAt r
+  StandsAt (Err f) = NoRunAt f
 
   pub stands_at : (a : Answer) → Outcome (drop p s) m → a ≡ answer_of p (length s - p) m → StandsAt a
   stands_at a o g = rw g (by m refl o)

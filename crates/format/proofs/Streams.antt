@@ -1,5 +1,6 @@
 -- The stream: `read_all` takes exactly the joined layouts of valid descriptions with at most n rows in all, and stops at the first refusal with the
 -- descriptions before it. Assumes nothing.
+use Rattle.std.specs.Prelude.{Some}
 use Rattle.format.proofs.Common.{◌≡◌, refl, sym, ap, ◌∙◌, ◌≢◌, ◌↔◌, Bool, true, false, ℕ, zero, suc, ◌+◌, ◌-◌, ◌≤◌, le_refl}
 use Rattle.format.proofs.Common.{sub-zero, arith, List, [], ◌∷◌, ◌++◌, append_assoc, append-nil, length, length-append, T, ltb}
 use Rattle.format.proofs.Common.{nltb→le, le-ltb}
@@ -8,8 +9,7 @@ use Rattle.format.specs.Runs.{Description, row_count, Valid, layout, AllValid, j
 use Rattle.format.specs.Parse.{Reason, unfinished, Parsed, end, got, refused, parse, into}
 use Rattle.format.specs.Streams.{Reading, whole, broken, after, next, runs_from, read_all, total_rows}
 use Rattle.format.specs.Promises.{run_of, last_or}
-use Rattle.format.specs.declared.LastRun.{LastRun}
-use Rattle.format.specs.declared.LastRun.TheVariants.{Run}
+use Rattle.format.specs.Answers.{LastRun}
 use Rattle.format.proofs.Posts.{Took}
 use Rattle.format.proofs.Cut.{cut-number}
 use Rattle.format.proofs.Runs.{Outcome, nothing, run, refusal, outcome, parse-empty, layout-pos, got-inj}
@@ -168,6 +168,6 @@ stream-cut n ds d p q vs v h e pe qe =
     (r, stream-broken n ds p r vs h (rw f (into-refused (n - total_rows ds) r)), c)
 
 -- the last run of a list that ends in one
-pub last_snoc : (none : LastRun) (ds : List Description) (d : Description) → last_or none (ds ++ d ∷ []) ≡ Run (run_of d)
+pub last_snoc : (none : LastRun) (ds : List Description) (d : Description) → last_or none (ds ++ d ∷ []) ≡ Some (run_of d)
 last_snoc before [] d = refl
-last_snoc before (e ∷ ds) d = last_snoc (Run (run_of e)) ds d
+last_snoc before (e ∷ ds) d = last_snoc (Some (run_of e)) ds d

@@ -3,14 +3,13 @@
 use Rattle.format.proofs.Common.{◌≡◌, refl, sym, ap, ◌∙◌, ℕ, ◌≤◌, arith, Bool, true, false, not, ◌&&◌, List, [], ◌∷◌, ◌++◌, map, ◌↔◌}
 use Rattle.format.proofs.Common.{T, ltb, nltb→le, le-ltb, ℤ, length, drop, length-map}
 use Rattle.format.specs.declared.Form.{Form}
-use Rattle.format.specs.declared.Answer.{Answer}
 use Rattle.format.specs.Digits.{AllBelow}
 use Rattle.format.specs.Fields.{two64}
 use Rattle.format.specs.Runs.{Description, Valid, layout, row_count}
 use Rattle.format.specs.Rows.{rows_of, i64_rows, as_i64, as_u64}
 use Rattle.format.specs.Parse.{Parsed, got, unless, parse, into}
 use Rattle.format.specs.Promises.{answer_of, kind_of, width_of, RunRead}
-use Rattle.format.specs.Answers.{ran, answer_number}
+use Rattle.format.specs.Answers.{Answer, ran, answer_number}
 use Rattle.format.specs.Writing.{described, count_allowed, have_form, width_allowed, fit_width, writing, AllI64, Written, AsWritten}
 use Rattle.format.proofs.Patterns.{as-back, as-forth, as-lt}
 use Rattle.format.proofs.Rows.{rows-below, rows-count}

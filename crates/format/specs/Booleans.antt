@@ -1,13 +1,11 @@
 -- Booleans (FORMAT.md, "Booleans"): byte runs, their layout, reading the runs that n booleans need, and what the boolean reader promises.
 -- Assumes nothing.
-use Rattle.std.specs.Prelude.{◌≡◌, ℕ, zero, suc, ◌+◌, ◌-◌, ◌<◌, ◌≤◌, List, [], ◌∷◌, ◌++◌, length, take, drop, replicate, ltb, eqb}
+use Rattle.std.specs.Prelude.{◌≡◌, ℕ, zero, suc, ◌+◌, ◌-◌, ◌<◌, ◌≤◌, List, [], ◌∷◌, ◌++◌, length, take, drop, replicate, ltb, eqb, Err}
 use Rattle.format.specs.declared.Kind.TheVariants.{Booleans}
-use Rattle.format.specs.declared.Answer.{Answer}
-use Rattle.format.specs.declared.Answer.TheVariants.{Refused}
 use Rattle.format.specs.Digits.{AllBelow, spread}
 use Rattle.format.specs.Fields.{pick, bytes_for}
 use Rattle.format.specs.Parse.{cut_in, Parsed, end, got, refused, then, unless, bytes}
-use Rattle.format.specs.Answers.{ran, cut_at, refusal}
+use Rattle.format.specs.Answers.{Answer, ran, cut_at, refusal}
 
 -- ---- BYTE RUNS: copies of one byte, with their count; or literal bytes
 
@@ -105,7 +103,7 @@ booleans_into places n bs = then (booleans n bs) λ ds rest. unless (ltb places 
 abbrev pub booleans_answer : ℕ → ℕ → ℕ → Parsed (List ByteRun) → Answer
 booleans_answer at total n end = cut_at 6 at at
 booleans_answer at total n (got ds rest) = ran Booleans 1 n (length (joined_runs ds))
-booleans_answer at total n (refused r) = Refused (refusal at total r)
+booleans_answer at total n (refused r) = Err (refusal at total r)
 
 -- n bytes of 0 or 1 in the first places, the others as they were; a refused call leaves every place unchanged
 abbrev pub booleans_places : ℕ → List ℕ → Parsed (List ByteRun) → List ℕ

@@ -1,11 +1,9 @@
 -- Byte values (FORMAT.md, "Byte values"): a value of length n is the first n bytes of the rest, handed back as a part of it.
 -- Assumes nothing.
-use Rattle.std.specs.Prelude.{◌≡◌, ℕ, ◌-◌, List, [], length, drop}
+use Rattle.std.specs.Prelude.{◌≡◌, ℕ, ◌-◌, List, [], length, drop, Err}
 use Rattle.format.specs.declared.Kind.TheVariants.{ByteValues}
-use Rattle.format.specs.declared.Answer.{Answer}
-use Rattle.format.specs.declared.Answer.TheVariants.{Refused}
 use Rattle.format.specs.Parse.{Parsed, end, got, refused, bytes}
-use Rattle.format.specs.Answers.{ran, cut_at, refusal}
+use Rattle.format.specs.Answers.{Answer, ran, cut_at, refusal}
 
 -- the first n bytes, or refusal 6; 0 gives an empty part, at any position
 abbrev pub byte_value : ℕ → List ℕ → Parsed (List ℕ)
@@ -15,7 +13,7 @@ byte_value n bs = bytes 6 n bs
 abbrev pub value_answer : ℕ → ℕ → ℕ → Parsed (List ℕ) → Answer
 value_answer at total n end = cut_at 6 at at
 value_answer at total n (got v rest) = ran ByteValues 8 n n
-value_answer at total n (refused r) = Refused (refusal at total r)
+value_answer at total n (refused r) = Err (refusal at total r)
 
 -- the part that is handed back: empty if the call refuses
 abbrev pub value_part : Parsed (List ℕ) → List ℕ

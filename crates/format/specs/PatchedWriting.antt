@@ -3,7 +3,7 @@
 -- Rows and base are 64-bit patterns here, as in Writing; the promise turns i64 into them. Nothing here reads.
 -- Assumes nothing.
 use Rattle.std.specs.Prelude.{◌≡◌, ℕ, zero, suc, ◌+◌, ◌-◌, ◌*◌, ◌/◌, ◌%◌, ◌^◌, Bool, not, ◌&&◌, List, [], ◌∷◌, ◌++◌, map, length, replicate, leb, ltb, eqb, ℤ}
-use Rattle.format.specs.declared.Answer.{Answer}
+use Rattle.format.specs.Answers.{Answer}
 use Rattle.format.specs.Digits.{digits}
 use Rattle.format.specs.Fields.{pick, width, two64, Block}
 use Rattle.format.specs.Kept.{is_kept_width}

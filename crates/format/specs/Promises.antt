@@ -1,15 +1,10 @@
 -- What the integer readers promise: the answer and every place of the caller's at exit, for every input, position, flag and places.
 -- Assumes nothing.
-use Rattle.std.specs.Prelude.{◌≡◌, ℕ, ◌+◌, ◌-◌, ◌*◌, Bool, List, [], ◌∷◌, ◌++◌, length, drop, ℤ}
+use Rattle.std.specs.Prelude.{◌≡◌, ℕ, ◌+◌, ◌-◌, ◌*◌, Bool, List, [], ◌∷◌, ◌++◌, length, drop, ℤ, Some, None, Ok, Err}
 use Rattle.format.specs.declared.Kind.{Kind}
 use Rattle.format.specs.declared.Kind.TheVariants.{ShortRepeat, Direct, PatchedBase, Delta}
-use Rattle.format.specs.declared.Answer.{Answer}
-use Rattle.format.specs.declared.Answer.TheVariants as answer
 use Rattle.format.specs.declared.Run.{Run}
-use Rattle.format.specs.declared.LastRun.{LastRun}
-use Rattle.format.specs.declared.LastRun.TheVariants as last
-use Rattle.format.specs.declared.Stream.{Stream}
-use Rattle.format.specs.Answers.{running, refusal, read_whole, broke_at}
+use Rattle.format.specs.Answers.{Answer, LastRun, Stream, running, refusal, read_whole, broke_at}
 use Rattle.format.specs.Fields.{width, two64}
 use Rattle.format.specs.Runs.{Description, short, direct, fixed, delta, patched, row_count, layout, joined}
 use Rattle.format.specs.Rows.{i64_rows}
@@ -40,9 +35,9 @@ run_of d = running (kind_of d) (width_of d) (row_count d) (length (layout d))
 
 -- the answer: the run, or the refusal at the byte where the run begins; `total` bytes stand there
 abbrev pub answer_of : ℕ → ℕ → Parsed Description → Answer
-answer_of at total end = answer.End
-answer_of at total (got d rest) = answer.Run (run_of d)
-answer_of at total (refused r) = answer.Refused (refusal at total r)
+answer_of at total end = Ok None
+answer_of at total (got d rest) = Ok (Some (run_of d))
+answer_of at total (refused r) = Err (refusal at total r)
 
 -- the caller's places at exit: the rows in the first of them, the others as they were; a refused call leaves every place unchanged
 abbrev pub run_places : Bool → List ℤ → Parsed Description → List ℤ
@@ -68,10 +63,10 @@ RunMeasured input at r = r ≡ answer_of at (length input - at) (parse (drop at 
 -- the last of some runs, or what is given if there are none
 abbrev pub last_or : LastRun → List Description → LastRun
 last_or before [] = before
-last_or before (d ∷ ds) = last_or (last.Run (run_of d)) ds
+last_or before (d ∷ ds) = last_or (Some (run_of d)) ds
 
 abbrev pub last_of : List Description → LastRun
-last_of ds = last_or last.None ds
+last_of ds = last_or None ds
 
 -- "whole stream read", or the first refusal, at the byte where the refused run begins; with the counts and the last of the runs read
 abbrev pub stream_answer : ℕ → Reading → Stream

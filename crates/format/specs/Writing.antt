@@ -7,7 +7,7 @@ use Rattle.std.specs.Int.{w64}
 use Rattle.std.proofs.Common.{SFits}
 use Rattle.format.specs.declared.Form.{Form}
 use Rattle.format.specs.declared.Form.TheVariants.{ShortRepeat, Direct, FixedDelta, PackedDelta}
-use Rattle.format.specs.declared.Answer.{Answer}
+use Rattle.format.specs.Answers.{Answer}
 use Rattle.format.specs.Digits.{digits}
 use Rattle.format.specs.Fields.{pick, width, two64, zigzagged, Block, varint_value, shortest, Shortest}
 use Rattle.format.specs.Kept.{is_kept}

@@ -1,9 +1,10 @@
 // The nouns of docs/FORMAT.md: units, kinds, answers. What bytes mean stands in specs/, and the laws of that meaning in proofs/.
 #![tactic(auto)]
 
-ghost use Rattle.std.specs.Prelude.{◌≡◌, ◌<◌};
-ghost use Rattle.format.specs.Answers.{running, ran, refusing, cutting, refused_at, cut_at, kind_number, read_whole, broke_at};
-ghost use Rattle.format.specs.Answers.{answer_number, answer_place, answer_cut, answer_width, answer_rows, answer_bytes, answer_packed};
+ghost use Rattle.std.specs.Prelude.{◌≡◌};
+ghost use Rattle.format.specs.Answers.{running, refusing, cutting, counting, kind_number};
+
+pub mod answer;
 
 // File offsets count bytes.
 #[derive(Clone, Copy)]
@@ -51,50 +52,35 @@ pub struct Run {
     pub consumed: ByteOffset,
 }
 
-// The field that the input ends in: the byte where it begins, or none if no field is cut.
-#[derive(Clone, Copy)]
-pub enum CutField {
-    None,
-    At(ByteOffset),
-}
-
-// A refusal: its number (FORMAT.md, "Refusals"), the byte where the refused run begins, and for 6, 12, 13 and 14 the field that was cut.
+// A refusal: its number (FORMAT.md, "Refusals"), the byte where the refused run begins, and for 6, 12, 13 and 14 the byte where the field
+// begins that the input ends in.
 #[derive(Clone, Copy)]
 pub struct Refusal {
     pub number: u8,
     pub place: ByteOffset,
-    pub cut: CutField,
+    pub cut: Option<ByteOffset>,
 }
 
-// What a call answers.
-#[derive(Clone, Copy)]
-pub enum Answer {
-    End,
-    Run(Run),
-    Refused(Refusal),
-}
+// What a call answers: a run, none at the end of the input, or a refusal.
+pub type Answer = Result<Option<Run>, Refusal>;
 
-// The last of several runs, or none if there are none.
-#[derive(Clone, Copy)]
-pub enum LastRun {
-    None,
-    Run(Run),
-}
-
-// Several runs: their rows and bytes, and the last of them.
+// Several runs: their rows and bytes, and the last of them, if there is one.
 #[derive(Clone, Copy)]
 pub struct Counts {
     pub rows: RowNumber,
     pub consumed: ByteOffset,
-    pub last: LastRun,
+    pub last: Option<Run>,
 }
 
-// What the stream reader answers: every run was read, or a run was refused, with the counts of the runs before it.
+// A stream that is refused: the refusal, and the runs before it.
 #[derive(Clone, Copy)]
-pub enum Stream {
-    Whole(Counts),
-    Refused(Refusal, Counts),
+pub struct Stopped {
+    pub by: Refusal,
+    pub before: Counts,
 }
+
+// What the stream reader answers: every run was read, or one was refused.
+pub type Stream = Result<Counts, Stopped>;
 
 // A reader of parts is open, or was refused, or closed.
 #[derive(Clone, Copy)]
@@ -199,7 +185,7 @@ impl Refusal {
         Refusal {
             number,
             place,
-            cut: CutField::None,
+            cut: None,
         }
     }
 
@@ -210,140 +196,19 @@ impl Refusal {
         Refusal {
             number,
             place,
-            cut: CutField::At(field),
+            cut: Some(field),
         }
     }
 }
 
-impl Answer {
-    pub fn end() -> Self
-        ensures { result ≡ Answer.End }
+impl Counts {
+    pub fn new(rows: RowNumber, consumed: ByteOffset, last: Option<Run>) -> Self
+        ensures { result ≡ counting rows.rows consumed.bytes last }
     {
-        Answer::End
-    }
-
-    pub fn run(kind: Kind, width: usize, rows: RowNumber, consumed: ByteOffset) -> Self
-        ensures { result ≡ ran kind width rows.rows consumed.bytes }
-    {
-        Answer::Run(Run::new(kind, width, rows, consumed))
-    }
-
-    pub fn refused(number: u8, place: ByteOffset) -> Self
-        ensures { result ≡ refused_at number place.bytes }
-    {
-        Answer::Refused(Refusal::new(number, place))
-    }
-
-    pub fn cut(number: u8, place: ByteOffset, field: ByteOffset) -> Self
-        ensures { result ≡ cut_at number place.bytes field.bytes }
-    {
-        Answer::Refused(Refusal::cut(number, place, field))
-    }
-
-    // The number of the refusal; 0 if nothing is refused.
-    pub fn number(self) -> u8
-        ensures { result ≡ answer_number self }
-    {
-        match self {
-            Answer::Refused(f) => f.number,
-            Answer::Run(_) => 0,
-            Answer::End => 0,
-        }
-    }
-
-    // The byte where the refused run begins; 0 if nothing is refused.
-    pub fn place(self) -> ByteOffset
-        ensures { result.bytes ≡ answer_place self }
-    {
-        match self {
-            Answer::Refused(f) => f.place,
-            Answer::Run(_) => ByteOffset { bytes: 0 },
-            Answer::End => ByteOffset { bytes: 0 },
-        }
-    }
-
-    // The field that the input ends in; none if nothing is refused.
-    pub fn cut_field(self) -> CutField
-        ensures { result ≡ answer_cut self }
-    {
-        match self {
-            Answer::Refused(f) => f.cut,
-            Answer::Run(_) => CutField::None,
-            Answer::End => CutField::None,
-        }
-    }
-
-    // The width of the run's values in bits; 0 if there is no run.
-    pub fn width(self) -> usize
-        ensures { result ≡ answer_width self }
-    {
-        match self {
-            Answer::Run(r) => r.width,
-            Answer::Refused(_) => 0,
-            Answer::End => 0,
-        }
-    }
-
-    // How many rows the answer yields.
-    pub fn rows(self) -> RowNumber
-        ensures { result.rows ≡ answer_rows self }
-    {
-        match self {
-            Answer::Run(r) => r.rows,
-            Answer::Refused(_) => RowNumber { rows: 0 },
-            Answer::End => RowNumber { rows: 0 },
-        }
-    }
-
-    // How many bytes it consumes or, from a writer, writes.
-    pub fn consumed(self) -> ByteOffset
-        ensures { result.bytes ≡ answer_bytes self }
-    {
-        match self {
-            Answer::Run(r) => r.consumed,
-            Answer::Refused(_) => ByteOffset { bytes: 0 },
-            Answer::End => ByteOffset { bytes: 0 },
-        }
-    }
-
-    // The answer as one number.
-    pub fn packed(self) -> u64
-        requires { (answer_rows self < 65536) × (answer_bytes self < 281474976710656) }
-        ensures { result ≡ answer_packed self }
-    {
-        match self {
-            Answer::Run(r) => {
-                let rows = r.rows;
-                let consumed = r.consumed;
-                65536 * (consumed.bytes as u64) + (rows.rows as u64)
-            }
-            Answer::Refused(f) => f.number as u64,
-            Answer::End => 0,
-        }
-    }
-}
-
-impl Stream {
-    pub fn whole(rows: RowNumber, consumed: ByteOffset, last: LastRun) -> Self
-        ensures { result ≡ read_whole rows.rows consumed.bytes last }
-    {
-        Stream::Whole(Counts {
+        Counts {
             rows,
             consumed,
             last,
-        })
-    }
-
-    pub fn refused(refusal: Refusal, rows: RowNumber, consumed: ByteOffset, last: LastRun) -> Self
-        ensures { result ≡ broke_at refusal rows.rows consumed.bytes last }
-    {
-        Stream::Refused(
-            refusal,
-            Counts {
-                rows,
-                consumed,
-                last,
-            },
-        )
+        }
     }
 }

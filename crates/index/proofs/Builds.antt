@@ -1,5 +1,6 @@
 -- What building answers, by what the walk over the stream found. Assumes nothing.
 use mathlib.Core.Path.{◌≡◌, refl, sym, ap, ◌∙◌}
+use mathlib.Core.Logic.{◌⊎◌}
 use Prim.Native.Nat.{ℕ, ◌+◌, ◌-◌, ◌*◌, ◌<◌, ◌≤◌}
 use native.Mathlib.Omega.{arith}
 use native.Mathlib.Nat.{zero-add}
@@ -20,19 +21,18 @@ use Rattle.format.proofs.StreamRoom.{stream-reads}
 use Rattle.index.specs.Entries.{Result, gives, refuses, building}
 use Rattle.index.specs.Columns.{columns_at, building_in}
 use Rattle.index.specs.Promises.{built_of, built_with, not_built, BuiltIn}
-use Rattle.index.specs.declared.Built.TheVariants as built
-use Rattle.index.specs.declared.walk.Total.{Total}
-use Rattle.index.specs.declared.walk.Total.TheVariants as total
-use Rattle.index.specs.declared.walk.Survey.{Survey}
-use Rattle.index.specs.declared.walk.Survey.TheVariants as survey
+use Rattle.std.specs.Prelude as std
+use Rattle.std.specs.Prelude.{Option, Some, None, Ok, Err}
+use Rattle.format.specs.declared.RowNumber.{RowNumber}
+use Rattle.index.specs.declared.walk as walk
 use Rattle.index.specs.Walk.{total_of, survey_from, Roomy, Filled}
-use Rattle.index.proofs.Columns.{columns-hold}
+use Rattle.index.proofs.Columns.{columns-hold, not-alike}
 use Rattle.index.proofs.Totals as Totals
 
 -- ---- what the walk found
 
 module _ (bs : List ℕ) where
-  pub record Whole (k : ℕ) (t : Total) : Type 0 where
+  pub record Whole (k : ℕ) (t : Option RowNumber) : Type 0 where
     pub runs : List Description
     pub whole_is : stream bs ≡ whole runs
     pub bytes : bs ≡ joined runs
@@ -46,11 +46,11 @@ module _ (bs : List ℕ) where
     pub broken-is : stream bs ≡ broken runs reason rest
     pub refusal_is : f ≡ answers.refusal (length (joined runs)) (length bs - length (joined runs)) reason
 
-  abbrev pub Found : Survey → Type 0
-  Found (survey.Whole k t) = Whole k t
-  Found (survey.Refused f) = Broken f
+  abbrev pub Found : std.Result walk.Whole.Whole Refusal → Type 0
+  Found (Ok w) = Whole w.runs w.rows
+  Found (Err f) = Broken f
 
-  pub what-found : (v : Survey) → AllBelow 256 bs → v ≡ survey_from 0 0 0 (stream bs) → Found v
+  pub what-found : (v : std.Result walk.Whole.Whole Refusal) → AllBelow 256 bs → v ≡ survey_from 0 0 0 (stream bs) → Found v
   what-found v h e = rw e (go (stream bs) refl (stream-reads bs h))
     where
       go : (m : Reading) → stream bs ≡ m → Reads (512 * length bs) bs m → Found (survey_from 0 0 0 m)
@@ -79,14 +79,11 @@ module _ (bs f o n : List ℕ) where
   abbrev what : Result (List Description)
   what = building_in (length f) (length o) (length n) bs
 
-  refused-so : (r : Reason) (p : ℕ) → what ≡ refuses r p → BuiltIn bs f o n f o n (built.Refused (answers.refusal p (length bs - p) r))
+  refused-so : (r : Reason) (p : ℕ) → what ≡ refuses r p → BuiltIn bs f o n f o n (Err (answers.refusal p (length bs - p) r))
   refused-so r p e = record { answer = rw e; columns = rw e }
 
-  pub unequal-offsets : (length o ≡ length f → ⊥) → BuiltIn bs f o n f o n (not_built 15)
-  unequal-offsets h = refused-so (plain 15) 0 (columns-hold.unequal-building (length f) (length o) (length n) bs (λ p. h (sym p.0)))
-
-  pub unequal-counts : (length n ≡ length f → ⊥) → BuiltIn bs f o n f o n (not_built 15)
-  unequal-counts h = refused-so (plain 15) 0 (columns-hold.unequal-building (length f) (length o) (length n) bs (λ p. h (sym p.1)))
+  pub unequal : (length o ≡ length f → ⊥) ⊎ ((length o ≡ length f) × (length n ≡ length f → ⊥)) → BuiltIn bs f o n f o n (not_built 15)
+  unequal h = refused-so (plain 15) 0 (columns-hold.unequal-building (length f) (length o) (length n) bs (not-alike h))
 
   module _ (a : length o ≡ length f) (b : length n ≡ length f) where
     as-table : what ≡ building (length f) bs
@@ -95,16 +92,16 @@ module _ (bs f o n : List ℕ) where
         go : (x y : ℕ) → x ≡ length f → y ≡ length f → building_in (length f) x y bs ≡ building (length f) bs
         go x y p q = rw (p, q) (columns-hold.same-building (length f) bs)
 
-    pub own-so : (v : Refusal) → Broken bs v → BuiltIn bs f o n f o n (built.Refused v)
+    pub own-so : (v : Refusal) → Broken bs v → BuiltIn bs f o n f o n (Err v)
     unfolding building
     own-so v w = rw w.refusal_is (refused-so w.reason (length (joined w.runs)) (as-table ∙ rw w.broken-is))
 
-    module _ (k : ℕ) (t : Total) (w : Whole bs k t) where
+    module _ (k : ℕ) (t : Option RowNumber) (w : Whole bs k t) where
       eight : ltb (length f) (length w.runs) || leb two64 (total_rows w.runs) ≡ true → what ≡ refuses (plain 8) 0
       unfolding building
       eight e = as-table ∙ rw (w.whole_is, e)
 
-      pub past-so : t ≡ total.Past → BuiltIn bs f o n f o n (not_built 8)
+      pub past-so : t ≡ None → BuiltIn bs f o n f o n (not_built 8)
       past-so e =
           refused-so (plain 8) 0
           (eight (rw (le-leb two64 (total_rows w.runs) (Totals.past_is (total_rows w.runs) (sym e ∙ w.total-is)))
@@ -113,7 +110,7 @@ module _ (bs f o n : List ℕ) where
       pub few-so : length f < k → BuiltIn bs f o n f o n (not_built 8)
       few-so h = refused-so (plain 8) 0 (eight (rw (lt-ltb (length f) (length w.runs) (omega (arith, w.count)))))
 
-      module _ (rows : ℕ) (e : t ≡ total.Rows (record { rows = rows })) (l : k ≤ length f) where
+      module _ (rows : ℕ) (e : t ≡ Some (record { rows = rows })) (l : k ≤ length f) where
         small : (rows ≡ total_rows w.runs) × (total_rows w.runs < two64)
         small = Totals.rows_are (total_rows w.runs) rows (sym e ∙ w.total-is)
 

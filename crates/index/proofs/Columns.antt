@@ -1,5 +1,6 @@
 -- The three columns say what the table of entries says. Assumes nothing.
 use mathlib.Core.Path.{◌≡◌, refl, sym, ap, ◌∙◌}
+use mathlib.Core.Logic.{◌⊎◌, inl, inr}
 use Prim.Native.Nat.{ℕ, zero, suc, ◌+◌}
 use native.Mathlib.Omega.{arith}
 use mathlib.Core.Bool.{Bool, true, false, not, ◌&&◌}
@@ -76,6 +77,11 @@ alike-false f o n h = go (eqb f o) (eqb f n) (eqb-true f o) (eqb-true f n)
     go false b p q = refl
     go true false p q = refl
     go true true p q = absurd (h (p refl, q refl))
+
+-- what the calls' test of the lengths shows
+pub not-alike : {f o n : ℕ} → (o ≡ f → ⊥) ⊎ ((o ≡ f) × (n ≡ f → ⊥)) → (f ≡ o) × (f ≡ n) → ⊥
+not-alike (inl h) p = h (sym p.0)
+not-alike (inr h) p = h.1 (sym p.1)
 
 a-table : (fs os ns : List ℕ) → length fs ≡ length os → length fs ≡ length ns
     → (es : List Entry) × (record { firsts = fs; offsets = os; counts = ns } ≡ as_columns es)

@@ -1,5 +1,6 @@
 -- The walk that fills the columns: what stands so far, then what is still to come, is the stream's. Assumes nothing.
 use mathlib.Core.Path.{◌≡◌, refl, sym, ap, ◌∙◌}
+use mathlib.Core.Logic.{◌⊎◌, inl, inr}
 use Prim.Native.Nat.{ℕ, suc, ◌+◌, ◌<◌, ◌≤◌}
 use native.Mathlib.Omega.{arith}
 use mathlib.Core.List.{List, [], ◌∷◌, ◌++◌, map}
@@ -168,3 +169,8 @@ module _ {s first₀ at₀ counts₀ first at counts : List ℕ} {p row i : ℕ}
           (filled first first₀ (sums_before 0 (map row_count ds)) i (rw (rest-none, e) at w.firsts-are) w.kept-first)
           (filled at at₀ (sums_before 0 (map byte_count ds)) i (rw (rest-none, e) at w.offsets_are) w.kept_at)
           (filled counts counts₀ (map row_count ds) i (rw (rest-none, e) at w.counts-are) w.kept-counts))
+
+  -- a run is refused nowhere
+  pub filling-over : (drop p s ≡ []) ⊎ ((f : Refusal) × NoRun s p f) → Filled s first₀ at₀ counts₀ first at counts
+  filling-over (inl z) = filling-end z
+  filling-over (inr (f, q)) = absurd (filling-refused q)

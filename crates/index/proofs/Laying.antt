@@ -1,4 +1,5 @@
 -- The rows of the run that holds the row, without the first few, and those of the runs behind it. Assumes nothing.
+use Rattle.std.specs.Prelude.{Some, None, Ok, Err}
 use mathlib.Core.Path.{◌≡◌, refl, sym, ap, ◌∙◌}
 use Prim.Native.Nat.{ℕ, ◌+◌, ◌-◌, ◌≤◌}
 use native.Mathlib.Omega.{arith}
@@ -14,9 +15,7 @@ use Rattle.format.specs.Streams.{whole, read_all, total_rows, joined_rows}
 use Rattle.format.specs.Promises.{run_of, answer_of, run_places, Gives, StreamRead}
 use Rattle.format.specs.declared.Refusal.{Refusal}
 use Rattle.format.specs.declared.Run.{Run}
-use Rattle.format.specs.declared.Answer.{Answer}
-use Rattle.format.specs.declared.Answer.TheVariants as answer
-use Rattle.format.specs.declared.Stream.{Stream}
+use Rattle.format.specs.Answers.{Answer, Stream}
 use Rattle.format.proofs.Reading.{run-inj, run-not-refused}
 use Rattle.format.proofs.RunComplete.{parse-complete}
 use Rattle.format.proofs.Rows.{row-bounds, i64-count}
@@ -41,23 +40,23 @@ module _ (s : List ℕ) (at skip : ℕ) (signed : Bool) (out : List ℤ) (y : Re
     into-is : into (length held) (parse (drop at s)) ≡ got d (joined b)
     into-is = ap (into (length held)) the-run ∙ into-got (length held) d (joined b) (omega (arith, row-bounds d y.valid.0, l))
 
-    ran : a ≡ answer.Run (run_of d)
+    ran : a ≡ Ok (Some (run_of d))
     ran = g.answer ∙ ap (answer_of at (length s - at)) into-is
 
     pub held-is : held' ≡ i64_rows signed d ++ drop (row_count d) held
     held-is = g.places ∙ ap (run_places signed held) into-is
 
-    pub rows_are : (r : Run) → a ≡ answer.Run r → r.rows.rows ≡ row_count d
+    pub rows_are : (r : Run) → a ≡ Ok (Some r) → r.rows.rows ≡ row_count d
     rows_are r e = ap (λ (x : Run). x.rows.rows) (run-inj r (run_of d) (sym e ∙ ran))
 
-    pub bytes-are : (r : Run) → a ≡ answer.Run r → r.consumed.bytes ≡ length (layout d)
+    pub bytes-are : (r : Run) → a ≡ Ok (Some r) → r.consumed.bytes ≡ length (layout d)
     bytes-are r e = ap (λ (x : Run). x.consumed.bytes) (run-inj r (run_of d) (sym e ∙ ran))
 
-    pub not-refused : (f : Refusal) → a ≡ answer.Refused f → ⊥
+    pub not-refused : (f : Refusal) → a ≡ Err f → ⊥
     not-refused f e = run-not-refused (run_of d) f (sym ran ∙ e)
 
-    pub not-ended : a ≡ answer.End → ⊥
-    not-ended e = let q : answer.Run (run_of d) ≡ answer.End = sym ran ∙ e in never (cc)
+    pub not-ended : a ≡ Ok None → ⊥
+    not-ended e = let q : Ok (Some (run_of d)) ≡ (Ok None) = sym ran ∙ e in never (cc)
 
   -- there are so many bytes ..
   pub bytes-within : at + length (layout d) ≤ length s

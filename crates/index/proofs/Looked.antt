@@ -16,10 +16,10 @@ use Rattle.format.specs.Streams.{total_rows}
 use Rattle.index.specs.Entries.{Result, gives, refuses, Entry, entries, holder, lookup, checked, preview_places}
 use Rattle.index.specs.Columns.{Columns, columns, alike, checked_in, lookup_in, reading_in}
 use Rattle.index.specs.Theorems.{as_columns}
-use Rattle.index.specs.Promises.{found_of, LookedUp, preview_of, ReadFrom}
-use Rattle.index.specs.declared.Found.{Found}
-use Rattle.index.specs.declared.Found.TheVariants as found
-use Rattle.index.specs.declared.Preview.TheVariants as preview
+use Rattle.std.specs.Prelude.{Ok, Err}
+use Rattle.format.specs.declared.Refusal.{Refusal}
+use Rattle.index.specs.declared.Entry as row
+use Rattle.index.specs.Promises.{Found, found_of, LookedUp, preview_of, ReadFrom}
 use Rattle.index.proofs.Held.{Held, held, unheld, what-held}
 use Rattle.index.proofs.Checked.{Checked, right, wrong, what-checked}
 use Rattle.index.proofs.Columns.{columns-hold, checked-same, columns-are}
@@ -101,8 +101,8 @@ module _ (bs f o n : List ℕ) (r : ℕ) where
 
   -- ---- what the code knows after looking up
   abbrev pub After : Found → Type 0
-  After (found.Entry e) = Through e.first.rows e.at.bytes
-  After (found.Refused v) = (signed : Bool) (out : List ℤ) → ReadFrom bs c r signed out out (preview.Refused v)
+  After (Ok e) = Through e.first.rows e.at.bytes
+  After (Err v) = (signed : Bool) (out : List ℤ) → ReadFrom bs c r signed out out (Err v)
 
   pub what-looked : (v : Found) → AllBelow 256 bs → LookedUp bs c r v → After v
   what-looked v h e = rw e (go (looked h))
@@ -113,3 +113,13 @@ module _ (bs f o n : List ℕ) (r : ℕ) where
         places = sym (ap (preview_places out) (g signed (length out)));
       }
       go (looked-yes e t) = t
+
+-- an entry that was found is that of the run that holds the row
+pub entry-found : {bs f o n : List ℕ} {r : ℕ} {v : Found} {e : row.Entry} → AllBelow 256 bs → LookedUp bs (record { firsts = f; offsets = o; counts = n }) r v → v ≡ Ok e
+    → Through bs f o n r e.first.rows e.at.bytes
+entry-found {bs} {f} {o} {n} {r} {v} h l q = rw q at (what-looked bs f o n r v h l)
+
+-- and a refusal is that of reading, with every place as it was
+pub not-found : {bs f o n : List ℕ} {r : ℕ} {v : Found} {u : Refusal} → AllBelow 256 bs → LookedUp bs (record { firsts = f; offsets = o; counts = n }) r v → v ≡ Err u
+    → (signed : Bool) (out : List ℤ) → ReadFrom bs (record { firsts = f; offsets = o; counts = n }) r signed out out (Err u)
+not-found {bs} {f} {o} {n} {r} {v} h l q = rw q at (what-looked bs f o n r v h l)

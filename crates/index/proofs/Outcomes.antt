@@ -13,25 +13,22 @@ use Rattle.format.proofs.Tests.{never}
 use Rattle.index.specs.Entries.{Result, gives, refuses, number_of, unless, Entry, entries, building, lookup}
 use Rattle.index.specs.Columns.{Columns, sums_before, byte_count, columns_at, alike, building_in, lookup_in}
 use Rattle.index.specs.Theorems.{PromisesHold, as_columns}
-use Rattle.index.specs.Promises.{built_of, found_of, not_found, BuiltIn, LookedUp}
+use Rattle.std.specs.Prelude.{Ok, Err}
+use Rattle.index.specs.Promises.{Built, Found, built_of, found_of, not_found, BuiltIn, LookedUp}
 use Rattle.index.specs.declared.Sizes.{Sizes}
-use Rattle.index.specs.declared.Built.{Built}
-use Rattle.index.specs.declared.Built.TheVariants as built
-use Rattle.index.specs.declared.Found.{Found}
-use Rattle.index.specs.declared.Found.TheVariants as found
 use Rattle.index.proofs.Building as Building
 use Rattle.index.proofs.Columns.{columns-hold, columns-are}
 use Rattle.index.proofs.Index.{lookup-holds}
 use Rattle.index.proofs.Previews.{sums-length}
 
 -- what was built, by the answer
-built-runs : (total : ℕ) (s : Sizes) (m : Result (List Description)) → built.Index s ≡ built_of total m
+built-runs : (total : ℕ) (s : Sizes) (m : Result (List Description)) → Ok s ≡ built_of total m
     → (ds : List Description) × (m ≡ gives ds) × (s.entries ≡ length ds)
 built-runs total s (gives ds) e = (ds, refl, ap entries_in e)
   where
     entries_in : Built → ℕ
-    entries_in (built.Index z) = z.entries
-    entries_in (built.Refused f) = 0
+    entries_in (Ok z) = z.entries
+    entries_in (Err f) = 0
 built-runs total s (refuses r at) e = never (cc)
 
 as-built : (f o n : ℕ) (bs : List ℕ) (ds : List Description) → building_in f o n bs ≡ gives ds → building f bs ≡ gives ds
@@ -48,13 +45,13 @@ fifteen (gives e) q = never (cc)
 fifteen (refuses (plain k) p) q = ap number_in q
   where
     number_in : Found → ℕ
-    number_in (found.Entry e) = 0
-    number_in (found.Refused f) = f.number
+    number_in (Ok e) = 0
+    number_in (Err f) = f.number
 fifteen (refuses (cut k l) p) q = ap number_in q
   where
     number_in : Found → ℕ
-    number_in (found.Entry e) = 0
-    number_in (found.Refused f) = f.number
+    number_in (Ok e) = 0
+    number_in (Err f) = f.number
 
 firsts-in : (ds : List Description) (l : List ℕ) → take (length ds) (sums_before 0 (map row_count ds) ++ l) ≡ sums_before 0 (map row_count ds)
 firsts-in ds l = take_at (sums_before 0 (map row_count ds)) l (length ds) (sums-length 0 (map row_count ds) ∙ length-map ds row_count)
@@ -76,7 +73,7 @@ its-columns ds c = rw (
 ) (sym (columns-are ds))
 
 built-never-15 : (input first at counts f o n : List ℕ) (s : Sizes) (row : ℕ) (r : Found) → AllBelow 256 input
-    → BuiltIn input first at counts f o n (built.Index s)
+    → BuiltIn input first at counts f o n (Ok s)
     → LookedUp input (record { firsts = take s.entries f; offsets = take s.entries o; counts = take s.entries n }) row r → r ≢ not_found 15
 built-never-15 input first at counts f o n s row r h b l e =
     let (ds, m, k) = built-runs (length input) s (building_in (length first) (length at) (length counts) input) b.answer in

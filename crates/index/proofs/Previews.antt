@@ -21,7 +21,7 @@ use Rattle.format.proofs.Tests.{never}
 use Rattle.index.specs.Entries.{gives, refuses, preview_places}
 use Rattle.index.specs.Columns.{Columns, sums_before, reading_in}
 use Rattle.index.specs.Promises.{preview_of, read_rows, not_read, ReadFrom}
-use Rattle.index.specs.declared.Left.TheVariants as left
+use Rattle.std.specs.Prelude.{Option, Some, None}
 use Rattle.index.specs.Walk.{left_of, Ready, RowsLaid}
 use Rattle.index.proofs.Entries.{total-cons}
 use Rattle.index.proofs.Looked.{Through}
@@ -44,17 +44,17 @@ last_sum f (d ∷ e ∷ ds) (suc k) h = omega (arith, last_sum (f + row_count d)
 
 -- ---- how many rows are left, by what was answered
 
-pub left-many : (x y r p : ℕ) → left.TooMany ≡ left_of x y r p → p < x + y - r
+pub left-many : (x y r p : ℕ) → None ≡ left_of x y r p → p < x + y - r
 left-many x y r p e = go (ltb p (x + y - r)) refl e
   where
-    go : (t : Bool) → ltb p (x + y - r) ≡ t → left.TooMany ≡ pick t left.TooMany (left.Rows (record { rows = x + y - r })) → p < x + y - r
+    go : (t : Bool) → ltb p (x + y - r) ≡ t → ◌≡◌ {A = Option RowNumber} None (pick t None (Some (record { rows = x + y - r }))) → p < x + y - r
     go true q e = ltb-true p (x + y - r) q
     go false q e = never (cc)
 
-pub left-rows : (x y r p k : ℕ) → left.Rows (record { rows = k }) ≡ left_of x y r p → (k ≡ x + y - r) × (k ≤ p)
+pub left-rows : (x y r p k : ℕ) → Some (record { rows = k }) ≡ left_of x y r p → (k ≡ x + y - r) × (k ≤ p)
 left-rows x y r p k e = go (ltb p (x + y - r)) refl e
   where
-    go : (t : Bool) → ltb p (x + y - r) ≡ t → left.Rows (record { rows = k }) ≡ pick t left.TooMany (left.Rows (record { rows = x + y - r }))
+    go : (t : Bool) → ltb p (x + y - r) ≡ t → ◌≡◌ {A = Option RowNumber} (Some (record { rows = k })) (pick t None (Some (record { rows = x + y - r })))
         → (k ≡ x + y - r) × (k ≤ p)
     go true q e = never (cc)
     go false q e =

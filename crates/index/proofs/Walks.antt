@@ -1,5 +1,6 @@
 -- The walks that find a stream's runs and compare them with columns: what is left at each place gives the whole's answer. Assumes nothing.
 use mathlib.Core.Path.{◌≡◌, refl, sym, ap, ◌∙◌}
+use mathlib.Core.Logic.{◌⊎◌, inl, inr}
 use Prim.Native.Nat.{ℕ, suc, ◌+◌, ◌<◌, ◌≤◌}
 use native.Mathlib.Omega.{arith}
 use native.Mathlib.Decide.{dec_lt}
@@ -17,14 +18,13 @@ use Rattle.format.specs.declared.Run.{Run}
 use Rattle.format.proofs.StreamRoom.{stream-none}
 use Rattle.index.specs.Columns.{sums_before}
 use Rattle.index.specs.Entries.{same}
-use Rattle.index.specs.declared.walk.Total.{Total}
-use Rattle.index.specs.declared.walk.Total.TheVariants as total
-use Rattle.index.specs.declared.walk.Survey.TheVariants as survey
+use Rattle.std.specs.Prelude.{Option, Some, Ok, Err}
+use Rattle.format.specs.declared.RowNumber.{RowNumber}
 use Rattle.index.specs.Walk.{total_of, survey_from, right_from, same_three}
 use Rattle.index.proofs.Columns.{regrouped}
 use Rattle.index.proofs.MeasuredRun.{OneRun, NoRun, broken-here}
 
-none_yet : total.Rows (record { rows = 0 }) ≡ total_of 0
+none_yet : Some (record { rows = 0 }) ≡ total_of 0
 unfolding total_of
 none_yet = refl
 
@@ -71,18 +71,18 @@ right-empty first at i fs os ns h p q = go (dec_lt i (length fs))
 
 -- ---- THE WALK THAT COUNTS: k runs and p bytes are passed
 
-pub record Surveyed (s : List ℕ) (p k : ℕ) (t : Total) : Type 0 where
+pub record Surveyed (s : List ℕ) (p k : ℕ) (t : Option RowNumber) : Type 0 where
   pub rows : ℕ
   pub total-is : t ≡ total_of rows
   pub within : p ≤ length s
   pub few : k ≤ p
   pub so_far : survey_from k rows p (stream (drop p s)) ≡ survey_from 0 0 0 (stream s)
 
-pub surveyed-first : (s : List ℕ) → Surveyed s 0 0 (total.Rows (record { rows = 0 }))
+pub surveyed-first : (s : List ℕ) → Surveyed s 0 0 (Some (record { rows = 0 }))
 surveyed-first s = record { rows = 0; total-is = none_yet; within = omega arith; few = omega arith; so_far = refl }
 
-module _ {s : List ℕ} {p k : ℕ} {t : Total} (w : Surveyed s p k t) where
-  pub surveyed-run : {r : Run} {t' : Total} → OneRun s p r → ((m : ℕ) → t ≡ total_of m → t' ≡ total_of (m + r.rows.rows))
+module _ {s : List ℕ} {p k : ℕ} {t : Option RowNumber} (w : Surveyed s p k t) where
+  pub surveyed-run : {r : Run} {t' : Option RowNumber} → OneRun s p r → ((m : ℕ) → t ≡ total_of m → t' ≡ total_of (m + r.rows.rows))
       → Surveyed s (p + r.consumed.bytes) (k + 1) t'
   surveyed-run {r} {t'} o e = record {
     rows = w.rows + r.rows.rows;
@@ -95,27 +95,27 @@ module _ {s : List ℕ} {p k : ℕ} {t : Total} (w : Surveyed s p k t) where
         ∙ sym (ap (survey_from k w.rows p) (rw o.bytes-are at o.onward)) ∙ w.so_far);
   }
 
-  pub surveyed-whole : drop p s ≡ [] → survey.Whole k t ≡ survey_from 0 0 0 (stream s)
+  pub surveyed-whole : drop p s ≡ [] → Ok (record { runs = k; rows = t }) ≡ survey_from 0 0 0 (stream s)
   unfolding total_rows
   surveyed-whole z = rw w.total-is (rw (z, stream-none, add-zero, add-zero) at w.so_far)
 
-  pub surveyed-refused : {f : Refusal} → NoRun s p f → survey.Refused f ≡ survey_from 0 0 0 (stream s)
+  pub surveyed-refused : {f : Refusal} → NoRun s p f → Err f ≡ survey_from 0 0 0 (stream s)
   unfolding joined
   surveyed-refused q = rw q.refusal_is (rw (broken-here q, add-zero, length-drop) at w.so_far)
 
 -- ---- THE WALK THAT COMPARES: i places of the columns are the stream's
 
-pub record Matched (s fs os ns : List ℕ) (p i : ℕ) (t : Total) : Type 0 where
+pub record Matched (s fs os ns : List ℕ) (p i : ℕ) (t : Option RowNumber) : Type 0 where
   pub rows : ℕ
   pub total-is : t ≡ total_of rows
   pub within : p ≤ length s
   pub few : i ≤ length fs
   pub so_far : right_from rows p (drop i fs) (drop i os) (drop i ns) (stream (drop p s)) ≡ right_from 0 0 fs os ns (stream s)
 
-pub matched-first : (s fs os ns : List ℕ) → Matched s fs os ns 0 0 (total.Rows (record { rows = 0 }))
+pub matched-first : (s fs os ns : List ℕ) → Matched s fs os ns 0 0 (Some (record { rows = 0 }))
 matched-first s fs os ns = record { rows = 0; total-is = none_yet; within = omega arith; few = omega arith; so_far = refl }
 
-module _ {s fs os ns : List ℕ} {p i : ℕ} {t : Total} (w : Matched s fs os ns p i t) where
+module _ {s fs os ns : List ℕ} {p i : ℕ} {t : Option RowNumber} (w : Matched s fs os ns p i t) where
   module _ {r : Run} (o : OneRun s p r) where
     pub matched-short : length fs ≤ i → false ≡ right_from 0 0 fs os ns (stream s)
     matched-short h =
@@ -135,7 +135,7 @@ module _ {s fs os ns : List ℕ} {p i : ℕ} {t : Total} (w : Matched s fs os ns
         pub matched-other : yes ≡ false → false ≡ right_from 0 0 fs os ns (stream s)
         matched-other n = rw (← o.rows_are, ← (e w.rows w.total-is), n) at next-is
 
-        pub matched-run : yes ≡ true → {t' : Total} → ((m : ℕ) → t ≡ total_of m → t' ≡ total_of (m + r.rows.rows))
+        pub matched-run : yes ≡ true → {t' : Option RowNumber} → ((m : ℕ) → t ≡ total_of m → t' ≡ total_of (m + r.rows.rows))
             → Matched s fs os ns (p + r.consumed.bytes) (i + 1) t'
         matched-run y {t'} f =
             let s1 : i + 1 ≡ suc i = omega arith in
@@ -152,3 +152,7 @@ module _ {s fs os ns : List ℕ} {p i : ℕ} {t : Total} (w : Matched s fs os ns
 
   pub matched-refused : {f : Refusal} → NoRun s p f → false ≡ right_from 0 0 fs os ns (stream s)
   matched-refused q = rw (broken-here q) at w.so_far
+
+  pub matched-stop : p < length s → (drop p s ≡ []) ⊎ ((f : Refusal) × NoRun s p f) → false ≡ right_from 0 0 fs os ns (stream s)
+  matched-stop l (inl z) = absurd (omega (arith, l, length-drop p s, ap length z))
+  matched-stop l (inr (f, q)) = matched-refused q

@@ -9,12 +9,9 @@ use Rattle.format.specs.Parse.{Reason, plain}
 use Rattle.format.specs.Streams.{whole, broken, read_all, stream, total_rows, joined_rows}
 use Rattle.index.specs.Entries.{Result, gives, refuses, number_of, Entry, entries_from, entries, building, table_of, lookup, reading}
 use Rattle.index.specs.Columns.{Columns, columns_at, building_in, lookup_in, reading_in}
-use Rattle.index.specs.Promises.{BuiltIn, LookedUp, ReadFrom, not_found}
+use Rattle.std.specs.Prelude.{Ok}
+use Rattle.index.specs.Promises.{Built, Found, Preview, BuiltIn, LookedUp, ReadFrom, not_found}
 use Rattle.index.specs.declared.Sizes.{Sizes}
-use Rattle.index.specs.declared.Built.{Built}
-use Rattle.index.specs.declared.Built.TheVariants as built
-use Rattle.index.specs.declared.Found.{Found}
-use Rattle.index.specs.declared.Preview.{Preview}
 
 -- a right index: the bytes are the layouts of valid runs, joined, and the entries are those of these runs
 pub record IsIndex (bs : List ℕ) (es : List Entry) : Type 0 where
@@ -130,6 +127,6 @@ pub record PromisesHold : Type 0 where
   pub reading-same : (input : List ℕ) (c : Columns) (row : ℕ) (signed : Bool) (out out' out'' : List ℤ) (r r' : Preview)
       → ReadFrom input c row signed out out' r → ReadFrom input c row signed out out'' r' → (r ≡ r') × (out' ≡ out'')
   pub never-15 : (input first at counts f o n : List ℕ) (s : Sizes) (row : ℕ) (r : Found) → AllBelow 256 input
-      → BuiltIn input first at counts f o n (built.Index s)
+      → BuiltIn input first at counts f o n (Ok s)
       → LookedUp input (record { firsts = take s.entries f; offsets = take s.entries o; counts = take s.entries n }) row r
       → r ≢ not_found 15

@@ -1,90 +1,61 @@
-// Walks over a stream by its runs' measures: no row is decoded.
+// Walks over a stream by its runs' measures: no row is decoded. Three loops and not one that takes a closure: it would need a contract for the
+// walk and for each closure, and what the loops share is the measure and one sum.
 ghost use Rattle.std.specs.Prelude.{◌≡◌, ℕ, ◌+◌, length};
 ghost use Rattle.format.specs.Streams.{stream};
 ghost use Rattle.index.specs.Walk.{total_of, survey_from, right_from, same_three, Roomy, Filled};
 
-use format::{Answer, ByteOffset, Refusal, RowNumber};
+use format::{ByteOffset, Refusal, RowNumber};
 
-// A count of rows, while it is at most 2^64 - 1.
+// A whole stream: how many runs it has, and how many rows, if these are at most 2^64 - 1.
 #[derive(Clone, Copy)]
-pub(crate) enum Total {
-    Rows(RowNumber),
-    Past,
+pub(crate) struct Whole {
+    pub runs: usize,
+    pub rows: Option<RowNumber>,
 }
 
-// What is found: how many runs and rows a whole stream has, or the stream's own refusal.
-#[derive(Clone, Copy)]
-pub(crate) enum Survey {
-    Whole(usize, Total),
-    Refused(Refusal),
-}
-
-fn more(total: Total, n: RowNumber) -> Total
+// A count of rows and more of them, while it is at most 2^64 - 1.
+#[tactic(auto, unfolding(crate::specs::Walk::total_of))]
+fn more(total: Option<RowNumber>, n: RowNumber) -> Option<RowNumber>
     ensures { (m : ℕ) → total ≡ total_of m → result ≡ total_of (m + n.rows) }
 {
-    match total {
-        Total::Rows(m) => {
-            if usize::MAX - m.rows < n.rows {
-                return Total::Past;
-            }
-            Total::Rows(RowNumber {
-                rows: m.rows + n.rows,
-            })
-        }
-        Total::Past => Total::Past,
-    }
+    let m = total?;
+    let rows = m.rows.checked_add(n.rows)?;
+    Some(RowNumber { rows })
 }
 
-pub(crate) fn whole_of(input: &[u8]) -> Survey
+// The runs and rows of a stream, or the stream's own refusal.
+pub(crate) fn whole_of(input: &[u8]) -> Result<Whole, Refusal>
     ensures { result ≡ survey_from 0 0 0 (stream input.now) }
 {
     let mut place: usize = 0;
+    // the runs beside the walk, whose step is a run's bytes: no range and no slice to walk by `for`; `right` and `fill` the same
     let mut runs: usize = 0;
-    let mut total = Total::Rows(RowNumber { rows: 0 });
-    while place < input.len() {
-        let a = rle_v2::measure(input, ByteOffset { bytes: place });
-        match a {
-            Answer::Run(run) => {
-                let rows = run.rows;
-                let consumed = run.consumed;
-                total = more(total, rows);
-                place += consumed.bytes;
-                runs += 1;
-            }
-            Answer::Refused(f) => {
-                return Survey::Refused(f);
-            }
-            Answer::End => {
-                return Survey::Whole(runs, total);
-            }
-        }
+    let mut rows = Some(RowNumber { rows: 0 });
+    while let Some(run) = rle_v2::measure(input, ByteOffset { bytes: place })? {
+        let consumed = run.consumed;
+        rows = more(rows, run.rows);
+        place += consumed.bytes;
+        runs += 1;
     }
-    Survey::Whole(runs, total)
+    Ok(Whole { runs, rows })
 }
 
 // Whether three numbers of the columns are a run's, before which there are so many rows and bytes.
+#[tactic(auto, unfolding(crate::specs::Walk::total_of))]
 fn is_entry(
     first: u64,
     at: u64,
     count: u64,
-    total: Total,
+    total: Option<RowNumber>,
     place: ByteOffset,
     rows: RowNumber,
 ) -> bool
     ensures { (m : ℕ) → total ≡ total_of m → result ≡ same_three first at count m place.bytes rows.rows }
 {
-    match total {
-        Total::Rows(m) => {
-            if first as usize != m.rows {
-                return false;
-            }
-            if at as usize != place.bytes {
-                return false;
-            }
-            count as usize == rows.rows
-        }
-        Total::Past => false,
-    }
+    let Some(m) = total else {
+        return false;
+    };
+    first as usize == m.rows && at as usize == place.bytes && count as usize == rows.rows
 }
 
 // Whether the columns, which are of one length, are exactly the stream's.
@@ -94,31 +65,24 @@ pub(crate) fn right(input: &[u8], first: &[u64], at: &[u64], counts: &[u64]) -> 
 {
     let mut place: usize = 0;
     let mut i: usize = 0;
-    let mut total = Total::Rows(RowNumber { rows: 0 });
+    let mut total = Some(RowNumber { rows: 0 });
+    // an `Ok(Some(run))` here does not tell the proof, in its else, that the answer is none
     while place < input.len() {
-        let a = rle_v2::measure(input, ByteOffset { bytes: place });
-        match a {
-            Answer::Run(run) => {
-                let rows = run.rows;
-                let consumed = run.consumed;
-                if first.len() <= i {
-                    return false;
-                }
-                let from = ByteOffset { bytes: place };
-                if !is_entry(first[i], at[i], counts[i], total, from, rows) {
-                    return false;
-                }
-                total = more(total, rows);
-                place += consumed.bytes;
-                i += 1;
-            }
-            Answer::Refused(_) => {
-                return false;
-            }
-            Answer::End => {
-                return i == first.len();
-            }
+        let from = ByteOffset { bytes: place };
+        let Some(run) = rle_v2::measure(input, from).unwrap_or(None) else {
+            return false;
+        };
+        let rows = run.rows;
+        let consumed = run.consumed;
+        if first.len() <= i {
+            return false;
         }
+        if !is_entry(first[i], at[i], counts[i], total, from, rows) {
+            return false;
+        }
+        total = more(total, rows);
+        place += consumed.bytes;
+        i += 1;
     }
     i == first.len()
 }
@@ -132,26 +96,15 @@ pub(crate) fn fill(input: &[u8], first: &mut [u64], at: &mut [u64], counts: &mut
     let mut place: usize = 0;
     let mut row: usize = 0;
     let mut i: usize = 0;
-    while place < input.len() {
-        let a = rle_v2::measure(input, ByteOffset { bytes: place });
-        match a {
-            Answer::Run(run) => {
-                let rows = run.rows;
-                let consumed = run.consumed;
-                first[i] = row as u64;
-                at[i] = place as u64;
-                counts[i] = rows.rows as u64;
-                row += rows.rows;
-                place += consumed.bytes;
-                i += 1;
-            }
-            // neither is: the stream is whole
-            Answer::Refused(_) => {
-                return;
-            }
-            Answer::End => {
-                return;
-            }
-        }
+    // until the end: the stream is whole, so no run is refused
+    while let Some(run) = rle_v2::measure(input, ByteOffset { bytes: place }).unwrap_or(None) {
+        let rows = run.rows;
+        let consumed = run.consumed;
+        first[i] = row as u64;
+        at[i] = place as u64;
+        counts[i] = rows.rows as u64;
+        row += rows.rows;
+        place += consumed.bytes;
+        i += 1;
     }
 }

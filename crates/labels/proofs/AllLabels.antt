@@ -12,7 +12,9 @@ use lib.IntN.{ℤ}
 use Rattle.format.specs.Fields.{pick}
 use Rattle.format.proofs.Tests.{never, T_true, is_false}
 use Rattle.present.proofs.Columns.{spread-length}
-use Rattle.labels.specs.declared.LabelColumn.{LabelColumn}
+use Rattle.std.specs.Prelude.{Result}
+use Rattle.format.specs.declared.RowNumber.{RowNumber}
+use Rattle.labels.specs.declared.ColumnRefusal.{ColumnRefusal}
 use Rattle.labels.specs.Labels.{add_up, is_name, name_at, fallback_of}
 use Rattle.labels.specs.Laws.{AddUp}
 use Rattle.labels.specs.Column.{good_rows, LabelPlaces, start_for, size_for, LabelOutcome, gives, refuses, refuses_row, too_few_places}
@@ -74,7 +76,7 @@ module _ (flags : List ℕ) (numbers lengths : List ℤ) (block : List ℕ) (c :
       let a = added lengths block u in
       comes-all flags numbers lengths (length block) c a (all-good flags numbers lengths block a n) (enough-places flags lengths c m)
 
-  said : {r : LabelColumn} → ColumnSaid flags numbers lengths block c r → labels_answer (length flags) outcome ≡ r
+  said : {r : Result RowNumber ColumnRefusal} → ColumnSaid flags numbers lengths block c r → labels_answer (length flags) outcome ≡ r
   said (eighteen n) =
       rw (comes-18 flags numbers lengths (length block) c (is_false (add_up lengths block)
       (λ t. n (adds lengths block (T_true (add_up lengths block) t)))))
@@ -140,9 +142,9 @@ all-labels-hold flags numbers lengths block c c' r p = record {
   untouched-row = λ k row e. p.places ∙ as-was-row k row (labelling flags numbers lengths (length block) c) (sym p.answer ∙ e);
 }
   where
-    tells : {a : LabelColumn} → r ≡ a → ColumnSaid flags numbers lengths block c a
+    tells : {a : Result RowNumber ColumnRefusal} → r ≡ a → ColumnSaid flags numbers lengths block c a
     tells e =
-        subst (λ (x : LabelColumn). ColumnSaid flags numbers lengths block c x) (sym p.answer ∙ e)
+        subst (λ (x : Result RowNumber ColumnRefusal). ColumnSaid flags numbers lengths block c x) (sym p.answer ∙ e)
         (says flags numbers lengths block c)
 
     at_exit : labelling flags numbers lengths (length block) c ≡ gives → c' ≡ labels_at flags numbers lengths c gives

@@ -4,7 +4,9 @@ use mathlib.Core.Path.{◌≡◌, refl}
 use mathlib.Core.List.{List, [], ◌∷◌}
 use lib.IntN.{ℤ, pos, negsuc}
 use Rattle.present.specs.Present.{present, spread}
-use Rattle.labels.specs.declared.LabelColumn.{LabelColumn}
+use Rattle.std.specs.Prelude.{Result}
+use Rattle.format.specs.declared.RowNumber.{RowNumber}
+use Rattle.labels.specs.declared.ColumnRefusal.{ColumnRefusal}
 use Rattle.labels.specs.Labels.{total, none_below, add_up_to, start_of, size_of}
 use Rattle.labels.specs.Column.{good_rows, LabelPlaces, offsets_from, labelling, labelled_rows, column_refused, row_refused, labels_answer}
 use Rattle.labels.specs.Column.{labels_at}
@@ -19,7 +21,7 @@ numbers = pos 1 ∷ pos 0 ∷ []
 abbrev places : LabelPlaces
 places = record { offsets = 90 ∷ 91 ∷ 92 ∷ []; starts = 80 ∷ 81 ∷ 82 ∷ 83 ∷ []; sizes = 70 ∷ 71 ∷ 72 ∷ 73 ∷ [] }
 
-unfoldable outcome : List ℤ → List ℤ → LabelPlaces → LabelColumn × LabelPlaces
+unfoldable outcome : List ℤ → List ℤ → LabelPlaces → Result RowNumber ColumnRefusal × LabelPlaces
 unfolding total none_below add_up_to start_of size_of good_rows offsets_from present spread labelling
 outcome lengths numbers c =
     let o = labelling (1 ∷ 0 ∷ 2 ∷ []) numbers lengths 5 c in

@@ -8,7 +8,9 @@ use lib.Dec.{ltb}
 use lib.IntN.{ℤ}
 use borrow.Author.Tests.{lt-ltb, le-ltb, ltb-false}
 use Rattle.format.proofs.Tests.{never}
-use Rattle.labels.specs.declared.LabelColumn.{LabelColumn}
+use Rattle.std.specs.Prelude.{Result}
+use Rattle.format.specs.declared.RowNumber.{RowNumber}
+use Rattle.labels.specs.declared.ColumnRefusal.{ColumnRefusal}
 use Rattle.labels.specs.Labels.{add_up_to}
 use Rattle.labels.specs.RowPass.{RowsLaid}
 use Rattle.labels.specs.Column.{good_rows, LabelPlaces, offsets_from, gives, refuses, refuses_row, too_few_places, labelling}
@@ -67,7 +69,7 @@ module _ (flags : List ℕ) (numbers lengths : List ℤ) (bytes : ℕ) (p : Labe
 
   -- ---- the promise
 
-  module _ (r : LabelColumn) where
+  module _ (r : Result RowNumber ColumnRefusal) where
     pub leaves : (k : ℕ) → labelling flags numbers lengths bytes p ≡ refuses k → r ≡ column_refused k
         → LabelledAll flags numbers lengths bytes p p r
     leaves k e a = record { answer = rw e a; places = rw e }

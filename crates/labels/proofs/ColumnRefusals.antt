@@ -10,8 +10,9 @@ use lib.ListN.{length, get_or}
 use lib.IntN.{ℤ}
 use Rattle.format.specs.Fields.{pick}
 use Rattle.format.proofs.Tests.{never}
+use Rattle.std.specs.Prelude.{Result, Ok, Err}
+use Rattle.format.specs.declared.Refusal.{Refusal}
 use Rattle.labels.specs.declared.Label.{Label}
-use Rattle.labels.specs.declared.Label.TheVariants.{Name, Fallback, Refused}
 use Rattle.labels.specs.Labels.{add_up, is_name, name_at, fallback_of, refused_with}
 use Rattle.labels.specs.Column.{good_rows}
 use Rattle.labels.specs.ColumnLaws.{RowRefused, NoneNineteen}
@@ -19,10 +20,9 @@ use Rattle.labels.proofs.Columns.{not-added}
 use Rattle.labels.proofs.ColumnRows.{served, good-before, good-first, label-bad, label-served}
 
 -- a refusal's number: none is 0
-number_of : Label → ℕ
-number_of (Name n) = 0
-number_of (Fallback n) = 0
-number_of (Refused f) = f.number
+number_of : Result Label Refusal → ℕ
+number_of (Ok l) = 0
+number_of (Err f) = f.number
 
 two-numbers : (j k : ℕ) → refused_with j ≡ refused_with k → j ≡ k
 unfolding number_of

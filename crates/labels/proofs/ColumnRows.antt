@@ -13,6 +13,8 @@ use Rattle.format.specs.Fields.{pick}
 use Rattle.format.proofs.Tests.{never}
 use Rattle.present.specs.Present.{rows_for, present, spread}
 use Rattle.present.proofs.Columns.{spread-length, row-at}
+use Rattle.std.specs.Prelude.{Result}
+use Rattle.format.specs.declared.Refusal.{Refusal}
 use Rattle.labels.specs.declared.Label.{Label}
 use Rattle.labels.specs.Labels.{add_up, is_name, entry_of, name_at, fallback_of, refused_with, numbered, named, label}
 use Rattle.labels.specs.Column.{next_inside, has_number, good_rows, start_for, size_for}
@@ -23,7 +25,7 @@ abbrev pub number_at : List ℕ → List ℤ → ℕ → ℤ
 number_at flags numbers row = get_or numbers (entry_of flags row) (pos 0)
 
 -- the name of a number of the dictionary
-abbrev pub name_for : List ℤ → ℤ → Label
+abbrev pub name_for : List ℤ → ℤ → Result Label Refusal
 name_for lengths z = name_at (start_for lengths z) (size_for lengths z)
 
 -- ---- which rows have what they need

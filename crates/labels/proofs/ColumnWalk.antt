@@ -9,23 +9,16 @@ use mathlib.Core.Bool.{Bool, true, false}
 use mathlib.Core.List.{List, [], ◌∷◌, map}
 use lib.ListN.{length, drop, get_or, length-map, drop_of_length-le, get_or-map}
 use lib.Seq.{drop-cons, drop-drop}
-use lib.Dec.{ltb}
 use lib.IntN.{ℤ, pos, negsuc}
 use borrow.Author.Tests.{ltb-true}
 use Rattle.format.specs.Fields.{pick}
 use Rattle.format.proofs.Tests.{never}
 use Rattle.present.specs.Present.{rows_for}
 use Rattle.present.proofs.SpreadLoop.{any-default}
-use Rattle.labels.specs.declared.Whole.TheVariants.{Number, Below}
-use Rattle.labels.specs.Whole.{whole_of}
 use Rattle.labels.specs.Labels.{size}
 use Rattle.labels.specs.Column.{next_inside, has_number, good_rows}
 
 -- ---- the next number
-
-pub whole_below : (z : ℤ) → whole_of z ≡ Below → size z ≡ 0
-whole_below (pos j) e = never (cc)
-whole_below (negsuc j) e = refl
 
 module _ (lengths numbers : List ℤ) (at : ℕ) where
   pub next-missing : length numbers ≤ at → next_inside lengths (drop at numbers) ≡ false
@@ -35,34 +28,23 @@ module _ (lengths numbers : List ℤ) (at : ℕ) where
     there : next_inside lengths (drop at numbers) ≡ next_inside lengths (get_or numbers at (pos 0) ∷ drop (suc at) numbers)
     there = ap (next_inside lengths) (drop-cons numbers at (pos 0) h)
 
-    pub next-below : whole_of (get_or numbers at (pos 0)) ≡ Below → next_inside lengths (drop at numbers) ≡ false
-    next-below e = there ∙ go (get_or numbers at (pos 0)) e
-      where
-        go : (z : ℤ) → whole_of z ≡ Below → next_inside lengths (z ∷ drop (suc at) numbers) ≡ false
-        go (pos j) e = never (cc)
-        go (negsuc j) e = refl
-
-    pub next-number : (k : ℕ) → whole_of (get_or numbers at (pos 0)) ≡ Number k → next_inside lengths (drop at numbers) ≡ ltb k (length lengths)
-    next-number k e = there ∙ go (get_or numbers at (pos 0)) e
-      where
-        go : (z : ℤ) → whole_of z ≡ Number k → next_inside lengths (z ∷ drop (suc at) numbers) ≡ ltb k (length lengths)
-        go (pos j) e = let y : j ≡ k = cc in rw y
-        go (negsuc j) e = never (cc)
-
   -- a number that is there and of the dictionary
   pub record Inside : Type 0 where
     pub here : at < length numbers
+    pub natural : pos (size (get_or numbers at (pos 0))) ≡ get_or numbers at (pos 0)
     pub small : size (get_or numbers at (pos 0)) < length lengths
 
   pub next-inside : next_inside lengths (drop at numbers) ≡ true → Inside
   next-inside t = go (dec_lt at (length numbers))
     where
-      by : (z : ℤ) → next_inside lengths (z ∷ drop (suc at) numbers) ≡ true → size z < length lengths
-      by (pos j) e = ltb-true j (length lengths) e
+      by : (z : ℤ) → next_inside lengths (z ∷ drop (suc at) numbers) ≡ true → (pos (size z) ≡ z) × (size z < length lengths)
+      by (pos j) e = (refl, ltb-true j (length lengths) e)
       by (negsuc j) e = never (cc)
 
       go : Dec (at < length numbers) → Inside
-      go (yes h) = record { here = h; small = by (get_or numbers at (pos 0)) (sym (there h) ∙ t) }
+      go (yes h) =
+          let b = by (get_or numbers at (pos 0)) (sym (there h) ∙ t) in
+          record { here = h; natural = b.0; small = b.1 }
       go (no h) = let f : false ≡ true = sym (next-missing (omega arith)) ∙ t in never (cc)
 
 -- what is made of each number

@@ -4,6 +4,8 @@ use mathlib.Core.Path.{◌≡◌, refl}
 use Prim.Native.Nat.{ℕ}
 use mathlib.Core.List.{List, [], ◌∷◌}
 use lib.IntN.{ℤ, pos, negsuc}
+use Rattle.std.specs.Prelude.{Result}
+use Rattle.format.specs.declared.Refusal.{Refusal}
 use Rattle.labels.specs.declared.Label.{Label}
 use Rattle.present.specs.Present.{present}
 use Rattle.labels.specs.Labels.{total, none_below, add_up_to, start_of, size_of, entry_of, name_at, fallback_of, refused_with, numbered}
@@ -15,7 +17,7 @@ block = 65 ∷ 66 ∷ 67 ∷ 68 ∷ 69 ∷ []
 abbrev flags : List ℕ
 flags = 1 ∷ 0 ∷ 2 ∷ []
 
-unfoldable outcome : List ℤ → List ℤ → ℕ → Label × List ℕ
+unfoldable outcome : List ℤ → List ℤ → ℕ → Result Label Refusal × List ℕ
 unfolding total none_below add_up_to start_of size_of present entry_of numbered named label
 outcome lengths numbers row = let r = label lengths numbers flags block (63 ∷ []) row in (r, part_of block (63 ∷ []) r)
 

@@ -12,6 +12,8 @@ use lib.Signed.{le_z_yes, yes_non_neg}
 use borrow.Author.Tests.{le-leb, lt-leb, leb-true, leb-false, lt-ltb, ltb-true, ltb-false, eq-eqb}
 use Rattle.format.specs.Fields.{pick}
 use Rattle.format.proofs.Tests.{never, T_true, is_false, and_left, and_right}
+use Rattle.std.specs.Prelude.{Result}
+use Rattle.format.specs.declared.Refusal.{Refusal}
 use Rattle.labels.specs.declared.Label.{Label}
 use Rattle.labels.specs.Labels.{total, none_below, add_up_to, add_up, start_of, size_of, is_name, entry_of, name_at, fallback_of, refused_with}
 use Rattle.labels.specs.Labels.{numbered, named, label, part_of}
@@ -27,7 +29,7 @@ none_below_lem [] t = tt
 none_below_lem (pos n ∷ l) t = (le_z_yes (le→leb 0 n zero-le), none_below_lem l t)
 none_below_lem (negsuc n ∷ l) t = absurd t
 
-below_none : (l : List ℤ) → NoneBelow l → T (none_below l)
+pub below_none : (l : List ℤ) → NoneBelow l → T (none_below l)
 unfolding none_below
 below_none [] h = tt
 below_none (pos n ∷ l) h = below_none l h.1
@@ -44,6 +46,12 @@ none-take : (k : ℕ) (l : List ℤ) → NoneBelow l → NoneBelow (take k l)
 none-take zero l h = tt
 none-take (suc k) [] h = tt
 none-take (suc k) (z ∷ l) h = (h.0, none-take k l h.1)
+
+pub sums_none : (l : List ℤ) (n : ℕ) → add_up_to l n ≡ true → NoneBelow l
+unfolding add_up_to
+sums_none l n e =
+    let t : T (add_up_to l n) = rw e tt in
+    none_below_lem l (and_left (none_below l) _ t)
 
 pub adds : (l : List ℤ) (b : List ℕ) → add_up l b ≡ true → AddUp l b
 unfolding add_up_to
@@ -73,7 +81,7 @@ added l b a = go (none_below l) (below_none l a.none_below)
 -- ---- each answer
 
 module _ (lengths numbers : List ℤ) (flags block fall : List ℕ) (row : ℕ) where
-  abbrev Says : Label → Type 0
+  abbrev Says : Result Label Refusal → Type 0
   Says r = Said lengths numbers flags block fall row r
 
   module _ (h : row < length flags) (a : AddUp lengths block) (n : Name lengths numbers flags block fall row) where
@@ -118,7 +126,7 @@ module _ (lengths numbers : List ℤ) (flags block fall : List ℕ) (row : ℕ) 
       go true f = by _ (ltb-true (entry_of flags row) (length numbers) f) refl
       go false f = refl
 
-  said : {r : Label} → Says r → label lengths numbers flags block fall row ≡ r
+  said : {r : Result Label Refusal} → Says r → label lengths numbers flags block fall row ≡ r
   unfolding label named numbered
   said (sixteen h) = rw (le-leb (length flags) row h)
   said (eighteen h a) = rw (lt-leb (length flags) row h, is_false (add_up lengths block) (λ t. a (adds lengths block (T_true (add_up lengths block) t))))
@@ -129,7 +137,7 @@ module _ (lengths numbers : List ℤ) (flags block fall : List ℕ) (row : ℕ) 
 
 pub labels-exactly : LabelsExactly
 labels-exactly lengths numbers flags block fall row r = (
-  λ e. subst (λ (x : Label). Said lengths numbers flags block fall row x) e (says lengths numbers flags block fall row),
+  λ e. subst (λ (x : Result Label Refusal). Said lengths numbers flags block fall row x) e (says lengths numbers flags block fall row),
   λ s. said lengths numbers flags block fall row s,
 )
 
@@ -160,6 +168,9 @@ size_is (pos n ∷ l) zero h = refl
 size_is (negsuc n ∷ l) zero h = absurd (yes_non_neg h.0)
 size_is (z ∷ l) (suc k) h = size_is l k h.1
 
+pub sound_sizes : (l : List ℤ) (k : ℕ) → none_below l ≡ true → pos (size_of l k) ≡ get_or l k (pos 0)
+sound_sizes l k e = size_is l k (none_below_lem l (rw e tt))
+
 pub parts-hold : PartsHold
 unfolding start_of total
 parts-hold lengths block a = record {
@@ -188,7 +199,7 @@ labels-given lengths numbers flags block fall row r part p q = record {
         → Said lengths' numbers' flags block' fall row (fallback_of n)
     without (no_name h a n) a' = no_name h a' n
 
-    part-of : {x : Label} → r ≡ x → part ≡ part_of block fall x
+    part-of : {x : Result Label Refusal} → r ≡ x → part ≡ part_of block fall x
     part-of e = q.part-is ∙ ap (part_of block fall) (sym p.answer ∙ e)
 
 pub labels-determined : LabelsDetermined

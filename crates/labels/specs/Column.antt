@@ -1,13 +1,13 @@
 -- ALL LABELS IN ONE PASS (FORMAT.md, "All labels in one pass"): three columns, with where each name begins, and for each row where its name
 -- begins and its length.
 -- Assumes nothing.
-use Rattle.std.specs.Prelude.{◌≡◌, ℕ, suc, ◌+◌, Bool, true, false, not, ◌||◌, List, [], ◌∷◌, ◌++◌, map, length, drop, ltb, ℤ, pos, negsuc}
+use Rattle.std.specs.Prelude.{◌≡◌, ℕ, suc, ◌+◌, Bool, true, false, not, ◌||◌, List, [], ◌∷◌, ◌++◌, map, length, drop, ltb, ℤ, pos, negsuc, Some, None, Result, Ok, Err}
 use Rattle.format.specs.Fields.{pick}
 use Rattle.format.specs.Answers.{refusing}
 use Rattle.present.specs.Present.{rows_for, spread}
 use Rattle.labels.specs.Labels.{size, add_up_to, start_of, size_of, is_name}
-use Rattle.labels.specs.declared.LabelColumn.{LabelColumn}
-use Rattle.labels.specs.declared.LabelColumn.TheVariants.{Rows, Refused, RefusedRow}
+use Rattle.format.specs.declared.RowNumber.{RowNumber}
+use Rattle.labels.specs.declared.ColumnRefusal.{ColumnRefusal}
 
 -- ---- THE ROWS THAT HAVE WHAT THEY NEED
 
@@ -76,16 +76,16 @@ labelling flags numbers lengths bytes p =
 
 -- ---- THE ANSWER: how many rows have their labels; or a refusal, by its number, at place 0, and for 19 the row
 
-abbrev pub labelled_rows : ℕ → LabelColumn
-labelled_rows rows = Rows (record { rows = rows })
+abbrev pub labelled_rows : ℕ → Result RowNumber ColumnRefusal
+labelled_rows rows = Ok (record { rows = rows })
 
-abbrev pub column_refused : ℕ → LabelColumn
-column_refused number = Refused (refusing number 0)
+abbrev pub column_refused : ℕ → Result RowNumber ColumnRefusal
+column_refused number = Err (record { refusal = refusing number 0; row = None })
 
-abbrev pub row_refused : ℕ → ℕ → LabelColumn
-row_refused number row = RefusedRow (refusing number 0) (record { rows = row })
+abbrev pub row_refused : ℕ → ℕ → Result RowNumber ColumnRefusal
+row_refused number row = Err (record { refusal = refusing number 0; row = Some (record { rows = row }) })
 
-abbrev pub labels_answer : ℕ → LabelOutcome → LabelColumn
+abbrev pub labels_answer : ℕ → LabelOutcome → Result RowNumber ColumnRefusal
 labels_answer rows gives = labelled_rows rows
 labels_answer rows (refuses number) = column_refused number
 labels_answer rows (refuses_row number row) = row_refused number row
@@ -103,6 +103,6 @@ labels_at flags numbers lengths p (refuses_row number row) = p
 
 -- ---- THE PROMISE
 
-pub record LabelledAll (flags : List ℕ) (numbers lengths : List ℤ) (bytes : ℕ) (p p' : LabelPlaces) (r : LabelColumn) : Type 0 where
+pub record LabelledAll (flags : List ℕ) (numbers lengths : List ℤ) (bytes : ℕ) (p p' : LabelPlaces) (r : Result RowNumber ColumnRefusal) : Type 0 where
   pub answer : r ≡ labels_answer (length flags) (labelling flags numbers lengths bytes p)
   pub places : p' ≡ labels_at flags numbers lengths p (labelling flags numbers lengths bytes p)

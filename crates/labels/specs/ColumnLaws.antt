@@ -1,15 +1,17 @@
 -- What is proved of all labels of a column: row by row they are those of `label`. Stated for all columns, blocks, fallbacks and places.
 -- Assumes nothing.
-use Rattle.std.specs.Prelude.{◌≡◌, ◌↔◌, ℕ, ◌<◌, ◌≤◌, List, length, drop, get_or, T, ℤ}
+use Rattle.std.specs.Prelude.{◌≡◌, ◌↔◌, ℕ, ◌<◌, ◌≤◌, List, length, drop, get_or, T, ℤ, Result}
+use Rattle.format.specs.declared.RowNumber.{RowNumber}
+use Rattle.format.specs.declared.Refusal.{Refusal}
 use Rattle.format.specs.Fields.{pick}
 use Rattle.labels.specs.Labels.{is_name, start_of, name_at, fallback_of, refused_with, label}
 use Rattle.labels.specs.Laws.{AddUp}
 use Rattle.labels.specs.Column.{LabelPlaces, labelled_rows, column_refused, row_refused, LabelledAll}
 use Rattle.labels.specs.declared.Label.{Label}
-use Rattle.labels.specs.declared.LabelColumn.{LabelColumn}
+use Rattle.labels.specs.declared.ColumnRefusal.{ColumnRefusal}
 
 -- what the columns hold of a row: a name, by where it begins and its length, or the fallback
-abbrev pub label_held : List ℕ → List ℕ → LabelPlaces → ℕ → Label
+abbrev pub label_held : List ℕ → List ℕ → LabelPlaces → ℕ → Result Label Refusal
 label_held flags fall p row =
     pick (is_name (get_or flags row 0)) (name_at (get_or p.starts row 0) (get_or p.sizes row 0)) (fallback_of (length fall))
 
@@ -36,7 +38,7 @@ module _ (flags : List ℕ) (numbers lengths : List ℤ) (block : List ℕ) wher
 
 module _ (flags : List ℕ) (numbers lengths : List ℤ) (block : List ℕ) (p : LabelPlaces) where
   -- ---- EACH ANSWER, EXACTLY WHEN: in the order 18, 19, 8
-  pub data ColumnSaid : LabelColumn → Type 0 where
+  pub data ColumnSaid : Result RowNumber ColumnRefusal → Type 0 where
     eighteen : (AddUp lengths block → ⊥) → ColumnSaid (column_refused 18)
     -- the first row that has it; 18 does not apply, or this row would have that
     nineteen : (row : ℕ) → row < length flags → RowRefused flags numbers lengths block 19 row
@@ -45,9 +47,9 @@ module _ (flags : List ℕ) (numbers lengths : List ℤ) (block : List ℕ) (p :
     all-rows : AddUp lengths block → NoneNineteen flags numbers lengths block → LabelRoom flags lengths p
         → ColumnSaid (labelled_rows (length flags))
 
-module _ (flags : List ℕ) (numbers lengths : List ℤ) (block : List ℕ) (p p' : LabelPlaces) (r : LabelColumn) where
+module _ (flags : List ℕ) (numbers lengths : List ℤ) (block : List ℕ) (p p' : LabelPlaces) (r : Result RowNumber ColumnRefusal) where
   pub record AllLabels : Type 0 where
-    pub exactly : (a : LabelColumn) → (r ≡ a) ↔ ColumnSaid flags numbers lengths block p a
+    pub exactly : (a : Result RowNumber ColumnRefusal) → (r ≡ a) ↔ ColumnSaid flags numbers lengths block p a
     -- 18 is that of every row
     pub every-18 : r ≡ column_refused 18 → (row : ℕ) → row < length flags → RowRefused flags numbers lengths block 18 row
     pub from-18 : (row : ℕ) → row < length flags → RowRefused flags numbers lengths block 18 row → r ≡ column_refused 18
@@ -70,11 +72,11 @@ module _ (flags : List ℕ) (numbers lengths : List ℤ) (block : List ℕ) (p p
 
 abbrev pub AllLabelsHold : Type 0
 AllLabelsHold =
-    (flags : List ℕ) (numbers lengths : List ℤ) (block : List ℕ) (p p' : LabelPlaces) (r : LabelColumn)
+    (flags : List ℕ) (numbers lengths : List ℤ) (block : List ℕ) (p p' : LabelPlaces) (r : Result RowNumber ColumnRefusal)
     → LabelledAll flags numbers lengths (length block) p p' r → AllLabels flags numbers lengths block p p' r
 
 -- any two outcomes that the promise allows are equal
 abbrev pub AllLabelsDetermined : Type 0
 AllLabelsDetermined =
-    (flags : List ℕ) (numbers lengths : List ℤ) (bytes : ℕ) (p one two : LabelPlaces) (r r' : LabelColumn)
+    (flags : List ℕ) (numbers lengths : List ℤ) (bytes : ℕ) (p one two : LabelPlaces) (r r' : Result RowNumber ColumnRefusal)
     → LabelledAll flags numbers lengths bytes p one r → LabelledAll flags numbers lengths bytes p two r' → (r ≡ r') × (one ≡ two)

@@ -1,6 +1,7 @@
 -- What the labels' definition says: each answer exactly when, and the parts. Stated for all columns, blocks, fallbacks and rows.
 -- Assumes nothing.
-use Rattle.std.specs.Prelude.{◌≡◌, ◌↔◌, ℕ, zero, suc, ◌+◌, ◌<◌, ◌≤◌, List, [], ◌∷◌, ◌++◌, length, take, drop, get_or, T, ℤ, pos, ◌+ℤ◌, ◌≤ℤ◌}
+use Rattle.std.specs.Prelude.{◌≡◌, ◌↔◌, ℕ, zero, suc, ◌+◌, ◌<◌, ◌≤◌, List, [], ◌∷◌, ◌++◌, length, take, drop, get_or, T, ℤ, pos, ◌+ℤ◌, ◌≤ℤ◌, Result}
+use Rattle.format.specs.declared.Refusal.{Refusal}
 use Rattle.labels.specs.declared.Label.{Label}
 use Rattle.labels.specs.Labels.{is_name, start_of, size_of, entry_of, name_at, fallback_of, refused_with, label, part_of, Labelled}
 use Rattle.labels.specs.Labels.{PartHanded}
@@ -34,7 +35,7 @@ module _ (lengths numbers : List ℤ) (flags block fall : List ℕ) (row : ℕ) 
     pub inside : k < length lengths
 
   -- in the order 16, 18, 19
-  pub data Said : Label → Type 0 where
+  pub data Said : Result Label Refusal → Type 0 where
     sixteen : length flags ≤ row → Said (refused_with 16)
     eighteen : row < length flags → (AddUp lengths block → ⊥) → Said (refused_with 18)
     nineteen : row < length flags → AddUp lengths block → Name → ((k : ℕ) → Number k → ⊥) → Said (refused_with 19)
@@ -43,7 +44,7 @@ module _ (lengths numbers : List ℤ) (flags block fall : List ℕ) (row : ℕ) 
 
 abbrev pub LabelsExactly : Type 0
 LabelsExactly =
-    (lengths numbers : List ℤ) (flags block fall : List ℕ) (row : ℕ) (r : Label)
+    (lengths numbers : List ℤ) (flags block fall : List ℕ) (row : ℕ) (r : Result Label Refusal)
     → (label lengths numbers flags block fall row ≡ r) ↔ Said lengths numbers flags block fall row r
 
 -- ---- THE PARTS
@@ -73,7 +74,7 @@ PartsHold = (lengths : List ℤ) (block : List ℕ) → AddUp lengths block → 
 
 -- ---- THE PROMISES
 
-module _ (lengths numbers : List ℤ) (flags block fall : List ℕ) (row : ℕ) (r : Label) (part : List ℕ) where
+module _ (lengths numbers : List ℤ) (flags block fall : List ℕ) (row : ℕ) (r : Result Label Refusal) (part : List ℕ) where
   pub record PartIs : Type 0 where
     -- a name is the part of the block that its number selects ..
     pub name-part : (k : ℕ) → r ≡ name_at (start_of lengths k) (size_of lengths k) → part ≡ part_at lengths block k
@@ -88,14 +89,14 @@ module _ (lengths numbers : List ℤ) (flags block fall : List ℕ) (row : ℕ) 
 
 abbrev pub LabelsGiven : Type 0
 LabelsGiven =
-    (lengths numbers : List ℤ) (flags block fall : List ℕ) (row : ℕ) (r : Label) (part : List ℕ)
+    (lengths numbers : List ℤ) (flags block fall : List ℕ) (row : ℕ) (r : Result Label Refusal) (part : List ℕ)
     → Labelled lengths numbers flags block fall row r → PartHanded lengths numbers flags block fall row part
     → PartIs lengths numbers flags block fall row r part
 
 -- any two outcomes that the promises allow are equal
 abbrev pub LabelsDetermined : Type 0
 LabelsDetermined =
-    (lengths numbers : List ℤ) (flags block fall : List ℕ) (row : ℕ) (r r' : Label) (part part' : List ℕ)
+    (lengths numbers : List ℤ) (flags block fall : List ℕ) (row : ℕ) (r r' : Result Label Refusal) (part part' : List ℕ)
     → Labelled lengths numbers flags block fall row r → PartHanded lengths numbers flags block fall row part
     → Labelled lengths numbers flags block fall row r' → PartHanded lengths numbers flags block fall row part'
     → (r ≡ r') × (part ≡ part')

@@ -2,11 +2,11 @@
 // which rows have a name.
 #![tactic(auto)]
 
-ghost use Rattle.std.specs.Prelude.{◌≡◌, true, ◌≤◌, ◌<◌, pos, length, get_or};
+ghost use Rattle.std.specs.Prelude.{◌≡◌, true, ◌≤◌, ◌<◌, Ok, Err, length};
 ghost use Rattle.labels.specs.Labels.{name_at, fallback_of, refused_with, add_up_to, add_up, start_of, entry_of, Labelled, PartHanded};
 ghost use Rattle.labels.specs.Labels as Labels;
-ghost use Rattle.labels.specs.Whole.{whole_of};
-ghost use Rattle.labels.specs.Column.{places_in, labelled_rows, column_refused, row_refused, LabelledAll};
+ghost use Rattle.labels.specs.Whole.{whole_of, whole_at};
+ghost use Rattle.labels.specs.Column.{places_in, column_refused, row_refused, LabelledAll};
 
 use format::{ByteOffset, Refusal, RowNumber};
 
@@ -19,83 +19,75 @@ pub struct Name {
     pub size: ByteOffset,
 }
 
-// What a row is called: a name of the dictionary; the caller's own fallback, by its length; or a refusal.
+// What a row is called: a name of the dictionary, or the caller's own fallback, by its length. (Two kinds of label, neither of them a refusal or
+// nothing: an Option or a Result would give one of them a name that it is not.)
 #[derive(Clone, Copy)]
 pub enum Label {
     Name(Name),
     Fallback(ByteOffset),
-    Refused(Refusal),
 }
 
-// What all rows of a column are called: how many they are; a refusal; or a refusal with the first row that it is for.
+// Why the rows of a column are not called anything: a refusal, and the first row that it is for where it is for one row.
 #[derive(Clone, Copy)]
-pub enum LabelColumn {
-    Rows(RowNumber),
-    Refused(Refusal),
-    RefusedRow(Refusal, RowNumber),
-}
-
-// A length or a number of a column: not below 0, or below.
-#[derive(Clone, Copy)]
-enum Whole {
-    Number(usize),
-    Below,
+pub struct ColumnRefusal {
+    pub refusal: Refusal,
+    pub row: Option<RowNumber>,
 }
 
 impl Label {
     pub fn name(start: ByteOffset, size: ByteOffset) -> Self
-        ensures { result ≡ name_at start.bytes size.bytes }
+        ensures { Ok result ≡ name_at start.bytes size.bytes }
     {
         Label::Name(Name { start, size })
     }
 
     pub fn fallback(size: ByteOffset) -> Self
-        ensures { result ≡ fallback_of size.bytes }
+        ensures { Ok result ≡ fallback_of size.bytes }
     {
         Label::Fallback(size)
     }
 
-    pub fn refused(number: u8) -> Self
+    // By FORMAT.md's number, which the definition `refused_with`, `format::Refusal` and the caller in C have.
+    pub fn refused(number: u8) -> Result<Self, Refusal>
         ensures { result ≡ refused_with number }
     {
-        Label::Refused(Refusal::new(number, ByteOffset { bytes: 0 }))
+        Err(Refusal::new(number, ByteOffset { bytes: 0 }))
     }
 }
 
-impl LabelColumn {
-    pub fn rows(rows: RowNumber) -> Self
-        ensures { result ≡ labelled_rows rows.rows }
+impl ColumnRefusal {
+    // By FORMAT.md's number, as the definitions `column_refused` and `row_refused` have it.
+    pub fn new(number: u8) -> Self
+        ensures { Err result ≡ column_refused number }
     {
-        LabelColumn::Rows(rows)
+        ColumnRefusal {
+            refusal: Refusal::new(number, ByteOffset { bytes: 0 }),
+            row: None,
+        }
     }
 
-    pub fn refused(number: u8) -> Self
-        ensures { result ≡ column_refused number }
+    pub fn of_row(number: u8, row: RowNumber) -> Self
+        ensures { Err result ≡ row_refused number row.rows }
     {
-        LabelColumn::Refused(Refusal::new(number, ByteOffset { bytes: 0 }))
-    }
-
-    pub fn refused_row(number: u8, row: RowNumber) -> Self
-        ensures { result ≡ row_refused number row.rows }
-    {
-        LabelColumn::RefusedRow(Refusal::new(number, ByteOffset { bytes: 0 }), row)
+        ColumnRefusal {
+            refusal: Refusal::new(number, ByteOffset { bytes: 0 }),
+            row: Some(row),
+        }
     }
 }
 
-fn as_whole(x: i64) -> Whole
+// A length or a number as a natural number: none if it is below 0.
+fn whole_of(x: i64) -> Option<usize>
     ensures { result ≡ whole_of x }
 {
-    if x < 0 {
-        return Whole::Below;
-    }
-    Whole::Number(x as usize)
+    usize::try_from(x).ok()
 }
 
-fn entry(column: &[i64], i: usize) -> Whole
-    requires { i < length column.now }
-    ensures { result ≡ whole_of (get_or column.now i (pos 0)) }
+// An entry of a column as a natural number: none if it is missing or below 0.
+fn whole_at(column: &[i64], i: usize) -> Option<usize>
+    ensures { result ≡ whole_at column.now i }
 {
-    as_whole(column[i])
+    whole_of(*column.get(i)?)
 }
 
 // No length is below 0, and they add up to the block's bytes. The sum stops where it passes the block, so it never wraps.
@@ -104,16 +96,14 @@ fn add_up(lengths: &[i64], block: ByteOffset) -> bool
 {
     let bytes = block.bytes;
     let mut sum: usize = 0;
-    let mut i: usize = 0;
-    while i < lengths.len() {
-        let Whole::Number(size) = entry(lengths, i) else {
+    for &length in lengths {
+        let Some(size) = whole_of(length) else {
             return false;
         };
         if bytes - sum < size {
             return false;
         }
         sum += size;
-        i += 1;
     }
     sum == bytes
 }
@@ -124,13 +114,8 @@ fn start_of(lengths: &[i64], block: &[u8], k: usize) -> ByteOffset
     ensures { result.bytes ≡ start_of lengths.now k }
 {
     let mut sum: usize = 0;
-    let mut i: usize = 0;
-    while i < k {
-        let Whole::Number(size) = entry(lengths, i) else {
-            return ByteOffset { bytes: sum };
-        };
-        sum += size;
-        i += 1;
+    for &length in &lengths[..k] {
+        sum += length as usize;
     }
     ByteOffset { bytes: sum }
 }
@@ -146,24 +131,17 @@ fn entry_of(flags: &[u8], row: RowNumber) -> usize
 }
 
 // The name of the number that stands in this entry.
-fn named(lengths: &[i64], numbers: &[i64], block: &[u8], at: usize) -> Label
+fn named(lengths: &[i64], numbers: &[i64], block: &[u8], at: usize) -> Result<Label, Refusal>
     requires { add_up lengths.now block.now ≡ true }
     ensures { result ≡ Labels.named lengths.now numbers.now at }
 {
-    if numbers.len() <= at {
-        return Label::refused(19);
-    }
-    let Whole::Number(k) = entry(numbers, at) else {
+    let Some(k) = whole_at(numbers, at) else {
         return Label::refused(19);
     };
-    if lengths.len() <= k {
+    let Some(size) = whole_at(lengths, k) else {
         return Label::refused(19);
-    }
-    // none is: they add up
-    let Whole::Number(size) = entry(lengths, k) else {
-        return Label::refused(18);
     };
-    Label::name(start_of(lengths, block, k), ByteOffset { bytes: size })
+    Ok(Label::name(start_of(lengths, block, k), ByteOffset { bytes: size }))
 }
 
 // What the row is called. Refusals: 16 no such row, 18 lengths below 0 or not adding up to the block, 19 a number outside the dictionary or
@@ -175,7 +153,7 @@ pub fn label_of(
     block: &[u8],
     fallback: &[u8],
     row: RowNumber,
-) -> Label
+) -> Result<Label, Refusal>
     ensures { Labelled lengths.now numbers.now flags.now block.now
         fallback.now row.rows result }
 {
@@ -187,9 +165,9 @@ pub fn label_of(
         return Label::refused(18);
     }
     if flags[i] == 0 {
-        return Label::fallback(ByteOffset {
+        return Ok(Label::fallback(ByteOffset {
             bytes: fallback.len(),
-        });
+        }));
     }
     named(lengths, numbers, block, entry_of(flags, row))
 }
@@ -206,28 +184,21 @@ pub fn part_of<'a>(
     ensures { PartHanded lengths.now numbers.now flags.now block.now
         fallback.now row.rows result.now }
 {
-    let said = label_of(lengths, numbers, flags, block, fallback, row);
-    match said {
-        Label::Name(name) => {
-            let start = name.start;
-            let size = name.size;
-            let from = start.bytes;
-            let to = from + size.bytes;
-            return &block[from..to];
+    match label_of(lengths, numbers, flags, block, fallback, row) {
+        Ok(Label::Name(name)) => {
+            let from = name.start.bytes;
+            let to = from + name.size.bytes;
+            &block[from..to]
         }
-        Label::Fallback(_) => {
-            return fallback;
-        }
-        Label::Refused(_) => {
-            return &block[..0];
-        }
+        Ok(Label::Fallback(_)) => fallback,
+        Err(_) => &block[..0],
     }
 }
 
 // What every row is called, in one pass. The first places of `offsets` get where each name begins in the block, those of `starts` and
 // `sizes` for each row where its name begins and its length, or 0 and 0 if it has none. It refuses without touching a place: 18 as
 // `label_of`; then 19, with the first row whose number is outside the dictionary or missing; then 8 if there are too few places in any of
-// the three.
+// the three. (Three lent columns and no list of names: `orc_label_column` hands them down, and `LabelledAll` speaks of each.)
 pub fn label_column(
     flags: &[u8],
     numbers: &[i64],
@@ -236,29 +207,29 @@ pub fn label_column(
     offsets: &mut [u64],
     starts: &mut [u64],
     sizes: &mut [u64],
-) -> LabelColumn
+) -> Result<RowNumber, ColumnRefusal>
     ensures { LabelledAll flags.now numbers.now lengths.now block.bytes
         (places_in offsets.old starts.old sizes.old)
         (places_in offsets.new starts.new sizes.new) result }
 {
     if !add_up(lengths, block) {
-        return LabelColumn::refused(18);
+        return Err(ColumnRefusal::new(18));
     }
     let rows = flags.len();
     let good = column::good_rows(flags, numbers, lengths);
     if good.rows < rows {
-        return LabelColumn::refused_row(19, good);
+        return Err(ColumnRefusal::of_row(19, good));
     }
     if offsets.len() < lengths.len() {
-        return LabelColumn::refused(8);
+        return Err(ColumnRefusal::new(8));
     }
     if starts.len() < rows {
-        return LabelColumn::refused(8);
+        return Err(ColumnRefusal::new(8));
     }
     if sizes.len() < rows {
-        return LabelColumn::refused(8);
+        return Err(ColumnRefusal::new(8));
     }
     column::put_offsets(lengths, block, offsets);
     column::put_labels(flags, numbers, lengths, offsets, starts, sizes);
-    LabelColumn::rows(RowNumber { rows })
+    Ok(RowNumber { rows })
 }

@@ -1,5 +1,6 @@
 -- A line's frame by the tests that the code makes, and what the run reader gives on it, in words.
 -- Assumes nothing.
+use Rattle.std.specs.Prelude.{Some, None, Ok, Err}
 use mathlib.Core.Path.{◌≡◌, refl, sym, ap, ◌∙◌}
 use Prim.Native.Nat.{ℕ, suc, ◌+◌, ◌-◌, ◌*◌, ◌/◌, ◌%◌, ◌<◌, ◌≤◌}
 use native.Mathlib.Omega.{arith}
@@ -13,10 +14,8 @@ use borrow.Author.Tests.{lt-ltb, le-ltb, eq-eqb, ne_eqb, ltb-false}
 use Rattle.format.specs.Runs.{Description, row_count}
 use Rattle.format.specs.Rows.{i64_rows}
 use Rattle.format.specs.Parse.{Parsed, end, got, refused, unless, into, parse}
-use Rattle.format.specs.Answers.{answer_rows}
+use Rattle.format.specs.Answers.{Answer, answer_rows}
 use Rattle.format.specs.Promises.{RunRead, answer_of, run_places}
-use Rattle.format.specs.declared.Answer.{Answer}
-use Rattle.format.specs.declared.Answer.TheVariants.{End, Run, Refused}
 use Rattle.format.proofs.Rows.{i64-count}
 use Rattle.format.proofs.Tests.{never}
 use Rattle.text.specs.Ascii.{ascii}
@@ -28,35 +27,35 @@ use Rattle.text.proofs.Texts.{decimal-length, row-length}
 
 -- ---- the tests of a line
 
-module _ (line frame : List ℕ) where
-  framed-none : bad_line line ≡ true → Framed line frame 0
+module _ (line : List ℕ) where
+  framed-none : bad_line line ≡ true → frame_of line ≡ []
   unfolding frame_of
-  framed-none e = record { count = rw e; bytes = rw e }
+  framed-none e = rw e
 
-  pub bad-empty : length line ≡ 0 → Framed line frame 0
+  pub bad-empty : length line ≡ 0 → frame_of line ≡ []
   unfolding bad_line
   bad-empty h = framed-none (rw (eq-eqb (length line) 0 h))
 
   module _ (some : length line ≡ 0 → ⊥) where
-    pub bad-odd : length line % 2 ≡ 1 → Framed line frame 0
+    pub bad-odd : length line % 2 ≡ 1 → frame_of line ≡ []
     unfolding bad_line
     bad-odd h = framed-none (rw (ne_eqb (length line) 0 some, eq-eqb (length line % 2) 1 h))
 
     module _ (even : length line % 2 ≡ 1 → ⊥) where
-      pub bad-long : 8800 < length line → Framed line frame 0
+      pub bad-long : 8800 < length line → frame_of line ≡ []
       unfolding bad_line
       bad-long h = framed-none (rw (ne_eqb (length line) 0 some, ne_eqb (length line % 2) 1 even, lt-ltb 8800 (length line) h))
 
       module _ (short : length line ≤ 8800) where
-        pub bad-digit : all_hex line ≡ false → Framed line frame 0
+        pub bad-digit : all_hex line ≡ false → frame_of line ≡ []
         unfolding bad_line
         bad-digit h = framed-none (rw (ne_eqb (length line) 0 some, ne_eqb (length line % 2) 1 even, le-ltb 8800 (length line) short, h))
 
-        module _ (hex : all_hex line ≡ true) (is : take (length line / 2) frame ≡ hex_bytes line) (room : length line / 2 ≤ length frame) where
+        module _ (frame : List ℕ) (hex : all_hex line ≡ true) (is : take (length line / 2) frame ≡ hex_bytes line) (room : length line / 2 ≤ length frame) where
           flag_is : get_or (hex_bytes line) 0 0 ≡ get_or frame 0 0
           flag_is = ap (λ (l : List ℕ). get_or l 0 0) (sym is) ∙ get_or-take (length line / 2) frame 0 0 (omega arith)
 
-          pub bad-flag : 1 < get_or frame 0 0 → Framed line frame 0
+          pub bad-flag : 1 < get_or frame 0 0 → frame_of line ≡ []
           unfolding bad_line
           bad-flag h =
               framed-none (rw (
@@ -68,12 +67,12 @@ module _ (line frame : List ℕ) where
                 lt-ltb 1 (get_or frame 0 0) h,
               ))
 
-          pub framed : get_or frame 0 0 ≤ 1 → Framed line frame (length line / 2)
+          pub framed : get_or frame 0 0 ≤ 1 → Framed line frame (length line / 2) × (0 < length line / 2)
           unfolding bad_line frame_of
           framed h =
               let e : bad_line line ≡ false =
               rw (ne_eqb (length line) 0 some, ne_eqb (length line % 2) 1 even, le-ltb 8800 (length line) short, hex, flag_is, le-ltb 1 (get_or frame 0 0) h) in
-              record { count = rw (e, ← is) (sym (length-take-le (length line / 2) frame room)); bytes = rw e is }
+              (record { count = rw (e, ← is) (sym (length-take-le (length line / 2) frame room)); bytes = rw e is }, omega arith)
 
 -- ---- what a frame says of its line
 
@@ -88,13 +87,9 @@ module _ (line frame : List ℕ) (n : ℕ) (f : Framed line frame n) where
   unfolding answer_text
   text_of = ap frame_text f.bytes
 
-  pub text-bad : n ≡ 0 → answer_text line ≡ ascii "bad line"
-  unfolding frame_text answer_text
-  text-bad e = by (frame_of line) (sym f.count ∙ e)
-    where
-      by : (l : List ℕ) → length l ≡ 0 → frame_text l ≡ ascii "bad line"
-      by [] h = refl
-      by (c ∷ l) h = absurd (omega arith)
+pub text-bad : (line : List ℕ) → frame_of line ≡ [] → answer_text line ≡ ascii "bad line"
+unfolding frame_text answer_text
+text-bad line e = rw e
 
 -- ---- the promise
 
@@ -163,9 +158,9 @@ rows-length (z ∷ zs) = omega (arith, length-append (32 ∷ row_text z) (rows_t
 
 reply-room : (r : Answer) (rows : List ℤ) → length rows ≤ 512 → length (reply_text r rows) ≤ 11309
 unfolding reply_text
-reply-room End rows h = omega arith
-reply-room (Run run) rows h = simp length-append (omega (arith, decimal-length run.rows.rows, decimal-length run.consumed.bytes, rows-length rows))
-reply-room (Refused f) rows h = simp length-append (omega (arith, decimal-length f.number))
+reply-room (Ok None) rows h = omega arith
+reply-room (Ok (Some run)) rows h = simp length-append (omega (arith, decimal-length run.rows.rows, decimal-length run.consumed.bytes, rows-length rows))
+reply-room (Err f) rows h = simp length-append (omega (arith, decimal-length f.number))
 
 pub reply-length : (r : Answer) (n : ℕ) (rows : List ℤ) → n ≤ 512 → length (reply_text r (take n rows)) ≤ 11309
 reply-length r n rows h = reply-room r (take n rows) (rw length-take (omega arith))

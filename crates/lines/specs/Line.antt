@@ -1,15 +1,12 @@
 -- THE PROGRAM'S ANSWER to a line (FORMAT.md, "The programs"), and what `answer_line` promises.
 -- Assumes nothing.
-use Rattle.std.specs.Prelude.{◌≡◌, ℕ, ◌%◌, Bool, ◌||◌, not, List, [], ◌∷◌, ◌++◌, length, take, drop, get_or, ltb, eqb, ℤ}
+use Rattle.std.specs.Prelude.{◌≡◌, ℕ, ◌%◌, Bool, ◌||◌, not, List, [], ◌∷◌, ◌++◌, length, take, drop, get_or, ltb, eqb, ℤ, Some, None, Ok, Err, Option}
 use Rattle.format.specs.Fields.{pick}
 use Rattle.format.specs.Runs.{Description}
 use Rattle.format.specs.Rows.{i64_rows}
 use Rattle.format.specs.Parse.{Parsed, end, got, refused, parse, into}
 use Rattle.format.specs.Promises.{answer_of, run_places}
-use Rattle.format.specs.declared.Answer.{Answer}
-use Rattle.format.specs.declared.Answer.TheVariants.{End, Run, Refused}
-use Rattle.lines.specs.declared.Reading.{Reading}
-use Rattle.lines.specs.declared.Reading.TheVariants as reading
+use Rattle.format.specs.Answers.{Answer}
 use Rattle.text.specs.Ascii.{ascii}
 use Rattle.text.specs.Hexadecimal.{all_hex, hex_bytes}
 use Rattle.text.specs.Decimal.{decimal, rows_text}
@@ -29,9 +26,9 @@ run_text rows bytes values = ascii "run " ++ decimal rows ++ (ascii " " ++ decim
 
 -- the run reader's answer as text
 unfoldable pub reply_text : Answer → List ℤ → List ℕ
-reply_text End values = ascii "end"
-reply_text (Run r) values = run_text r.rows.rows r.consumed.bytes values
-reply_text (Refused f) values = ascii "refused " ++ decimal f.number
+reply_text (Ok None) values = ascii "end"
+reply_text (Ok (Some r)) values = run_text r.rows.rows r.consumed.bytes values
+reply_text (Err f) values = ascii "refused " ++ decimal f.number
 
 -- the rows of what was read
 abbrev pub rows_in : Bool → Parsed Description → List ℤ
@@ -80,15 +77,15 @@ pub record Answered (line out out' : List ℕ) (r : ℕ) : Type 0 where
   pub places : out' ≡ answer_line (length out) line ++ drop (length (answer_line (length out) line)) out
 
 -- what is read of a frame, in so many places; and the places, which hold a run's rows by the frame's flag
-unfoldable pub frame_reading : ℕ → List ℕ → Reading
-frame_reading room [] = reading.Bad
-frame_reading room (flag ∷ run) = reading.Answered (answer_of 1 (length run) (into room (parse run)))
+unfoldable pub frame_reading : ℕ → List ℕ → Option Answer
+frame_reading room [] = None
+frame_reading room (flag ∷ run) = Some (answer_of 1 (length run) (into room (parse run)))
 
 unfoldable pub frame_places : List ℤ → List ℕ → List ℤ
 frame_places out [] = out
 frame_places out (flag ∷ run) = run_places (eqb flag 1) out (into (length out) (parse run))
 
 -- WHAT `read_line` PROMISES: what is read is that of the line's bytes, and so are the places
-pub record LineRead (line : List ℕ) (out out' : List ℤ) (r : Reading) : Type 0 where
+pub record LineRead (line : List ℕ) (out out' : List ℤ) (r : Option Answer) : Type 0 where
   pub answer : r ≡ frame_reading (length out) (frame_of line)
   pub places : out' ≡ frame_places out (frame_of line)

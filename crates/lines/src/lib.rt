@@ -1,10 +1,11 @@
 // One line of hexadecimal in, one answer line out: the program `runs`, without its input and output.
 #![tactic(auto)]
 
-ghost use Rattle.std.specs.Prelude.{◌≡◌, ◌≤◌, ◌<◌, length, take, get_or, eqb};
+ghost use Rattle.std.specs.Prelude.{◌≡◌, ◌≤◌, ◌<◌, length, take, get_or, eqb, []};
+ghost use Rattle.std.specs.Option.{MatchOption};
 ghost use Rattle.format.specs.Answers.{answer_rows};
 ghost use Rattle.format.specs.Promises.{RunRead};
-ghost use Rattle.lines.specs.Line.{run_text, reply_text, frame_text, ended, answer_room, Framed, Answered, LineRead};
+ghost use Rattle.lines.specs.Line.{run_text, reply_text, frame_of, frame_text, ended, answer_room, Framed, Answered, LineRead};
 ghost use Rattle.text.specs.Written.{TextWritten};
 
 use format::{Answer, ByteOffset, Kind, RowNumber};
@@ -27,13 +28,6 @@ const MAX_FRAME: usize = MAX_LINE / 2;
 // Room for any answer line: `run `, two numbers of at most 20 digits, rows of at most 21 characters, a space before each, and the newline.
 pub const ANSWER_ROOM: usize = 46 + 22 * Kind::MAX_ROWS;
 
-// What is read of a line: that it is bad, or what the run reader answers to its bytes.
-#[derive(Clone, Copy)]
-pub enum Reading {
-    Bad,
-    Answered(Answer),
-}
-
 // A run's rows, its bytes consumed, and then the rows.
 fn put_run(rows: RowNumber, consumed: ByteOffset, values: &[i64], out: &mut [u8]) -> ByteOffset
     requires { (rows.rows ≤ 512) × (rows.rows ≤ length values.now) × (answer_room ≤ length out.old) }
@@ -55,12 +49,12 @@ fn put_answer(answer: Answer, values: &[i64], out: &mut [u8]) -> ByteOffset
         out.old 0 out.new result.bytes }
 {
     match answer {
-        Answer::End => {
+        Ok(None) => {
             let end = put_word(&END, out, 0);
             ByteOffset { bytes: end }
         }
-        Answer::Run(run) => put_run(run.rows, run.consumed, values, out),
-        Answer::Refused(refusal) => {
+        Ok(Some(run)) => put_run(run.rows, run.consumed, values, out),
+        Err(refusal) => {
             let at = put_word(&REFUSED, out, 0);
             let end = put_decimal(refusal.number as u64, out, at);
             ByteOffset { bytes: end }
@@ -81,29 +75,28 @@ fn row_places() -> [i64; Kind::MAX_ROWS]
     [0; Kind::MAX_ROWS]
 }
 
-// How many bytes the line writes, put into the first places of the frame: 0 where the line is bad.
-fn frame_of(line: &[u8], frame: &mut [u8]) -> ByteOffset
+// How many bytes the line writes, put into the first places of the frame: none where the line is bad.
+fn frame_of(line: &[u8], frame: &mut [u8]) -> Option<ByteOffset>
     requires { 4400 ≤ length frame.old }
-    ensures { Framed line.now frame.new result.bytes }
+    ensures { MatchOption result (frame_of line.now ≡ []) (λ n. Framed line.now frame.new n.bytes × (0 < n.bytes)) }
 {
-    let none = ByteOffset { bytes: 0 };
     let len = line.len();
     if len == 0 {
-        return none;
+        return None;
     }
     if len % 2 == 1 {
-        return none;
+        return None;
     }
     if MAX_LINE < len {
-        return none;
+        return None;
     }
     if !text::hexadecimal::bytes(line, frame) {
-        return none;
+        return None;
     }
     if 1 < frame[0] {
-        return none;
+        return None;
     }
-    ByteOffset { bytes: len / 2 }
+    Some(ByteOffset { bytes: len / 2 })
 }
 
 // What the run reader answers to a frame that has a flag.
@@ -128,7 +121,7 @@ fn put_frame(frame: &[u8], out: &mut [u8]) -> ByteOffset
 }
 
 // The answer line to a line (its bytes without the newline), in the first bytes of `out`: how many they are. Nothing is written where `out`
-// has fewer bytes than any answer line needs.
+// has fewer bytes than any answer line needs (0 and no Option: `Answered` promises a length).
 pub fn answer_line(line: &[u8], out: &mut [u8]) -> usize
     ensures { Answered line.now out.old out.new result }
 {
@@ -136,24 +129,19 @@ pub fn answer_line(line: &[u8], out: &mut [u8]) -> usize
         return 0;
     }
     let mut frame = frame_places();
-    let size = frame_of(line, &mut frame);
-    let n = size.bytes;
-    if n == 0 {
+    let Some(size) = frame_of(line, &mut frame) else {
         return put_word(&BAD_LINE, out, 0);
-    }
-    let written = put_frame(&frame[..n], out);
+    };
+    let written = put_frame(&frame[..size.bytes], out);
     written.bytes
 }
 
-// What is read of a line (its bytes without the newline); the rows of a run go into the first places.
-pub fn read_line(line: &[u8], rows: &mut [i64]) -> Reading
+// What the run reader answers to a line (its bytes without the newline), or none where the line is bad; the rows of a run go into the first
+// places.
+pub fn read_line(line: &[u8], rows: &mut [i64]) -> Option<Answer>
     ensures { LineRead line.now rows.old rows.new result }
 {
     let mut frame = frame_places();
-    let size = frame_of(line, &mut frame);
-    let n = size.bytes;
-    if n == 0 {
-        return Reading::Bad;
-    }
-    Reading::Answered(read_frame(&frame[..n], rows))
+    let size = frame_of(line, &mut frame)?;
+    Some(read_frame(&frame[..size.bytes], rows))
 }

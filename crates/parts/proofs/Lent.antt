@@ -1,7 +1,7 @@
 -- The lent bytes of a call with a part, if none is held: a run is read from the part, and what is held afterwards is copied. Assumes nothing.
-use Rattle.std.proofs.Common.{◌≡◌, ℕ, ◌+◌, ◌<◌, ◌≤◌, Bool, true, false, List, [], length, take, ℤ, sym, refl, ap, ◌∙◌, le_refl, arith}
+use Rattle.std.proofs.Common.{◌≡◌, ℕ, ◌+◌, ◌<◌, ◌≤◌, Bool, true, false, List, [], length, take, ℤ, sym, refl, ap, ◌∙◌, le_refl, drop, ◌++◌, append_assoc, drop-drop, arith}
 use lib.Seq.{paste, paste-zero, take-length}
-use Rattle.format.specs.declared.Answer.{Answer}
+use Rattle.format.specs.Answers.{Answer}
 use Rattle.format.specs.Digits.{AllBelow}
 use Rattle.format.specs.Runs.{Description}
 use Rattle.format.specs.Parse.{unfinished, Parsed, refused, parse}
@@ -16,6 +16,16 @@ use Rattle.format.specs.Parts.{Call, on_part, state_of, step_of, held_after, buf
 use Rattle.format.proofs.Length.{unfinished-short}
 use Rattle.parts.specs.Steps.{Goes, goes, by_answer}
 use Rattle.parts.proofs.Seen.{Same, same}
+
+-- n bytes of a part, copied over those of d from place h on
+pub pasted : (d part x : List ℕ) (h k n : ℕ) → n ≡ k → x ≡ take k part → take h d ++ (x ++ drop n (drop h d)) ≡ paste d h part k
+pasted d part x h k n e q = rw (e, q) (ap (λ (r : List ℕ). take h d ++ (take k part ++ r)) (drop-drop k h d) ∙ sym (append_assoc (take h d) (take k part) (drop (h + k) d)))
+
+-- .. from the first place on
+pub pasted-first : (d part x : List ℕ) (k : ℕ) → x ≡ take k part → x ++ drop k d ≡ paste d 0 part k
+pasted-first d part x k q =
+    let z : 0 + k ≡ k = omega arith in
+    rw (q, z)
 
 record Kept (s : PartReader) (part buffer : List ℕ) (c : Call) : Type 0 where
   size : held_after s.held c c.reply ≡ length c.state.held

@@ -1,6 +1,6 @@
 -- A call that refuses puts back what stood after the bytes held. Assumes nothing.
-use Rattle.std.proofs.Common.{◌≡◌, ℕ, ◌+◌, ◌-◌, ◌≤◌, Bool, true, false, List, ◌++◌, length, take, drop, ℤ, sym, refl, ap, ◌∙◌, append_assoc, arith, length-drop, take-append-drop, length-take-le, take_all, take_at}
-use lib.Seq.{paste, length-paste, take-paste, drop-paste}
+use Rattle.std.proofs.Common.{◌≡◌, ℕ, ◌+◌, ◌≤◌, Bool, true, false, List, ◌++◌, length, take, drop, ℤ, sym, refl, ap, ◌∙◌, append_assoc, arith, length-drop, take-append-drop, length-take-le, take_at}
+use lib.Seq.{paste, length-paste, drop-paste}
 use Rattle.format.specs.Digits.{AllBelow}
 use Rattle.format.specs.declared.PartReader.{PartReader}
 use Rattle.format.specs.declared.PartStep.{PartStep}
@@ -16,18 +16,19 @@ left-lent held part buffer more e = never (cc)
 left-lent held part buffer (broke f) e = refl
 left-lent held part buffer ended e = refl
 
+-- the bytes from place h on, copied away
+pub copied : (d saved x : List ℕ) (h k n : ℕ) → h + k ≤ length d → n ≡ k → x ≡ take n (drop h d) → take k (x ++ drop k saved) ≡ take k (drop h d)
+copied d saved x h k n l e q = rw (q, e) (take_at (take k (drop h d)) (drop k saved) k (length-take-le k (drop h d) (omega (arith, length-drop h d))))
+
 -- what was copied away before is copied back
-module _ (d part z : List ℕ) (h k : ℕ) (l : h + k ≤ length d) (lp : k ≤ length part) (lz : k ≤ length z) where
-  pub restored : paste (paste d h part k) h (paste z 0 (drop h d) k) k ≡ d
+module _ (d part saved : List ℕ) (h k : ℕ) (l : h + k ≤ length d) (lp : k ≤ length part) (e : take k saved ≡ take k (drop h d)) where
+  pub restored : paste (paste d h part k) h saved k ≡ d
   restored =
       let start : take h (paste d h part k) ≡ take h d
       = ap (take h) (append_assoc (take h d) (take k part) (drop (h + k) d))
       ∙ take_at (take h d) (take k part ++ drop (h + k) d) h (length-take-le h d (omega arith)) in
-      let zero-on : 0 + k ≡ k = omega arith in
-      let middle : take k (paste z 0 (drop h d) k) ≡ take k (drop h d)
-      = ap (λ (n : ℕ). take n (paste z 0 (drop h d) k)) (sym zero-on) ∙ take-paste z 0 (drop h d) k (omega arith) (omega (arith, length-drop h d)) in
-      ap (λ (x : List ℕ). (x ++ take k (paste z 0 (drop h d) k)) ++ drop (h + k) (paste d h part k)) start
-      ∙ ap (λ (x : List ℕ). (take h d ++ x) ++ drop (h + k) (paste d h part k)) middle
+      ap (λ (x : List ℕ). (x ++ take k saved) ++ drop (h + k) (paste d h part k)) start
+      ∙ ap (λ (x : List ℕ). (take h d ++ x) ++ drop (h + k) (paste d h part k)) e
       ∙ ap (λ (x : List ℕ). (take h d ++ take k (drop h d)) ++ x) (drop-paste d h part k (omega arith) lp)
       ∙ ap (λ (x : List ℕ). x ++ drop (h + k) d) (sym (take-both h k d (omega arith))) ∙ take-append-drop (h + k) d
 
@@ -48,15 +49,13 @@ module _ (s : PartReader) (part buffer buffer' : List ℕ) (h k : ℕ) (g : Begu
       let l : h + k ≤ length buffer = in_lent s part buffer h k g b c in
       omega (arith, l, ap length j.lent, length-paste buffer h part k l (few-part s part buffer h k g b c))
 
-  pub put_back : (z saved buffer'' : List ℕ) → k ≤ length z → saved ≡ paste z 0 (take (length buffer - h) (drop h buffer)) k → buffer'' ≡ paste buffer' h saved k
+  pub put_back : (saved buffer'' : List ℕ) → take k saved ≡ take k (drop h buffer) → buffer'' ≡ paste buffer' h saved k
       → is_refused r.answer ≡ true
       → Goes s part buffer buffer'' signed out out' r (goes s part buffer)
-  put_back z saved buffer'' l e p t = record {
+  put_back saved buffer'' e p t = record {
     step = j.step;
-    lent = p ∙ ap (λ (x : List ℕ). paste x h saved k) j.lent ∙ ap (λ (x : List ℕ). paste (paste buffer h part k) h x k) e
-        ∙ ap (λ (x : List ℕ). paste (paste buffer h part k) h (paste z 0 x k) k)
-        (take_all (length buffer - h) (drop h buffer) (omega (arith, length-drop h buffer)))
-        ∙ restored buffer part z h k (in_lent s part buffer h k g b c) (few-part s part buffer h k g b c) l
+    lent = p ∙ ap (λ (x : List ℕ). paste x h saved k) j.lent
+        ∙ restored buffer part saved h k (in_lent s part buffer h k g b c) (few-part s part buffer h k g b c) e
         ∙ left-lent (take s.held buffer) part buffer (goes s part buffer).reply (sym said ∙ t);
     places = j.places;
   }

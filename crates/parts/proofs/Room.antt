@@ -1,7 +1,7 @@
 -- With room or without, open or stopped: a call with a part, and the closing call. Assumes nothing.
 use Rattle.std.proofs.Common.{◌≡◌, ℕ, ◌-◌, ◌<◌, ◌≤◌, min, Bool, true, false, ltb, List, length, take, ℤ, refl, ap, ◌∙◌, arith, le-ltb, lt-ltb}
 use native.Mathlib.Nat.{sub-zero}
-use Rattle.format.specs.declared.Answer.{Answer}
+use Rattle.format.specs.Answers.{Answer}
 use Rattle.format.specs.declared.Refusal.{Refusal}
 use Rattle.format.specs.Fields.{pick}
 use Rattle.format.specs.Digits.{AllBelow}

@@ -2,11 +2,10 @@
 use Rattle.std.proofs.Common.{◌≡◌, ℕ, ◌+◌, ◌-◌, ◌<◌, ◌≤◌, Bool, true, false, List, ◌++◌, length, take, drop, ℤ, sym, refl, ap, ◌∙◌, append_assoc, arith, length-append, length-drop, take-append-drop, length-take-le, take_all}
 use native.Mathlib.Nat.{sub-zero}
 use native.Mathlib.Decide.{dec_lt}
-use Rattle.format.specs.declared.Answer.{Answer}
 use Rattle.format.specs.Digits.{AllBelow}
 use Rattle.format.specs.Runs.{Description, layout}
 use Rattle.format.specs.Parse.{Reason, plain, cut, unfinished, Parsed, end, got, refused, parse, into}
-use Rattle.format.specs.Answers.{refusal}
+use Rattle.format.specs.Answers.{Answer, refusal}
 use Rattle.format.specs.Promises.{answer_of, run_places, RunRead}
 use Rattle.format.proofs.Below.{append-below}
 use Rattle.format.proofs.Runs.{Outcome, nothing, run, outcome}

@@ -1,12 +1,8 @@
 -- The reader in parts from inside: what a call does by the run reader's answer to the bytes that were looked at. Assumes nothing.
-use Rattle.std.specs.Prelude.{◌≡◌, ℕ, ◌+◌, ◌-◌, ◌%◌, ◌<◌, ◌≤◌, min, Bool, true, false, List, ◌++◌, length, take, ℤ, ◌==◌}
+use Rattle.std.specs.Prelude.{◌≡◌, ℕ, ◌+◌, ◌-◌, ◌%◌, ◌<◌, ◌≤◌, min, Bool, true, false, List, ◌++◌, length, take, ℤ, ◌==◌, Some, None, Ok, Err}
 use Rattle.std.proofs.Math.Seq.{paste}
 use Rattle.format.specs.declared.Run as run
-use Rattle.format.specs.declared.CutField.{CutField}
-use Rattle.format.specs.declared.CutField.TheVariants as field
 use Rattle.format.specs.declared.Refusal as refusal
-use Rattle.format.specs.declared.Answer.{Answer}
-use Rattle.format.specs.declared.Answer.TheVariants as answer
 use Rattle.format.specs.declared.Standing.{Standing}
 use Rattle.format.specs.declared.Standing.TheVariants.{Opened, Broken, Closed}
 use Rattle.format.specs.declared.PartReader.{PartReader}
@@ -15,7 +11,7 @@ use Rattle.format.specs.declared.PartAnswer.TheVariants.{Run, More, Refused, End
 use Rattle.format.specs.declared.PartStep.{PartStep}
 use Rattle.format.specs.Fields.{pick, two64}
 use Rattle.format.specs.Parse.{parse}
-use Rattle.format.specs.Answers.{refusing, cutting}
+use Rattle.format.specs.Answers.{CutField, Answer, refusing, cutting}
 use Rattle.format.specs.Parts.{Call, on_part, state_of, step_of, buffer_after, places_after}
 
 -- an open reader with room enough: c is what the call does
@@ -73,28 +69,28 @@ hands s taken r = record {
 
 -- a refusal of the bytes from a run's first on, with its bytes counted from the first part
 unfoldable pub field_from : ℕ → ℕ → CutField → refusal.Refusal
-field_from at n field.None = refusing n at
-field_from at n (field.At b) = cutting n at ((at + b.bytes) % two64)
+field_from at n None = refusing n at
+field_from at n (Some b) = cutting n at ((at + b.bytes) % two64)
 
 abbrev pub from_first : ℕ → refusal.Refusal → refusal.Refusal
 from_first at f = field_from at f.number f.cut
 
 -- the run is unfinished: its header, or a field, is cut
 unfoldable pub cut_short : ℕ → CutField → Bool
-cut_short n field.None = n == 1
-cut_short n (field.At b) = true
+cut_short n None = n == 1
+cut_short n (Some b) = true
 
 -- whether the run reader says so
 unfoldable pub is_cut : Answer → Bool
-is_cut answer.End = false
-is_cut (answer.Run r) = false
-is_cut (answer.Refused f) = cut_short f.number f.cut
+is_cut (Ok None) = false
+is_cut (Ok (Some r)) = false
+is_cut (Err f) = cut_short f.number f.cut
 
 -- whether it reads the run
 unfoldable pub is_whole : Answer → Bool
-is_whole answer.End = false
-is_whole (answer.Run r) = true
-is_whole (answer.Refused f) = false
+is_whole (Ok None) = false
+is_whole (Ok (Some r)) = true
+is_whole (Err f) = false
 
 -- whether a call refuses
 unfoldable pub is_refused : PartAnswer → Bool
@@ -104,13 +100,13 @@ is_refused (Refused f) = true
 is_refused End = false
 
 unfoldable pub by_answer : PartReader → ℕ → ℕ → ℕ → Answer → PartStep
-by_answer s held seen part answer.End = holds s seen part
-by_answer s held seen part (answer.Run r) = hands s (r.consumed.bytes - held) r
-by_answer s held seen part (answer.Refused f) =
+by_answer s held seen part (Ok None) = holds s seen part
+by_answer s held seen part (Ok (Some r)) = hands s (r.consumed.bytes - held) r
+by_answer s held seen part (Err f) =
     pick (cut_short f.number f.cut) (holds s seen part) (refuses s (from_first s.at.bytes f))
 
 -- the closing call of an open reader
 unfoldable pub by_last : PartReader → Answer → PartStep
-by_last s answer.End = stops s Closed End
-by_last s (answer.Run r) = hands s 0 r
-by_last s (answer.Refused f) = refuses s (from_first s.at.bytes f)
+by_last s (Ok None) = stops s Closed End
+by_last s (Ok (Some r)) = hands s 0 r
+by_last s (Err f) = refuses s (from_first s.at.bytes f)

@@ -6,7 +6,6 @@ ghost use Rattle.format.specs.Parts.{fresh, Takes, Closes};
 ghost use Rattle.parts.specs.Steps.{Begun, Joins, Goes, goes};
 
 use format::{ByteOffset, Kind, PartAnswer, PartReader, PartStep, Standing};
-use util::{bytes, number};
 
 mod steps;
 
@@ -22,6 +21,8 @@ pub fn start() -> PartReader
 }
 
 // A patched or delta run that began before the part, read in the lent bytes: the part's first k bytes are copied after the h bytes held.
+// `begun` and `in_bounds` stay clauses of the four functions, and their parameters apart: the facts are on the lengths of the part, the lent
+// bytes and the places, which the caller lends. A struct of held and more would need the same clause to say whose they are.
 fn join(
     reader: PartReader,
     part: &[u8],
@@ -38,7 +39,7 @@ fn join(
 {
     let h = held.bytes;
     let k = more.bytes;
-    bytes::copy(part, k, buffer, h);
+    buffer[h..h + k].copy_from_slice(&part[..k]);
     let a = rle_v2::read_run(&buffer[..h + k], ByteOffset { bytes: 0 }, signed, out);
     steps::on_part(
         reader,
@@ -68,27 +69,15 @@ fn join_or_restore(
 {
     let h = held.bytes;
     let k = more.bytes;
-    bytes::copy(&buffer[h..], k, saved, 0);
+    saved[..k].copy_from_slice(&buffer[h..h + k]);
     let step = join(reader, part, held, more, signed, buffer, out);
     if steps::is_refused(step) {
-        bytes::copy(saved, k, buffer, h);
+        buffer[h..h + k].copy_from_slice(&saved[..k]);
     }
     step
 }
 
-// Places for the bytes that a short part and a long one overwrite. Zeros are laid into them at each call, so there are two.
-fn few() -> [u8; 128]
-    ensures { length result ≡ 128 }
-{
-    [0; 128]
-}
-
-fn most() -> [u8; Kind::MAX_BYTES]
-    ensures { length result ≡ 4356 }
-{
-    [0; Kind::MAX_BYTES]
-}
-
+// Zeros are laid into the places for what is overwritten at each call, so a short part has fewer of them.
 fn restoring(
     reader: PartReader,
     part: &[u8],
@@ -105,10 +94,10 @@ fn restoring(
 {
     let k = more.bytes;
     if k <= 128 {
-        let mut saved = few();
+        let mut saved = [0; 128];
         return join_or_restore(reader, part, held, more, signed, buffer, &mut saved, out);
     }
-    let mut saved = most();
+    let mut saved = [0; Kind::MAX_BYTES];
     join_or_restore(reader, part, held, more, signed, buffer, &mut saved, out)
 }
 
@@ -133,7 +122,7 @@ fn begun(
     if Kind::MAX_FRONT <= h {
         let a = rle_v2::measure(&buffer[..h + k], ByteOffset { bytes: 0 });
         if steps::is_cut(a) {
-            bytes::copy(part, k, buffer, h);
+            buffer[h..h + k].copy_from_slice(&part[..k]);
             let seen = ByteOffset { bytes: h + k };
             return steps::hold(reader, seen, ByteOffset { bytes: part.len() });
         }
@@ -161,29 +150,29 @@ fn opened(
     ensures { Goes reader part.now buffer.old buffer.new signed out.old
         out.new result (goes reader part.now buffer.old) }
 {
-    let h = number::least(reader.held, buffer.len());
+    let h = reader.held.min(buffer.len());
     let n = part.len();
     if h == 0 {
         // a run that lies whole in its part is read from there
         let a = rle_v2::read_first(part, signed, out);
         let all = ByteOffset { bytes: n };
         let step = steps::on_part(reader, ByteOffset { bytes: 0 }, all, all, a);
-        let kept = step.reader;
-        bytes::copy(part, kept.held, buffer, 0);
+        let kept = step.reader.held;
+        // asked first: a copy of no bytes is a call all the same, and a step that is held over a call goes through memory
+        if kept == 0 {
+            return step;
+        }
+        buffer[..kept].copy_from_slice(&part[..kept]);
         return step;
     }
     let held = ByteOffset { bytes: h };
-    let most = ByteOffset {
-        bytes: Kind::MAX_BYTES,
-    };
-    let room = steps::beyond(most, held);
-    let k = number::least(n, room.bytes);
+    let k = n.min(Kind::MAX_BYTES.saturating_sub(h));
     if 2 <= buffer[0] / 64 {
         let more = ByteOffset { bytes: k };
         return begun(reader, part, held, more, signed, buffer, out);
     }
     // a short repeat or a direct run is never refused, only unfinished
-    bytes::copy(part, k, buffer, h);
+    buffer[h..h + k].copy_from_slice(&part[..k]);
     let a = rle_v2::read_gathered(&buffer[..h + k], signed, out);
     steps::on_part(
         reader,
@@ -235,7 +224,7 @@ pub fn close(reader: PartReader, signed: bool, buffer: &[u8], out: &mut [i64]) -
         Standing::Broken(f) => steps::idle(reader, PartAnswer::Refused(f)),
         Standing::Closed => steps::idle(reader, PartAnswer::End),
         Standing::Opened => {
-            let h = number::least(reader.held, buffer.len());
+            let h = reader.held.min(buffer.len());
             let a = rle_v2::read_run(&buffer[..h], ByteOffset { bytes: 0 }, signed, out);
             steps::on_close(reader, a)
         }

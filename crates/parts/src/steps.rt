@@ -5,8 +5,7 @@ ghost use Rattle.parts.specs.Steps.{still, too_few, holds, stops, refuses, hands
 ghost use Rattle.parts.specs.Steps.{by_answer, by_last};
 
 use format::{
-    Answer, ByteOffset, CutField, PartAnswer, PartReader, PartStep, Refusal, RowNumber, Run,
-    Standing,
+    Answer, ByteOffset, PartAnswer, PartReader, PartStep, Refusal, RowNumber, Run, Standing,
 };
 
 // Nothing is taken, and nothing changes.
@@ -51,7 +50,7 @@ pub(crate) fn hand(reader: PartReader, taken: ByteOffset, run: Run) -> PartStep
 {
     let at = reader.at;
     let consumed = run.consumed;
-    let next = std::num::wrapping_add_usize(at.bytes, consumed.bytes);
+    let next = at.bytes.wrapping_add(consumed.bytes);
     // field by field: a run that is moved whole goes through memory in pieces, padding too
     let rows = run.rows;
     let kind = run.kind;
@@ -107,9 +106,9 @@ pub(crate) fn from_first(at: ByteOffset, f: Refusal) -> Refusal
     let number = f.number;
     let cut = f.cut;
     match cut {
-        CutField::None => Refusal::new(number, at),
-        CutField::At(field) => {
-            let byte = std::num::wrapping_add_usize(at.bytes, field.bytes);
+        None => Refusal::new(number, at),
+        Some(field) => {
+            let byte = at.bytes.wrapping_add(field.bytes);
             Refusal::cut(number, at, ByteOffset { bytes: byte })
         }
     }
@@ -119,24 +118,10 @@ pub(crate) fn from_first(at: ByteOffset, f: Refusal) -> Refusal
 pub(crate) fn cut_short(f: Refusal) -> bool
     ensures { result ≡ cut_short f.number f.cut }
 {
-    let number = f.number;
-    let cut = f.cut;
-    match cut {
-        CutField::None => number == 1,
-        CutField::At(_) => true,
+    match f.cut {
+        None => f.number == 1,
+        Some(_) => true,
     }
-}
-
-// What is above a number: 0 where nothing is.
-pub(crate) fn beyond(n: ByteOffset, most: ByteOffset) -> ByteOffset
-    ensures { result.bytes ≡ n.bytes - most.bytes }
-{
-    let all = n.bytes;
-    let least = most.bytes;
-    if all < least {
-        return ByteOffset { bytes: 0 };
-    }
-    ByteOffset { bytes: all - least }
 }
 
 // A call with a part, by what reading gave of the bytes looked at: those held, and as many of the part's after them as a run can have.
@@ -151,19 +136,21 @@ pub(crate) fn on_part(
 {
     let at = reader.at;
     match a {
-        Answer::Run(r) => {
+        Ok(Some(r)) => {
             let consumed = r.consumed;
-            let taken = beyond(consumed, held);
+            let taken = ByteOffset {
+                bytes: consumed.bytes.saturating_sub(held.bytes),
+            };
             hand(reader, taken, r)
         }
-        Answer::Refused(f) => {
+        Err(f) => {
             if cut_short(f) {
                 hold(reader, seen, part)
             } else {
                 refuse(reader, from_first(at, f))
             }
         }
-        Answer::End => hold(reader, seen, part),
+        Ok(None) => hold(reader, seen, part),
     }
 }
 
@@ -172,9 +159,8 @@ pub(crate) fn is_cut(a: Answer) -> bool
     ensures { result ≡ is_cut a }
 {
     match a {
-        Answer::Run(_) => false,
-        Answer::Refused(f) => cut_short(f),
-        Answer::End => false,
+        Err(f) => cut_short(f),
+        Ok(_) => false,
     }
 }
 
@@ -183,9 +169,8 @@ pub(crate) fn is_whole(a: Answer) -> bool
     ensures { result ≡ is_whole a }
 {
     match a {
-        Answer::Run(_) => true,
-        Answer::Refused(_) => false,
-        Answer::End => false,
+        Ok(run) => run.is_some(),
+        Err(_) => false,
     }
 }
 
@@ -193,13 +178,7 @@ pub(crate) fn is_whole(a: Answer) -> bool
 pub(crate) fn is_refused(step: PartStep) -> bool
     ensures { result ≡ is_refused step.answer }
 {
-    let answer = step.answer;
-    match answer {
-        PartAnswer::Run(_, _) => false,
-        PartAnswer::More => false,
-        PartAnswer::Refused(_) => true,
-        PartAnswer::End => false,
-    }
+    matches!(step.answer, PartAnswer::Refused(_))
 }
 
 // The closing call of an open reader, by what reading gave of the bytes held: an unfinished run is refused.
@@ -208,8 +187,8 @@ pub(crate) fn on_close(reader: PartReader, a: Answer) -> PartStep
 {
     let at = reader.at;
     match a {
-        Answer::Run(r) => hand(reader, ByteOffset { bytes: 0 }, r),
-        Answer::Refused(f) => refuse(reader, from_first(at, f)),
-        Answer::End => stop(reader, Standing::Closed, PartAnswer::End),
+        Ok(Some(r)) => hand(reader, ByteOffset { bytes: 0 }, r),
+        Err(f) => refuse(reader, from_first(at, f)),
+        Ok(None) => stop(reader, Standing::Closed, PartAnswer::End),
     }
 }

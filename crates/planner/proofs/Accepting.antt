@@ -1,4 +1,5 @@
 -- Accepted exactly as FORMAT.md, "Column writer", says. Assumes nothing.
+use Rattle.std.specs.Prelude.{Option, Some, None}
 use mathlib.Core.Path.{◌≡◌, refl, sym, ap, subst, ◌∙◌}
 use mathlib.Core.Logic.{◌↔◌}
 use Prim.Native.Nat.{ℕ, ◌+◌, ◌≤◌}
@@ -14,9 +15,8 @@ use Rattle.format.specs.Fields.{pick}
 use Rattle.format.specs.Runs.{Description, joined}
 use Rattle.format.specs.Parse.{Parsed, end, got, refused}
 use Rattle.format.proofs.Tests.{never, both, not_so}
+use Rattle.planner.specs.declared.Columned.{Columned}
 use Rattle.planner.specs.declared.segment.Segment.{Segment}
-use Rattle.planner.specs.declared.Checked.{Checked}
-use Rattle.planner.specs.declared.Checked.TheVariants as checked
 use Rattle.planner.specs.Check.{Columns, equal_lengths, segments, covers, run_of, is_run, before, all_runs, runs, accepted, wide, Column}
 use Rattle.planner.specs.Check.{planned, direct, eight, column, told, checked_as}
 use Rattle.planner.specs.Laws.{sum_rows, Covers, Accept, none, more, Accepted, Answers, as-planned, as-direct, as-eight, Checks}
@@ -135,11 +135,11 @@ module _ (signed : Bool) (rows : List ℤ) where
     checks = go (accepted signed rows c room) refl
       where
         go : (t : Bool) → accepted signed rows c room ≡ t
-            → Checks signed rows c room (pick t (checked.Accepted (told (runs signed rows (segments c)))) checked.Rejected)
+            → Checks signed rows c room (pick t (Some (told (runs signed rows (segments c)))) None)
         go true e = accepts (of-accepted e)
         go false e = rejects (λ ds a. never (cc (to-accepted a).0))
 
-    checked-as : {r : Checked} → Checks signed rows c room r → checked_as signed rows c room ≡ r
+    checked-as : {r : Option Columned} → Checks signed rows c room r → checked_as signed rows c room ≡ r
     unfolding checked_as
     checked-as (accepts a) = let p = to-accepted a in rw (p.0, p.1)
     checked-as (rejects h) = rw (not_so (accepted signed rows c room) (λ e. h _ (of-accepted e)))
@@ -147,7 +147,7 @@ module _ (signed : Bool) (rows : List ℤ) where
 pub check-exactly : CheckExactlyHolds
 check-exactly signed rows c room = record {
   checks = λ r. (
-    λ e. subst (λ (x : Checked). Checks signed rows c room x) e (checks signed rows c room),
+    λ e. subst (λ (x : Option Columned). Checks signed rows c room x) e (checks signed rows c room),
     λ a. checked-as signed rows c room a,
   );
   writes = λ r. (

@@ -1,4 +1,5 @@
 -- The check's walk: the verdict on what is left is the verdict on all. Assumes nothing.
+use Rattle.std.specs.Prelude.{Some, None}
 use mathlib.Core.Path.{◌≡◌, sym, ◌∙◌}
 use Prim.Native.Nat.{ℕ, ◌+◌, ◌-◌, ◌<◌, ◌≤◌}
 use native.Mathlib.Omega.{arith}
@@ -8,7 +9,6 @@ use lib.ListN.{length, drop}
 use lib.IntN.{ℤ}
 use Rattle.writer.specs.Sizes.{size_in}
 use Rattle.planner.specs.declared.segment.Segment.{Segment}
-use Rattle.planner.specs.declared.Checked.TheVariants as checked
 use Rattle.planner.specs.Check.{Columns, equal_lengths, segments, any_run, accepted, checked_as}
 use Rattle.planner.specs.Walk.{segment_at, step_in}
 use Rattle.planner.proofs.Segments.{segment-next, segment-none}
@@ -16,7 +16,7 @@ use Rattle.planner.proofs.Walks.{Taken, none, some, verdict, verdict-first, verd
 
 module _ (signed : Bool) (rows : List ℤ) (c : Columns) (room : ℕ) where
   -- columns of unequal length are no proposal
-  pub unequal : equal_lengths c ≡ false → checked.Rejected ≡ checked_as signed rows c room
+  pub unequal : equal_lengths c ≡ false → None ≡ checked_as signed rows c room
   unfolding checked_as accepted
   unequal e = rw e
 
@@ -31,11 +31,11 @@ module _ (signed : Bool) (rows : List ℤ) (c : Columns) (room : ℕ) where
 
   module _ (k row bytes : ℕ) (a : Along k row bytes) where
     -- no segment is left
-    pub along-short : length c.starts ≤ k → row < length rows → checked.Rejected ≡ checked_as signed rows c room
+    pub along-short : length c.starts ≤ k → row < length rows → None ≡ checked_as signed rows c room
     along-short h l = sym (a.so_far ∙ rw (segment-none c k h) (verdict-short signed rows room k row bytes l))
 
     pub along-end : length c.starts ≤ k → length rows ≤ row
-        → checked.Accepted (record { runs = k; rows = record { rows = row }; bytes = record { bytes = bytes } }) ≡ checked_as signed rows c room
+        → Some (record { runs = k; rows = record { rows = row }; bytes = record { bytes = bytes } }) ≡ checked_as signed rows c room
     along-end h l = sym (a.so_far ∙ rw (segment-none c k h) (verdict-end signed rows room k row bytes (omega (arith, a.row_in)) a.bytes-in))
 
     -- the next one, by the bytes of its run
@@ -43,7 +43,7 @@ module _ (signed : Bool) (rows : List ℤ) (c : Columns) (room : ℕ) where
       left : drop k (segments c) ≡ s ∷ drop (k + 1) (segments c)
       left = rw e (segment-next c k h)
 
-      pub along-out : n ≡ 0 → checked.Rejected ≡ checked_as signed rows c room
+      pub along-out : n ≡ 0 → None ≡ checked_as signed rows c room
       along-out z = sym (a.so_far
           ∙ rw left (verdict-out signed rows room k row bytes s (drop (k + 1) (segments c)) a.row_in
           (none signed rows row s any_run n r z)))
@@ -51,7 +51,7 @@ module _ (signed : Bool) (rows : List ℤ) (c : Columns) (room : ℕ) where
       pub along-taken : (n ≡ 0 → ⊥) → Taken signed rows row s any_run n
       along-taken z = some signed rows row s any_run n r z
 
-      pub along-full : (n ≡ 0 → ⊥) → room - bytes < n → checked.Rejected ≡ checked_as signed rows c room
+      pub along-full : (n ≡ 0 → ⊥) → room - bytes < n → None ≡ checked_as signed rows c room
       along-full z l = sym (a.so_far ∙ rw left (verdict-full signed rows room k row bytes s (drop (k + 1) (segments c)) n (along-taken z) a.bytes-in l))
 
       pub along-next : (n ≡ 0 → ⊥) → n ≤ room - bytes → Along (k + 1) (row + s.count) (bytes + n)

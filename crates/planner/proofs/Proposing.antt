@@ -1,4 +1,5 @@
 -- What the planner proposes is sound, since it has passed the check; and what follows of a sound proposal. Assumes nothing.
+use Rattle.std.specs.Prelude.{Option, Some}
 use mathlib.Core.Path.{◌≡◌, refl, sym, ap}
 use Prim.Native.Nat.{ℕ, zero, suc, ◌+◌, ◌*◌, ◌/◌, ◌<◌, ◌≤◌}
 use native.Mathlib.Omega.{arith}
@@ -12,8 +13,6 @@ use borrow.Author.Tests.{eq-eqb, ltb-false}
 use Rattle.format.specs.Runs.{Description, joined}
 use Rattle.format.proofs.Tests.{never}
 use Rattle.proposer.specs.Proposed.{Proposed}
-use Rattle.planner.specs.declared.Checked.{Checked}
-use Rattle.planner.specs.declared.Checked.TheVariants as checked
 use Rattle.planner.specs.declared.Columned.{Columned}
 use Rattle.planner.specs.Check.{Columns, equal_lengths, segments_from, wide, planned, told, checked_as}
 use Rattle.planner.specs.Laws.{Accepted, as-planned, Checks, accepts, rejects}
@@ -41,11 +40,11 @@ module _ (signed : Bool) (rows : List ℤ) (c : Columns) (k : ℕ) (p : Proposed
       )
 
   -- they are accepted, and have no more bytes than the direct runs
-  pub proposes : (t : Columned) (room : ℕ) → checked.Accepted t ≡ checked_as signed rows (first_of k c) room
+  pub proposes : (t : Columned) (room : ℕ) → Some t ≡ checked_as signed rows (first_of k c) room
       → ltb (2 * ((length rows + 511) / 512) + 8 * length rows) t.bytes.bytes ≡ false → Sound signed rows c k
-  proposes t room e f = go (checked.Accepted t) (((check-exactly signed rows (first_of k c) room).checks (checked.Accepted t)).0 (sym e)) refl
+  proposes t room e f = go (Some t) (((check-exactly signed rows (first_of k c) room).checks (Some t)).0 (sym e)) refl
     where
-      go : (r : Checked) → Checks signed rows (first_of k c) room r → r ≡ checked.Accepted t → Sound signed rows c k
+      go : (r : Option Columned) → Checks signed rows (first_of k c) room r → r ≡ Some t → Sound signed rows c k
       go r (accepts {ds} a) h =
           let b : told ds ≡ t = cc in
           let n : length (joined ds) ≡ t.bytes.bytes = ap (λ (x : Columned). x.bytes.bytes) b in

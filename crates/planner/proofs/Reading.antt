@@ -1,4 +1,5 @@
 -- Whatever the proposal, what is written reads whole as exactly the rows. Assumes nothing.
+use Rattle.std.specs.Prelude.{Result}
 use mathlib.Core.Path.{◌≡◌, refl, sym, ap, subst, ◌∙◌}
 use Prim.Native.Nat.{ℕ, ◌+◌, ◌<◌, ◌≤◌}
 use native.Mathlib.Omega.{arith}
@@ -16,7 +17,8 @@ use Rattle.format.proofs.Below.{below-getD, below-drop}
 use Rattle.format.proofs.Rows.{joined-count}
 use Rattle.format.proofs.Streams.{stream-whole}
 use Rattle.planner.specs.declared.segment.Segment.{Segment}
-use Rattle.planner.specs.declared.ColumnAnswer.{ColumnAnswer}
+use Rattle.planner.specs.declared.ColumnRuns.{ColumnRuns}
+use Rattle.format.specs.declared.Refusal.{Refusal}
 use Rattle.planner.specs.Check.{Columns, segments_from, any_run, Column, planned, direct, eight, column, column_bytes, told_as}
 use Rattle.planner.specs.Laws.{sum_rows, Accept, none, more, Accepted, Answers, as-planned, as-direct, Reads, WhateverProposed}
 use Rattle.planner.specs.Laws.{when-planned, when-direct, when-eight, Whatever, CheckDetermined, ColumnDetermined}
@@ -94,7 +96,7 @@ reads signed rows out out' ds l v e p =
 
 pub whatever : Whatever
 whatever signed rows c out out' r h hb w =
-    subst (λ (a : ColumnAnswer). WhateverProposed signed rows out out' a) (sym w.answer)
+    subst (λ (a : Result ColumnRuns Refusal). WhateverProposed signed rows out out' a) (sym w.answer)
     (go (column signed rows c (length out)) (((check-exactly signed rows c (length out)).writes (column signed rows c (length out))).0 refl) w.places)
   where
     go : (x : Column) → Answers signed rows c (length out) x → out' ≡ column_bytes out x → WhateverProposed signed rows out out' (told_as x)

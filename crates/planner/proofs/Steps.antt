@@ -10,12 +10,11 @@ use lib.IntN.{ℤ}
 use borrow.Author.Tests.{lt-leb, ne_eqb, le-leb, eqb-true}
 use Rattle.format.specs.declared.Form.{Form}
 use Rattle.format.specs.declared.Form.TheVariants.{ShortRepeat, Direct, FixedDelta, PackedDelta}
-use Rattle.format.specs.declared.Answer.{Answer}
 use Rattle.format.specs.Fields.{two64}
 use Rattle.format.specs.Runs.{Description}
 use Rattle.format.specs.Rows.{as_i64, as_u64}
 use Rattle.format.specs.Parse.{plain, Parsed, end, got, refused, unless}
-use Rattle.format.specs.Answers.{answer_bytes}
+use Rattle.format.specs.Answers.{Answer, answer_bytes}
 use Rattle.format.specs.Promises.{answer_of}
 use Rattle.format.specs.Writing.{between, count_allowed, have_form, width_allowed, writing, bytes_in, Written}
 use Rattle.format.specs.PatchedWriting.{writing_patched, PatchedWritten}

@@ -1,4 +1,5 @@
 -- The walk over the segments: each turn takes one of them, or ends with what the check says. Assumes nothing.
+use Rattle.std.specs.Prelude.{Option, Some, None}
 use mathlib.Core.Path.{◌≡◌, refl, ◌∙◌}
 use Prim.Native.Nat.{ℕ, suc, ◌+◌, ◌-◌, ◌<◌, ◌≤◌}
 use native.Mathlib.Omega.{arith}
@@ -18,8 +19,6 @@ use Rattle.format.proofs.Tests.{never, both}
 use Rattle.writer.specs.Sizes.{size_in}
 use Rattle.planner.specs.declared.segment.Segment.{Segment}
 use Rattle.planner.specs.declared.Columned.{Columned}
-use Rattle.planner.specs.declared.Checked.{Checked}
-use Rattle.planner.specs.declared.Checked.TheVariants as checked
 use Rattle.planner.specs.Check.{Columns, equal_lengths, segments, covers, any_run, run_in, run_of, is_run, all_runs, runs, accepted, checked_as}
 use Rattle.planner.specs.Walk.{step_in, Ran}
 use Rattle.planner.proofs.Segments.{covers-le, covers-over}
@@ -75,8 +74,8 @@ module _ (signed : Bool) (rows : List ℤ) where
     abbrev passes : ℕ → ℕ → List Segment → Bool
     passes row bytes ss = covers (length rows) row ss && all_runs signed rows ss && leb (bytes + length (joined (runs signed rows ss))) room
 
-    unfoldable pub verdict : ℕ → ℕ → ℕ → List Segment → Checked
-    verdict k row bytes ss = pick (passes row bytes ss) (checked.Accepted (counted k row bytes (runs signed rows ss))) checked.Rejected
+    unfoldable pub verdict : ℕ → ℕ → ℕ → List Segment → Option Columned
+    verdict k row bytes ss = pick (passes row bytes ss) (Some (counted k row bytes (runs signed rows ss))) None
 
     pub verdict-first : (c : Columns) → equal_lengths c ≡ true → checked_as signed rows c room ≡ verdict 0 0 0 (segments c)
     unfolding checked_as accepted verdict
@@ -85,12 +84,12 @@ module _ (signed : Bool) (rows : List ℤ) where
         rw (e, zero-add (length ds), zero-add (total_rows ds), zero-add (length (joined ds)))
 
     pub verdict-out : (k row bytes : ℕ) (s : Segment) (ss : List Segment) → row ≤ length rows → is_run (step_in signed rows row s any_run) ≡ false
-        → verdict k row bytes (s ∷ ss) ≡ checked.Rejected
+        → verdict k row bytes (s ∷ ss) ≡ None
     unfolding verdict step_in covers all_runs
     verdict-out k row bytes s ss h e = go (eqb s.start row) (leb s.count (length rows - row)) (is_run (run_of signed rows s)) refl refl refl e
       where
         go : (a b t : Bool) → eqb s.start row ≡ a → leb s.count (length rows - row) ≡ b → is_run (run_of signed rows s) ≡ t
-            → is_run (pick (a && b) (run_of signed rows s) (refused (plain 10))) ≡ false → verdict k row bytes (s ∷ ss) ≡ checked.Rejected
+            → is_run (pick (a && b) (run_of signed rows s) (refused (plain 10))) ≡ false → verdict k row bytes (s ∷ ss) ≡ None
         go false b t f g w z = rw f
         go true false t f g w z = rw (f, covers-over (length rows) (row + s.count) ss (omega (arith, leb-false s.count (length rows - row) g)))
         go true true t f g w z = rw (f, z, and-false (covers (length rows) (row + s.count) ss))
@@ -115,7 +114,7 @@ module _ (signed : Bool) (rows : List ℤ) where
           omega (arith, length-append (layout t.which) (joined ds), t.size) in
           rw (eq-eqb s.start row t.here, t.written, e, f, g)
 
-      pub verdict-full : bytes ≤ room → room - bytes < n → verdict k row bytes (s ∷ ss) ≡ checked.Rejected
+      pub verdict-full : bytes ≤ room → room - bytes < n → verdict k row bytes (s ∷ ss) ≡ None
       unfolding verdict runs joined
       verdict-full h l =
           let p : leb (bytes + length (joined (runs signed rows (s ∷ ss)))) room ≡ false =
@@ -123,12 +122,12 @@ module _ (signed : Bool) (rows : List ℤ) where
           (omega (arith, length-append (layout t.which) (joined ds), t.size))) in
           rw (p, and-false (covers (length rows) row (s ∷ ss) && all_runs signed rows (s ∷ ss)))
 
-    pub verdict-short : (k row bytes : ℕ) → row < length rows → verdict k row bytes [] ≡ checked.Rejected
+    pub verdict-short : (k row bytes : ℕ) → row < length rows → verdict k row bytes [] ≡ None
     unfolding verdict covers
     verdict-short k row bytes h = rw (ne_eqb row (length rows) (λ e. omega arith))
 
     pub verdict-end : (k row bytes : ℕ) → row ≡ length rows → bytes ≤ room
-        → verdict k row bytes [] ≡ checked.Accepted (record { runs = k; rows = record { rows = row }; bytes = record { bytes = bytes } })
+        → verdict k row bytes [] ≡ Some (record { runs = k; rows = record { rows = row }; bytes = record { bytes = bytes } })
     unfolding verdict covers all_runs runs joined total_rows
     verdict-end k row bytes e h = rw (eq-eqb row (length rows) e, le-leb (bytes + 0) room (omega arith), add-zero k, add-zero row, add-zero bytes)
 

@@ -1,6 +1,7 @@
 -- THE CHECK (FORMAT.md, "Column writer"): a proposal of segments for a column of rows, when it is accepted, and what is written. Nothing
 -- here says how segments are found.
 -- Assumes nothing.
+use Rattle.std.specs.Prelude.{Option, Some, None, Result, Ok, Err}
 use Rattle.std.specs.Prelude.{◌≡◌, ℕ, zero, suc, ◌+◌, Bool, true, false, ◌&&◌, List, [], ◌∷◌, ◌++◌, map, length, take, drop, get_or, leb, eqb, ℤ}
 use Rattle.format.specs.declared.Form.TheVariants.{ShortRepeat, Direct, FixedDelta, PackedDelta}
 use Rattle.format.specs.Fields.{pick}
@@ -13,10 +14,9 @@ use Rattle.format.specs.Writing.{described, writing}
 use Rattle.format.specs.PatchedWriting.{writing_patched}
 use Rattle.planner.specs.declared.segment.Segment.{Segment}
 use Rattle.planner.specs.declared.Columned.{Columned}
-use Rattle.planner.specs.declared.Checked.{Checked}
-use Rattle.planner.specs.declared.Checked.TheVariants as checked
-use Rattle.planner.specs.declared.ColumnAnswer.{ColumnAnswer}
-use Rattle.planner.specs.declared.ColumnAnswer.TheVariants as answer
+use Rattle.planner.specs.declared.ColumnRuns.{ColumnRuns}
+use Rattle.format.specs.declared.Refusal.{Refusal}
+use Rattle.planner.specs.declared.ColumnRuns.TheVariants as answer
 
 -- ---- THE PROPOSAL: five columns, one entry a segment; columns of unequal length are no proposal
 
@@ -136,15 +136,15 @@ abbrev pub told : List Description → Columned
 told ds = record { runs = length ds; rows = record { rows = total_rows ds }; bytes = record { bytes = length (joined ds) } }
 
 -- of the check: no byte is lent to it
-unfoldable pub checked_as : Bool → List ℤ → Columns → ℕ → Checked
-checked_as signed rows c room = pick (accepted signed rows c room) (checked.Accepted (told (runs signed rows (segments c)))) checked.Rejected
+unfoldable pub checked_as : Bool → List ℤ → Columns → ℕ → Option Columned
+checked_as signed rows c room = pick (accepted signed rows c room) (Some (told (runs signed rows (segments c)))) None
 
 -- of the writer: the answer, and every lent byte
-abbrev pub told_as : Column → ColumnAnswer
-told_as (planned ds) = answer.Planned (told ds)
-told_as (direct ds) = answer.Direct (told ds)
-told_as eight = answer.Refused (refusing 8 0)
+abbrev pub told_as : Column → Result ColumnRuns Refusal
+told_as (planned ds) = Ok (answer.Planned (told ds))
+told_as (direct ds) = Ok (answer.Direct (told ds))
+told_as eight = Err (refusing 8 0)
 
-pub record Wrote (signed : Bool) (rows : List ℤ) (c : Columns) (out out' : List ℕ) (r : ColumnAnswer) : Type 0 where
+pub record Wrote (signed : Bool) (rows : List ℤ) (c : Columns) (out out' : List ℕ) (r : Result ColumnRuns Refusal) : Type 0 where
   pub answer : r ≡ told_as (column signed rows c (length out))
   pub places : out' ≡ column_bytes out (column signed rows c (length out))

@@ -1,4 +1,5 @@
 -- What the check promises, whoever proposes. Assumes nothing.
+use Rattle.std.specs.Prelude.{Option, Some, None, Result, Ok, Err}
 use Rattle.std.specs.Prelude.{◌≡◌, ◌↔◌, ℕ, ◌+◌, ◌-◌, ◌*◌, ◌/◌, ◌<◌, ◌≤◌, min, Bool, true, List, [], ◌∷◌, ◌++◌, map, length, take, drop, get_or, ℤ}
 use Rattle.format.specs.Digits.{AllBelow}
 use Rattle.format.specs.Fields.{two64}
@@ -7,11 +8,11 @@ use Rattle.format.specs.Parse.{got}
 use Rattle.format.specs.Streams.{whole, read_all, total_rows, joined_rows}
 use Rattle.format.specs.Answers.{refusing}
 use Rattle.format.specs.Writing.{AllI64}
+use Rattle.planner.specs.declared.Columned.{Columned}
 use Rattle.planner.specs.declared.segment.Segment.{Segment}
-use Rattle.planner.specs.declared.Checked.{Checked}
-use Rattle.planner.specs.declared.Checked.TheVariants as checked
-use Rattle.planner.specs.declared.ColumnAnswer.{ColumnAnswer}
-use Rattle.planner.specs.declared.ColumnAnswer.TheVariants as answer
+use Rattle.planner.specs.declared.ColumnRuns.{ColumnRuns}
+use Rattle.format.specs.declared.Refusal.{Refusal}
+use Rattle.planner.specs.declared.ColumnRuns.TheVariants as answer
 use Rattle.planner.specs.Check.{Columns, equal_lengths, segments, any_run, write_in, run_of, wide, Column, planned, direct, eight, column}
 use Rattle.planner.specs.Check.{told, checked_as, Wrote}
 
@@ -52,12 +53,12 @@ module _ (signed : Bool) (rows : List ℤ) where
         → Answers c room (direct (wide signed rows))
     as-eight : ((ds : List Description) → Accepted c room ds → ⊥) → room < length (joined (wide signed rows)) → Answers c room eight
 
-  pub data Checks (c : Columns) (room : ℕ) : Checked → Type 0 where
-    accepts : {ds : List Description} → Accepted c room ds → Checks c room (checked.Accepted (told ds))
-    rejects : ((ds : List Description) → Accepted c room ds → ⊥) → Checks c room checked.Rejected
+  pub data Checks (c : Columns) (room : ℕ) : Option Columned → Type 0 where
+    accepts : {ds : List Description} → Accepted c room ds → Checks c room (Some (told ds))
+    rejects : ((ds : List Description) → Accepted c room ds → ⊥) → Checks c room None
 
 pub record CheckExactly (signed : Bool) (rows : List ℤ) (c : Columns) (room : ℕ) : Type 0 where
-  pub checks : (r : Checked) → (checked_as signed rows c room ≡ r) ↔ Checks signed rows c room r
+  pub checks : (r : Option Columned) → (checked_as signed rows c room ≡ r) ↔ Checks signed rows c room r
   pub writes : (r : Column) → (column signed rows c room ≡ r) ↔ Answers signed rows c room r
 
 abbrev pub CheckExactlyHolds : Type 0
@@ -83,25 +84,25 @@ pub record Reads (signed : Bool) (rows : List ℤ) (out out' : List ℕ) (ds : L
   pub count : total_rows ds ≡ length rows
   pub reads : (n : ℕ) → length rows ≤ n → read_all n (take (length (joined ds)) out') ≡ whole ds
 
-pub data WhateverProposed (signed : Bool) (rows : List ℤ) (out out' : List ℕ) : ColumnAnswer → Type 0 where
-  when-planned : {ds : List Description} → Reads signed rows out out' ds → WhateverProposed signed rows out out' (answer.Planned (told ds))
-  when-direct : {ds : List Description} → Reads signed rows out out' ds → WhateverProposed signed rows out out' (answer.Direct (told ds))
-  when-eight : out' ≡ out → WhateverProposed signed rows out out' (answer.Refused (refusing 8 0))
+pub data WhateverProposed (signed : Bool) (rows : List ℤ) (out out' : List ℕ) : Result ColumnRuns Refusal → Type 0 where
+  when-planned : {ds : List Description} → Reads signed rows out out' ds → WhateverProposed signed rows out out' (Ok (answer.Planned (told ds)))
+  when-direct : {ds : List Description} → Reads signed rows out out' ds → WhateverProposed signed rows out out' (Ok (answer.Direct (told ds)))
+  when-eight : out' ≡ out → WhateverProposed signed rows out out' (Err (refusing 8 0))
 
 -- the proposal is any five columns of u64
 abbrev pub Whatever : Type 0
 Whatever =
-    (signed : Bool) (rows : List ℤ) (c : Columns) (out out' : List ℕ) (r : ColumnAnswer) → AllI64 rows → AllBelow two64 c.bases
+    (signed : Bool) (rows : List ℤ) (c : Columns) (out out' : List ℕ) (r : Result ColumnRuns Refusal) → AllI64 rows → AllBelow two64 c.bases
     → Wrote signed rows c out out' r → WhateverProposed signed rows out out' r
 
 -- ---- any two outcomes that the promises allow are equal
 
 abbrev pub CheckDetermined : Type 0
 CheckDetermined =
-    (signed : Bool) (rows : List ℤ) (c : Columns) (room : ℕ) (r r' : Checked) → r ≡ checked_as signed rows c room
+    (signed : Bool) (rows : List ℤ) (c : Columns) (room : ℕ) (r r' : Option Columned) → r ≡ checked_as signed rows c room
     → r' ≡ checked_as signed rows c room → r ≡ r'
 
 abbrev pub ColumnDetermined : Type 0
 ColumnDetermined =
-    (signed : Bool) (rows : List ℤ) (c : Columns) (out o o' : List ℕ) (r r' : ColumnAnswer)
+    (signed : Bool) (rows : List ℤ) (c : Columns) (out o o' : List ℕ) (r r' : Result ColumnRuns Refusal)
     → Wrote signed rows c out o r → Wrote signed rows c out o' r' → (r ≡ r') × (o ≡ o')

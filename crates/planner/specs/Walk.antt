@@ -8,8 +8,9 @@ use Rattle.format.specs.Parse.{plain, Parsed, refused}
 use Rattle.format.specs.Writing.{bytes_in}
 use Rattle.writer.specs.Sizes.{size_in}
 use Rattle.planner.specs.declared.segment.Segment.{Segment}
+use Rattle.planner.specs.declared.segment.Proposal.{Proposal}
 use Rattle.planner.specs.declared.Columned.{Columned}
-use Rattle.planner.specs.Check.{Columns, run_in, wide, told}
+use Rattle.planner.specs.Check.{Columns, proposal, run_in, wide, told}
 
 -- ---- ONE SEGMENT
 
@@ -19,6 +20,10 @@ form_of zero = ShortRepeat
 form_of (suc zero) = Direct
 form_of (suc (suc zero)) = FixedDelta
 form_of (suc (suc (suc n))) = PackedDelta
+
+-- the columns that a proposal is lent
+abbrev pub columns : Proposal → Columns
+columns p = proposal p.first.now p.counts.now p.forms.now p.widths.now p.bases.now
 
 abbrev pub segment_at : Columns → ℕ → Segment
 segment_at c k = record {

@@ -11,12 +11,7 @@ use format::{Kind, RowNumber};
 fn runs_of(rows: RowNumber) -> usize
     ensures { result ≡ direct_runs rows.rows }
 {
-    let n = rows.rows;
-    let whole = n / Kind::MAX_ROWS;
-    if n % Kind::MAX_ROWS == 0 {
-        return whole;
-    }
-    whole + 1
+    rows.rows.div_ceil(Kind::MAX_ROWS)
 }
 
 // Whether each column has n places.
@@ -30,19 +25,7 @@ fn have_places(
 ) -> bool
     ensures { result ≡ (leb n first && leb n counts && leb n forms && leb n widths && leb n bases) }
 {
-    if first < n {
-        return false;
-    }
-    if counts < n {
-        return false;
-    }
-    if forms < n {
-        return false;
-    }
-    if widths < n {
-        return false;
-    }
-    n <= bases
+    n <= first && n <= counts && n <= forms && n <= widths && n <= bases
 }
 
 // The segments of the direct runs, in the first places of the columns: 512 rows each, and the rest last.
@@ -60,8 +43,7 @@ fn lay(
         (proposal first.new counts.new forms.new widths.new bases.new) runs }
 {
     let n = rows.rows;
-    let mut k: usize = 0;
-    while k < runs {
+    for k in 0..runs {
         let row = Kind::MAX_ROWS * k;
         let left = n - row;
         let count = write::part_rows(RowNumber { rows: left }).rows;
@@ -70,11 +52,11 @@ fn lay(
         forms[k] = 1;
         widths[k] = write::WIDEST as u64;
         bases[k] = 0;
-        k += 1;
     }
 }
 
-// The direct runs as a proposal, if the columns have places for them.
+// The direct runs as a proposal, if the columns have places for them. (Five columns that are written, as `proposer::propose` has them; and 0 for
+// none, as in `FallsBack` and `Proposes`.)
 pub(crate) fn propose(
     rows: &[i64],
     first: &mut [u64],

@@ -13,6 +13,8 @@ mod fallback;
 mod segment;
 mod write;
 
+use segment::Proposal;
+
 // The runs of a column, their rows and their bytes.
 #[derive(Clone, Copy)]
 pub struct Columned {
@@ -21,23 +23,16 @@ pub struct Columned {
     pub bytes: ByteOffset,
 }
 
-// What the check answers.
+// What was written: the proposal's runs, or direct runs of 64 bits. (Both are runs that were written: no Result, whose Err is the refusal.)
 #[derive(Clone, Copy)]
-pub enum Checked {
-    Accepted(Columned),
-    Rejected,
-}
-
-// What the writer answers: the proposal's runs were written, or direct runs of 64 bits, or nothing.
-#[derive(Clone, Copy)]
-pub enum ColumnAnswer {
+pub enum ColumnRuns {
     Planned(Columned),
     Direct(Columned),
-    Refused(Refusal),
 }
 
-// Whether a proposal is accepted, in so much room. It is five columns, one entry a segment: first row, rows, form (0 short repeat, 1
+// The runs of a proposal, if it is accepted in so much room. It is five columns, one entry a segment: first row, rows, form (0 short repeat, 1
 // direct, 2 fixed delta, 3 packed delta, 4 patched), width (bytes, code, code, code, W in bits), and base, which only patched runs have.
+// (Here and below the columns are five parameters, since C hands them down so: `orc_check_column`, `orc_write_column`, `orc_plan`.)
 pub fn check(
     rows: &[i64],
     signed: bool,
@@ -47,16 +42,22 @@ pub fn check(
     widths: &[u64],
     bases: &[u64],
     room: ByteOffset,
-) -> Checked
+) -> Option<Columned>
     ensures { result ≡ checked_as signed rows.now
         (proposal first.now counts.now forms.now widths.now bases.now)
         room.bytes }
 {
-    let n = first.len();
-    if !accept::are_equal(n, counts.len(), forms.len(), widths.len(), bases.len()) {
-        return Checked::Rejected;
+    let p = Proposal {
+        first,
+        counts,
+        forms,
+        widths,
+        bases,
+    };
+    if !p.is_level() {
+        return None;
     }
-    accept::walk(rows, signed, first, counts, forms, widths, bases, room)
+    accept::walk(rows, signed, p, room)
 }
 
 // Writes a column by a proposal, where the check accepts it; else as direct runs of 64 bits, 512 rows each and the rest last;
@@ -70,30 +71,34 @@ pub fn write_column(
     widths: &[u64],
     bases: &[u64],
     out: &mut [u8],
-) -> ColumnAnswer
+) -> Result<ColumnRuns, Refusal>
     ensures { Wrote signed rows.now
         (proposal first.now counts.now forms.now widths.now bases.now)
         out.old out.new result }
 {
     let room = ByteOffset { bytes: out.len() };
     let c = check(rows, signed, first, counts, forms, widths, bases, room);
-    match c {
-        Checked::Accepted(t) => {
-            write::planned(rows, signed, first, counts, forms, widths, bases, out);
-            ColumnAnswer::Planned(t)
-        }
-        Checked::Rejected => {
-            if !write::wide_fits(RowNumber { rows: rows.len() }, room) {
-                return ColumnAnswer::Refused(Refusal::new(8, ByteOffset { bytes: 0 }));
-            }
-            ColumnAnswer::Direct(write::wide(rows, signed, out))
-        }
+    if let Some(t) = c {
+        let p = Proposal {
+            first,
+            counts,
+            forms,
+            widths,
+            bases,
+        };
+        write::planned(rows, signed, p, out);
+        return Ok(ColumnRuns::Planned(t));
     }
+    if !write::wide_fits(RowNumber { rows: rows.len() }, room) {
+        return Err(Refusal::new(8, ByteOffset { bytes: 0 }));
+    }
+    Ok(ColumnRuns::Direct(write::wide(rows, signed, out)))
 }
 
 // Proposes how a column is cut into runs, in the first places of the five columns: how many. What is proposed has passed the check, so it
 // is written wherever there is room, and it has no more bytes than the direct runs of 64 bits. None if there are no rows, or if a column
-// has fewer places than there are direct runs and nothing shorter was found: the direct runs are proposed if nothing better is.
+// has fewer places than there are direct runs and nothing shorter was found: the direct runs are proposed if nothing better is. (A number, and 0
+// for none, as `Proposes` has it and `orc_plan` answers it.)
 pub fn plan(
     rows: &[i64],
     signed: bool,
@@ -106,11 +111,18 @@ pub fn plan(
     ensures { Proposes signed rows.now
         (proposal first.new counts.new forms.new widths.new bases.new) result }
 {
-    if rows.len() == 0 {
+    if rows.is_empty() {
         return 0;
     }
     let k = proposer::propose(rows, signed, first, counts, forms, widths, bases);
-    let n = accept::sound(rows, signed, first, counts, forms, widths, bases, k);
+    let p = Proposal {
+        first,
+        counts,
+        forms,
+        widths,
+        bases,
+    };
+    let n = accept::sound(rows, signed, p, k);
     if 0 < n {
         return n;
     }

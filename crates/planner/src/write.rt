@@ -4,41 +4,31 @@ ghost use Rattle.format.specs.Runs.{joined};
 ghost use Rattle.format.specs.Rows.{as_u64};
 ghost use Rattle.format.specs.Writing.{writing, AllI64};
 ghost use Rattle.planner.specs.Check as Check;
-ghost use Rattle.planner.specs.Check.{proposal, accepted, segments};
-ghost use Rattle.planner.specs.Walk.{Ran, ColumnLaid, WideLaid};
+ghost use Rattle.planner.specs.Check.{accepted, segments};
+ghost use Rattle.planner.specs.Walk.{columns, Ran, ColumnLaid, WideLaid};
 
+use crate::segment::Proposal;
 use crate::{Columned, segment};
-use format::{ByteOffset, Form, Kind, RowNumber};
+use format::{ByteOffset, Form, Kind, RowNumber, answer};
 
 // The width code of 64 bits.
 pub(crate) const WIDEST: u8 = 31;
 
 // The runs of a proposal, one behind the other.
-pub(crate) fn planned(
-    rows: &[i64],
-    signed: bool,
-    first: &[u64],
-    counts: &[u64],
-    forms: &[u64],
-    widths: &[u64],
-    bases: &[u64],
-    out: &mut [u8],
-)
-    requires { accepted signed rows.now (proposal first.now counts.now forms.now widths.now bases.now) (length out.old)
+pub(crate) fn planned(rows: &[i64], signed: bool, p: Proposal, out: &mut [u8])
+    requires { accepted signed rows.now (columns p) (length out.old)
         ≡ true }
     ensures { ColumnLaid
         (Check.runs signed rows.now
-        (segments (proposal first.now counts.now forms.now widths.now bases.now)))
+        (segments (columns p.entry)))
         out.old out.new }
 {
-    let mut k: usize = 0;
     let mut row: usize = 0;
     let mut bytes: usize = 0;
-    while k < first.len() {
-        let s = segment::at(first, counts, forms, widths, bases, k);
+    for k in 0..p.first.len() {
+        let s = p.at(k);
         let at = RowNumber { rows: row };
         let n = segment::step(rows, signed, at, s, &mut out[bytes..]).bytes;
-        k += 1;
         row += s.count as usize;
         bytes += n;
     }
@@ -53,7 +43,7 @@ pub(crate) fn wide_fits(rows: RowNumber, room: ByteOffset) -> bool
     if limit / 8 < n {
         return false;
     }
-    let runs = (n + (Kind::MAX_ROWS - 1)) / Kind::MAX_ROWS;
+    let runs = n.div_ceil(Kind::MAX_ROWS);
     2 * runs <= limit - 8 * n
 }
 
@@ -72,24 +62,15 @@ pub(crate) fn is_longer(bytes: ByteOffset, rows: RowNumber) -> bool
 pub(crate) fn know(rows: &[i64])
     ensures { AllI64 rows.now }
 {
-    let mut i: usize = 0;
-    while i < rows.len() {
-        let z = rows[i];
-        i += 1;
-    }
+    for &z in rows {}
 }
 
 // The rows of the next direct run, of so many that are left.
 pub(crate) fn part_rows(left: RowNumber) -> RowNumber
     ensures { result.rows ≡ min 512 left.rows }
 {
-    let n = left.rows;
-    if Kind::MAX_ROWS < n {
-        RowNumber {
-            rows: Kind::MAX_ROWS,
-        }
-    } else {
-        left
+    RowNumber {
+        rows: left.rows.min(Kind::MAX_ROWS),
     }
 }
 
@@ -102,10 +83,10 @@ fn wide_run(rows: &[i64], signed: bool, at: RowNumber, n: RowNumber, out: &mut [
     let row = at.rows;
     let count = n.rows;
     let a = writer::write_run(&rows[row..row + count], signed, Form::Direct, WIDEST, out);
-    a.consumed()
+    answer::consumed(a)
 }
 
-// The direct runs, 512 rows each and the rest last.
+// The direct runs, 512 rows each and the rest last. (No `for`: besides the rows it moves the place in the lent bytes, by what each run takes.)
 pub(crate) fn wide(rows: &[i64], signed: bool, out: &mut [u8]) -> Columned
     requires { length (joined (Check.wide signed rows.now)) ≤ length out.old }
     ensures { WideLaid signed rows.now out.old out.new result }

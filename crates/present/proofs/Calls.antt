@@ -11,8 +11,7 @@ use lib.IntN.{ℤ}
 use borrow.Author.Tests.{ne_eqb, eq-eqb, le-ltb, lt-ltb, eqb-true, eqb-false, ltb-true, ltb-false}
 use Rattle.format.specs.Fields.{pick}
 use Rattle.format.proofs.Tests.{never}
-use Rattle.present.specs.declared.answer.Spread.{Spread}
-use Rattle.present.specs.Present.{present, spread, SpreadOutcome, gives, refuses, lined_up, spreading, spread_over, not_spread}
+use Rattle.present.specs.Present.{present, spread, SpreadOutcome, gives, refuses, lined_up, spreading, spread_over, not_spread, Spread}
 use Rattle.present.specs.Present.{spread_answer, spread_places, SpreadOut}
 use Rattle.present.specs.Laws.{LinedUp, picked, SpreadSaid, twenty-one, eight, all-rows, SpreadsHold, SpreadsDetermined}
 use Rattle.present.proofs.Columns.{spread-length, picked-back, picked-front}

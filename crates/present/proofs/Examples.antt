@@ -4,8 +4,7 @@ use Prim.Native.Nat.{ℕ}
 use mathlib.Core.List.{List, [], ◌∷◌}
 use lib.ListN.{length}
 use lib.IntN.{ℤ, pos, negsuc}
-use Rattle.present.specs.declared.answer.Spread.{Spread}
-use Rattle.present.specs.Present.{present, spread, spreading, spread_answer, spread_places, spread_over, not_spread}
+use Rattle.present.specs.Present.{present, spread, spreading, spread_answer, spread_places, spread_over, not_spread, Spread}
 
 abbrev flags : List ℕ
 flags = 1 ∷ 0 ∷ 0 ∷ 2 ∷ []

@@ -1,13 +1,14 @@
 -- A turn of the loop takes one flag, and the rows that it stands for. So the places laid, and the column of what is left of both, are
 -- always the whole column. Assumes nothing.
 use mathlib.Core.Path.{◌≡◌, refl, ap, ◌∙◌}
-use Prim.Native.Nat.{ℕ, zero, suc, ◌+◌, ◌<◌, ◌≤◌}
+use Prim.Native.Nat.{ℕ, zero, suc, ◌+◌, ◌-◌, ◌<◌, ◌≤◌}
+use borrow.Rule.Slice.PartMut.{put_mid}
 use native.Mathlib.Numerals.{add-one}
 use native.Mathlib.Omega.{arith}
 use native.Mathlib.Decide.{dec_lt}
 use mathlib.Core.Bool.{Bool, true, false}
-use mathlib.Core.List.{List, [], ◌∷◌, ◌++◌}
-use lib.ListN.{length, take, drop, get_or, set, length-set, drop_of_length-le}
+use mathlib.Core.List.{List, [], ◌∷◌, ◌++◌, append_assoc}
+use lib.ListN.{length, take, drop, get_or, set, replicate, length-set, length-drop, drop_of_length-le}
 use lib.Seq.{drop-cons, drop-drop, get_or-drop}
 use Rattle.format.specs.Fields.{pick}
 use Rattle.util.proofs.Grow.{grow, kept, filled}
@@ -45,14 +46,6 @@ module _ (flags : List ℕ) (i : ℕ) where
   unfolding present
   count_none h = rw (drop_of_length-le flags {i = i} h)
 
-  -- if none of the rows left is there, the next is missing
-  pub next-missing : i < length flags → present (drop i flags) ≡ 0 → is_there (get_or flags i 0) ≡ false
-  next-missing h e = go (is_there (get_or flags i 0)) (count_next h)
-    where
-      go : (t : Bool) → present (drop i flags) ≡ pick t 1 0 + present (drop (i + 1) flags) → t ≡ false
-      go true c = absurd (omega arith)
-      go false c = refl
-
 -- ---- the column that is left
 
 -- what stands at flag i, if `next` rows are used up
@@ -63,6 +56,17 @@ pub any-default : {A : Type 0} (l : List A) (n : ℕ) (d e : A) → n < length l
 any-default [] n d e h = absurd (omega arith)
 any-default (x ∷ l) zero d e h = refl
 any-default (x ∷ l) (suc n) d e h = any-default l n d e (omega arith)
+
+-- with no row left, each place has the fill
+spread-none : {A : Type 0} (fill : A) (flags : List ℕ) → spread fill flags [] ≡ replicate (length flags) fill
+unfolding spread
+spread-none fill [] = refl
+spread-none {A} fill (f ∷ flags) = go (is_there f) (spread-none fill flags)
+  where
+    go : (t : Bool) → spread fill flags [] ≡ replicate (length flags) fill
+        → pick t fill fill ∷ spread fill flags (drop (pick t 1 0) []) ≡ fill ∷ replicate (length flags) fill
+    go true e = ap (λ (l : List A). fill ∷ l) e
+    go false e = ap (λ (l : List A). fill ∷ l) e
 
 module _ {A : Type 0} (fill : A) (flags : List ℕ) (rows : List A) (next i : ℕ) where
   pub row_read : (d : A) → next < length rows → pick (is_there (get_or flags i 0)) (get_or rows next d) fill ≡ row_at fill flags rows next i
@@ -114,17 +118,20 @@ module _ {A : Type 0} (fill : A) (flags : List ℕ) (rows out₀ : List A) where
         rest = kept out out₀ i row w.rest;
       }
 
-  -- a missing row uses no row up
-  pub so-far-missing : {out : List A} {next i : ℕ} → SpreadSoFar out next i → i < length flags → length flags ≤ length out₀
-      → present flags ≤ next → SpreadSoFar (set out i fill) next (i + 1)
-  so-far-missing {out} {next} {i} w h l none =
-      let m = next-missing flags i h (omega (arith, w.left)) in
-      let z : next + 0 ≡ next = omega arith in
-      rw (m, z) at (so-far-next w h l)
-
   pub so-far-all : {out : List A} {next i : ℕ} → SpreadSoFar out next i → length flags ≤ i
       → out ≡ spread fill flags rows ++ drop (length flags) out₀
   unfolding spread
   so-far-all {out} {next} {i} w h =
       let d : i ≡ length flags = omega (arith, w.done) in
       filled out out₀ _ (length flags) (rw d at (rw (drop_of_length-le flags {i = i} h) at w.made)) (rw d at w.rest)
+
+  -- once all rows are used up, the places that are left get the fill
+  pub so-far-filled : {out fills : List A} {next i : ℕ} → SpreadSoFar out next i → length rows ≤ next
+      → fills ≡ replicate (length flags - i) fill → put_mid i (length flags - i) out fills ≡ spread fill flags rows ++ drop (length flags) out₀
+  so-far-filled {out} {fills} {next} {i} w used e =
+      let k = length flags - i in
+      let end : i + k ≡ length flags = omega (arith, w.done) in
+      let none : drop next rows ≡ [] = drop_of_length-le rows {i = next} used in
+      let made : take i out ++ replicate k fill ≡ spread fill flags rows =
+      rw (none, spread-none fill (drop i flags), length-drop i flags) at w.made in
+      rw (e, ← append_assoc, made, w.rest, drop-drop k i out₀, end)

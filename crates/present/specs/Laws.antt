@@ -2,8 +2,7 @@
 -- Assumes nothing.
 use Rattle.std.specs.Prelude.{◌≡◌, ◌↔◌, ℕ, ◌+◌, ◌<◌, ◌≤◌, List, [], ◌∷◌, ◌++◌, length, take, drop, get_or, T, ℤ}
 use Rattle.format.specs.Fields.{pick}
-use Rattle.present.specs.Present.{is_there, present, spread, spread_over, not_spread, SpreadOut}
-use Rattle.present.specs.declared.answer.Spread.{Spread}
+use Rattle.present.specs.Present.{is_there, present, spread, spread_over, not_spread, SpreadOut, Spread}
 
 -- flags and rows are lined up
 abbrev pub LinedUp : List ℕ → List ℤ → Type 0

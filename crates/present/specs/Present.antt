@@ -1,11 +1,11 @@
 -- ROWS THAT ARE MISSING (FORMAT.md, "Rows that are missing"): a column is flags, one a row, and the rows that are there and no others.
 -- Flags are bytes; the rows of the call are i64, as whole numbers.
 -- Assumes nothing.
-use Rattle.std.specs.Prelude.{◌≡◌, ℕ, ◌+◌, Bool, not, List, [], ◌∷◌, ◌++◌, length, drop, get_or, ltb, eqb, ℤ}
+use Rattle.std.specs.Prelude.{◌≡◌, ℕ, ◌+◌, Bool, not, List, [], ◌∷◌, ◌++◌, length, drop, get_or, ltb, eqb, ℤ, Result, Ok, Err}
 use Rattle.format.specs.Fields.{pick}
 use Rattle.format.specs.Answers.{refusing}
-use Rattle.present.specs.declared.answer.Spread.{Spread}
-use Rattle.present.specs.declared.answer.Spread.TheVariants.{Rows, Refused}
+use Rattle.format.specs.declared.RowNumber.{RowNumber}
+use Rattle.format.specs.declared.Refusal.{Refusal}
 
 -- a flag other than 0 means that its row is there
 abbrev pub is_there : ℕ → Bool
@@ -43,11 +43,14 @@ spreading fill flags rows places =
 
 -- ---- THE ANSWER: how many rows the column has; or a refusal, by its number, at place 0
 
+abbrev pub Spread : Type 0
+Spread = Result RowNumber Refusal
+
 abbrev pub spread_over : ℕ → Spread
-spread_over rows = Rows (record { rows = rows })
+spread_over rows = Ok (record { rows = rows })
 
 abbrev pub not_spread : ℕ → Spread
-not_spread number = Refused (refusing number 0)
+not_spread number = Err (refusing number 0)
 
 abbrev pub spread_answer : SpreadOutcome → Spread
 spread_answer (gives column) = spread_over (length column)

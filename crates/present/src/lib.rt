@@ -6,10 +6,7 @@ ghost use Rattle.format.specs.Fields.{pick};
 ghost use Rattle.present.specs.Present.{is_there, rows_for, present, SpreadOut};
 ghost use Rattle.present.specs.Present as Present;
 
-use crate::answer::Spread;
-use format::RowNumber;
-
-pub mod answer;
+use format::{ByteOffset, Refusal, RowNumber};
 
 // How many rows a flag stands for: one, or none if it is 0. It is computed and not branched on, since flags can't be guessed.
 pub fn rows_for(flag: u8) -> RowNumber
@@ -25,9 +22,7 @@ fn row_or_fill(flag: u8, row: i64, fill: i64) -> i64
     ensures { result ≡ pick (is_there flag) row fill }
 {
     let both = [fill, row];
-    let one = rows_for(flag);
-    let k = one.rows;
-    both[k]
+    both[rows_for(flag).rows]
 }
 
 // How many rows are there: the flags that are not 0.
@@ -35,11 +30,8 @@ pub fn count_present(flags: &[u8]) -> RowNumber
     ensures { result.rows ≡ present flags.now }
 {
     let mut found: usize = 0;
-    let mut i: usize = 0;
-    while i < flags.len() {
-        let one = rows_for(flags[i]);
-        found += one.rows;
-        i += 1;
+    for &flag in flags {
+        found += rows_for(flag).rows;
     }
     RowNumber { rows: found }
 }
@@ -51,34 +43,31 @@ fn lay(flags: &[u8], rows: &[i64], fill: i64, out: &mut [i64])
     ensures { out.new ≡ Present.spread fill flags.now rows.now
         ++ drop (length flags.now) out.old }
 {
+    // a `for` over the flags would need a test of `next` and a `break` at each, and over the rows a test of the flag, which can't be guessed
     let mut next: usize = 0;
     let mut i: usize = 0;
     while next < rows.len() {
         let flag = flags[i];
-        let row = row_or_fill(flag, rows[next], fill);
-        out[i] = row;
-        let one = rows_for(flag);
-        next += one.rows;
+        out[i] = row_or_fill(flag, rows[next], fill);
+        next += rows_for(flag).rows;
         i += 1;
     }
-    while i < flags.len() {
-        out[i] = fill;
-        i += 1;
-    }
+    out[i..flags.len()].fill(fill);
 }
 
 // A column with missing rows, into the first places: row i is the next of `rows` if flag i is not 0, else the fill. It refuses without
 // touching a place: 21 if there are not exactly as many rows as flags that are not 0; then 8 if there are fewer places than flags.
-pub fn spread(flags: &[u8], rows: &[i64], fill: i64, out: &mut [i64]) -> Spread
+pub fn spread(flags: &[u8], rows: &[i64], fill: i64, out: &mut [i64]) -> Result<RowNumber, Refusal>
     ensures { SpreadOut flags.now rows.now fill out.old out.new result }
 {
+    // 21 and 8 stay numbers: they are docs/FORMAT.md's, which `SpreadOut` names and C is given
     let there = count_present(flags);
     if there.rows != rows.len() {
-        return Spread::refused(21);
+        return Err(Refusal::new(21, ByteOffset { bytes: 0 }));
     }
     if out.len() < flags.len() {
-        return Spread::refused(8);
+        return Err(Refusal::new(8, ByteOffset { bytes: 0 }));
     }
     lay(flags, rows, fill, out);
-    Spread::rows(RowNumber { rows: flags.len() })
+    Ok(RowNumber { rows: flags.len() })
 }

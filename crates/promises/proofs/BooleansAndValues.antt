@@ -1,13 +1,10 @@
 -- Booleans and byte values, from the law of booleans. Assumes nothing.
+use Rattle.std.specs.Prelude.{Some, None, Err}
 use Rattle.format.proofs.Common.{◌≡◌, refl, sym, ap, ◌∙◌, subst, ℕ, ◌+◌, ◌-◌, ◌<◌, ◌≤◌, dec_lt, le_refl, arith, List, ◌++◌, length, drop}
 use Rattle.format.proofs.Common.{length-drop, lt-ltb, le-ltb, le-leb, lt-leb}
 use Rattle.format.specs.declared.Kind.TheVariants.{Booleans}
-use Rattle.format.specs.declared.CutField.{CutField}
-use Rattle.format.specs.declared.CutField.TheVariants.{None, At}
 use Rattle.format.specs.declared.Refusal.{Refusal}
-use Rattle.format.specs.declared.Answer.{Answer}
-use Rattle.format.specs.declared.Answer.TheVariants.{Refused}
-use Rattle.format.specs.Answers.{ran, refused_at, cut_at, answer_number, answer_cut}
+use Rattle.format.specs.Answers.{CutField, Answer, ran, refused_at, cut_at, answer_number, answer_cut}
 use Rattle.format.specs.Digits.{AllBelow}
 use Rattle.format.specs.Fields.{bytes_for}
 use Rattle.format.specs.Parse.{cut_in, Parsed, got, refused, bytes}
@@ -26,7 +23,7 @@ use Rattle.promises.proofs.BooleanLines.{line, field-le}
 
 byte_of : CutField → ℕ
 byte_of None = 0
-byte_of (At o) = o.bytes
+byte_of (Some o) = o.bytes
 
 module _ (input : List ℕ) (at n : ℕ) (out out' : List ℕ) (r : Answer) (p : BooleansRead input at n out out' r) where
   abbrev bs : List ℕ
@@ -58,12 +55,12 @@ module _ (input : List ℕ) (at n : ℕ) (out out' : List ℕ) (r : Answer) (p :
     unheld ds h = never (cc (read_back ds h, stop))
 
   -- a run is no refusal, and no refusal with a byte is one without
-  run-no-refusal : (b : ℕ) (f : Refusal) → r ≡ ran Booleans 1 n b → r ≡ Refused f → ⊥
+  run-no-refusal : (b : ℕ) (f : Refusal) → r ≡ ran Booleans 1 n b → r ≡ Err f → ⊥
   run-no-refusal b f e g = never (cc)
 
   byte-or-none : (k l b : ℕ) → r ≡ refused_at k at → r ≡ cut_at l at b → ⊥
   byte-or-none k l b e g =
-      let q : None ≡ At _ = ap answer_cut (sym e ∙ g) in
+      let q : None ≡ Some _ = ap answer_cut (sym e ∙ g) in
       never (cc)
 
   same-field : (k field k' byte : ℕ) → CutShort bs (bytes_for n) k field → r ≡ cut_at k' at byte

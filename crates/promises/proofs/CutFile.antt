@@ -1,8 +1,7 @@
 -- A file that is cut inside a run is refused there, or with 8 at a run before it that lacks room. Assumes nothing.
 use Rattle.format.proofs.Common.{◌≡◌, refl, sym, ap, ◌∙◌, ◌≢◌, ℕ, suc, ◌+◌, ◌-◌, ◌<◌, ◌≤◌, dec_lt, arith, Bool, List, [], ◌∷◌, ◌++◌, length}
 use Rattle.format.proofs.Common.{take, drop, length-append, take-append-drop, take-append-le, take-append-add, length-take-le, T, eqb→eq, ℤ}
-use Rattle.format.specs.declared.Stream.{Stream}
-use Rattle.format.specs.Answers.{refusal}
+use Rattle.format.specs.Answers.{Stream, refusal}
 use Rattle.format.specs.Digits.{AllBelow}
 use Rattle.format.specs.Runs.{Description, Valid, AllValid, layout, joined}
 use Rattle.format.specs.Parse.{Reason, unfinished, into}

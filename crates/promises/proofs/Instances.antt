@@ -1,8 +1,8 @@
 -- Inputs that meet the hypotheses of the theorems on a cut file and on one flipped byte, and what these then say, by computing.
 -- Assumes nothing.
+use Rattle.std.specs.Prelude.{Some, None}
 use Rattle.format.proofs.Common.{◌≡◌, refl, ◌≢◌, ℕ, zero, suc, arith, false, List, [], ◌∷◌, length, take, get_or, pos}
 use Rattle.format.specs.declared.Kind.TheVariants.{ShortRepeat}
-use Rattle.format.specs.declared.LastRun.TheVariants as last
 use Rattle.format.specs.Answers.{running, refusing, cutting, broke_at}
 use Rattle.format.specs.Runs.{Description, short, direct, delta, joined}
 use Rattle.format.specs.Rows.{i64_rows}
@@ -32,12 +32,12 @@ inside-second = (omega arith, go)
         all (suc k) = refl
 
 -- five places are room for the rows before the cut run, though not for all rows: refusal 13 where the cut run begins
-just_enough : stream_answer 0 (read_all 5 (take 5 (joined two))) ≡ broke_at (cutting 13 3 5) 5 3 (last.Run (running ShortRepeat 16 5 3))
+just_enough : stream_answer 0 (read_all 5 (take 5 (joined two))) ≡ broke_at (cutting 13 3 5) 5 3 (Some (running ShortRepeat 16 5 3))
 unfolding told
 just_enough = refl
 
 -- four are not: refusal 8 at the run before it
-one-short : stream_answer 0 (read_all 4 (take 5 (joined two))) ≡ broke_at (refusing 8 0) 0 0 last.None
+one-short : stream_answer 0 (read_all 4 (take 5 (joined two))) ≡ broke_at (refusing 8 0) 0 0 None
 unfolding told
 one-short = refl
 

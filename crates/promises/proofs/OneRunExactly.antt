@@ -1,7 +1,7 @@
 -- Demand 2, from the laws of one run. Assumes nothing.
+use Rattle.std.specs.Prelude.{None, Ok}
 use Rattle.format.proofs.Common.{◌≡◌, sym, ◌∙◌, ℕ, ◌≤◌, List, [], length, drop, ℤ}
-use Rattle.format.specs.declared.Answer.{Answer}
-use Rattle.format.specs.declared.Answer.TheVariants.{End}
+use Rattle.format.specs.Answers.{Answer}
 use Rattle.format.specs.Runs.{Description, row_count}
 use Rattle.format.specs.Parse.{Parsed, got, parse, into}
 use Rattle.format.specs.Promises.{answer_of}
@@ -21,7 +21,7 @@ module _ (bs : List ℕ) (at total : ℕ) (out : List ℤ) (r : Answer) where
   begins (into-run {d} {rest} t l) a w = (d, record { valid = t.ok; rest = rest; bytes = t.split }, l)
   begins (into-refusal z) a (kind, width, rows, bytes, w) = never (cc)
 
-  empty : {m : Parsed Description} → Into (length out) bs m → r ≡ answer_of at total m → r ≡ End → bs ≡ []
+  empty : {m : Parsed Description} → Into (length out) bs m → r ≡ answer_of at total m → r ≡ Ok None → bs ≡ []
   empty (into-nothing z) a w = z
   empty (into-run {d} {rest} t l) a w = never (cc)
   empty (into-refusal z) a w = never (cc)

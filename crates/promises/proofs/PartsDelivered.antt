@@ -4,7 +4,7 @@ use Rattle.format.proofs.Common.{take, drop, length-append, length-drop, take_at
 use Rattle.format.specs.declared.Run as run
 use Rattle.format.specs.declared.PartReader.{PartReader}
 use Rattle.format.specs.declared.PartStep.{PartStep}
-use Rattle.format.specs.declared.Stream.{Stream}
+use Rattle.format.specs.Answers.{Stream}
 use Rattle.format.specs.Digits.{AllBelow}
 use Rattle.format.specs.Fields.{two64}
 use Rattle.format.specs.Runs.{Description, row_count, layout}

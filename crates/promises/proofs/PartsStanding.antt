@@ -1,9 +1,8 @@
 -- Where the reader in parts stands before closing: as the whole-stream reader's answer over the bytes so far says. Assumes nothing.
 use Rattle.format.proofs.Common.{◌≡◌, refl, sym, ap, ◌∙◌, ℕ, ◌*◌, ◌≤◌, arith, List, ◌++◌, length, length-append, eqb, T_not}
 use Rattle.format.specs.declared.Refusal.{Refusal}
-use Rattle.format.specs.declared.Stream.{Stream}
 use Rattle.format.specs.declared.Standing.TheVariants.{Opened, Broken}
-use Rattle.format.specs.Answers.{refusing}
+use Rattle.format.specs.Answers.{Stream, refusing}
 use Rattle.format.specs.Digits.{AllBelow}
 use Rattle.format.specs.Runs.{Description, AllValid, joined}
 use Rattle.format.specs.Parse.{plain}

@@ -3,8 +3,7 @@
 use Rattle.format.proofs.Common.{◌≡◌, refl, sym, ap, ◌∙◌, ℕ, ◌+◌, ◌-◌, ◌*◌, ◌%◌, ◌^◌, ◌<◌, ◌≤◌, zero-mul, add-zero, dec_lt, arith, Bool}
 use Rattle.format.proofs.Common.{true, false, not, List, ◌++◌, length, get_or, drop, List·getD-append, List·getD-map, drop_at, T, T_not, ℤ}
 use Rattle.format.proofs.Common.{pos}
-use Rattle.format.specs.declared.Answer.{Answer}
-use Rattle.format.specs.Answers.{refused_at}
+use Rattle.format.specs.Answers.{Answer, refused_at}
 use Rattle.format.specs.Fields.{two64, width, Block, IsBlock}
 use Rattle.format.specs.Runs.{patched, Valid, layout, patches_from, patches, last_is_skip, shared, outside, too_large, out_of_place, entry_width}
 use Rattle.format.specs.Rows.{base_value, patch_at, rows_of, as_i64, i64_rows}

@@ -3,11 +3,10 @@ use Rattle.format.proofs.Common.{◌≡◌, refl, sym, ap, ◌∙◌, ◌↔◌,
 use Rattle.format.proofs.Common.{◌&&◌, List, [], ◌++◌, map, length, drop, length-map, T, ltb, ltb→lt, lt→ltb, nltb→le, T_not, not_T, ℤ, w64}
 use Rattle.format.proofs.Common.{SFits}
 use lib.Arith.{le→nltb}
-use Rattle.format.specs.declared.Answer.{Answer}
 use Rattle.format.specs.Runs.{Description, row_count, layout}
 use Rattle.format.specs.Rows.{as_u64, i64_rows}
 use Rattle.format.specs.Parse.{Parsed, got, unless, parse, into}
-use Rattle.format.specs.Answers.{answer_number, answer_place}
+use Rattle.format.specs.Answers.{Answer, answer_number, answer_place}
 use Rattle.format.specs.Promises.{answer_of, RunRead}
 use Rattle.format.specs.Writing.{between, AllI64, bytes_in}
 use Rattle.format.proofs.Patterns.{as-lt}

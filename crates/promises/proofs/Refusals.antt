@@ -1,11 +1,9 @@
 -- The table of numbers: each refusal is given exactly when its line holds. Assumes nothing.
+use Rattle.std.specs.Prelude.{Some, None, Err}
 use Rattle.format.proofs.Common.{◌≡◌, refl, sym, ap, ◌∙◌, subst, ◌↔◌, ℕ, ◌+◌, ◌-◌, ◌<◌, ◌≤◌, arith, Bool, true, false, List, ◌++◌, length}
 use Rattle.format.proofs.Common.{drop, length-drop, length-append, ltb, ltb-true}
-use Rattle.format.specs.declared.CutField.{CutField}
-use Rattle.format.specs.declared.CutField.TheVariants.{None, At}
 use Rattle.format.specs.declared.Refusal.{Refusal}
-use Rattle.format.specs.declared.Answer.TheVariants.{Refused}
-use Rattle.format.specs.Answers.{refusing, cutting, refusal}
+use Rattle.format.specs.Answers.{CutField, refusing, cutting, refusal}
 use Rattle.format.specs.Runs.{Description, row_count, Valid, layout}
 use Rattle.format.specs.Parse.{Reason, plain, cut_in, Parsed, end, got, refused, unless, parse, into}
 use Rattle.format.specs.Promises.{answer_of}
@@ -64,7 +62,7 @@ field-pos bs (Refusals.in-magnitudes v w rest r e h g l) = (omega arith, thirtee
 field-pos bs (Refusals.in-values r m l) = (omega arith, thirteen)
 field-pos bs (Refusals.in_list r m l) = (omega arith, fourteen)
 
-answer-refused : (at total : ℕ) (f : Refusal) (m : Parsed Description) → answer_of at total m ≡ Refused f
+answer-refused : (at total : ℕ) (f : Refusal) (m : Parsed Description) → answer_of at total m ≡ Err f
     → (r : Reason) × (m ≡ refused r) × (refusal at total r ≡ f)
 answer-refused at total f end e = never (cc)
 answer-refused at total f (got d rest) e = never (cc)
@@ -74,13 +72,13 @@ answer-refused at total f (refused r) e =
 
 byte_of : CutField → ℕ
 byte_of None = 0
-byte_of (At o) = o.bytes
+byte_of (Some o) = o.bytes
 
 module _ (places at : ℕ) (bs : List ℕ) (n : ℕ) where
   of_number : {r : Reason} → TableGives places bs r → refusal at (length bs) r ≡ refusing n at → Table places bs n
   of_number (by_number t) e = subst (λ (x : ℕ). Table places bs x) (ap (λ (f : Refusal). f.number) e) t
   of_number (by_field l) e =
-      let q : At _ ≡ None = ap (λ (f : Refusal). f.cut) e in
+      let q : Some _ ≡ None = ap (λ (f : Refusal). f.cut) e in
       never (cc)
 
   pub field-here : (field : ℕ) → CutLine bs n field → refusal at (length bs) (cut_in n (drop field bs)) ≡ cutting n at (at + field)
@@ -92,7 +90,7 @@ module _ (places at : ℕ) (bs : List ℕ) (n : ℕ) where
       → (field : ℕ) × CutLine bs n field × (byte ≡ at + field)
   unfolding byte_of
   of_field byte (by_number t) e =
-      let q : None ≡ At _ = ap (λ (f : Refusal). f.cut) e in
+      let q : None ≡ Some _ = ap (λ (f : Refusal). f.cut) e in
       never (cc)
   of_field byte (by_field {n = k} {field} l) e =
       let j : at + (length bs - length (drop field bs)) ≡ byte = ap (λ (f : Refusal). byte_of f.cut) e in
@@ -103,7 +101,7 @@ answers input h at signed out out' r p =
     let bs : List ℕ = drop at input in
     let law : (q : Reason) → (into (length out) (parse bs) ≡ refused q) ↔ TableGives (length out) bs q = refusals (length out) bs (below-drop 256 at input h) in
     let a : r ≡ answer_of at (length bs) (into (length out) (parse bs)) = rw (length-drop at input) p.answer in
-    let why : (f : Refusal) → r ≡ Refused f → (q : Reason) × TableGives (length out) bs q × (refusal at (length bs) q ≡ f) =
+    let why : (f : Refusal) → r ≡ Err f → (q : Reason) × TableGives (length out) bs q × (refusal at (length bs) q ≡ f) =
     λ f e. let (q, i, j) = answer-refused at (length bs) f _ (sym a ∙ e) in (q, (law q).0 i, j) in
     record {
       numbers = λ n. (

@@ -1,7 +1,7 @@
 -- The tables hold, by computation: each table is one statement.
 -- Assumes nothing.
 use Rattle.format.proofs.Common.{◌≡◌, refl, sym, ap, ℕ, ◌-◌, List, [], ◌∷◌, map, length, drop, ℤ}
-use Rattle.format.specs.declared.Answer.{Answer}
+use Rattle.format.specs.Answers.{Answer}
 use Rattle.format.specs.Parse.{parse, into}
 use Rattle.format.specs.Promises.{answer_of, run_places}
 use Rattle.format.specs.Booleans as b

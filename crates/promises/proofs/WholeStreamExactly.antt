@@ -1,6 +1,6 @@
 -- Demand 3, from the law of streams. Assumes nothing.
 use Rattle.format.proofs.Common.{◌≡◌, sym, ◌∙◌, ℕ, ◌≤◌, Bool, List, [], ◌∷◌, ◌++◌, length, drop, ℤ}
-use Rattle.format.specs.declared.Stream.{Stream}
+use Rattle.format.specs.Answers.{Stream}
 use Rattle.format.specs.Runs.{Description, joined}
 use Rattle.format.specs.Streams.{Reading, whole, read_all, total_rows}
 use Rattle.format.specs.Promises.{stream_answer}

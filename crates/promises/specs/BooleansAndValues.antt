@@ -1,12 +1,10 @@
 -- Booleans and byte values: what the promises of their readers say, as "exactly when". Stated for every input of bytes, position, number
 -- asked for and places.
 -- Assumes nothing.
-use Rattle.std.specs.Prelude.{◌≡◌, ◌↔◌, ℕ, ◌+◌, ◌-◌, ◌<◌, ◌≤◌, List, [], ◌∷◌, ◌++◌, length, take, drop, ltb}
+use Rattle.std.specs.Prelude.{◌≡◌, ◌↔◌, ℕ, ◌+◌, ◌-◌, ◌<◌, ◌≤◌, List, [], ◌∷◌, ◌++◌, length, take, drop, ltb, Err}
 use Rattle.format.specs.declared.Kind.TheVariants.{Booleans, ByteValues}
 use Rattle.format.specs.declared.Refusal.{Refusal}
-use Rattle.format.specs.declared.Answer.{Answer}
-use Rattle.format.specs.declared.Answer.TheVariants.{Refused}
-use Rattle.format.specs.Answers.{ran, refused_at, cut_at}
+use Rattle.format.specs.Answers.{Answer, ran, refused_at, cut_at}
 use Rattle.format.specs.Digits.{AllBelow}
 use Rattle.format.specs.Fields.{pick, bytes_for}
 use Rattle.format.specs.Booleans.{ByteRun, AllValidRuns, Needed, joined_runs, joined_bytes, booleans_of, BooleansRead}
@@ -46,7 +44,7 @@ pub record BooleansExactly (bs : List ℕ) (at n : ℕ) (out out' : List ℕ) (r
   -- then 8: the output has too few places; and no other number
   pub eight : (k : ℕ) → (r ≡ refused_at k at) ↔ ((k ≡ 8) × (ds : List ByteRun) × Hold bs n ds × (length out < n))
   -- a refused call leaves every place of the caller's unchanged
-  pub unchanged : (f : Refusal) → r ≡ Refused f → out' ≡ out
+  pub unchanged : (f : Refusal) → r ≡ Err f → out' ≡ out
 
 abbrev pub BooleansHold : Type 0
 BooleansHold =

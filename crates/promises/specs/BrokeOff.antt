@@ -3,8 +3,7 @@
 -- Stated of the promise of the run reader, for every input of bytes, position, flag and places.
 -- Assumes nothing.
 use Rattle.std.specs.Prelude.{◌≡◌, ◌↔◌, ℕ, ◌+◌, ◌<◌, ◌≤◌, Bool, List, ◌++◌, length, drop, ℤ}
-use Rattle.format.specs.declared.Answer.{Answer}
-use Rattle.format.specs.Answers.{ran, refused_at, cut_at}
+use Rattle.format.specs.Answers.{Answer, ran, refused_at, cut_at}
 use Rattle.format.specs.Digits.{AllBelow}
 use Rattle.format.specs.Fields.{Varint}
 use Rattle.format.specs.Runs.{Description, row_count, layout}

@@ -2,8 +2,7 @@
 -- Assumes nothing.
 use Rattle.std.specs.Prelude.{◌≡◌, ◌≢◌, ℕ, ◌+◌, ◌<◌, ◌≤◌, Bool, List, ◌∷◌, ◌++◌, length, take, drop, ℤ}
 use Rattle.format.specs.declared.Refusal.{Refusal}
-use Rattle.format.specs.declared.Stream.{Stream}
-use Rattle.format.specs.Answers.{refusing, cutting, broke_at}
+use Rattle.format.specs.Answers.{Stream, refusing, cutting, broke_at}
 use Rattle.format.specs.Runs.{Description, row_count, AllValid, layout, joined}
 use Rattle.format.specs.Streams.{total_rows, joined_rows}
 use Rattle.format.specs.Promises.{last_of, StreamRead}

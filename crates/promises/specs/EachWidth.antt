@@ -3,8 +3,7 @@
 -- The rows of delta and patched runs are given as sums in specs/Sums.antt.
 -- Assumes nothing.
 use Rattle.std.specs.Prelude.{◌≡◌, ℕ, ◌+◌, ◌<◌, ◌≤◌, Bool, not, List, ◌++◌, map, length, drop, replicate, T, ℤ}
-use Rattle.format.specs.declared.Answer.{Answer}
-use Rattle.format.specs.Answers.{ran}
+use Rattle.format.specs.Answers.{Answer, ran}
 use Rattle.format.specs.Digits.{AllBelow, number}
 use Rattle.format.specs.Fields.{width, row, Block, IsBlock, Varint}
 use Rattle.format.specs.Runs.{Description, short, direct, fixed, delta, patched, row_count, layout, patches, too_large, out_of_place}

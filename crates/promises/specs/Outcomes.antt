@@ -2,8 +2,7 @@
 -- equal.
 -- Assumes nothing.
 use Rattle.std.specs.Prelude.{◌≡◌, ℕ, ◌<◌, Bool, List, ℤ}
-use Rattle.format.specs.declared.Answer.{Answer}
-use Rattle.format.specs.declared.Stream.{Stream}
+use Rattle.format.specs.Answers.{Answer, Stream}
 use Rattle.format.specs.Fields.{two64}
 use Rattle.format.specs.Kept.{NarrowestKept}
 use Rattle.format.specs.Promises.{RunRead, RunMeasured, StreamRead, StreamMeasured}

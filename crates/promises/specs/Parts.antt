@@ -2,14 +2,10 @@
 -- of the joined bytes, however they are cut. Stated of the calls as format defines them;
 -- the code's promises are equations with these calls.
 -- Assumes nothing.
-use Rattle.std.specs.Prelude.{◌≡◌, ◌↔◌, ℕ, zero, suc, ◌+◌, ◌*◌, ◌%◌, ◌<◌, ◌≤◌, Bool, List, [], ◌∷◌, ◌++◌, length, drop, T, ℤ}
-use Rattle.format.specs.declared.CutField.{CutField}
-use Rattle.format.specs.declared.CutField.TheVariants as field
+use Rattle.std.specs.Prelude.{◌≡◌, ◌↔◌, ℕ, zero, suc, ◌+◌, ◌*◌, ◌%◌, ◌<◌, ◌≤◌, Bool, List, [], ◌∷◌, ◌++◌, length, drop, T, ℤ, Some, None, Ok, Err}
 use Rattle.format.specs.declared.Refusal.{Refusal}
 use Rattle.format.specs.declared.Standing.{Standing}
 use Rattle.format.specs.declared.Standing.TheVariants.{Opened, Broken}
-use Rattle.format.specs.declared.Stream.{Stream}
-use Rattle.format.specs.declared.Stream.TheVariants.{Whole, Refused}
 use Rattle.format.specs.declared.PartReader.{PartReader}
 use Rattle.format.specs.declared.PartAnswer.{PartAnswer}
 use Rattle.format.specs.declared.PartAnswer.TheVariants as said
@@ -18,7 +14,7 @@ use Rattle.format.specs.Digits.{AllBelow}
 use Rattle.format.specs.Fields.{two64}
 use Rattle.format.specs.Runs.{Description, row_count, Valid, layout}
 use Rattle.format.specs.Parse.{Reason, unfinished, refused, parse}
-use Rattle.format.specs.Answers.{refusing}
+use Rattle.format.specs.Answers.{CutField, Stream, refusing}
 use Rattle.format.specs.Streams.{Reading, read_all, runs_of}
 use Rattle.format.specs.Promises.{stream_answer}
 use Rattle.format.specs.Parts.{refusal_from, Handed, Reply, handed, more, broke, ended, State, start, Call, idle, hand_out, take_part, close}
@@ -75,13 +71,13 @@ starting at (d ∷ ds) = record { at = at; run = d } ∷ starting ((at + length 
 
 -- the stream's answer: its place and the byte of a cut field count modulo 2^64
 abbrev pub cut_modulo : CutField → CutField
-cut_modulo field.None = field.None
-cut_modulo (field.At b) = field.At (record { bytes = b.bytes % two64 })
+cut_modulo None = None
+cut_modulo (Some b) = Some (record { bytes = b.bytes % two64 })
 
 abbrev pub last_answer : Stream → Reply
-last_answer (Whole c) = ended
-last_answer (Refused f c) =
-    broke (record { number = f.number; place = record { bytes = f.place.bytes % two64 }; cut = cut_modulo f.cut })
+last_answer (Ok c) = ended
+last_answer (Err s) =
+    broke (record { number = s.by.number; place = record { bytes = s.by.place.bytes % two64 }; cut = cut_modulo s.by.cut })
 
 abbrev pub stream_gives : Reading → GivenInParts
 stream_gives m = record { runs = starting 0 (runs_of m); answer = last_answer (stream_answer 0 m) }

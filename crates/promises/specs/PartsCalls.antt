@@ -2,7 +2,7 @@
 -- reader gives of the joined bytes.
 -- Assumes nothing.
 use Rattle.std.specs.Prelude.{◌≡◌, ℕ, ◌≤◌, Bool, List, [], ◌∷◌, ◌++◌, map, length, take, drop, ℤ}
-use Rattle.format.specs.declared.Stream.{Stream}
+use Rattle.format.specs.Answers.{Stream}
 use Rattle.format.specs.declared.ByteOffset.{ByteOffset}
 use Rattle.format.specs.declared.Run as run
 use Rattle.format.specs.declared.PartReader.{PartReader}

@@ -3,8 +3,7 @@
 -- Assumes nothing.
 use Rattle.std.specs.Prelude.{◌≡◌, ◌⊎◌, ℕ, suc, ◌+◌, ◌-◌, ◌*◌, ◌%◌, ◌^◌, ◌<◌, ◌≤◌, Bool, not, List, [], ◌++◌, map, length, get_or, take, drop, T, ℤ, pos}
 use Rattle.format.specs.declared.Kind.TheVariants.{PatchedBase}
-use Rattle.format.specs.declared.Answer.{Answer}
-use Rattle.format.specs.Answers.{ran, refused_at}
+use Rattle.format.specs.Answers.{Answer, ran, refused_at}
 use Rattle.format.specs.Digits.{AllBelow, sum}
 use Rattle.format.specs.Fields.{two64, width, bytes_for, Block, IsBlock, block_bytes}
 use Rattle.format.specs.Runs.{patched, Valid, layout, patch_of, gap_of, is_skip, entry_width}

@@ -4,13 +4,12 @@ use Rattle.std.specs.Prelude.{◌≡◌, ◌↔◌, ◌⊎◌, ℕ, ◌^◌, ◌
 use Rattle.std.specs.Int.{w64}
 use Rattle.std.proofs.Common.{SFits}
 use Rattle.format.specs.declared.Kind.TheVariants.{PatchedBase}
-use Rattle.format.specs.declared.Answer.{Answer}
 use Rattle.format.specs.Digits.{AllBelow, number}
 use Rattle.format.specs.Fields.{two64, width}
 use Rattle.format.specs.Kept.{is_kept_width}
 use Rattle.format.specs.Runs.{Valid, gap_of, patch_of, is_skip, patches, layout}
 use Rattle.format.specs.Rows.{base_value, rows_of, as_u64}
-use Rattle.format.specs.Answers.{ran, answer_number, answer_place}
+use Rattle.format.specs.Answers.{Answer, ran, answer_number, answer_place}
 use Rattle.format.specs.Promises.{RunRead}
 use Rattle.format.specs.Writing.{AllI64}
 use Rattle.format.specs.PatchedWriting.{patches_in, Parts, run, parts, header_holds, PatchedWritten}

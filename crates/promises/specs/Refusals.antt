@@ -3,8 +3,7 @@
 -- then 7; then 8. No other number is given, and a byte exactly with those of a cut field.
 -- Assumes nothing.
 use Rattle.std.specs.Prelude.{◌≡◌, ◌↔◌, ◌⊎◌, ℕ, zero, suc, ◌+◌, ◌-◌, ◌*◌, ◌/◌, ◌%◌, ◌<◌, ◌≤◌, Bool, List, [], ◌∷◌, ◌++◌, length, get_or, take, drop, ℤ}
-use Rattle.format.specs.declared.Answer.{Answer}
-use Rattle.format.specs.Answers.{refused_at, cut_at}
+use Rattle.format.specs.Answers.{Answer, refused_at, cut_at}
 use Rattle.format.specs.Digits.{AllBelow, number}
 use Rattle.format.specs.Fields.{width, bytes_for, Varint}
 use Rattle.format.specs.Runs.{Description, row_count, Valid, layout, entry_width}

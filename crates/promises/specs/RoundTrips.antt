@@ -4,8 +4,7 @@
 -- Assumes nothing.
 use Rattle.std.specs.Prelude.{◌≡◌, ℕ, ◌<◌, ◌≤◌, Bool, true, false, ◌&&◌, List, ◌++◌, map, length, drop, ℤ}
 use Rattle.format.specs.declared.Form.{Form}
-use Rattle.format.specs.declared.Answer.{Answer}
-use Rattle.format.specs.Answers.{ran, refused_at, answer_number}
+use Rattle.format.specs.Answers.{Answer, ran, refused_at, answer_number}
 use Rattle.format.specs.Runs.{Description, Valid, row_count, layout}
 use Rattle.format.specs.Rows.{as_u64, i64_rows}
 use Rattle.format.specs.Promises.{kind_of, width_of, RunRead}

@@ -1,12 +1,10 @@
 -- The starred runs (FORMAT.md, "Sample runs") as one table. Each line is stated by the reader's promise: this answer, and these places at
 -- exit, are what it allows. The lines that they leave open, and the public specification's own examples, stand in `Samples`.
 -- Assumes nothing.
-use Rattle.std.specs.Prelude.{ℕ, ◌-◌, Bool, true, false, List, [], ◌∷◌, ◌++◌, length, drop, replicate, ℤ, pos, negsuc}
+use Rattle.std.specs.Prelude.{ℕ, ◌-◌, Bool, true, false, List, [], ◌∷◌, ◌++◌, length, drop, replicate, ℤ, pos, negsuc, None, Ok}
 use Rattle.format.specs.declared.Kind.{Kind}
 use Rattle.format.specs.declared.Kind.TheVariants.{ShortRepeat, Direct, PatchedBase, Delta, Booleans}
-use Rattle.format.specs.declared.Answer.{Answer}
-use Rattle.format.specs.declared.Answer.TheVariants.{End}
-use Rattle.format.specs.Answers.{ran, refused_at, cut_at}
+use Rattle.format.specs.Answers.{Answer, ran, refused_at, cut_at}
 use Rattle.format.specs.Promises.{RunRead}
 use Rattle.format.specs.Booleans.{BooleansRead}
 
@@ -48,7 +46,7 @@ abbrev pub answer_said : {R : Type 0} → ℕ → Said R → Answer
 answer_said at (run kind width rows bytes) = ran kind width (length rows) bytes
 answer_said at (refusal n) = refused_at n at
 answer_said at (cut n byte) = cut_at n at byte
-answer_said at nothing = End
+answer_said at nothing = Ok None
 
 -- the rows in the first places; the others, and all where the run is refused, keep their content
 abbrev pub places_said : {R : Type 0} → List R → Said R → List R

@@ -1,11 +1,8 @@
 -- Demand 3: the stream reader answers "whole stream read" exactly of joined layouts of valid run descriptions, with their joined rows, and
 -- the descriptions are the only ones. Stated of the promise of the stream reader, for every input of bytes, position, flag and places.
 -- Assumes nothing.
-use Rattle.std.specs.Prelude.{◌≡◌, ◌↔◌, ℕ, ◌≤◌, Bool, List, [], ◌∷◌, ◌++◌, length, drop, ℤ}
-use Rattle.format.specs.declared.LastRun.{LastRun}
-use Rattle.format.specs.declared.LastRun.TheVariants.{Run}
-use Rattle.format.specs.declared.Stream.{Stream}
-use Rattle.format.specs.Answers.{read_whole}
+use Rattle.std.specs.Prelude.{◌≡◌, ◌↔◌, ℕ, ◌≤◌, Bool, List, [], ◌∷◌, ◌++◌, length, drop, ℤ, Some}
+use Rattle.format.specs.Answers.{LastRun, Stream, read_whole}
 use Rattle.format.specs.Digits.{AllBelow}
 use Rattle.format.specs.Runs.{Description, AllValid, joined}
 use Rattle.format.specs.Streams.{total_rows, joined_rows}
@@ -26,7 +23,7 @@ pub record WholeStreamExactly (bs : List ℕ) (signed : Bool) (out out' : List �
   -- .. whose rows and bytes are then those counted, and whose last run is the one named (none of no runs) ..
   pub counts : (ds : List Description) → LaidOut bs ds → total_rows ds ≤ length out → r ≡ read_whole (total_rows ds) (length bs) (last_of ds)
   pub last-run : (before : List Description) (d : Description) → LaidOut bs (before ++ d ∷ []) → total_rows (before ++ d ∷ []) ≤ length out
-      → r ≡ read_whole (total_rows (before ++ d ∷ [])) (length bs) (Run (run_of d))
+      → r ≡ read_whole (total_rows (before ++ d ∷ [])) (length bs) (Some (run_of d))
   -- .. the rows standing joined in the first places and the other places unchanged ..
   pub rows : (ds : List Description) → LaidOut bs ds → total_rows ds ≤ length out → out' ≡ joined_rows signed ds ++ drop (total_rows ds) out
   -- .. and no second list has these bytes

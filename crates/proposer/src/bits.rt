@@ -2,42 +2,24 @@
 // 64-bit patterns throughout; sums wrap and shifts are taken modulo 64, so that nothing is asked of a number: what is proposed is checked elsewhere.
 ghost use Rattle.std.specs.Prelude.{◌≤◌};
 
-use format::TOP_BIT;
 use util::pattern;
-
-pub(crate) fn least(a: u64, b: u64) -> u64 {
-    if a < b { a } else { b }
-}
-
-pub(crate) fn most(a: u64, b: u64) -> u64 {
-    if a < b { b } else { a }
-}
-
-// The product of two numbers below 65,536.
-pub(crate) fn times(a: u64, b: u64) -> u64 {
-    (a % 65536) * (b % 65536)
-}
 
 // The next multiple of eight: bits of whole bytes.
 pub(crate) fn whole_bytes(bits: u64) -> u64 {
-    pattern::add(bits, 7) >> 3 << 3
+    bits.wrapping_add(7) >> 3 << 3
 }
 
 // Whether one row is below another, as signed numbers.
 pub(crate) fn is_below(a: u64, b: u64) -> bool {
-    a ^ TOP_BIT < b ^ TOP_BIT
+    a.cast_signed() < b.cast_signed()
 }
 
 // The size of a step, without its direction.
 pub(crate) fn magnitude(step: u64) -> u64 {
-    if step < TOP_BIT {
-        step
-    } else {
-        pattern::sub(0, step)
-    }
+    step.cast_signed().unsigned_abs()
 }
 
-// The number that stands for a row: zigzagged if signed.
+// The number that stands for a row: zigzagged if signed, by util, since the library has no zigzag.
 pub(crate) fn number(row: u64, signed: bool) -> u64 {
     if signed { pattern::zigzag_of(row) } else { row }
 }
@@ -46,7 +28,7 @@ pub(crate) fn number(row: u64, signed: bool) -> u64 {
 pub(crate) fn needs(number: u64) -> u64
     ensures { result ≤ 64 }
 {
-    (64 - u64::leading_zeros(number | 1)) as u64
+    (64 - (number | 1).leading_zeros()) as u64
 }
 
 // The bits of the shortest varint: eight for each seven that the number needs.
@@ -56,12 +38,11 @@ pub(crate) fn varint(number: u64) -> u64 {
 
 // The class of the narrowest kept width that has so many bits. Sums and no branches, since rows vary.
 pub(crate) fn class(bits: u64) -> u64 {
-    let above = pattern::sub(bits, 1) % 64;
-    let small = pattern::add(
-        (0 < above) as u64,
-        pattern::add((1 < above) as u64, (3 < above) as u64),
-    );
-    pattern::add(above >> 3, small)
+    let above = bits.wrapping_sub(1) % 64;
+    (above >> 3)
+        .wrapping_add(u64::from(0 < above))
+        .wrapping_add(u64::from(1 < above))
+        .wrapping_add(u64::from(3 < above))
 }
 
 // The bits of a class.
@@ -69,15 +50,15 @@ pub(crate) fn width(class: u64) -> u64 {
     if class < 3 {
         1 << class
     } else {
-        pattern::sub(class, 2) << 3
+        class.wrapping_sub(2) << 3
     }
 }
 
 // The code of a class's width.
 pub(crate) fn code(class: u64) -> u64 {
     if class < 6 {
-        pattern::sub(width(class), 1)
+        width(class).wrapping_sub(1)
     } else {
-        pattern::add(class, 21)
+        class.wrapping_add(21)
     }
 }

@@ -2,9 +2,9 @@
 // outside cost as patches.
 use crate::patched::MAX_ENTRIES;
 use crate::states::FAR;
-use crate::{bits, cells, patched};
-use util::pattern;
+use crate::{bits, patched};
 
+// A frame is changed where it stands: handed on by value, its numbers would be copied at each row.
 #[derive(Clone, Copy)]
 pub(crate) struct Frame {
     // where it begins, in rows
@@ -26,27 +26,13 @@ pub(crate) struct Frame {
     list: u64,
 }
 
-// A state that any run replaces. Frames are kept in cells: handed on by value, their numbers would be copied at each row.
-pub(crate) fn none() -> [u64; 16] {
-    let mut cells = cells::all(0);
-    let mut frame = Frame::of(0, 0, FAR);
-    frame.highs = 0;
-    frame.store(&mut cells);
-    cells
-}
-
-// One row more.
-pub(crate) fn take(cells: &mut [u64; 16], width: u64, at: u64, row: u64) {
-    Frame::load(cells).with(width, at, row).store(cells);
-}
-
 // Bits of a patched run's header and base.
 pub(crate) fn head(base: u64) -> u64 {
     let bytes = patched::base_bytes(base);
     if bytes == 9 {
         FAR
     } else {
-        pattern::add(32, bytes << 3)
+        (bytes << 3).wrapping_add(32)
     }
 }
 
@@ -68,86 +54,63 @@ impl Frame {
         }
     }
 
-    // The same behind so many bits, the head among them.
-    pub(crate) fn open(width: u64, at: u64, row: u64, before: u64) -> Frame {
-        Frame::of(at, row, pattern::add(before, width))
-    }
-
-    // What cells hold.
-    pub(crate) fn load(cells: &[u64; 16]) -> Frame {
+    // A state that any run replaces.
+    pub(crate) fn none() -> Frame {
         Frame {
-            start: cells[0],
-            low: cells[1],
-            high: cells[2],
-            highs: cells[3],
-            entries: cells[4],
-            reach: cells[5],
-            last: cells[6],
-            gap: cells[7],
-            streak: cells[8],
-            bits: cells[9],
-            list: cells[10],
+            highs: 0,
+            ..Frame::of(0, 0, FAR)
         }
     }
 
-    pub(crate) fn store(self, cells: &mut [u64; 16]) {
-        cells[0] = self.start;
-        cells[1] = self.low;
-        cells[2] = self.high;
-        cells[3] = self.highs;
-        cells[4] = self.entries;
-        cells[5] = self.reach;
-        cells[6] = self.last;
-        cells[7] = self.gap;
-        cells[8] = self.streak;
-        cells[9] = self.bits;
-        cells[10] = self.list;
+    // A run of one row behind so many bits, the head among them.
+    pub(crate) fn open(width: u64, at: u64, row: u64, before: u64) -> Frame {
+        Frame::of(at, row, before.wrapping_add(width))
     }
 
     // The bits up to here, if the run ends.
-    pub(crate) fn cost(self) -> u64 {
-        pattern::add(bits::whole_bytes(self.bits), self.list)
+    pub(crate) fn cost(&self) -> u64 {
+        bits::whole_bytes(self.bits).wrapping_add(self.list)
     }
 
     // One row more.
-    fn with(mut self, width: u64, at: u64, row: u64) -> Frame {
-        self.bits = pattern::add(self.bits, width);
-        if pattern::sub(row, self.low) >> (width % 64) != 0 {
-            return self.outside(width, at, row);
+    pub(crate) fn take(&mut self, width: u64, at: u64, row: u64) {
+        self.bits = self.bits.wrapping_add(width);
+        if row.wrapping_sub(self.low) >> (width % 64) != 0 {
+            self.take_outside(width, at, row);
+        } else if !bits::is_below(row, self.high) {
+            self.raise(row);
         }
-        if bits::is_below(row, self.high) {
-            return self;
-        }
-        self.raised(row)
     }
 
     // A row outside: the frame is lowered to it, or it becomes a patch.
-    fn outside(self, width: u64, at: u64, row: u64) -> Frame {
+    fn take_outside(&mut self, width: u64, at: u64, row: u64) {
         if !bits::is_below(row, self.low) {
-            return self.patched(width, at, row);
+            self.patch(width, at, row);
+        } else if self.high.wrapping_sub(row) >> (width % 64) == 0 {
+            self.lower(row);
+        } else if at != self.start.wrapping_add(1) {
+            self.patch(width, at, row);
+        } else {
+            // the first row was the one that sticks out
+            let first = self.low;
+            self.lower(row);
+            self.high = row;
+            self.highs = 1;
+            self.patch(width, self.start, first);
         }
-        if pattern::sub(self.high, row) >> (width % 64) == 0 {
-            return self.lowered(row);
-        }
-        if at != pattern::add(self.start, 1) {
-            return self.patched(width, at, row);
-        }
-        // the first row was the one that sticks out
-        let mut frame = self.lowered(row);
-        frame.high = row;
-        frame.highs = 1;
-        frame.patched(width, self.start, self.low)
     }
 
-    fn lowered(mut self, row: u64) -> Frame {
-        self.bits = pattern::sub(pattern::add(self.bits, head(row)), head(self.low));
+    fn lower(&mut self, row: u64) {
+        self.bits = self
+            .bits
+            .wrapping_add(head(row))
+            .wrapping_sub(head(self.low));
         self.low = row;
-        self
     }
 
-    fn raised(mut self, row: u64) -> Frame {
+    fn raise(&mut self, row: u64) {
         self.highs = if row == self.high {
-            pattern::add(self.highs, 1)
+            self.highs.wrapping_add(1)
         } else {
             1
         };
@@ -157,39 +120,34 @@ impl Frame {
             self.list = if MAX_ENTRIES < self.highs {
                 FAR
             } else {
-                bits::whole_bytes(bits::times(9, self.highs))
+                bits::whole_bytes(self.highs.wrapping_mul(9))
             };
         }
-        self
     }
 
-    fn patched(mut self, width: u64, at: u64, row: u64) -> Frame {
-        let distance = pattern::sub(at, self.last);
+    fn patch(&mut self, width: u64, at: u64, row: u64) {
+        let distance = at.wrapping_sub(self.last);
         self.last = at;
         self.streak = if distance == 1 {
-            pattern::add(self.streak, 1)
+            self.streak.wrapping_add(1)
         } else {
             1
         };
-        self.entries = pattern::add(self.entries, patched::entries(distance));
-        self.gap = bits::most(self.gap, bits::least(distance, 255));
-        self.reach = bits::most(self.reach, bits::needs(pattern::sub(row, self.low)));
-        let patch = patched::table(pattern::sub(
-            bits::most(self.reach, pattern::add(width, 1)),
-            width,
-        ));
+        self.entries = self.entries.wrapping_add(patched::entries(distance));
+        self.gap = self.gap.max(distance.min(255));
+        self.reach = self.reach.max(bits::needs(row.wrapping_sub(self.low)));
+        let patch = patched::table(self.reach.max(width.wrapping_add(1)).wrapping_sub(width));
         self.list = if self.entries <= MAX_ENTRIES && patched::is_read_everywhere(patch) {
-            bits::whole_bytes(bits::times(self.entries, patched::entry(patch, self.gap)))
+            bits::whole_bytes(self.entries.wrapping_mul(patched::entry(patch, self.gap)))
         } else {
             FAR
         };
-        self
     }
 
     // The base that the run is written with.
-    pub(crate) fn base(self, width: u64) -> u64 {
+    pub(crate) fn base(&self, width: u64) -> u64 {
         if self.entries == 0 {
-            pattern::sub(self.high, 1 << (width % 64))
+            self.high.wrapping_sub(1 << (width % 64))
         } else {
             self.low
         }

@@ -1,10 +1,6 @@
 // What the patched writer makes of rows, a base and a width, without writing it.
-use crate::{bits, cells};
+use crate::bits;
 use format::Kind;
-use util::pattern;
-
-// More bytes than any run has: the writer does not accept the run, or some readers do not read it.
-pub(crate) const NONE: u64 = u64::MAX;
 
 // The most entries of a list.
 pub(crate) const MAX_ENTRIES: u64 = Kind::MAX_PATCHES as u64;
@@ -19,27 +15,38 @@ struct List {
 }
 
 impl List {
-    fn with(self, patch: u64, at: u64) -> List {
+    // The list over a base.
+    fn over(rows: &[i64], base: u64, width: u64) -> List {
+        let mut list = List {
+            entries: 0,
+            last: 0,
+            gap: 1,
+            patches: 0,
+        };
+        for (at, row) in rows.iter().enumerate() {
+            list.take(
+                row.cast_unsigned().wrapping_sub(base) >> (width % 64),
+                at as u64,
+            );
+        }
+        list
+    }
+
+    fn take(&mut self, patch: u64, at: u64) {
         if patch == 0 {
-            return self;
+            return;
         }
-        let distance = pattern::sub(at, self.last);
-        List {
-            entries: pattern::add(self.entries, entries(distance)),
-            last: at,
-            gap: bits::most(self.gap, bits::least(distance, 255)),
-            patches: self.patches | patch,
-        }
+        let distance = at.wrapping_sub(self.last);
+        self.entries = self.entries.wrapping_add(entries(distance));
+        self.last = at;
+        self.gap = self.gap.max(distance.min(255));
+        self.patches |= patch;
     }
 }
 
 // The entries that a patch takes so far behind the one before: a gap of more than 255 rows is skips first.
 pub(crate) fn entries(distance: u64) -> u64 {
-    if distance == 0 {
-        1
-    } else {
-        1 + (distance - 1) / 255
-    }
+    1 + distance.saturating_sub(1) / 255
 }
 
 // The width of the table that has so many bits.
@@ -47,7 +54,7 @@ pub(crate) fn table(bits: u64) -> u64 {
     if bits < 25 {
         bits
     } else if bits < 33 {
-        pattern::add(bits, 1) >> 1 << 1
+        bits.wrapping_add(1) >> 1 << 1
     } else {
         bits::whole_bytes(bits)
     }
@@ -55,7 +62,7 @@ pub(crate) fn table(bits: u64) -> u64 {
 
 // The bits of an entry.
 pub(crate) fn entry(patch: u64, gap: u64) -> u64 {
-    table(pattern::add(patch, bits::needs(gap)))
+    table(patch.wrapping_add(bits::needs(gap)))
 }
 
 // Bytes of a base, which has a sign bit beside its magnitude: 9 for -2^63, which no run has.
@@ -68,38 +75,19 @@ pub(crate) fn is_read_everywhere(patch: u64) -> bool {
     patch <= 56 && !(25 <= patch && patch <= 30)
 }
 
-// The list over a base.
-fn list_over(rows: &[i64], base: u64, width: u64) -> List {
-    let mut list = List {
-        entries: 0,
-        last: 0,
-        gap: 1,
-        patches: 0,
-    };
-    let mut i: usize = 0;
-    while i < rows.len() {
-        let above = pattern::sub(cells::row(rows, i), base) >> (width % 64);
-        list = list.with(above, i as u64);
-        i += 1;
-    }
-    list
-}
-
 // The bytes of the run, where the writer accepts it and every reader reads it: the list is not empty.
-pub(crate) fn bytes(rows: &[i64], base: u64, width: u64) -> u64 {
-    let l = list_over(rows, base, width);
+pub(crate) fn bytes(rows: &[i64], base: u64, width: u64) -> Option<u64> {
+    let l = List::over(rows, base, width);
     let patch = table(bits::needs(l.patches));
     if l.entries == 0
         || MAX_ENTRIES < l.entries
         || 8 < base_bytes(base)
         || !is_read_everywhere(patch)
     {
-        return NONE;
+        return None;
     }
-    let values = bits::whole_bytes(bits::times(rows.len() as u64, width));
-    let list = bits::whole_bytes(bits::times(l.entries, entry(patch, l.gap)));
-    pattern::add(
-        pattern::add(4, base_bytes(base)),
-        pattern::add(values, list) >> 3,
-    )
+    let values = bits::whole_bytes((rows.len() as u64).wrapping_mul(width));
+    let list = bits::whole_bytes(l.entries.wrapping_mul(entry(patch, l.gap)));
+    let head = base_bytes(base).wrapping_add(4);
+    Some((values.wrapping_add(list) >> 3).wrapping_add(head))
 }

@@ -12,14 +12,11 @@ use borrow.Author.Tests.{eqb-true}
 use Rattle.format.specs.Digits.{AllBelow}
 use Rattle.format.specs.Fields.{pick}
 use Rattle.batches.specs.Batches.{Position, BatchOutcome, gives, ended, refuses, rows_left, reading_at, batch}
-use Rattle.batches.specs.BatchPromise.{position_in, batch_answer, places_after, RowsRead}
+use Rattle.batches.specs.BatchPromise.{Batch, position_in, batch_answer, places_after, RowsRead}
 use Rattle.batches.specs.declared.RowPosition.{RowPosition}
-use Rattle.batches.specs.declared.Batch.{Batch}
-use Rattle.batches.specs.declared.Batch.TheVariants as answer
 use Rattle.rescue.specs.Rescue.{PlainPosition, at, nowhere, made_plain, meets, group, end_of, kept, own_rows, group_rows}
 use Rattle.rescue.specs.RescueSteps.{row_position, plain_in, GroupRead, GroupRescued}
-use Rattle.rescue.specs.declared.Plain.{Plain}
-use Rattle.rescue.specs.declared.Plain.TheVariants as plain
+use Rattle.std.specs.Prelude.{Option, Some, None, Ok, Err}
 use Rattle.rescue.proofs.GroupEnds.{end-from, end-nowhere, rows-from, end_none, rows_in, after_all, rows_in_lem, after_is}
 
 none : {A : Type 0} (l : List A) → length l ≡ 0 → l ≡ []
@@ -28,11 +25,11 @@ none (x ∷ l) e = absurd (omega arith)
 
 -- ---- plain positions in the code's words
 
-plain_at : (a : PlainPosition) (p : RowPosition) → plain.At p ≡ plain_in a → a ≡ at (position_in p)
+plain_at : (a : PlainPosition) (p : RowPosition) → Some p ≡ plain_in a → a ≡ at (position_in p)
 plain_at (at q) p e = let f : p ≡ row_position q.run q.skip = cc in rw f
 plain_at nowhere p e = let z : ◌≡◌ {A = ℕ} 0 1 = cc in absurd (omega arith)
 
-plain-nowhere : (a : PlainPosition) → plain.Nowhere ≡ plain_in a → a ≡ nowhere
+plain-nowhere : (a : PlainPosition) → None ≡ plain_in a → a ≡ nowhere
 plain-nowhere (at q) e = let z : ◌≡◌ {A = ℕ} 0 1 = cc in absurd (omega arith)
 plain-nowhere nowhere e = refl
 
@@ -53,7 +50,7 @@ module _ (s : List ℕ) (from to : RowPosition) (signed : Bool) (out : List ℤ)
   by_end : (out' : List ℤ) (r : Bool) → length out' ≡ n
       → ((p : Position) → made_plain s p ≡ at (position_in from) → r ≡ meets (end_of s (group p n)) (at (position_in to)))
       → ((p : Position) → made_plain s p ≡ at (position_in from) → r ≡ true → out' ≡ own_rows signed s (group p n))
-      → GroupRead s (plain.At from) (plain.At to) signed out out' r
+      → GroupRead s (Some from) (Some to) signed out out' r
   unfolding kept
   by_end out' r l ends rows = record {
     long = l;
@@ -64,7 +61,7 @@ module _ (s : List ℕ) (from to : RowPosition) (signed : Bool) (out : List ℤ)
 
   -- into no places
   pub read_none : n ≡ 0 → (r : Bool) → r ≡ meets (at (position_in from)) (at (position_in to))
-      → GroupRead s (plain.At from) (plain.At to) signed out out r
+      → GroupRead s (Some from) (Some to) signed out out r
   read_none z r e = by_end out r refl (λ p f. e ∙ ap (λ (a : PlainPosition). meets a (at (position_in to))) (sym (ends p f)))
       (λ p f t. none out z ∙ sym (ap (λ (k : ℕ). take k (rows_left signed p (reading_at s p))) z))
     where
@@ -73,9 +70,9 @@ module _ (s : List ℕ) (from to : RowPosition) (signed : Bool) (out : List ℤ)
 
   -- where the rows of an answer end, if they are all
   abbrev pub end_in : Batch → PlainPosition
-  end_in (answer.Rows b) = pick (eqb b.rows.rows n) (at (position_in b.next)) nowhere
-  end_in answer.End = nowhere
-  end_in (answer.Refused f) = nowhere
+  end_in (Ok (Some b)) = pick (eqb b.rows.rows n) (at (position_in b.next)) nowhere
+  end_in (Ok None) = nowhere
+  end_in (Err f) = nowhere
 
   end-in : (t : BatchOutcome) → end_in (batch_answer t) ≡ after_all n t
   end-in (gives b) = refl
@@ -107,7 +104,7 @@ module _ (s : List ℕ) (from to : RowPosition) (signed : Bool) (out : List ℤ)
 
   -- into some, by what the call answers
   pub read_some : {out' : List ℤ} {a : Batch} → 0 < n → RowsRead s from signed out out' a → (b : Batch) → a ≡ b → (r : Bool)
-      → r ≡ meets (end_in b) (at (position_in to)) → GroupRead s (plain.At from) (plain.At to) signed out out' r
+      → r ≡ meets (end_in b) (at (position_in to)) → GroupRead s (Some from) (Some to) signed out out' r
   read_some {out'} some w b g r e = by_end out' r (ap length w.places ∙ long said few)
       (λ p f. e ∙ ap meets-to (ends-said ∙ after_is signed s (position_in from) n some ∙ sym (end-from s p n h f)))
       (λ p f t. w.places ∙ all said (at (position_in to)) (sym (ap meets-to ends-said) ∙ sym e ∙ t)
@@ -121,8 +118,8 @@ module _ (s : List ℕ) (from to : RowPosition) (signed : Bool) (out : List ℤ)
 
 -- ---- from one plain position to another, or nothing is read
 
-module _ (s : List ℕ) (from to : Plain) (signed : Bool) (out : List ℤ) where
-  pub from-nowhere : from ≡ plain.Nowhere → GroupRead s from to signed out out false
+module _ (s : List ℕ) (from to : Option RowPosition) (signed : Bool) (out : List ℤ) where
+  pub from-nowhere : from ≡ None → GroupRead s from to signed out out false
   unfolding kept
   from-nowhere e = record {
     long = refl;
@@ -132,7 +129,7 @@ module _ (s : List ℕ) (from to : Plain) (signed : Bool) (out : List ℤ) where
     rows = λ p a t. let z : ◌≡◌ {A = ℕ} 0 1 = cc in absurd (omega arith);
   }
 
-  pub to-nowhere : to ≡ plain.Nowhere → GroupRead s from to signed out out false
+  pub to-nowhere : to ≡ None → GroupRead s from to signed out out false
   unfolding kept
   to-nowhere e = record {
     long = refl;
@@ -142,8 +139,8 @@ module _ (s : List ℕ) (from to : Plain) (signed : Bool) (out : List ℤ) where
     rows = λ p a t. let z : ◌≡◌ {A = ℕ} 0 1 = cc in absurd (omega arith);
   }
 
-  pub read_at : {p q : RowPosition} {out' : List ℤ} {r : Bool} → from ≡ plain.At p → to ≡ plain.At q
-      → GroupRead s (plain.At p) (plain.At q) signed out out' r → GroupRead s from to signed out out' r
+  pub read_at : {p q : RowPosition} {out' : List ℤ} {r : Bool} → from ≡ Some p → to ≡ Some q
+      → GroupRead s (Some p) (Some q) signed out out' r → GroupRead s from to signed out out' r
   read_at e f w = record {
     long = w.long;
     keeps = λ p next a b. w.keeps p next (sym e ∙ a) (sym f ∙ b);
@@ -152,7 +149,7 @@ module _ (s : List ℕ) (from to : Plain) (signed : Bool) (out : List ℤ) where
 
 -- ---- kept, or filled
 
-module _ {s : List ℕ} {from to : Plain} {signed : Bool} (fill : ℤ) {out out' : List ℤ} {r : Bool}
+module _ {s : List ℕ} {from to : Option RowPosition} {signed : Bool} (fill : ℤ) {out out' : List ℤ} {r : Bool}
     (w : GroupRead s from to signed out out' r) where
   pub was-kept : r ≡ true → GroupRescued s from to signed fill out out' true
   unfolding group_rows

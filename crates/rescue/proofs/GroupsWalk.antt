@@ -8,6 +8,7 @@ use mathlib.Core.List.{List, [], ◌∷◌, ◌++◌, append_assoc, append-nil}
 use lib.ListN.{length, take, drop, set, get_or, length-set, length-drop}
 use lib.Seq.{drop-drop, length-take-le}
 use lib.IntN.{ℤ}
+use mir.Val.{bool_byte}
 use Rattle.batches.specs.Batches.{Position}
 use Rattle.batches.specs.BatchPromise.{position_in}
 use Rattle.batches.specs.declared.RowPosition.{RowPosition}
@@ -15,7 +16,7 @@ use Rattle.rescue.specs.Rescue.{made_plain, Group, group, positions, groups, beg
 use Rattle.rescue.specs.Rescue.{verdicts, sum}
 use Rattle.rescue.specs.RescuePromise.{rescued_as, Written}
 use Rattle.rescue.specs.RescueSteps.{plain_in, position_at, GroupRescued, Fit, all_groups}
-use Rattle.rescue.specs.declared.Plain.{Plain}
+use Rattle.std.specs.Prelude.{Option}
 use Rattle.util.proofs.Grow as fill
 use Rattle.rescue.proofs.ListedColumns.{groups-at, groups-end, begin-is, sum-at}
 use Rattle.rescue.proofs.RescuedGroups.{rows-many}
@@ -23,6 +24,10 @@ use Rattle.rescue.proofs.RescuedGroups.{rows-many}
 pub few-verdict : (b : Bool) → verdict b ≤ 1
 few-verdict true = omega arith
 few-verdict false = omega arith
+
+pub byte-verdict : (b : Bool) → bool_byte b ≡ verdict b
+byte-verdict true = refl
+byte-verdict false = refl
 
 -- ---- the walk
 
@@ -36,11 +41,11 @@ module _ (bs : List ℕ) (signed : Bool) (rs ss ns : List ℕ) (fill-row : ℤ) 
   abbrev marks_from : ℕ → List ℕ
   marks_from i = verdicts bs (drop i all)
 
-  abbrev plain_at : ℕ → Plain
+  abbrev plain_at : ℕ → Option RowPosition
   plain_at i = plain_in (made_plain bs (position_in (position_at (length bs) rs ss i)))
 
   -- `here` is the position of group i, made plain
-  pub record Walked (rows : List ℤ) (marks : List ℕ) (here : Plain) (place keeps i : ℕ) : Type 0 where
+  pub record Walked (rows : List ℤ) (marks : List ℕ) (here : Option RowPosition) (place keeps i : ℕ) : Type 0 where
     pub plain : here ≡ plain_at i
     pub listed : i ≤ length ns
     pub sums : place + sum (drop i ns) ≡ sum ns
@@ -53,7 +58,7 @@ module _ (bs : List ℕ) (signed : Bool) (rs ss ns : List ℕ) (fill-row : ℤ) 
     pub count : keeps + sum (marks_from i) ≡ sum (verdicts bs all)
     pub few : keeps ≤ i
 
-  pub begun : (p : RowPosition) (here : Plain) → p ≡ position_at (length bs) rs ss 0 → here ≡ plain_in (made_plain bs (position_in p))
+  pub begun : (p : RowPosition) (here : Option RowPosition) → p ≡ position_at (length bs) rs ss 0 → here ≡ plain_in (made_plain bs (position_in p))
       → Walked rows₀ marks₀ here 0 0 0
   begun p here e f = record {
     plain = rw e at f;
@@ -69,7 +74,7 @@ module _ (bs : List ℕ) (signed : Bool) (rs ss ns : List ℕ) (fill-row : ℤ) 
     few = omega arith;
   }
 
-  module _ (f : Fit rs ss ns (length rows₀) (length marks₀)) (rows : List ℤ) (marks : List ℕ) (here : Plain) (place keeps i : ℕ)
+  module _ (f : Fit rs ss ns (length rows₀) (length marks₀)) (rows : List ℤ) (marks : List ℕ) (here : Option RowPosition) (place keeps i : ℕ)
       (w : Walked rows marks here place keeps i) where
     pub place-fits : place ≤ length rows
     place-fits = omega (arith, w.sums, f.rows_fit, w.rows_long)
@@ -114,7 +119,7 @@ module _ (bs : List ℕ) (signed : Bool) (rs ss ns : List ℕ) (fill-row : ℤ) 
       counted = ap sum marks-here
 
       -- a group is rescued in its part of the rows, and its verdict is laid
-      module _ (part : List ℤ) (keep : Bool) (mark : ℕ) (to : Plain) (p : RowPosition) (m : mark ≡ verdict keep)
+      module _ (part : List ℤ) (keep : Bool) (mark : ℕ) (to : Option RowPosition) (p : RowPosition) (m : mark ≡ verdict keep)
           (e : p ≡ position_at (length bs) rs ss (i + 1)) (t : to ≡ plain_in (made_plain bs (position_in p)))
           (r : GroupRescued bs here to signed fill-row (take (place + n - place) (drop place rows)) part keep) where
         to_is : to ≡ plain_at (i + 1)

@@ -1,6 +1,6 @@
 -- The tests are taken in their order, and the first that fails names the refusal; if none does, the outcome is all groups. Assumes nothing.
 use mathlib.Core.Path.{◌≡◌, refl, sym, ◌∙◌}
-use mathlib.Core.Logic.{◌≢◌, ◌↔◌}
+use mathlib.Core.Logic.{◌≢◌, ◌↔◌, ◌⊎◌, inl, inr}
 use Prim.Native.Nat.{ℕ, ◌<◌, ◌≤◌}
 use native.Mathlib.Omega.{arith}
 use mathlib.Core.Bool.{Bool, true, false, not, ◌||◌}
@@ -12,10 +12,9 @@ use borrow.Author.Tests.{ltb-true, ltb-false, le-ltb, lt-ltb, eq-eqb, ne_eqb}
 use Rattle.format.proofs.Tests.{and-e, and_i}
 use Rattle.rescue.specs.Rescue.{positions, groups, in_order, rescued_rows, verdicts, sum}
 use Rattle.rescue.specs.Rescue.{RescueOutcome, refused, rescued, refuse_if, listed, rescuing}
-use Rattle.rescue.specs.RescuePromise.{refused_with, Written}
+use Rattle.rescue.specs.RescuePromise.{Rescued, refused_with, Written}
 use Rattle.rescue.specs.RescueSteps.{all_groups}
 use Rattle.rescue.specs.RescueTheorems.{Listed, Room, CallHolds, EveryCall, Determined}
-use Rattle.rescue.specs.declared.Rescued.{Rescued}
 
 -- ---- test by test
 
@@ -23,12 +22,12 @@ module _ (signed : Bool) (fill : ℤ) (bs rs ss ns : List ℕ) (places marks : �
   abbrev said : RescueOutcome
   said = rescuing signed fill bs rs ss ns places marks
 
-  pub other-skips : length rs ≢ length ss → said ≡ refused 17
+  other-skips : length rs ≢ length ss → said ≡ refused 17
   unfolding rescuing
   other-skips n = rw (ne_eqb (length rs) (length ss) n)
 
   module _ (a : length rs ≡ length ss) where
-    pub other-counts : length rs ≢ length ns → said ≡ refused 17
+    other-counts : length rs ≢ length ns → said ≡ refused 17
     unfolding rescuing
     other-counts n = rw (eq-eqb (length rs) (length ss) a, ne_eqb (length rs) (length ns) n)
 
@@ -38,12 +37,12 @@ module _ (signed : Bool) (fill : ℤ) (bs rs ss ns : List ℕ) (places marks : �
       no-order n = rw (eq-eqb (length rs) (length ss) a, eq-eqb (length rs) (length ns) b, n)
 
       module _ (c : in_order (length bs) (positions rs ss) ≡ true) where
-        pub few-rows : ltb places (sum ns) ≡ true → said ≡ refused 8
+        few-rows : ltb places (sum ns) ≡ true → said ≡ refused 8
         unfolding rescuing
         few-rows n = rw (eq-eqb (length rs) (length ss) a, eq-eqb (length rs) (length ns) b, c, n)
 
         module _ (d : ltb places (sum ns) ≡ false) where
-          pub few-marks : marks < length ns → said ≡ refused 8
+          few-marks : marks < length ns → said ≡ refused 8
           unfolding rescuing
           few-marks n =
               rw (eq-eqb (length rs) (length ss) a, eq-eqb (length rs) (length ns) b, c, d, lt-ltb marks (length ns) n)
@@ -53,11 +52,21 @@ module _ (signed : Bool) (fill : ℤ) (bs rs ss ns : List ℕ) (places marks : �
           all_said n =
               rw (eq-eqb (length rs) (length ss) a, eq-eqb (length rs) (length ns) b, c, d, le-ltb marks (length ns) n)
 
+  -- the columns' lengths, in the call's one test
+  pub other-length : (length rs ≢ length ss) ⊎ ((length rs ≡ length ss) × (length rs ≢ length ns)) → said ≡ refused 17
+  other-length (inl h) = other-skips h
+  other-length (inr (a, h)) = other-counts a h
+
+  -- and the places
+  pub few-places : length rs ≡ length ss → length rs ≡ length ns → in_order (length bs) (positions rs ss) ≡ true
+      → (ltb places (sum ns) ≡ true) ⊎ ((ltb places (sum ns) ≡ false) × (marks < length ns)) → said ≡ refused 8
+  few-places a b c (inl h) = few-rows a b c h
+  few-places a b c (inr (d, h)) = few-marks a b c d h
+
 -- ---- what it leaves
 
-pub was-refused : {m : RescueOutcome} {n : ℕ} {rows : List ℤ} {marks : List ℕ} {r : Rescued} → m ≡ refused n → r ≡ refused_with n
-    → Written m rows rows marks marks r
-was-refused e f = rw e (record { answer = f; rows_are = refl; marks-are = refl })
+pub was-refused : {m : RescueOutcome} {n : ℕ} {rows : List ℤ} {marks : List ℕ} → m ≡ refused n → Written m rows rows marks marks (refused_with n)
+was-refused e = rw e (record { answer = refl; rows_are = refl; marks-are = refl })
 
 pub was-written : {k m : RescueOutcome} {rows rows' : List ℤ} {marks marks' : List ℕ} {r : Rescued} → k ≡ m
     → Written m rows rows' marks marks' r → Written k rows rows' marks marks' r

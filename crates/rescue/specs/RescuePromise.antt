@@ -1,16 +1,20 @@
 -- What the call promises: its answer and every lent place, for every input, flag, fill row, all columns and all places. Assumes nothing.
-use Rattle.std.specs.Prelude.{◌≡◌, ℕ, Bool, List, ◌++◌, length, drop, ℤ}
+use Rattle.std.specs.Prelude.{◌≡◌, ℕ, Bool, List, ◌++◌, length, drop, ℤ, Result, Ok, Err}
 use Rattle.format.specs.Answers.{refusing}
 use Rattle.rescue.specs.Rescue.{RescueOutcome, refused, rescued, sum, rescuing}
-use Rattle.rescue.specs.declared.Rescued.{Rescued}
-use Rattle.rescue.specs.declared.Rescued.TheVariants as answer
+use Rattle.format.specs.declared.Refusal.{Refusal}
+use Rattle.rescue.specs.declared.Totals.{Totals}
+
+-- what a call answers
+abbrev pub Rescued : Type 0
+Rescued = Result Totals Refusal
 
 -- how many rows, and how many groups are kept
 abbrev pub rescued_as : ℕ → ℕ → Rescued
-rescued_as rows kept = answer.Rows (record { rows = record { rows = rows }; kept = kept })
+rescued_as rows kept = Ok (record { rows = record { rows = rows }; kept = kept })
 
 abbrev pub refused_with : ℕ → Rescued
-refused_with number = answer.Refused (refusing number 0)
+refused_with number = Err (refusing number 0)
 
 -- a verdict is 1 for a kept group, so their sum is how many are kept
 abbrev pub rescue_answer : RescueOutcome → Rescued

@@ -10,8 +10,7 @@ use Rattle.batches.specs.BatchSteps.{Stands}
 use Rattle.rescue.specs.Rescue.{position, at, nowhere, made_plain, meets, Group, positions, groups, beginning, in_order, after_rows}
 use Rattle.rescue.specs.Rescue.{kept, verdict, own_rows, group_rows, rescued_rows, verdicts, RescueOutcome, refused, rescued, sum}
 use Rattle.rescue.specs.Rescue.{rescuing}
-use Rattle.rescue.specs.RescuePromise.{RowsRescued}
-use Rattle.rescue.specs.declared.Rescued.{Rescued}
+use Rattle.rescue.specs.RescuePromise.{Rescued, RowsRescued}
 
 -- ---- MADE PLAIN, as one walks: by what stands at the byte
 pub record PlainHolds (bs : List ℕ) (b skip : ℕ) : Type 0 where

@@ -1,15 +1,16 @@
 // A group: its position made plain, whether it is kept, and its rows.
-ghost use Rattle.std.specs.Prelude.{◌≡◌, length, replicate};
+ghost use Rattle.std.specs.Prelude.{◌≡◌, Some};
 ghost use Rattle.batches.specs.BatchPromise.{position_in};
 ghost use Rattle.rescue.specs.Rescue.{at, made_plain, meets};
-ghost use Rattle.rescue.specs.RescueSteps.{plain_at, plain_in, GroupRead, GroupRescued};
+ghost use Rattle.rescue.specs.RescueSteps.{plain_in, GroupRead, GroupRescued};
 
-use crate::Plain;
-use batches::{Batch, RowPosition};
-use format::{Answer, ByteOffset};
+use batches::RowPosition;
+use format::ByteOffset;
 
-// Makes a position plain: whole runs are passed while there are at least as many rows to skip. With none left, no run is looked at.
-pub(crate) fn make_plain(input: &[u8], from: RowPosition) -> Plain
+// Makes a position plain: whole runs are passed while there are at least as many rows to skip. With none left, no run is looked at. The walk
+// is that of `batches::seek`, which promises the same batches and not, as here, the position itself (plain_in): one for both would be a new
+// public function of batches.
+pub(crate) fn make_plain(input: &[u8], from: RowPosition) -> Option<RowPosition>
     ensures { result ≡ plain_in (made_plain input.now (position_in from)) }
 {
     let run = from.run;
@@ -17,29 +18,22 @@ pub(crate) fn make_plain(input: &[u8], from: RowPosition) -> Plain
     let mut place = run.bytes;
     let mut left = skip.rows;
     while 0 < left {
-        let a = rle_v2::measure(input, ByteOffset { bytes: place });
-        match a {
-            Answer::Run(r) => {
-                let rows = r.rows;
-                let consumed = r.consumed;
-                if left < rows.rows {
-                    return Plain::At(crate::row_position(place, left));
-                }
-                left -= rows.rows;
-                place += consumed.bytes;
-            }
-            Answer::Refused(_) => {
-                return Plain::Nowhere;
-            }
-            Answer::End => {
-                return Plain::Nowhere;
-            }
+        // a refused run is passed no more than the end
+        let Some(run) = rle_v2::measure(input, ByteOffset { bytes: place }).unwrap_or(None) else {
+            return None;
+        };
+        let rows = run.rows;
+        let consumed = run.consumed;
+        if left < rows.rows {
+            return Some(crate::row_position(place, left));
         }
+        left -= rows.rows;
+        place += consumed.bytes;
     }
-    Plain::At(crate::row_position(place, 0))
+    Some(crate::row_position(place, 0))
 }
 
-// Whether two positions are equal.
+// Whether two positions are equal. No derive: the format's units have no PartialEq.
 fn same(p: RowPosition, q: RowPosition) -> bool
     ensures { result ≡ meets (at (position_in p)) (at (position_in q)) }
 {
@@ -47,54 +41,40 @@ fn same(p: RowPosition, q: RowPosition) -> bool
     let skip = p.skip;
     let to_run = q.run;
     let to_skip = q.skip;
-    if run.bytes != to_run.bytes {
-        return false;
-    }
-    skip.rows == to_skip.rows
+    run.bytes == to_run.bytes && skip.rows == to_skip.rows
 }
 
 // Reads as many rows as there are places, from one plain position on. Answers whether all are there and end at the other position.
 fn read(input: &[u8], from: RowPosition, to: RowPosition, signed: bool, out: &mut [i64]) -> bool
-    ensures { GroupRead input.now (plain_at from) (plain_at to) signed out.old out.new result }
+    ensures { GroupRead input.now (Some from) (Some to) signed out.old out.new result }
 {
-    if out.len() == 0 {
+    if out.is_empty() {
         return same(from, to);
     }
-    let answer = batches::read_rows(input, from, signed, out);
-    match answer {
-        Batch::Rows(b) => {
-            let rows = b.rows;
-            if rows.rows != out.len() {
-                return false;
-            }
-            same(b.next, to)
+    match batches::read_rows(input, from, signed, out) {
+        Ok(Some(read)) => {
+            let rows = read.rows;
+            rows.rows == out.len() && same(read.next, to)
         }
-        Batch::End => false,
-        Batch::Refused(_) => false,
+        // two arms: a `_` for both does not tell the proof that the answer is none
+        Ok(None) => false,
+        Err(_) => false,
     }
 }
 
 // The same, but either position may be nowhere: then nothing is read.
-fn read_between(input: &[u8], from: Plain, to: Plain, signed: bool, out: &mut [i64]) -> bool
+fn read_between(
+    input: &[u8],
+    from: Option<RowPosition>,
+    to: Option<RowPosition>,
+    signed: bool,
+    out: &mut [i64],
+) -> bool
     ensures { GroupRead input.now from to signed out.old out.new result }
 {
-    match from {
-        Plain::Nowhere => false,
-        Plain::At(p) => match to {
-            Plain::Nowhere => false,
-            Plain::At(q) => read(input, p, q, signed, out),
-        },
-    }
-}
-
-// Puts the same row into every place.
-fn fill_all(row: i64, out: &mut [i64])
-    ensures { out.new ≡ replicate (length out.old) row }
-{
-    let mut i: usize = 0;
-    while i < out.len() {
-        out[i] = row;
-        i += 1;
+    match (from, to) {
+        (Some(p), Some(q)) => read(input, p, q, signed, out),
+        _ => false,
     }
 }
 
@@ -102,8 +82,8 @@ fn fill_all(row: i64, out: &mut [i64])
 // then in the places, and otherwise the fill row is in each.
 pub(crate) fn rescue(
     input: &[u8],
-    from: Plain,
-    to: Plain,
+    from: Option<RowPosition>,
+    to: Option<RowPosition>,
     signed: bool,
     fill: i64,
     out: &mut [i64],
@@ -114,6 +94,6 @@ pub(crate) fn rescue(
         return true;
     }
     // overwrites what was read of a group that is cut short
-    fill_all(fill, out);
+    out.fill(fill);
     false
 }

@@ -1,4 +1,4 @@
-// The columns that list the groups: their order, their sum, and a position by its number.
+// The columns that list the groups, as C lends them: their order, their sum, and a position by its number.
 ghost use Rattle.std.specs.Prelude.{◌≡◌, length, ltb};
 ghost use Rattle.batches.specs.BatchPromise.{position_in};
 ghost use Rattle.rescue.specs.Rescue.{positions, not_after, in_order, sum};
@@ -18,7 +18,8 @@ pub(crate) fn position_at(end: ByteOffset, runs: &[u64], skips: &[u64], i: usize
     crate::row_position(end.bytes, 0)
 }
 
-// Whether one position is not after another: its byte is lower, or the bytes are equal and it skips no more rows.
+// Whether one position is not after another: its byte is lower, or the bytes are equal and it skips no more rows. No derive: the format's
+// units have no order.
 fn not_after(p: RowPosition, q: RowPosition) -> bool
     ensures { result ≡ not_after (position_in p) (position_in q) }
 {
@@ -26,13 +27,7 @@ fn not_after(p: RowPosition, q: RowPosition) -> bool
     let skip = p.skip;
     let to_run = q.run;
     let to_skip = q.skip;
-    if run.bytes < to_run.bytes {
-        return true;
-    }
-    if run.bytes != to_run.bytes {
-        return false;
-    }
-    skip.rows <= to_skip.rows
+    run.bytes < to_run.bytes || run.bytes == to_run.bytes && skip.rows <= to_skip.rows
 }
 
 // Whether the positions are in order: the first is (0, 0), no byte falls or passes the end, and at the same byte no skip falls. An empty
@@ -41,24 +36,19 @@ pub(crate) fn in_order(end: ByteOffset, runs: &[u64], skips: &[u64]) -> bool
     requires { length skips.now ≡ length runs.now }
     ensures { result ≡ in_order end.bytes (positions runs.now skips.now) }
 {
-    if runs.len() == 0 {
+    if runs.is_empty() {
         return end.bytes == 0;
     }
-    if runs[0] != 0 {
-        return false;
-    }
-    if skips[0] != 0 {
+    if runs[0] != 0 || skips[0] != 0 {
         return false;
     }
     let mut last = crate::row_position(0, 0);
-    let mut i: usize = 1;
-    while i < runs.len() {
+    for i in 1..runs.len() {
         let next = position_at(end, runs, skips, i);
         if !not_after(last, next) {
             return false;
         }
         last = next;
-        i += 1;
     }
     let run = last.run;
     run.bytes <= end.bytes
@@ -69,14 +59,11 @@ pub(crate) fn too_many(counts: &[u64], places: RowNumber) -> bool
     ensures { result ≡ ltb places.rows (sum counts.now) }
 {
     let mut left = places.rows as u64;
-    let mut i: usize = 0;
-    while i < counts.len() {
-        let n = counts[i];
-        if left < n {
+    for n in counts {
+        if left < *n {
             return true;
         }
-        left -= n;
-        i += 1;
+        left -= *n;
     }
     false
 }

@@ -15,9 +15,8 @@ use Rattle.format.specs.Runs.{Description, fixed, delta, row_count, layout}
 use Rattle.format.specs.Rows.{plus, i64_rows, rows_of}
 use Rattle.format.specs.Parse.{Parsed, code_of, rows_less, fixed_body, delta_body, delta_run}
 use Rattle.format.specs.Promises.{answer_of, Gives}
-use Rattle.format.specs.Answers.{ran, refused_at}
+use Rattle.format.specs.Answers.{Answer, ran, refused_at}
 use Rattle.format.specs.declared.Run.{Run}
-use Rattle.format.specs.declared.Answer.{Answer}
 use Rattle.format.specs.declared.Kind.TheVariants.{Delta}
 use Rattle.format.proofs.Rows.{width-le, bytes_count}
 use Rattle.format.proofs.Reading.{byte-after, none_after, block_at, block_here, block-cut, answer-refused, answer-cut, gives-8, gives-run}

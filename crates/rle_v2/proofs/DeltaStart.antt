@@ -1,4 +1,5 @@
 -- The two varints of a delta run's body, by what the varint reader answered. Assumes nothing.
+use Rattle.std.specs.Prelude.{Err}
 use mathlib.Core.Path.{◌≡◌, refl, sym, ap, ◌∙◌}
 use Prim.Native.Nat.{ℕ, ◌+◌, ◌<◌, ◌≤◌}
 use native.Mathlib.Omega.{arith}
@@ -6,9 +7,9 @@ use mathlib.Core.List.{List}
 use lib.ListN.{length, drop, get_or}
 use Rattle.format.specs.Parse.{Parsed, plain, cut_in, refused}
 use Rattle.format.specs.Runs.{Description}
-use Rattle.format.specs.declared.Answer.TheVariants as answer
 use Rattle.format.proofs.Reading.{field-at}
-use Rattle.util.specs.declared.varint.Varint.TheVariants.{Value, Cut, TooLong}
+use Rattle.util.specs.declared.varint.VarintError.TheVariants.{Cut, TooLong}
+use Rattle.std.specs.Prelude.{Ok, Err}
 use Rattle.util.specs.Varint.{varint_at}
 use Rattle.util.proofs.Varints.{value-is, cut-is, long-is}
 use Rattle.rle_v2.specs.DeltaStart.{both, gone_by, StartsAt}
@@ -24,7 +25,7 @@ module _ (s : List ℕ) (at rows : ℕ) (below : (i : ℕ) → get_or s i 0 < 25
     refusal = λ z. record {
       reason = cut_in 12 (drop x s);
       parsed = p;
-      refusal_is = by_field at 12 x (λ e. omega (arith, e)) ∙ ap answer.Refused (sym (field-at s at x 12 (omega arith) l));
+      refusal_is = by_field at 12 x (λ e. omega (arith, e)) ∙ ap Err (sym (field-at s at x 12 (omega arith) l));
     };
   }
 
@@ -36,23 +37,23 @@ module _ (s : List ℕ) (at rows : ℕ) (below : (i : ℕ) → get_or s i 0 < 25
   }
 
   -- the first ..
-  pub first-cut : at + 2 ≤ length s → varint_at s (at + 2) ≡ Cut → StartsAt s at rows (gone_by 12 (at + 2))
+  pub first-cut : at + 2 ≤ length s → varint_at s (at + 2) ≡ Err Cut → StartsAt s at rows (gone_by 12 (at + 2))
   first-cut h q = cut_at (at + 2) (omega arith) h (λ body. rw (cut-is s (at + 2) below q))
 
-  pub first-long : varint_at s (at + 2) ≡ TooLong → StartsAt s at rows (gone_by 5 0)
+  pub first-long : varint_at s (at + 2) ≡ Err TooLong → StartsAt s at rows (gone_by 5 0)
   first-long q = long-at (λ body. rw (long-is s (at + 2) below q))
 
-  module _ (first next : ℕ) (q : varint_at s (at + 2) ≡ Value first next) where
+  module _ (first next : ℕ) (q : varint_at s (at + 2) ≡ Ok (record { bits = first; next = next })) where
     -- .. or the second
-    pub second-cut : varint_at s next ≡ Cut → StartsAt s at rows (gone_by 12 next)
+    pub second-cut : varint_at s next ≡ Err Cut → StartsAt s at rows (gone_by 12 next)
     second-cut q' =
         let x = value-is s (at + 2) below first next q in
         cut_at next (omega (arith, x.end)) x.within (λ body. rw (x.parsed, cut-is s next below q'))
 
-    pub second-long : varint_at s next ≡ TooLong → StartsAt s at rows (gone_by 5 0)
+    pub second-long : varint_at s next ≡ Err TooLong → StartsAt s at rows (gone_by 5 0)
     second-long q' = long-at (λ body. rw ((value-is s (at + 2) below first next q).parsed, long-is s next below q'))
 
-    pub both-stood : (base end : ℕ) → varint_at s next ≡ Value base end
+    pub both-stood : (base end : ℕ) → varint_at s next ≡ Ok (record { bits = base; next = end })
         → StartsAt s at rows (record {
           number = 0;
           field = record { bytes = 0 };

@@ -1,4 +1,5 @@
 -- What a direct run gives, by the tests of its reader. Assumes nothing.
+use Rattle.std.specs.Prelude.{Some, Ok}
 use mathlib.Core.Path.{◌≡◌, refl, sym, ap, ◌∙◌}
 use Prim.Native.Nat.{ℕ, ◌+◌, ◌-◌, ◌*◌, ◌<◌, ◌≤◌}
 use native.Mathlib.Omega.{arith}
@@ -14,7 +15,6 @@ use Rattle.format.specs.Parse.{Parsed, got, code_of, rows_less, direct_run}
 use Rattle.format.specs.Promises.{answer_of, Gives}
 use Rattle.format.specs.Answers.{running, ran, refused_at, cut_at}
 use Rattle.format.specs.declared.Run.{Run}
-use Rattle.format.specs.declared.Answer.TheVariants as answer
 use Rattle.format.specs.declared.Kind.TheVariants.{Direct}
 use Rattle.format.proofs.Rows.{width-le, bytes_count}
 use Rattle.format.proofs.Reading.{byte-after, none_after, block_at, block_here, block-cut, answer-refused, answer-cut, answer-run, run-inj, run-not-refused, gives-8, gives-run}
@@ -59,7 +59,7 @@ module _ (s : List ℕ) (at : ℕ) where
     pub width_is : r.width ≡ bits
     pub rows_are : r.rows.rows ≡ count
 
-  pub measured : (r : Run) → at < length s → answer.Run r ≡ answer_of at (length s - at) run → Measured r
+  pub measured : (r : Run) → at < length s → Ok (Some r) ≡ answer_of at (length s - at) run → Measured r
   measured r h e = by (dec_lt (length s - at) 2) (dec_lt (length s - (at + 2)) (bytes_for (count * bits)))
     where
       by : Dec (length s - at < 2) → Dec (length s - (at + 2) < bytes_for (count * bits)) → Measured r
@@ -79,16 +79,16 @@ module _ (s : List ℕ) (at : ℕ) where
       → (rest : List ℕ) × (run ≡ got (direct (code_of (get_or s at 0)) (block_at s (at + 2) r.width r.rows.rows)) rest)
   found r m = (drop (at + 2 + bytes_for (count * bits)) s, rw (m.width_is, m.rows_are) (is-run m.head m.there))
 
-  module _ (signed : Bool) (out : List ℤ) (r : Run) (e : answer.Run r ≡ answer_of at (length s - at) run) (m : Measured r) where
+  module _ (signed : Bool) (out : List ℤ) (r : Run) (e : Ok (Some r) ≡ answer_of at (length s - at) run) (m : Measured r) where
     pub no_room : length out < r.rows.rows → Gives at (length s - at) signed run out out (refused_at 8 at)
     no_room h = gives-8 at (length s - at) signed run out _ _ (is-run m.head m.there) (rw (block-count s (at + 2) bits count) (rw m.rows_are at h))
 
     pub read_is : (out' : List ℤ) → r.rows.rows ≤ length out
         → out' ≡ decoded signed (map as_i64 (block_at s (at + 2) r.width r.rows.rows).values) ++ drop r.rows.rows out
-        → Gives at (length s - at) signed run out out' (answer.Run r)
+        → Gives at (length s - at) signed run out out' (Ok (Some r))
     unfolding i64_rows rows_of
     read_is out' h o =
         let n = block-count s (at + 2) bits count in
-        gives-run at (length s - at) signed run out _ _ (is-run m.head m.there) out' (answer.Run r) e (rw n (rw m.rows_are at h))
+        gives-run at (length s - at) signed run out _ _ (is-run m.head m.there) out' (Ok (Some r)) e (rw n (rw m.rows_are at h))
         (rw (m.rows_are, m.width_is) at o
         ∙ rw n (ap (λ (x : List ℤ). x ++ drop count out) (decoded-is signed (block_at s (at + 2) bits count).values (block-patterns s (at + 2) bits count (width-le _)))))

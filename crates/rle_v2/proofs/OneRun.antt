@@ -8,7 +8,7 @@ use Rattle.format.specs.Runs.{Description}
 use Rattle.format.specs.Parse.{Parsed, parse, into}
 use Rattle.format.specs.Promises.{answer_of}
 use Rattle.format.specs.declared.Refusal.{Refusal}
-use Rattle.format.specs.declared.Answer.{Answer}
+use Rattle.format.specs.Answers.{Answer}
 use Rattle.format.specs.declared.Run.{Run}
 use Rattle.format.proofs.Below.{below-drop}
 use Rattle.format.proofs.RunAt.{RunAt, NoRunAt, StandsAt, stands_at, in-places, into-fits}

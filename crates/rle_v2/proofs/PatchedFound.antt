@@ -1,21 +1,17 @@
 -- What was found of a patched base run: it is refused, or it is all there; where its list stands, and what the run gives once its list has passed. Assumes nothing.
 use mathlib.Core.Path.{◌≡◌, ◌∙◌}
-use mathlib.Core.Logic.{◌≢◌}
 use Prim.Native.Nat.{ℕ, ◌+◌, ◌-◌, ◌*◌, ◌<◌, ◌≤◌}
 use native.Mathlib.Omega.{arith}
-use mathlib.Core.Bool.{Bool, true, false}
+use mathlib.Core.Bool.{Bool}
 use mathlib.Core.List.{List, ◌++◌, map}
 use lib.ListN.{length, take, drop, length-drop}
-use lib.Dec.{ltb}
 use lib.IntN.{ℤ}
-use borrow.Author.Tests.{ne_eqb}
-use Rattle.format.specs.Fields.{pick, width, bytes_for}
+use Rattle.format.specs.Fields.{width, bytes_for}
 use Rattle.format.specs.Runs.{Description, entry_width}
 use Rattle.format.specs.Rows.{as_i64, base_value}
 use Rattle.format.specs.Parse.{Parsed}
 use Rattle.format.specs.Promises.{answer_of, Gives}
-use Rattle.format.specs.declared.Answer.TheVariants as answer
-use Rattle.format.specs.Answers.{ran, refusing, cutting, refused_at}
+use Rattle.format.specs.Answers.{ran, refused_at}
 use Rattle.format.specs.declared.Kind.TheVariants.{PatchedBase}
 use Rattle.format.proofs.Widths.{width-pos}
 use Rattle.format.proofs.Rows.{width-le}
@@ -27,31 +23,10 @@ use Rattle.rle_v2.specs.declared.patched_base.Found.{Found}
 use Rattle.rle_v2.specs.declared.patched_base.Header.{Header}
 use Rattle.rle_v2.specs.declared.patched_base.Widths.{Widths}
 use Rattle.rle_v2.specs.declared.patched_base.Parts.{Parts}
-use Rattle.rle_v2.specs.PatchedHead.{InRange, IsWidths, value_bytes, list_bytes, IsParts, cut_body, Passed, gone_by, IsFound, Heads, head_of, widths_of, parts_of, number_of, Ready}
+use Rattle.rle_v2.specs.PatchedHead.{InRange, IsWidths, value_bytes, list_bytes, IsParts, Passed, Heads, head_of, widths_of, parts_of, number_of, Ready}
 use Rattle.rle_v2.proofs.Blocks.{code-width, entry-width}
 use Rattle.rle_v2.proofs.PatchRefusals.{none-refused}
 use Rattle.rle_v2.proofs.PatchedRun.{refused-list, run_is, refused-8, read_is}
-
--- ---- a run that is refused
-
-module _ (s : List ℕ) (at : ℕ) (m : Parsed Description) where
-  -- a run that is refused, in its header, by its widths or where the input ends
-  pub gone-plain : (n : ℕ) → n ≢ 0 → refused_at n at ≡ answer_of at (length s - at) m → IsFound s at m (gone_by (refusing n at))
-  gone-plain n z e = record { heads = λ y. absurd (z y); refusal = λ y. e }
-
-  gone-cut : (n x : ℕ) → n ≢ 0 → x ≢ 0 → answer.Refused (cutting n at x) ≡ answer_of at (length s - at) m → IsFound s at m (gone_by (cutting n at x))
-  gone-cut n x z y e = record { heads = λ o. absurd (z o); refusal = λ o. rw (ne_eqb x 0 y) e }
-
-  pub gone-body : (values list : ℕ) → values ≢ 0 → list ≢ 0 → answer.Refused (cut_body (length s) at values list) ≡ answer_of at (length s - at) m
-      → IsFound s at m (gone_by (cut_body (length s) at values list))
-  unfolding cut_body
-  gone-body values list v l e = by (ltb (length s) values) (ltb (length s) list) e
-    where
-      by : (t o : Bool) → answer.Refused (pick t (cutting 6 at (at + 4)) (pick o (cutting 13 at values) (cutting 14 at list))) ≡ answer_of at (length s - at) m
-          → IsFound s at m (gone_by (pick t (cutting 6 at (at + 4)) (pick o (cutting 13 at values) (cutting 14 at list))))
-      by true o e = gone-cut 6 (at + 4) (λ z. omega arith) (λ z. omega arith) e
-      by false true e = gone-cut 13 values (λ z. omega arith) v e
-      by false false e = gone-cut 14 list (λ z. omega arith) l e
 
 -- ---- a run whose tests have passed
 
@@ -106,7 +81,7 @@ module _ (s : List ℕ) (at : ℕ) (m : Parsed Description) (h : Header) (w : Wi
 -- ---- what was found, by the list's number
 
 module _ (s : List ℕ) (at : ℕ) (m : Parsed Description) (f : Found) (e : Heads s at m f) where
-  abbrev head : Header
+  abbrev pub head : Header
   head = head_of e.code e.patch e.gap f
 
   pub found_in : at + 4 + f.base + value_bytes head + list_bytes head ≤ length s

@@ -1,4 +1,5 @@
 -- What a patched base run gives, by the tests of its reader. Assumes nothing.
+use Rattle.std.specs.Prelude.{Err}
 use mathlib.Core.Path.{◌≡◌, refl, sym, ap, ◌∙◌}
 use Prim.Native.Nat.{ℕ, ◌+◌, ◌-◌, ◌*◌, ◌/◌, ◌%◌, ◌<◌, ◌≤◌}
 use native.Mathlib.Omega.{arith}
@@ -15,7 +16,6 @@ use Rattle.format.specs.Rows as Rows
 use Rattle.format.specs.Rows.{as_i64, base_value, i64_rows, rows_of}
 use Rattle.format.specs.Parse.{Parsed, got, refused, plain, code_of, rows_less, unless, patched_body, patched_run}
 use Rattle.format.specs.Promises.{answer_of, Gives}
-use Rattle.format.specs.declared.Answer.TheVariants as answer
 use Rattle.format.specs.Answers.{ran, refused_at}
 use Rattle.format.specs.declared.Kind.TheVariants.{PatchedBase}
 use Rattle.format.proofs.Rows.{width-le, bytes_count}
@@ -75,11 +75,11 @@ module _ (s : List ℕ) (at : ℕ) where
     module _ (not-2 : width pc + gw ≤ 64) where
       -- the input ends in the base, in the values or in the list
       pub broken-off : at + 4 ≤ length s → length s < at + 4 + bw + size + list_size
-          → answer.Refused (cut_body (length s) at (at + 4 + bw) (at + 4 + bw + size)) ≡ answer_of at (length s - at) body
+          → Err (cut_body (length s) at (at + 4 + bw) (at + 4 + bw + size)) ≡ answer_of at (length s - at) body
       unfolding patched_body cut_body
       broken-off t h = by (dec_lt (length s) (at + 4 + bw)) (dec_lt (length s) (at + 4 + bw + size))
         where
-          by : Dec (length s < at + 4 + bw) → Dec (length s < at + 4 + bw + size) → answer.Refused (cut_body (length s) at (at + 4 + bw) (at + 4 + bw + size)) ≡ answer_of at (length s - at) body
+          by : Dec (length s < at + 4 + bw) → Dec (length s < at + 4 + bw + size) → Err (cut_body (length s) at (at + 4 + bw) (at + 4 + bw + size)) ≡ answer_of at (length s - at) body
           by (yes l) m =
               rw (lt-ltb (length s) (at + 4 + bw) l)
               (answer-cut s at (at + 4) 6 body (omega arith) t

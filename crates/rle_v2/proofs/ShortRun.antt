@@ -1,4 +1,5 @@
 -- What a short repeat gives, by the tests of its reader. Assumes nothing.
+use Rattle.std.specs.Prelude.{Some, Ok}
 use mathlib.Core.Path.{◌≡◌, refl, sym, ap, ◌∙◌}
 use Prim.Native.Nat.{ℕ, zero, suc, ◌+◌, ◌-◌, ◌*◌, ◌/◌, ◌%◌, ◌<◌, ◌≤◌}
 use native.Mathlib.Nat.{add-zero, mod-eq_of_lt}
@@ -18,7 +19,6 @@ use Rattle.format.specs.Parse.{Parsed, got, short_run}
 use Rattle.format.specs.Promises.{answer_of, Gives}
 use Rattle.format.specs.Answers.{running, ran, refused_at, cut_at}
 use Rattle.format.specs.declared.Run.{Run}
-use Rattle.format.specs.declared.Answer.TheVariants as answer
 use Rattle.format.specs.declared.Kind.TheVariants.{ShortRepeat}
 use Rattle.format.proofs.Rows.{bytes_count}
 use Rattle.format.proofs.Reading.{bytes-here, bytes_cut, answer-cut, answer-run, run-inj, run-not-refused, gives-8, gives-run}
@@ -67,7 +67,7 @@ module _ (s : List ℕ) (at : ℕ) where
     pub rows_are : r.rows.rows ≡ count
     pub bytes-are : r.consumed.bytes ≡ 1 + size
 
-  pub measured : (r : Run) → at < length s → answer.Run r ≡ answer_of at (length s - at) run → Measured r
+  pub measured : (r : Run) → at < length s → Ok (Some r) ≡ answer_of at (length s - at) run → Measured r
   measured r h e = by (dec_lt (length s - (at + 1)) size)
     where
       by : Dec (length s - (at + 1) < size) → Measured r
@@ -77,7 +77,7 @@ module _ (s : List ℕ) (at : ℕ) where
           let q : r ≡ running ShortRepeat (8 * size) count (1 + size) = run-inj r _ (e ∙ sym (run_is t)) in
           record { there = t; size_is = rw q (omega arith); rows_are = rw q; bytes-are = rw q }
 
-  module _ (signed : Bool) (out : List ℤ) (r : Run) (e : answer.Run r ≡ answer_of at (length s - at) run) (m : Measured r) where
+  module _ (signed : Bool) (out : List ℤ) (r : Run) (e : Ok (Some r) ≡ answer_of at (length s - at) run) (m : Measured r) where
     -- the one value
     abbrev value : ℕ
     value = row signed (number 256 (take (r.width / 8) (drop (at + 1) s)))
@@ -86,8 +86,8 @@ module _ (s : List ℕ) (at : ℕ) where
     no_room h = gives-8 at (length s - at) signed run out _ _ (is-run m.there) (rw m.rows_are at h)
 
     pub read_is : (out' : List ℤ) → r.rows.rows ≤ length out → value < two64 → out' ≡ stepped value 0 (take r.rows.rows out) ++ drop r.rows.rows out
-        → Gives at (length s - at) signed run out out' (answer.Run r)
+        → Gives at (length s - at) signed run out out' (Ok (Some r))
     unfolding i64_rows rows_of
     read_is out' h v o =
-        gives-run at (length s - at) signed run out _ _ (is-run m.there) out' (answer.Run r) e (rw m.rows_are at h)
+        gives-run at (length s - at) signed run out _ _ (is-run m.there) out' (Ok (Some r)) e (rw m.rows_are at h)
         (o ∙ rw (stepped-is value 0 r.rows.rows out h, repeated r.rows.rows value v, m.rows_are, m.size_is))

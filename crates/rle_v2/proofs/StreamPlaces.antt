@@ -1,4 +1,5 @@
 -- The stream reader's runs leave their rows in the first places. Assumes nothing.
+use Rattle.std.specs.Prelude.{Some, None}
 use mathlib.Core.Path.{◌≡◌, refl, sym, ap, ◌∙◌}
 use Prim.Native.Nat.{ℕ, ◌+◌, ◌-◌, ◌<◌, ◌≤◌}
 use native.Mathlib.Nat.{le_refl}
@@ -11,13 +12,10 @@ use Rattle.format.specs.Digits.{AllBelow}
 use Rattle.format.specs.Rows.{i64_rows}
 use Rattle.format.specs.Parse.{parse}
 use Rattle.format.specs.Streams.{total_rows, joined_rows}
-use Rattle.format.specs.Answers.{read_whole, broke_at}
+use Rattle.format.specs.Answers.{Answer, LastRun, read_whole, broke_at}
 use Rattle.format.specs.Promises.{Gives, StreamRead}
 use Rattle.format.specs.declared.Refusal.{Refusal}
-use Rattle.format.specs.declared.Answer.{Answer}
 use Rattle.format.specs.declared.Run.{Run}
-use Rattle.format.specs.declared.LastRun.{LastRun}
-use Rattle.format.specs.declared.LastRun.TheVariants as last-run
 use Rattle.format.proofs.Runs.{parse-empty}
 use Rattle.format.proofs.Rows.{i64-count}
 use Rattle.format.proofs.Streams.{into-end}
@@ -35,7 +33,7 @@ pub record Walked (s : List ℕ) (from : ℕ) (signed : Bool) (out₀ out : List
   pub laid : take k out ≡ joined_rows signed counted.ds
   pub kept : drop k out ≡ drop k out₀
 
-pub walked-first : (s : List ℕ) (from : ℕ) (signed : Bool) (out₀ : List ℤ) → Walked s from signed out₀ out₀ from 0 last-run.None
+pub walked-first : (s : List ℕ) (from : ℕ) (signed : Bool) (out₀ : List ℤ) → Walked s from signed out₀ out₀ from 0 None
 unfolding counted-first joined_rows
 walked-first s from signed out₀ = record { counted = counted-first s from (length out₀); long = refl; laid = refl; kept = refl }
 
@@ -65,7 +63,7 @@ module _ {s : List ℕ} {from : ℕ} {signed : Bool} {out₀ out : List ℤ} {p 
       counted-rows : length (i64_rows signed o.run) ≡ rows
       counted-rows = i64-count signed o.run ∙ sym o.rows_are
 
-      pub walked-run : Walked s from signed out₀ (take k out ++ (part ++ drop (length out - k) (drop k out))) (p + r.consumed.bytes) (k + rows) (last-run.Run r)
+      pub walked-run : Walked s from signed out₀ (take k out ++ (part ++ drop (length out - k) (drop k out))) (p + r.consumed.bytes) (k + rows) (Some r)
       unfolding back counted-run
       walked-run =
           let d = o.run in

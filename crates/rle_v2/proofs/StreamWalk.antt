@@ -1,5 +1,6 @@
 -- The turns of the walks over a stream: the runs so far are counted, and what is left is read in the places that are left.
 -- Assumes nothing.
+use Rattle.std.specs.Prelude.{Some, None}
 use mathlib.Core.Path.{◌≡◌, refl, sym, ap, ◌∙◌}
 use Prim.Native.Nat.{ℕ, suc, ◌+◌, ◌-◌, ◌<◌, ◌≤◌}
 use native.Mathlib.Nat.{sub-zero, le_refl}
@@ -8,12 +9,10 @@ use mathlib.Core.List.{List, [], ◌∷◌, ◌++◌}
 use lib.ListN.{length, drop, length-append, length-drop}
 use Rattle.format.specs.Runs.{Description, layout, joined}
 use Rattle.format.specs.Streams.{Reading, whole, broken, after, runs_from, read_all, total_rows}
-use Rattle.format.specs.Answers.{read_whole, broke_at}
+use Rattle.format.specs.Answers.{LastRun, read_whole, broke_at}
 use Rattle.format.specs.Promises.{last_of, stream_answer}
 use Rattle.format.specs.declared.Refusal.{Refusal}
 use Rattle.format.specs.declared.Run.{Run}
-use Rattle.format.specs.declared.LastRun.{LastRun}
-use Rattle.format.specs.declared.LastRun.TheVariants as last-run
 use Rattle.format.proofs.Streams.{after_all, after-whole, after-broken, stops-empty, stops-refused, sub-sub, last_snoc}
 use Rattle.format.proofs.Joined.{joined_snoc, total-snoc}
 use Rattle.rle_v2.proofs.OneRun.{OneRun, NoRun, fits}
@@ -38,7 +37,7 @@ pub record Counted (s : List ℕ) (from n p k : ℕ) (last : LastRun) : Type 0 w
   pub last-is : last ≡ last_of ds
   pub fits : k ≤ n
 
-unfoldable pub counted-first : (s : List ℕ) (from n : ℕ) → Counted s from n from 0 last-run.None
+unfoldable pub counted-first : (s : List ℕ) (from n : ℕ) → Counted s from n from 0 None
 unfolding read_all joined total_rows
 counted-first s from n = record {
   ds = [];
@@ -58,7 +57,7 @@ module _ {s : List ℕ} {from n p k : ℕ} {last : LastRun} (w : Counted s from 
     unfolding runs_from
     one_more f e = rw (e, o.read, ← o.rows_are, sub-sub n k r.rows.rows)
 
-    unfoldable pub counted-run : Counted s from n (p + r.consumed.bytes) (k + r.rows.rows) (last-run.Run r)
+    unfoldable pub counted-run : Counted s from n (p + r.consumed.bytes) (k + r.rows.rows) (Some r)
     counted-run =
         let f : ℕ = w.fuel - 1 in
         let e : w.fuel ≡ suc f = omega (arith, w.enough, h) in
@@ -70,7 +69,7 @@ module _ {s : List ℕ} {from n p k : ℕ} {last : LastRun} (w : Counted s from 
           so_far = w.so_far ∙ ap (after_all w.ds) (one_more f e) ∙ sym (after-snoc w.ds d _);
           rows = rw (total-snoc w.ds d) (omega (arith, w.rows, o.rows_are));
           bytes = rw (joined_snoc w.ds d, length-append (joined w.ds) (layout d)) (omega (arith, w.bytes, o.bytes-are));
-          last-is = ap last-run.Run o.run_is ∙ sym (last_snoc last-run.None w.ds d);
+          last-is = ap Some o.run_is ∙ sym (last_snoc None w.ds d);
           fits = omega (arith, fits (n - k) o, w.fits);
         }
 

@@ -1,5 +1,5 @@
 -- The two varints that a delta run's body begins with, and what the tests of the run found. Assumes nothing.
-use Rattle.std.specs.Prelude.{◌≡◌, ℕ, ◌+◌, ◌-◌, ◌*◌, ◌≤◌, Bool, List, map, length, drop, ℤ, eqb}
+use Rattle.std.specs.Prelude.{◌≡◌, ℕ, ◌+◌, ◌-◌, ◌*◌, ◌≤◌, Bool, List, map, length, drop, ℤ, eqb, Err}
 use Rattle.format.specs.Fields.{pick, zigzag, row, bytes_for, varint_value}
 use Rattle.format.specs.Runs.{Description}
 use Rattle.format.specs.Rows.{steps, as_i64, i64_rows}
@@ -7,7 +7,6 @@ use Rattle.format.specs.Parse.{Reason, Parsed, got, refused, cut_in, then, varin
 use Rattle.format.specs.Answers.{refusal, running}
 use Rattle.format.specs.Promises.{run_of, answer_of}
 use Rattle.format.specs.declared.Kind.TheVariants.{Delta}
-use Rattle.format.specs.declared.Answer.TheVariants as answer
 use Rattle.util.specs.Packed.{fields, Width}
 use Rattle.rle_v2.specs.Pass.{laid}
 use Rattle.rle_v2.specs.RefusedBy.{refused_by}
@@ -47,7 +46,7 @@ pub record Started (s : List ℕ) (at : ℕ) (f : Found) : Type 0 where
 pub record NotStarted (s : List ℕ) (at : ℕ) (f : Found) : Type 0 where
   pub reason : Reason
   pub parsed : (body : List ℕ → List ℕ → List ℕ → Parsed Description) → both body (drop (at + 2) s) ≡ refused reason
-  pub refusal_is : refused_by at f.number f.field.bytes ≡ answer.Refused (refusal at (length s - at) reason)
+  pub refusal_is : refused_by at f.number f.field.bytes ≡ Err (refusal at (length s - at) reason)
 
 -- of a run of so many rows
 pub record StartsAt (s : List ℕ) (at rows : ℕ) (f : Found) : Type 0 where

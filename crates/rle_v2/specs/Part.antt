@@ -1,13 +1,12 @@
 -- A part of a direct run: its rows from a row on, as many as there are places. Assumes nothing.
-use Rattle.std.specs.Prelude.{◌≡◌, ℕ, ◌+◌, ◌*◌, ◌≤◌, Bool, List, [], ◌++◌, map, length, take, drop, ltb, ℤ}
+use Rattle.std.specs.Prelude.{◌≡◌, ℕ, ◌+◌, ◌*◌, ◌≤◌, Bool, List, [], ◌++◌, map, length, take, drop, ltb, ℤ, Option, Some, None}
 use Rattle.format.specs.Fields.{pick, bytes_for}
 use Rattle.format.specs.Runs.{Description, short, direct, fixed, delta, patched}
 use Rattle.format.specs.Rows.{as_i64, i64_rows}
 use Rattle.format.specs.Parse.{Parsed, end, got, refused, parse}
 use Rattle.format.specs.Promises.{run_of}
 use Rattle.util.specs.Packed.{fields, Width}
-use Rattle.rle_v2.specs.declared.part.DirectPart.{DirectPart}
-use Rattle.rle_v2.specs.declared.part.DirectPart.TheVariants as part
+use Rattle.format.specs.declared.Run.{Run}
 
 -- ---- THE PROMISE
 
@@ -25,27 +24,27 @@ part_rows signed skip (got d rest) = rows_from signed skip d
 part_rows signed skip (refused r) = []
 
 -- the run is named if it is direct and has a row `skip`
-abbrev pub part_of : ℕ → Description → DirectPart
-part_of skip (short count value) = part.NotRead
-part_of skip (direct code k) = pick (ltb skip (length k.values)) (part.Read (run_of (direct code k))) part.NotRead
-part_of skip (fixed rows first base) = part.NotRead
-part_of skip (delta code first base k) = part.NotRead
-part_of skip (patched code base pc gw k l) = part.NotRead
+abbrev pub part_of : ℕ → Description → Option Run
+part_of skip (short count value) = None
+part_of skip (direct code k) = pick (ltb skip (length k.values)) (Some (run_of (direct code k))) None
+part_of skip (fixed rows first base) = None
+part_of skip (delta code first base k) = None
+part_of skip (patched code base pc gw k l) = None
 
-abbrev pub part_answer : ℕ → Parsed Description → DirectPart
-part_answer skip end = part.NotRead
+abbrev pub part_answer : ℕ → Parsed Description → Option Run
+part_answer skip end = None
 part_answer skip (got d rest) = part_of skip d
-part_answer skip (refused r) = part.NotRead
+part_answer skip (refused r) = None
 
 -- as many of the rows as there are places go into the first of them; the others keep their content
 abbrev pub laid_first : List ℤ → List ℤ → List ℤ
 laid_first rows out = take (length out) rows ++ drop (length rows) out
 
-pub record PartGives (skip : ℕ) (signed : Bool) (m : Parsed Description) (out out' : List ℤ) (r : DirectPart) : Type 0 where
+pub record PartGives (skip : ℕ) (signed : Bool) (m : Parsed Description) (out out' : List ℤ) (r : Option Run) : Type 0 where
   pub answer : r ≡ part_answer skip m
   pub places : out' ≡ laid_first (part_rows signed skip m) out
 
-abbrev pub DirectPartRead : List ℕ → ℕ → ℕ → Bool → List ℤ → List ℤ → DirectPart → Type 0
+abbrev pub DirectPartRead : List ℕ → ℕ → ℕ → Bool → List ℤ → List ℤ → Option Run → Type 0
 DirectPartRead input at skip signed out out' r = PartGives skip signed (parse (drop at input)) out out' r
 
 -- ---- n fields after the first `skip`, of the count fields of width w that s begins with

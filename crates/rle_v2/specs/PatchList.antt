@@ -1,6 +1,6 @@
 -- A patch list, entry by entry, as the reader walks it: the test of its places, and the patches put into rows that are already laid down.
 -- Assumes nothing.
-use Rattle.std.specs.Prelude.{◌≡◌, ℕ, ◌+◌, ◌*◌, ◌^◌, ◌<◌, ◌≤◌, Bool, true, false, ◌||◌, List, [], ◌∷◌, length, get_or, set, ℤ, pos, leb, ltb}
+use Rattle.std.specs.Prelude.{◌≡◌, ℕ, ◌+◌, ◌*◌, ◌^◌, ◌<◌, ◌≤◌, Bool, true, false, ◌||◌, List, [], ◌∷◌, length, get_or, set, ℤ, pos, leb, ltb, Option, MatchOption}
 use Rattle.format.specs.Fields.{pick, bytes_for}
 use Rattle.util.specs.Packed.{Width}
 use Rattle.format.specs.Runs.{is_skip, gap_of, patch_of, patches, patch_limit, too_large, out_of_place}
@@ -38,6 +38,10 @@ large w pw (e ∷ es) = leb (patch_limit w) (patch_of pw e) || large w pw es
 -- the number that the list is refused with, or 0: 3 comes before 7
 unfoldable pub list_number : ℕ → ℕ → ℕ → List ℕ → ℕ
 list_number w pw rows es = pick (too_large w (patches pw es)) 3 (pick (out_of_place pw rows es) 7 0)
+
+-- what the walk over the list answers: that number, or none
+abbrev pub IsListRefusal : ℕ → Option ℕ → Type 0
+IsListRefusal number r = MatchOption r (number ≡ 0) (λ n. (n ≡ number) × (0 < n))
 
 -- a row with a patch above its w bits
 abbrev pub patched_row : ℕ → ℕ → ℤ → ℤ

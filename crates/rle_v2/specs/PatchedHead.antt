@@ -1,18 +1,15 @@
 -- A patched base header's fields are in range; the widths that it names, the parts of the body behind it, and where the input ends in these.
 -- Assumes nothing.
-use Rattle.std.specs.Prelude.{◌≡◌, ℕ, ◌+◌, ◌-◌, ◌*◌, ◌≤◌, ◌<◌, List, ◌++◌, map, length, take, drop, ℤ, false, ltb}
+use Rattle.std.specs.Prelude.{◌≡◌, ℕ, ◌+◌, ◌-◌, ◌*◌, ◌≤◌, ◌<◌, List, ◌++◌, map, length, take, drop, ℤ, false, ltb, Result, MatchResult}
 use Rattle.format.specs.Fields.{pick, width, bytes_for}
 use Rattle.format.specs.Answers.{cutting}
 use Rattle.format.specs.Runs.{Description, entry_width, out_of_place}
 use Rattle.format.specs.Rows.{as_i64, base_value}
 use Rattle.format.specs.Parse.{Parsed, patched_body}
-use Rattle.format.specs.Promises.{answer_of}
 use Rattle.format.specs.declared.Refusal.{Refusal}
-use Rattle.format.specs.declared.CutField.{CutField}
-use Rattle.format.specs.declared.CutField.TheVariants as field
 use Rattle.util.specs.Packed.{fields, Width}
 use Rattle.rle_v2.specs.Pass.{based}
-use Rattle.rle_v2.specs.RefusedBy.{refused_by}
+use Rattle.rle_v2.specs.RunAt.{Refuses}
 use Rattle.rle_v2.specs.PatchList.{Listed, list_number, patch_all}
 use Rattle.rle_v2.specs.declared.patched_base.Found.{Found}
 use Rattle.rle_v2.specs.declared.patched_base.Header.{Header}
@@ -54,27 +51,6 @@ body_at h s at = patched_body h.code h.rows.rows h.base h.patch h.gap h.entries 
 unfoldable pub cut_body : ℕ → ℕ → ℕ → ℕ → Refusal
 cut_body len at values list = pick (ltb len values) (cutting 6 at (at + 4)) (pick (ltb len list) (cutting 13 at values) (cutting 14 at list))
 
--- the field of a refusal, by the byte where it begins: 0 where there is none
-abbrev pub field_of : CutField → ℕ
-field_of field.None = 0
-field_of (field.At b) = b.bytes
-
--- what is found of a run that is refused
-abbrev pub gone_by : Refusal → Found
-gone_by f = record {
-  number = f.number;
-  field = record { bytes = field_of f.cut };
-  rows = record { rows = 0 };
-  base = 0;
-  entries = 0;
-  bits = 0;
-  patch = 0;
-  entry = 0;
-  values = record { bytes = 0 };
-  list = record { bytes = 0 };
-  end = record { bytes = 0 };
-}
-
 -- the widths and parts of what was found, and the header, by its codes and its gap width
 abbrev pub head_of : ℕ → ℕ → ℕ → Found → Header
 head_of code patch gap f = record { code = code; rows = f.rows; base = f.base; patch = patch; gap = gap; entries = f.entries }
@@ -109,9 +85,16 @@ pub record Heads (s : List ℕ) (at : ℕ) (m : Parsed Description) (f : Found) 
   pub headed : Headed s at m (head_of code patch gap f) (widths_of f) (parts_of f)
 
 -- what was found is so
-pub record IsFound (s : List ℕ) (at : ℕ) (m : Parsed Description) (f : Found) : Type 0 where
-  pub heads : f.number ≡ 0 → Heads s at m f
-  pub refusal : (f.number ≡ 0 → ⊥) → refused_by at f.number f.field.bytes ≡ answer_of at (length s - at) m
+abbrev pub IsFound : List ℕ → ℕ → Parsed Description → Result Found Refusal → Type 0
+IsFound s at m r = MatchResult r (Heads s at m) (Refuses s at m)
+
+-- and its list passed
+pub record Checked (s : List ℕ) (at : ℕ) (m : Parsed Description) (f : Found) : Type 0 where
+  pub heads : Heads s at m f
+  pub list : number_of s f ≡ 0
+
+abbrev pub IsChecked : List ℕ → ℕ → Parsed Description → Result Found Refusal → Type 0
+IsChecked s at m r = MatchResult r (Checked s at m) (Refuses s at m)
 
 -- what laying its rows down asks for
 pub record Ready (s : List ℕ) (at : ℕ) (f : Found) : Type 0 where

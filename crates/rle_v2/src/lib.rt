@@ -6,7 +6,7 @@ ghost use Rattle.format.specs.Runs.{Description};
 ghost use Rattle.format.specs.Parse.{Parsed, into};
 ghost use Rattle.format.specs.Promises.{answer_of, RunRead, RunMeasured, StreamRead, StreamMeasured};
 
-use format::{Answer, ByteOffset, LastRun, RowNumber, Stream};
+use format::{Answer, ByteOffset, Counts, Refusal, RowNumber, Stopped, Stream};
 
 mod delta;
 mod direct;
@@ -24,20 +24,15 @@ pub fn measure(input: &[u8], at: ByteOffset) -> Answer
 {
     let p = at.bytes;
     if input.len() <= p {
-        return Answer::end();
+        return Ok(None);
     }
-    // the top two bits are the kind
-    let kind = input[p] / 64;
-    if kind == 0 {
-        return short_repeat::measure(input, at);
+    // the top two bits are the kind; the arms are calls that the compiler knows, which a table of functions would hide from it
+    match input[p] / 64 {
+        0 => short_repeat::measure(input, at),
+        1 => direct::measure(input, at),
+        2 => patched_base::measure(input, at),
+        _ => delta::measure(input, at),
     }
-    if kind == 1 {
-        return direct::measure(input, at);
-    }
-    if kind == 2 {
-        return patched_base::measure(input, at);
-    }
-    delta::measure(input, at)
 }
 
 // One run of any kind, from a position of the input on: its rows go into the first places. A refused call consumes nothing and leaves
@@ -47,20 +42,16 @@ pub fn read_run(input: &[u8], at: ByteOffset, signed: bool, out: &mut [i64]) -> 
 {
     let p = at.bytes;
     if input.len() <= p {
-        return Answer::end();
+        return Ok(None);
     }
-    // the top two bits are the kind
-    let kind = input[p] / 64;
-    if kind == 0 {
-        return short_repeat::read(input, at, signed, out);
+    // The top two bits are the kind. No twin of `measure`: the four readers take more than the four measures, so that one function of both
+    // would take the four as parameters, and be no plainer.
+    match input[p] / 64 {
+        0 => short_repeat::read(input, at, signed, out),
+        1 => direct::read(input, at, signed, out),
+        2 => patched_base::read(input, at, signed, out),
+        _ => delta::read(input, at, signed, out),
     }
-    if kind == 1 {
-        return direct::read(input, at, signed, out);
-    }
-    if kind == 2 {
-        return patched_base::read(input, at, signed, out);
-    }
-    delta::read(input, at, signed, out)
 }
 
 // The run that the input begins with, as `read_run` reads it, for a caller that reads one run a call: a short repeat is read here, since its
@@ -68,10 +59,8 @@ pub fn read_run(input: &[u8], at: ByteOffset, signed: bool, out: &mut [i64]) -> 
 pub fn read_first(input: &[u8], signed: bool, out: &mut [i64]) -> Answer
     ensures { RunRead input.now 0 signed out.old out.new result }
 {
-    if 0 < input.len() {
-        if input[0] / 64 == 0 {
-            return short_repeat::read(input, ByteOffset { bytes: 0 }, signed, out);
-        }
+    if !input.is_empty() && input[0] / 64 == 0 {
+        return short_repeat::read(input, ByteOffset { bytes: 0 }, signed, out);
     }
     read_run(input, ByteOffset { bytes: 0 }, signed, out)
 }
@@ -80,12 +69,8 @@ pub fn read_first(input: &[u8], signed: bool, out: &mut [i64]) -> Answer
 pub fn read_gathered(input: &[u8], signed: bool, out: &mut [i64]) -> Answer
     ensures { RunRead input.now 0 signed out.old out.new result }
 {
-    if 0 < input.len() {
-        if input[0] / 64 == 1 {
-            if let Answer::Refused(f) = direct::measure(input, ByteOffset { bytes: 0 }) {
-                return Answer::Refused(f);
-            }
-        }
+    if !input.is_empty() && input[0] / 64 == 1 {
+        let _ = direct::measure(input, ByteOffset { bytes: 0 })?;
     }
     read_run(input, ByteOffset { bytes: 0 }, signed, out)
 }
@@ -98,31 +83,35 @@ pub fn read_stream(input: &[u8], at: ByteOffset, signed: bool, out: &mut [i64]) 
     let from = at.bytes;
     let mut p = from;
     let mut k: usize = 0;
-    let mut last = LastRun::None;
+    let mut last = None;
+    // The step is a run's bytes, which is no count. Three ends: one for all would carry the refusal out of the loop in an Option, and match it
+    // again.
     while p < input.len() {
         let a = read_run(input, ByteOffset { bytes: p }, signed, &mut out[k..]);
         match a {
-            Answer::Run(r) => {
+            Ok(Some(r)) => {
                 let rows = r.rows;
                 let consumed = r.consumed;
                 k += rows.rows;
                 p += consumed.bytes;
-                last = LastRun::Run(r);
+                last = Some(r);
             }
-            Answer::Refused(f) => {
-                return Stream::refused(
-                    f,
-                    RowNumber { rows: k },
-                    ByteOffset { bytes: p - from },
-                    last,
-                );
+            Err(f) => {
+                return Err(Stopped {
+                    by: f,
+                    before: Counts::new(
+                        RowNumber { rows: k },
+                        ByteOffset { bytes: p - from },
+                        last,
+                    ),
+                });
             }
-            Answer::End => {
-                return Stream::whole(RowNumber { rows: k }, ByteOffset { bytes: p - from }, last);
+            Ok(None) => {
+                return Ok(Counts::new(RowNumber { rows: k }, ByteOffset { bytes: p - from }, last));
             }
         }
     }
-    Stream::whole(RowNumber { rows: k }, ByteOffset { bytes: p - from }, last)
+    Ok(Counts::new(RowNumber { rows: k }, ByteOffset { bytes: p - from }, last))
 }
 
 // What a measured run comes to in so many places: refusal 8 if it has more rows.
@@ -130,18 +119,14 @@ fn in_places(measured: Answer, at: ByteOffset, places: RowNumber) -> Answer
     ensures { (total : ℕ) (m : Parsed Description)
         → measured ≡ answer_of at.bytes total m → result ≡ answer_of at.bytes total (into places.rows m) }
 {
-    let room = places.rows;
-    match measured {
-        Answer::Run(r) => {
-            let count = r.rows;
-            if room < count.rows {
-                return Answer::refused(8, at);
-            }
-            Answer::Run(r)
-        }
-        Answer::Refused(f) => Answer::Refused(f),
-        Answer::End => Answer::End,
+    let Some(run) = measured? else {
+        return Ok(None);
+    };
+    let count = run.rows;
+    if places.rows < count.rows {
+        return Err(Refusal::new(8, at));
     }
+    Ok(Some(run))
 }
 
 // What the stream reader answers with as many places as a count can name, for callers that want no rows.
@@ -151,35 +136,42 @@ pub fn measure_stream(input: &[u8], at: ByteOffset) -> Stream
     let from = at.bytes;
     let mut place = from;
     let mut count: usize = 0;
-    let mut last = LastRun::None;
+    let mut last = None;
+    // the step is a run's bytes, as in `read_stream`
     while place < input.len() {
         let here = ByteOffset { bytes: place };
         let m = measure(input, here);
         let left = usize::MAX - count;
         let a = in_places(m, here, RowNumber { rows: left });
         match a {
-            Answer::Run(run) => {
+            Ok(Some(run)) => {
                 let rows = run.rows;
                 let consumed = run.consumed;
                 count += rows.rows;
                 place += consumed.bytes;
-                last = LastRun::Run(run);
+                last = Some(run);
             }
-            Answer::Refused(f) => {
+            Err(f) => {
                 let taken = place - from;
-                return Stream::refused(
-                    f,
+                return Err(Stopped {
+                    by: f,
+                    before: Counts::new(
+                        RowNumber { rows: count },
+                        ByteOffset { bytes: taken },
+                        last,
+                    ),
+                });
+            }
+            Ok(None) => {
+                let taken = place - from;
+                return Ok(Counts::new(
                     RowNumber { rows: count },
                     ByteOffset { bytes: taken },
                     last,
-                );
-            }
-            Answer::End => {
-                let taken = place - from;
-                return Stream::whole(RowNumber { rows: count }, ByteOffset { bytes: taken }, last);
+                ));
             }
         }
     }
     let taken = place - from;
-    Stream::whole(RowNumber { rows: count }, ByteOffset { bytes: taken }, last)
+    Ok(Counts::new(RowNumber { rows: count }, ByteOffset { bytes: taken }, last))
 }

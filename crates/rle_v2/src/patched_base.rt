@@ -5,12 +5,13 @@ ghost use Rattle.format.specs.Rows.{as_i64};
 ghost use Rattle.format.specs.Parse.{patched_run};
 ghost use Rattle.util.specs.Packed.{fields, Width};
 ghost use Rattle.rle_v2.specs.Pass.{based};
-ghost use Rattle.rle_v2.specs.PatchedHead.{InRange, IsWidths, IsParts, body_at, cut_body, field_of, gone_by, IsFound};
+ghost use Rattle.rle_v2.specs.PatchedHead.{InRange, IsWidths, IsParts, body_at, cut_body, IsFound, IsChecked};
 ghost use Rattle.rle_v2.specs.PatchedHead.{Ready, patched_places};
 ghost use Rattle.rle_v2.specs.RunAt.{run_at, MeasuredAs, ReadAs};
 
-use crate::{header, patch_list, refusal, rows};
-use format::{Answer, ByteOffset, CutField, Kind, Refusal, RowNumber};
+use crate::patch_list::PatchList;
+use crate::{header, rows};
+use format::{Answer, ByteOffset, Kind, Refusal, RowNumber, Run};
 use util::{big_endian, packed, width};
 
 // What the four header bytes say: width code, rows, base bytes, patch width code, gap width, list length.
@@ -40,13 +41,9 @@ struct Parts {
     end: ByteOffset,
 }
 
-// What the header of a patched base run says, and where its body stands: rows, base bytes and list length, the widths in bits, and the parts. Where
-// the number is not 0, the run is refused with it instead, and the input ends in the field that begins at a byte, or, where that is 0, in none. It is
-// no enum: one that a call gives back goes through memory twice.
+// What the header of a patched base run says, and where its body stands: rows, base bytes and list length, the widths in bits, and the parts.
 #[derive(Clone, Copy)]
 struct Found {
-    number: u8,
-    field: ByteOffset,
     rows: RowNumber,
     base: usize,
     entries: usize,
@@ -56,37 +53,6 @@ struct Found {
     values: ByteOffset,
     list: ByteOffset,
     end: ByteOffset,
-}
-
-// The byte where the field begins that the input ends in; 0 where it ends in none.
-fn field_of(cut: CutField) -> ByteOffset
-    ensures { result.bytes ≡ field_of cut }
-{
-    match cut {
-        CutField::None => ByteOffset { bytes: 0 },
-        CutField::At(byte) => byte,
-    }
-}
-
-// A run that is refused.
-fn gone(f: Refusal) -> Found
-    ensures { result ≡ gone_by f }
-{
-    let cut = f.cut;
-    let field = field_of(cut);
-    Found {
-        number: f.number,
-        field,
-        rows: RowNumber { rows: 0 },
-        base: 0,
-        entries: 0,
-        bits: 0,
-        patch: 0,
-        entry: 0,
-        values: ByteOffset { bytes: 0 },
-        list: ByteOffset { bytes: 0 },
-        end: ByteOffset { bytes: 0 },
-    }
 }
 
 // Where the body's parts begin, and where it ends.
@@ -125,7 +91,7 @@ fn broke_off(len: ByteOffset, at: ByteOffset, q: Parts) -> Refusal
 }
 
 // The body: that it is there.
-fn body(input: &[u8], at: ByteOffset, h: Header, w: Widths) -> Found
+fn body(input: &[u8], at: ByteOffset, h: Header, w: Widths) -> Result<Found, Refusal>
     requires { (at.bytes + 4 ≤ length input.now) × InRange h × IsWidths h w × (w.patch + h.gap ≤ 64) }
     ensures { IsFound input.now at.bytes (body_at h input.now at.bytes) result }
 {
@@ -133,14 +99,12 @@ fn body(input: &[u8], at: ByteOffset, h: Header, w: Widths) -> Found
     let end = q.end;
     if input.len() < end.bytes {
         let len = ByteOffset { bytes: input.len() };
-        return gone(broke_off(len, at, q));
+        return Err(broke_off(len, at, q));
     }
     let rows = h.rows;
     let values = q.values;
     let list = q.list;
-    Found {
-        number: 0,
-        field: ByteOffset { bytes: 0 },
+    Ok(Found {
         rows,
         base: h.base,
         entries: h.entries,
@@ -150,30 +114,30 @@ fn body(input: &[u8], at: ByteOffset, h: Header, w: Widths) -> Found
         values,
         list,
         end,
-    }
+    })
 }
 
 // What the header's widths refuse, before the body is read.
-fn by_widths(input: &[u8], at: ByteOffset, h: Header) -> Found
+fn by_widths(input: &[u8], at: ByteOffset, h: Header) -> Result<Found, Refusal>
     requires { (at.bytes + 4 ≤ length input.now) × InRange h }
     ensures { IsFound input.now at.bytes (body_at h input.now at.bytes) result }
 {
     let bits = width::bits_of(h.code);
     let patch = width::bits_of(h.patch);
     if 64 < patch + h.gap {
-        return gone(Refusal::new(2, at));
+        return Err(Refusal::new(2, at));
     }
     let entry = width::entry_width(patch + h.gap);
     body(input, at, h, Widths { bits, patch, entry })
 }
 
-fn headed(input: &[u8], at: ByteOffset) -> Found
+fn headed(input: &[u8], at: ByteOffset) -> Result<Found, Refusal>
     requires { at.bytes < length input.now }
     ensures { IsFound input.now at.bytes (run_at patched_run input.now at.bytes) result }
 {
     let p = at.bytes;
     if input.len() - p < 4 {
-        return gone(Refusal::new(1, at));
+        return Err(Refusal::new(1, at));
     }
     let h = header::two_bytes(input[p], input[p + 1]);
     let third = input[p + 2];
@@ -192,38 +156,37 @@ fn headed(input: &[u8], at: ByteOffset) -> Found
     by_widths(input, at, four)
 }
 
+// The patch list too passed its tests.
+fn checked(input: &[u8], at: ByteOffset) -> Result<Found, Refusal>
+    requires { at.bytes < length input.now }
+    ensures { IsChecked input.now at.bytes (run_at patched_run input.now at.bytes) result }
+{
+    let f = headed(input, at)?;
+    let from = f.list;
+    let patches = PatchList {
+        list: &input[from.bytes..],
+        bits: f.entry,
+        pw: f.patch,
+        n: f.entries,
+        width: f.bits,
+        count: f.rows,
+    };
+    if let Some(number) = patches.refused_with() {
+        return Err(Refusal::new(number, at));
+    }
+    Ok(f)
+}
+
 pub(crate) fn measure(input: &[u8], at: ByteOffset) -> Answer
     requires { at.bytes < length input.now }
     ensures { MeasuredAs patched_run input.now at.bytes result }
 {
-    let p = at.bytes;
-    let f = headed(input, at);
-    if f.number != 0 {
-        let field = f.field;
-        return refusal::answer(f.number, at, field);
-    }
-    let rows = f.rows;
-    let list = f.list;
-    let from = list.bytes;
-    let number = patch_list::refused_with(
-        &input[from..],
-        f.entry,
-        f.patch,
-        f.entries,
-        f.bits,
-        rows,
-    );
-    if number != 0 {
-        return Answer::refused(number, at);
-    }
+    let f = checked(input, at)?;
     let end = f.end;
-    let consumed = end.bytes - p;
-    Answer::run(
-        Kind::PatchedBase,
-        f.bits,
-        rows,
-        ByteOffset { bytes: consumed },
-    )
+    let consumed = ByteOffset {
+        bytes: end.bytes - at.bytes,
+    };
+    Ok(Some(Run::new(Kind::PatchedBase, f.bits, f.rows, consumed)))
 }
 
 // The values with the base added, in their places.
@@ -234,7 +197,7 @@ fn lay(block: &[u8], bits: usize, n: RowNumber, base: u64, out: &mut [i64])
         ≡ based base (map as_i64 (fields bits n.rows block.now)) ++ drop n.rows out.old }
 {
     packed::unpack(block, bits, n.rows, out);
-    rows::add_base(base, n, out);
+    rows::add_base(base, &mut out[..n.rows]);
 }
 
 // The rows of a run that passed its tests.
@@ -245,20 +208,18 @@ fn put(input: &[u8], at: ByteOffset, f: Found, out: &mut [i64])
     let p = at.bytes;
     let rows = f.rows;
     let values = f.values;
-    let list = f.list;
-    let first = values.bytes;
-    let from = list.bytes;
+    let from = f.list;
     let base = big_endian::base_value(input, p + 4, f.base);
-    lay(&input[first..], f.bits, rows, base, out);
-    patch_list::put(
-        &input[from..],
-        f.entry,
-        f.patch,
-        f.entries,
-        f.bits,
-        rows,
-        out,
-    );
+    lay(&input[values.bytes..], f.bits, rows, base, out);
+    let patches = PatchList {
+        list: &input[from.bytes..],
+        bits: f.entry,
+        pw: f.patch,
+        n: f.entries,
+        width: f.bits,
+        count: rows,
+    };
+    patches.put(out);
 }
 
 // Patched rows are never zigzag decoded, whatever the flag.
@@ -266,36 +227,15 @@ pub(crate) fn read(input: &[u8], at: ByteOffset, signed: bool, out: &mut [i64]) 
     requires { at.bytes < length input.now }
     ensures { ReadAs patched_run input.now at.bytes signed out.old out.new result }
 {
-    let p = at.bytes;
-    let f = headed(input, at);
-    if f.number != 0 {
-        let field = f.field;
-        return refusal::answer(f.number, at, field);
-    }
+    let f = checked(input, at)?;
     let rows = f.rows;
-    let list = f.list;
-    let from = list.bytes;
-    let refusal = patch_list::refused_with(
-        &input[from..],
-        f.entry,
-        f.patch,
-        f.entries,
-        f.bits,
-        rows,
-    );
-    if refusal != 0 {
-        return Answer::refused(refusal, at);
-    }
     if out.len() < rows.rows {
-        return Answer::refused(8, at);
+        return Err(Refusal::new(8, at));
     }
     put(input, at, f, out);
     let end = f.end;
-    let consumed = end.bytes - p;
-    Answer::run(
-        Kind::PatchedBase,
-        f.bits,
-        rows,
-        ByteOffset { bytes: consumed },
-    )
+    let consumed = ByteOffset {
+        bytes: end.bytes - at.bytes,
+    };
+    Ok(Some(Run::new(Kind::PatchedBase, f.bits, rows, consumed)))
 }

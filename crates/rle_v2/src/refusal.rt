@@ -1,8 +1,10 @@
-// A refusal by words, as the tests of delta and patched base runs hand it on: its number, and the byte where the field begins that the input ends in.
+// A refusal by words, as the tests of a delta run hand it on: its number, and the byte where the field begins that the input ends in.
 ghost use Rattle.std.specs.Prelude.{◌≡◌};
 ghost use Rattle.rle_v2.specs.RefusedBy.{refused_by};
 
-use format::{Answer, ByteOffset};
+use format::{Answer, ByteOffset, Refusal};
+
+// The number and the field stay words: see `Found` in delta.rt, where the Result was slower.
 
 // The answer to the run at a place that is refused. No field begins at byte 0, where the first header does: 0 stands for none.
 pub(crate) fn answer(number: u8, at: ByteOffset, field: ByteOffset) -> Answer
@@ -10,7 +12,7 @@ pub(crate) fn answer(number: u8, at: ByteOffset, field: ByteOffset) -> Answer
 {
     let first = field.bytes;
     if first == 0 {
-        return Answer::refused(number, at);
+        return Err(Refusal::new(number, at));
     }
-    Answer::cut(number, at, field)
+    Err(Refusal::cut(number, at, field))
 }

@@ -4,7 +4,7 @@ ghost use Rattle.format.specs.Parse.{short_run};
 ghost use Rattle.rle_v2.specs.RunAt.{MeasuredAs, ReadAs};
 
 use crate::rows;
-use format::{Answer, ByteOffset, Kind, RowNumber};
+use format::{Answer, ByteOffset, Kind, Refusal, RowNumber, Run};
 use util::{big_endian, pattern};
 
 pub(crate) fn measure(input: &[u8], at: ByteOffset) -> Answer
@@ -17,14 +17,14 @@ pub(crate) fn measure(input: &[u8], at: ByteOffset) -> Answer
     let count = header % 8 + Kind::MIN_REPEAT;
     let body = p + 1;
     if input.len() - body < size {
-        return Answer::cut(6, at, ByteOffset { bytes: body });
+        return Err(Refusal::cut(6, at, ByteOffset { bytes: body }));
     }
-    Answer::run(
+    Ok(Some(Run::new(
         Kind::ShortRepeat,
         8 * size,
         RowNumber { rows: count },
         ByteOffset { bytes: 1 + size },
-    )
+    )))
 }
 
 pub(crate) fn read(input: &[u8], at: ByteOffset, signed: bool, out: &mut [i64]) -> Answer
@@ -32,18 +32,20 @@ pub(crate) fn read(input: &[u8], at: ByteOffset, signed: bool, out: &mut [i64]) 
     ensures { ReadAs short_run input.now at.bytes signed out.old out.new result }
 {
     let measured = measure(input, at);
+    // no `?` and no `let Ok(Some(r)) = measured else`: the one makes the answer again (below), and the other's `else` has no fact that the
+    // Option is None, so that the proof didn't close
     match measured {
-        Answer::Run(r) => {
+        Ok(Some(r)) => {
             let count = r.rows;
             if out.len() < count.rows {
-                return Answer::refused(8, at);
+                return Err(Refusal::new(8, at));
             }
             let value = pattern::row(signed, big_endian::read(input, at.bytes + 1, r.width / 8));
-            rows::repeat(value, count, out);
+            rows::repeat(value, &mut out[..count.rows]);
             // as it is: an answer that is made again goes through memory in pieces
             measured
         }
-        Answer::Refused(_) => measured,
-        Answer::End => measured,
+        Err(_) => measured,
+        Ok(None) => measured,
     }
 }

@@ -11,11 +11,12 @@ ghost use Rattle.blocks.specs.Blocks.{part, came, NoNewline};
 ghost use Rattle.runs.specs.Program.{Pending, Last, ReadGave, Open, AfterBlock, AfterEnd, After, Turned, Over};
 
 use blocks::reading;
-use blocks::reading::Reads;
+use blocks::reading::{Read, Reads};
 use saying::Said;
 use std::{io, thread};
 
 // From where to where in the input a line has begun; that the input has ended; that reading failed; or that the output cannot be written.
+// (Four cases: no Option or Result has that shape, and `AfterBlock`, `AfterEnd` and `Over` speak of each.)
 #[derive(Clone, Copy)]
 enum Left {
     Begun(usize, usize),
@@ -54,17 +55,15 @@ fn answer_block(
     let mut from = 0;
     loop {
         let p = cutting::answer_lines(&input[from..], output);
-        let taken = p.taken;
-        let written = p.written;
-        if taken == 0 {
+        if p.taken == 0 {
             return Outcome {
                 left: Left::Begun(from, input.len()),
                 said,
             };
         }
-        let next = from + taken;
-        said = saying::say(rt, reads, said, &input[from..next], &output[..written]);
-        if saying::is_cut(said) {
+        let next = from + p.taken;
+        said = said.say(rt, reads, &input[from..next], &output[..p.written]);
+        if said.is_cut() {
             return Outcome {
                 left: Left::Unwritten,
                 said,
@@ -92,8 +91,8 @@ fn answer_last(
         };
     }
     let written = lines::answer_line(line, output);
-    let said = saying::say(rt, reads, before, line, &output[..written]);
-    if saying::is_cut(said) {
+    let said = before.say(rt, reads, line, &output[..written]);
+    if said.is_cut() {
         return Outcome {
             left: Left::Unwritten,
             said,
@@ -105,40 +104,37 @@ fn answer_last(
     }
 }
 
-// What to do with what is held and what came behind it, by what the system answered. The error is handed in, so that the answer is
+// What to do with what is held and what came behind it, by what the system answered. The error stands in `block`, so that the answer is
 // determined.
 fn answer_came(
     rt: &(impl Print + Eprint),
-    reads: Reads,
+    block: Read,
     before: Said,
     input: &[u8],
-    held: usize,
-    got: isize,
-    error: i32,
     output: &mut [u8],
 ) -> Outcome
-    requires { ReadGave reads before input.now got × (answer_room ≤ length output.old) }
-    ensures { After reads before input.now held got error result.left result.said }
+    requires { ReadGave block.reads before input.now block.got × (answer_room ≤ length output.old) }
+    ensures { After block.reads before input.now block.held block.got block.error result.left result.said }
 {
-    if got > 0 {
-        return answer_block(rt, reads, before, input, output);
+    if block.got > 0 {
+        return answer_block(rt, block.reads, before, input, output);
     }
-    if got == 0 {
-        return answer_last(rt, reads, before, input, output);
+    if block.got == 0 {
+        return answer_last(rt, block.reads, before, input, output);
     }
-    if !blocks::is_not_ready(error) {
-        let e = io::Error::from_raw_os_error(error);
+    if !blocks::is_not_ready(block.error) {
+        let e = io::Error::from_raw_os_error(block.error);
         let _ = eprintln!(rt; "runs: the output is cut, standard input cannot be read: {e}");
         return Outcome {
             left: Left::Failed,
             said: before,
         };
     }
-    if error == blocks::EAGAIN {
+    if block.error == blocks::EAGAIN {
         thread::yield_now();
     }
     Outcome {
-        left: Left::Begun(0, held),
+        left: Left::Begun(0, block.held),
         said: before,
     }
 }
@@ -153,60 +149,43 @@ fn text_places() -> [u8; 65536]
 // One block, behind what is left of the one before.
 fn turn(
     rt: &(impl Input + Print + Eprint),
-    reads: Reads,
-    before: Said,
+    before: Standing,
     input: &mut [u8],
     from: usize,
     end: usize,
     output: &mut [u8],
 ) -> Standing
-    requires { (reads.count + 1 < 2 ^ 64) × Open reads before (part from end input.old) × (answer_room ≤ length output.old) }
-    ensures { Turned reads before (part from end input.old) input.new result.left result.reads result.said }
+    requires { (before.reads.count + 1 < 2 ^ 64) × Open before.reads before.said (part from end input.old) × (answer_room ≤ length output.old) }
+    ensures { Turned before.reads before.said (part from end input.old) input.new result.left result.reads result.said }
 {
-    let block = reading::one_more(rt, reads, input, from, end);
-    let stop = block.stop;
-    let more = block.reads;
-    let answers = answer_came(
-        rt,
-        more,
-        before,
-        &input[..stop],
-        block.held,
-        block.got,
-        block.error,
-        output,
-    );
-    let left = answers.left;
-    let said = answers.said;
+    let block = reading::one_more(rt, before.reads, input, from, end);
+    let answers = answer_came(rt, block, before.said, &input[..block.stop], output);
     Standing {
-        left,
-        reads: more,
-        said,
+        left: answers.left,
+        reads: block.reads,
+        said: answers.said,
     }
 }
 
-// Reads and answers to the end. A proved loop has to end, and nothing says that the input does: the loop counts its turns down, from a number
-// that no input uses up.
+// (Not one function with `take_all` of the program `totals`: what `Ready` and `Over` say of a turn differs, so that one for both is no plainer.)
+// Reads and answers to the end. A proved loop has to end, and nothing says that the input does: the loop has as many turns as no input uses up.
 fn run(rt: &(impl Input + Print + Eprint)) -> Standing
     ensures { Over result.left result.reads result.said }
 {
     let mut input = blocks::input_places();
     let mut output = text_places();
-    let mut left = Left::Begun(0, 0);
-    let mut reads = reading::none();
-    let mut said = saying::nothing();
-    let mut turns = u64::MAX;
-    while 0 < turns {
-        let Left::Begun(from, end) = left else {
-            return Standing { left, reads, said };
+    let mut all = Standing {
+        left: Left::Begun(0, 0),
+        reads: reading::none(),
+        said: Said::nothing(),
+    };
+    for _ in 0..u64::MAX {
+        let Left::Begun(from, end) = all.left else {
+            return all;
         };
-        let answered = turn(rt, reads, said, &mut input, from, end, &mut output);
-        left = answered.left;
-        reads = answered.reads;
-        said = answered.said;
-        turns -= 1;
+        all = turn(rt, all, &mut input, from, end, &mut output);
     }
-    Standing { left, reads, said }
+    all
 }
 
 fn main(rt: HostRuntime) {

@@ -5,6 +5,8 @@ use mathlib.Core.Logic.{◌≢◌}
 use Prim.Native.Nat.{ℕ, zero, suc, ◌+◌, ◌-◌, ◌*◌, ◌/◌, ◌%◌, ◌<◌, ◌≤◌}
 use native.Mathlib.Nat.{mul-le-mul}
 use native.Mathlib.Omega.{arith}
+use native.Mathlib.Decide.{dec_lt}
+use Rattle.std.specs.Int.{div_ceil}
 use mathlib.Core.Bool.{Bool, true, false}
 use mathlib.Core.List.{List, [], ◌∷◌, ◌++◌, append_assoc, append-nil}
 use lib.ListN.{length, replicate, length-append}
@@ -45,13 +47,25 @@ module _ (first n : ℕ) where
   runs-odd (suc q) e = omega (arith, length-append (run_of first 512) (runs_for first q n), run_long first 512, runs-odd q e)
 
 module _ (first n : ℕ) where
-  pub filled-even : n % 512 ≡ 0 → n / 512 * (3 + length (shortest first)) ≡ length (filled first n)
+  filled-even : n % 512 ≡ 0 → n / 512 * (3 + length (shortest first)) ≡ length (filled first n)
   unfolding filled
   filled-even e = sym (runs-even first (n % 512) (n / 512) e)
 
-  pub filled-odd : n % 512 ≢ 0 → (n / 512 + 1) * (3 + length (shortest first)) ≡ length (filled first n)
+  filled-odd : n % 512 ≢ 0 → (n / 512 + 1) * (3 + length (shortest first)) ≡ length (filled first n)
   unfolding filled
   filled-odd e = sym (runs-odd first (n % 512) (n / 512) e)
+
+-- one run for each 512 rows begun
+pub filled-long : (first n : ℕ) → div_ceil n 512 * (3 + length (shortest first)) ≡ length (filled first n)
+filled-long first n = by (dec_lt 0 (n % 512))
+  where
+    by : Dec (0 < n % 512) → div_ceil n 512 * (3 + length (shortest first)) ≡ length (filled first n)
+    by (yes h) =
+        let e : div_ceil n 512 ≡ n / 512 + 1 = omega arith in
+        rw e (filled-odd first n (λ z. omega arith))
+    by (no h) =
+        let e : div_ceil n 512 ≡ n / 512 = omega arith in
+        rw e (filled-even first n (omega arith))
 
 -- no count of rows has so many runs that their bytes pass 2^64
 pub runs-small : (q first : ℕ) → q ≤ 36028797018963968 → first < two64 → q * (3 + length (shortest first)) < two64

@@ -8,9 +8,8 @@ use Rattle.format.specs.Runs.{Description}
 use Rattle.format.specs.Streams.{stream, whole, total_rows}
 use Rattle.format.proofs.Tests.{never}
 use Rattle.format.specs.Digits.{sum}
-use Rattle.salvage.specs.declared.Outcome.{Outcome}
-use Rattle.salvage.specs.declared.Outcome.TheVariants.{Written, Refused}
-use Rattle.salvage.specs.Salvage.{groups, Call, refused, written, salvaging, written_of, refused_with, outcome_of, stream_in, report_in}
+use Rattle.std.specs.Prelude.{Ok, Err}
+use Rattle.salvage.specs.Salvage.{Outcome, groups, Call, refused, written, salvaging, written_of, refused_with, outcome_of, stream_in, report_in}
 use Rattle.salvage.specs.Laws.{SalvageProved, SalvageGiven, SalvageDetermined}
 use Rattle.salvage.proofs.Filling.{fill_holds, fill-size}
 use Rattle.salvage.proofs.Grouping.{kept-exactly, kept-bytes, salvaged-holds}
@@ -38,8 +37,8 @@ salvage-proved signed fill fits = record {
 
 -- how many bytes the new stream has
 abbrev bytes_written : Outcome → ℕ
-bytes_written (Written n) = n.stream.bytes
-bytes_written (Refused f) = 0
+bytes_written (Ok n) = n.stream.bytes
+bytes_written (Err f) = 0
 
 pub salvage-given : SalvageGiven
 salvage-given input starts ns fill signed out out' lines lines' r fits bytes s = record {

@@ -11,8 +11,7 @@ use lib.IntN.{ℤ}
 use borrow.Author.Tests.{ltb-false, eq-eqb, ne_eqb, not-true}
 use Rattle.text.specs.Written.{TextWritten}
 use Rattle.text.proofs.Texts.{none_written, then-written, from_first}
-use Rattle.salvage.specs.declared.Outcome.{Outcome}
-use Rattle.salvage.specs.Salvage.{starts_right, salvaged, line, report, Call, refused, written, unless, salvaging, written_of, refused_with, Salvaged}
+use Rattle.salvage.specs.Salvage.{Outcome, starts_right, salvaged, line, report, Call, refused, written, unless, salvaging, written_of, refused_with, Salvaged}
 use Rattle.salvage.specs.Steps.{made, room_for}
 use Rattle.salvage.specs.Laws.{RightStarts, Room}
 use Rattle.salvage.proofs.Walking.{groups-end}

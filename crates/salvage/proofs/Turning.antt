@@ -33,12 +33,13 @@ module _ (signed : Bool) (fill : ℤ) (bs starts ns : List ℕ) where
     pub keep-is : keep ≡ kept (group bytes rows)
     pub piece : made keep bytes first rows ≡ mended signed fill (group bytes rows)
 
-  pub turn : SFits w64 fill → (i : ℕ) → i < length starts → length starts ≡ length ns → (bytes : List ℕ) → bytes ≡ bytes_of bs starts i
-      → (keep : Bool) → keep ≡ kept (group bytes (get_or ns i 0)) → (first : ℕ) → first ≡ stored signed (as_u64 fill) → Turn i bytes (get_or ns i 0) keep first
-  turn fits i h l bytes b keep k first f = record {
-    next = rw b (groups-at bs starts ns i h l);
+  pub turn : SFits w64 fill → (i : ℕ) → i < length starts → length starts ≡ length ns → {bytes : List ℕ} → bytes ≡ bytes_of bs starts i
+      → {rows : ℕ} → rows ≡ get_or ns i 0 → {keep : Bool} → keep ≡ kept (group bytes rows) → {first : ℕ} → first ≡ stored signed (as_u64 fill)
+      → Turn i bytes rows keep first
+  turn fits i h l {bytes} b {rows} r {keep} k {first} f = record {
+    next = rw (b, r) (groups-at bs starts ns i h l);
     keep-is = k;
-    piece = rw f (made-is signed fill fits (group bytes (get_or ns i 0)) keep k);
+    piece = rw f (made-is signed fill fits (group bytes rows) keep k);
   }
 
   module _ {i rows first : ℕ} {bytes : List ℕ} {keep : Bool} (t : Turn i bytes rows keep first) where

@@ -1,11 +1,11 @@
 -- The starts one after another, and group i of those that starts and counts list. Assumes nothing.
 use mathlib.Core.Path.{◌≡◌, refl, sym, ap, ◌∙◌}
 use mathlib.Core.Logic.{◌≢◌}
-use Prim.Native.Nat.{ℕ, zero, suc, ◌+◌, ◌-◌, ◌<◌, ◌≤◌}
+use Prim.Native.Nat.{ℕ, zero, suc, ◌-◌, ◌<◌, ◌≤◌}
 use native.Mathlib.Omega.{arith}
 use mathlib.Core.Bool.{false, ◌&&◌}
 use mathlib.Core.List.{List, [], ◌∷◌}
-use lib.ListN.{length, drop, get_or, length-drop, drop_of_length-le, get_or-eq_default}
+use lib.ListN.{length, drop, get_or, length-drop, drop_of_length-le}
 use lib.Seq.{drop-cons, take_all}
 use lib.Dec.{T, ltb, eqb, leb, ltb→lt, leb→le}
 use borrow.Author.Tests.{ne_eqb, lt-ltb, le-ltb}
@@ -25,22 +25,6 @@ module _ (starts : List ℕ) (end : ℕ) where
       go [] h = refl
       go (s ∷ l) h = absurd (omega arith)
 
-  pub right-late : 0 < length starts → get_or starts 0 0 ≢ 0 → false ≡ starts_right end starts
-  unfolding starts_right
-  right-late h n = go starts h n
-    where
-      go : (l : List ℕ) → 0 < length l → get_or l 0 0 ≢ 0 → false ≡ starts_right end l
-      go [] h n = absurd (omega arith)
-      go (s ∷ l) h n = rw (ne_eqb s 0 n)
-
-  pub right-first : 0 < length starts → get_or starts 0 0 ≡ 0 → starts_right end starts ≡ rising end 0 (drop 1 starts)
-  unfolding starts_right
-  right-first h n = go starts h n
-    where
-      go : (l : List ℕ) → 0 < length l → get_or l 0 0 ≡ 0 → starts_right end l ≡ rising end 0 (drop 1 l)
-      go [] h n = absurd (omega arith)
-      go (s ∷ l) h n = rw n
-
   module _ (last i : ℕ) where
     next_start : i < length starts → rising end last (drop i starts) ≡ (ltb last (get_or starts i 0) && rising end (get_or starts i 0) (drop (suc i) starts))
     unfolding rising
@@ -56,18 +40,15 @@ module _ (starts : List ℕ) (end : ℕ) where
     unfolding rising
     rising-end h = ap (rising end last) (drop_of_length-le starts h)
 
+pub right-late : (end first : ℕ) (more : List ℕ) → first ≢ 0 → false ≡ starts_right end (first ∷ more)
+unfolding starts_right
+right-late end first more n = rw (ne_eqb first 0 n)
+
+pub right-first : (end first : ℕ) (more : List ℕ) → first ≡ 0 → starts_right end (first ∷ more) ≡ rising end 0 more
+unfolding starts_right
+right-first end first more n = rw n
+
 -- ---- group i lies in the stream
-
-pub stop-next : (end : ℕ) (starts : List ℕ) (i : ℕ) → i + 1 < length starts → get_or starts (i + 1) 0 ≡ stop_of end starts i
-stop-next end starts i h = let s : i + 1 ≡ suc i = omega arith in rw s (go starts (suc i) (omega arith))
-  where
-    go : (l : List ℕ) (j : ℕ) → j < length l → get_or l j 0 ≡ get_or l j end
-    go [] j h = absurd (omega arith)
-    go (x ∷ l) zero h = refl
-    go (x ∷ l) (suc j) h = go l j (omega arith)
-
-pub stop-end : (end : ℕ) (starts : List ℕ) (i : ℕ) → length starts ≤ i + 1 → end ≡ stop_of end starts i
-stop-end end starts i h = sym (get_or-eq_default starts end (omega arith))
 
 rises-to : (end s : ℕ) (ss : List ℕ) → T (rising end s ss) → s ≤ end
 unfolding rising

@@ -11,8 +11,7 @@ use Rattle.format.specs.Rows.{as_u64}
 use Rattle.format.specs.Parse.{got}
 use Rattle.format.specs.Streams.{whole, read_all, stream, runs_of, total_rows, joined_rows}
 use Rattle.format.specs.Writing.{stored, writing}
-use Rattle.salvage.specs.declared.Outcome.{Outcome}
-use Rattle.salvage.specs.Salvage.{Group, groups, starts_right, kept, fill_run, fill_runs, mended, salvaged, report, Call, refused}
+use Rattle.salvage.specs.Salvage.{Outcome, Group, groups, starts_right, kept, fill_run, fill_runs, mended, salvaged, report, Call, refused}
 use Rattle.salvage.specs.Salvage.{written, salvaging, written_of, refused_with, Salvaged}
 
 -- each group's bytes are bytes

@@ -1,6 +1,6 @@
 -- SALVAGE (FORMAT.md, "Salvage"): the groups of a damaged stream, which of them are kept, what stands for the others, and the report.
 -- Assumes nothing.
-use Rattle.std.specs.Prelude.{◌≡◌, ℕ, suc, ◌-◌, ◌/◌, ◌%◌, Bool, true, false, not, ◌&&◌, ◌||◌, List, [], ◌∷◌, ◌++◌, map, length, take, drop, replicate, leb, ltb, eqb, ℤ}
+use Rattle.std.specs.Prelude.{◌≡◌, ℕ, suc, ◌-◌, ◌/◌, ◌%◌, Bool, true, false, not, ◌&&◌, ◌||◌, List, [], ◌∷◌, ◌++◌, map, length, take, drop, replicate, leb, ltb, eqb, ℤ, Result, Ok, Err}
 use Rattle.format.specs.declared.Form.TheVariants.{FixedDelta}
 use Rattle.format.specs.Answers.{refusing}
 use Rattle.format.specs.Fields.{pick}
@@ -10,8 +10,8 @@ use Rattle.format.specs.Streams.{Reading, whole, broken, stream, total_rows}
 use Rattle.format.specs.Writing.{described}
 use Rattle.text.specs.Ascii.{ascii}
 use Rattle.text.specs.Decimal.{decimal}
-use Rattle.salvage.specs.declared.Outcome.{Outcome}
-use Rattle.salvage.specs.declared.Outcome.TheVariants.{Written, Refused}
+use Rattle.format.specs.declared.Refusal.{Refusal}
+use Rattle.salvage.specs.declared.Sizes.{Sizes}
 
 -- ---- GROUPS: the bytes from each start up to the next, or the end; and the row count
 
@@ -98,11 +98,14 @@ salvaging signed fill bs starts counts places lines =
 
 -- ---- THE ANSWER: how many bytes were written, or the refusal, by its number, at place 0
 
+abbrev pub Outcome : Type 0
+Outcome = Result Sizes Refusal
+
 abbrev pub written_of : ℕ → ℕ → Outcome
-written_of stream lines = Written (record { stream = record { bytes = stream }; report = record { bytes = lines } })
+written_of stream lines = Ok (record { stream = record { bytes = stream }; report = record { bytes = lines } })
 
 abbrev pub refused_with : ℕ → Outcome
-refused_with number = Refused (refusing number 0)
+refused_with number = Err (refusing number 0)
 
 abbrev pub outcome_of : Call → Outcome
 outcome_of (refused n) = refused_with n

@@ -5,6 +5,7 @@ ghost use Rattle.format.specs.Writing as Writing;
 ghost use Rattle.salvage.specs.Steps.{run_of, filled, made};
 ghost use Rattle.text.specs.Written.{TextWritten};
 
+use crate::groups::Group;
 use format::{ByteOffset, Kind, RowNumber};
 use text::{put, put_word};
 use util::{pattern, varint};
@@ -13,7 +14,7 @@ use util::{pattern, varint};
 pub(crate) fn stored(fill: i64, signed: bool) -> u64
     ensures { result ≡ Writing.stored signed (as_u64 fill) }
 {
-    let bits = pattern::to_u64(fill);
+    let bits = fill.cast_unsigned();
     if signed {
         pattern::zigzag_of(bits)
     } else {
@@ -25,13 +26,9 @@ pub(crate) fn stored(fill: i64, signed: bool) -> u64
 fn runs_size(rows: RowNumber, first: u64) -> ByteOffset
     ensures { result.bytes ≡ length (filled first rows.rows) }
 {
-    let runs = rows.rows / Kind::MAX_ROWS;
     let size = 3 + varint::size(first);
-    if rows.rows % Kind::MAX_ROWS == 0 {
-        return ByteOffset { bytes: runs * size };
-    }
     ByteOffset {
-        bytes: (runs + 1) * size,
+        bytes: rows.rows.div_ceil(Kind::MAX_ROWS) * size,
     }
 }
 
@@ -53,14 +50,12 @@ fn put_runs(rows: RowNumber, first: u64, out: &mut [u8], at: ByteOffset) -> Byte
     requires { at.bytes + length (filled first rows.rows) ≤ length out.old }
     ensures { TextWritten (filled first rows.rows) out.old at.bytes out.new result.bytes }
 {
-    let all = RowNumber {
+    let full = RowNumber {
         rows: Kind::MAX_ROWS,
     };
     let mut place = at;
-    let mut runs = rows.rows / Kind::MAX_ROWS;
-    while 0 < runs {
-        place = put_run(all, first, out, place);
-        runs -= 1;
+    for _ in 0..rows.rows / Kind::MAX_ROWS {
+        place = put_run(full, first, out, place);
     }
     let rest = rows.rows % Kind::MAX_ROWS;
     if rest == 0 {
@@ -70,30 +65,26 @@ fn put_runs(rows: RowNumber, first: u64, out: &mut [u8], at: ByteOffset) -> Byte
 }
 
 // How many bytes stand for a group.
-pub(crate) fn group_size(bytes: &[u8], rows: RowNumber, keep: bool, first: u64) -> ByteOffset
-    ensures { result.bytes ≡ length (made keep bytes.now first rows.rows) }
+pub(crate) fn group_size(group: Group, first: u64) -> ByteOffset
+    ensures { result.bytes ≡ length (made group.entry.keep group.entry.bytes.now first group.entry.rows.rows) }
 {
-    if keep {
-        return ByteOffset { bytes: bytes.len() };
+    if group.keep {
+        return ByteOffset {
+            bytes: group.bytes.len(),
+        };
     }
-    runs_size(rows, first)
+    runs_size(group.rows, first)
 }
 
-pub(crate) fn put_group(
-    bytes: &[u8],
-    rows: RowNumber,
-    keep: bool,
-    first: u64,
-    out: &mut [u8],
-    at: ByteOffset,
-) -> ByteOffset
-    requires { at.bytes + length (made keep bytes.now first rows.rows) ≤ length out.old }
-    ensures { TextWritten (made keep bytes.now first rows.rows)
+// A group's own bytes, or the runs in their place.
+pub(crate) fn put_group(group: Group, first: u64, out: &mut [u8], at: ByteOffset) -> ByteOffset
+    requires { at.bytes + length (made group.keep group.bytes.now first group.rows.rows) ≤ length out.old }
+    ensures { TextWritten (made group.entry.keep group.entry.bytes.now first group.entry.rows.rows)
         out.old at.bytes out.new result.bytes }
 {
-    if keep {
-        let end = put_word(bytes, out, at.bytes);
+    if group.keep {
+        let end = put_word(group.bytes, out, at.bytes);
         return ByteOffset { bytes: end };
     }
-    put_runs(rows, first, out, at)
+    put_runs(group.rows, first, out, at)
 }

@@ -1,29 +1,76 @@
 // The groups of a stream: their starts, the bytes of each, and whether it is kept.
-ghost use Rattle.std.specs.Prelude.{◌≡◌, ◌<◌, length, T};
+ghost use Rattle.std.specs.Prelude.{◌≡◌, ◌<◌, length, get_or};
+ghost use Rattle.salvage.specs.Laws.{RightStarts};
 ghost use Rattle.salvage.specs.Salvage.{starts_right, kept};
 ghost use Rattle.salvage.specs.Steps.{stop_of, bytes_of, group};
 
-use format::{ByteOffset, RowNumber, Stream};
+use format::{ByteOffset, RowNumber};
+
+// A stream, the byte at which each of its groups starts, and how many rows each has.
+#[derive(Clone, Copy)]
+pub(crate) struct Groups<'a> {
+    pub input: &'a [u8],
+    pub starts: &'a [u64],
+    pub counts: &'a [u64],
+    pub ghost right: { RightStarts input.now starts.now counts.now },
+}
+
+// One of them: its bytes, its rows, and whether it is kept.
+#[derive(Clone, Copy)]
+pub(crate) struct Group<'a> {
+    pub bytes: &'a [u8],
+    pub rows: RowNumber,
+    pub keep: bool,
+}
+
+impl<'a> Groups<'a> {
+    // The bytes of group i, where they stand.
+    fn bytes_of(self, i: usize) -> &'a [u8]
+        requires { i < length self.starts.now }
+        ensures { result.now ≡ bytes_of self.entry.input.now self.entry.starts.now i }
+    {
+        let Groups { input, starts, .. } = self;
+        let from = starts[i] as usize;
+        let end = ByteOffset { bytes: input.len() };
+        let stop = stop_of(end, starts, i);
+        &input[from..stop.bytes]
+    }
+
+    // Group i.
+    pub(crate) fn group(self, i: usize) -> Group<'a>
+        requires { i < length self.starts.now }
+        ensures bytes { result.bytes.now ≡ bytes_of self.entry.input.now self.entry.starts.now i }
+        ensures rows { result.rows.rows ≡ get_or self.entry.counts.now i 0 }
+        ensures keep { result.keep ≡ kept (group result.bytes.now result.rows.rows) }
+    {
+        let bytes = self.bytes_of(i);
+        let rows = RowNumber {
+            rows: self.counts[i] as usize,
+        };
+        Group {
+            bytes,
+            rows,
+            keep: is_kept(bytes, rows),
+        }
+    }
+}
 
 // They begin at 0, rise strictly, and do not pass the end; an empty list only with an empty stream.
 pub(crate) fn starts_right(starts: &[u64], end: ByteOffset) -> bool
     ensures { result ≡ starts_right end.bytes starts.now }
 {
-    if starts.len() == 0 {
+    let Some((first, more)) = starts.split_first() else {
         return end.bytes == 0;
-    }
-    if starts[0] != 0 {
+    };
+    if *first != 0 {
         return false;
     }
-    let mut last: u64 = 0;
-    let mut i: usize = 1;
-    while i < starts.len() {
-        let next = starts[i];
-        if next <= last {
+    let mut last = 0;
+    for next in more {
+        if *next <= last {
             return false;
         }
-        last = next;
-        i += 1;
+        last = *next;
     }
     last <= end.bytes as u64
 }
@@ -33,40 +80,26 @@ fn stop_of(end: ByteOffset, starts: &[u64], i: usize) -> ByteOffset
     requires { i < length starts.now }
     ensures { result.bytes ≡ stop_of end.bytes starts.now i }
 {
-    let next = i + 1;
-    if next < starts.len() {
-        return ByteOffset {
-            bytes: starts[next] as usize,
-        };
+    match starts.get(i + 1) {
+        Some(next) => ByteOffset {
+            bytes: *next as usize,
+        },
+        None => end,
     }
-    end
-}
-
-// The bytes of group i, where they stand.
-pub(crate) fn bytes_of<'a>(input: &'a [u8], starts: &[u64], i: usize) -> &'a [u8]
-    requires { T (starts_right (length input.now) starts.now) × (i < length starts.now) }
-    ensures { result.now ≡ bytes_of input.now starts.now i }
-{
-    let from = starts[i] as usize;
-    let end = ByteOffset { bytes: input.len() };
-    let stop = stop_of(end, starts, i);
-    let to = stop.bytes;
-    &input[from..to]
 }
 
 // A group is kept exactly if its bytes read as a whole stream of exactly its rows.
-pub(crate) fn is_kept(bytes: &[u8], rows: RowNumber) -> bool
+fn is_kept(bytes: &[u8], rows: RowNumber) -> bool
     ensures { result ≡ kept (group bytes.now rows.rows) }
 {
-    if bytes.len() == 0 {
+    if bytes.is_empty() {
         return rows.rows == 0;
     }
-    let said = rle_v2::measure_stream(bytes, ByteOffset { bytes: 0 });
-    match said {
-        Stream::Whole(counts) => {
+    match rle_v2::measure_stream(bytes, ByteOffset { bytes: 0 }) {
+        Ok(counts) => {
             let read = counts.rows;
             read.rows == rows.rows
         }
-        Stream::Refused(_, _) => false,
+        Err(_) => false,
     }
 }

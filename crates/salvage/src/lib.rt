@@ -3,11 +3,11 @@
 #![tactic(auto)]
 
 ghost use Rattle.std.specs.Prelude.{◌≡◌, Bool, length};
-ghost use Rattle.salvage.specs.Salvage.{written_of, refused_with, Salvaged};
-ghost use Rattle.salvage.specs.Laws.{RightStarts};
+ghost use Rattle.salvage.specs.Salvage.{refused_with, Salvaged};
 ghost use Rattle.salvage.specs.Steps.{room_for};
 
-use format::{ByteOffset, Refusal, RowNumber};
+use format::{ByteOffset, Refusal};
+use groups::Groups;
 
 mod fill;
 mod groups;
@@ -20,101 +20,63 @@ pub struct Sizes {
     pub report: ByteOffset,
 }
 
-// What a call comes to.
-#[derive(Clone, Copy)]
-pub enum Outcome {
-    Written(Sizes),
-    Refused(Refusal),
-}
-
-impl Outcome {
-    pub fn written(stream: ByteOffset, report: ByteOffset) -> Self
-        ensures { result ≡ written_of stream.bytes report.bytes }
-    {
-        Outcome::Written(Sizes { stream, report })
-    }
-
-    pub fn refused(number: u8) -> Self
-        ensures { result ≡ refused_with number }
-    {
-        Outcome::Refused(Refusal::new(number, ByteOffset { bytes: 0 }))
-    }
+// A refusal by its number, at place 0. (`Refusal` of the format has a number, and the definition `refused_with` takes it.)
+fn refused(number: u8) -> Result<Sizes, Refusal>
+    ensures { result ≡ refused_with number }
+{
+    Err(Refusal::new(number, ByteOffset { bytes: 0 }))
 }
 
 // Both outputs have room for what is to be written. Only sizes are needed for that, and each is compared with the room that is left: no sum
 // passes 2^64, and a count of any size costs the same.
-fn has_room(
-    input: &[u8],
-    starts: &[u64],
-    counts: &[u64],
-    fill: i64,
-    signed: bool,
-    out: &[u8],
-    report: &[u8],
-) -> bool
-    requires { RightStarts input.now starts.now counts.now }
-    ensures { result ≡ room_for signed fill input.now starts.now counts.now (length out.now)
-        (length report.now) }
+fn has_room(groups: Groups, fill: i64, signed: bool, out: &[u8], report: &[u8]) -> bool
+    ensures { result ≡ room_for signed fill groups.entry.input.now groups.entry.starts.now groups.entry.counts.now
+        (length out.now) (length report.now) }
 {
     let first = fill::stored(fill, signed);
     let mut stream: usize = 0;
     let mut lines: usize = 0;
-    let mut i: usize = 0;
-    while i < starts.len() {
-        let listed = counts[i];
-        let rows = RowNumber {
-            rows: listed as usize,
-        };
-        let bytes = groups::bytes_of(input, starts, i);
-        let keep = groups::is_kept(bytes, rows);
-        let group = fill::group_size(bytes, rows, keep, first);
-        let more = group.bytes;
-        if out.len() - stream < more {
+    for i in 0..groups.starts.len() {
+        let group = groups.group(i);
+        let made = fill::group_size(group, first);
+        if out.len() - stream < made.bytes {
             return false;
         }
-        let told = line::size(keep, i as u64, rows);
-        let line = told.bytes;
-        if report.len() - lines < line {
+        let told = line::size(group.keep, i as u64, group.rows);
+        if report.len() - lines < told.bytes {
             return false;
         }
-        stream += more;
-        lines += line;
-        i += 1;
+        stream += made.bytes;
+        lines += told.bytes;
     }
     true
 }
 
 // Writes each group, and its line.
 fn write_all(
-    input: &[u8],
-    starts: &[u64],
-    counts: &[u64],
+    groups: Groups,
     fill: i64,
     signed: bool,
     out: &mut [u8],
     report: &mut [u8],
-) -> Outcome
-    requires { RightStarts input.now starts.now counts.now
-        × (room_for signed fill input.now starts.now counts.now (length out.old) (length report.old) ≡ Bool.true) }
-    ensures { Salvaged input.now starts.now counts.now fill signed out.old
+) -> Result<Sizes, Refusal>
+    requires { room_for signed fill groups.input.now groups.starts.now groups.counts.now
+        (length out.old) (length report.old) ≡ Bool.true }
+    ensures { Salvaged groups.entry.input.now groups.entry.starts.now groups.entry.counts.now fill signed out.old
         out.new report.old report.new result }
 {
     let first = fill::stored(fill, signed);
     let mut stream = ByteOffset { bytes: 0 };
     let mut lines = ByteOffset { bytes: 0 };
-    let mut i: usize = 0;
-    while i < starts.len() {
-        let listed = counts[i];
-        let rows = RowNumber {
-            rows: listed as usize,
-        };
-        let bytes = groups::bytes_of(input, starts, i);
-        let keep = groups::is_kept(bytes, rows);
-        stream = fill::put_group(bytes, rows, keep, first, out, stream);
-        lines = line::put_line(keep, i as u64, rows, report, lines);
-        i += 1;
+    for i in 0..groups.starts.len() {
+        let group = groups.group(i);
+        stream = fill::put_group(group, first, out, stream);
+        lines = line::put_line(group.keep, i as u64, group.rows, report, lines);
     }
-    Outcome::written(stream, lines)
+    Ok(Sizes {
+        stream,
+        report: lines,
+    })
 }
 
 // Salvages a stream by its groups, each with a start byte and a row count. Refusals: 17 starts that do not begin at 0, do not rise strictly
@@ -127,18 +89,23 @@ pub fn salvage(
     signed: bool,
     out: &mut [u8],
     report: &mut [u8],
-) -> Outcome
+) -> Result<Sizes, Refusal>
     ensures { Salvaged input.now starts.now counts.now fill signed out.old
         out.new report.old report.new result }
 {
     if starts.len() != counts.len() {
-        return Outcome::refused(17);
+        return refused(17);
     }
     if !groups::starts_right(starts, ByteOffset { bytes: input.len() }) {
-        return Outcome::refused(17);
+        return refused(17);
     }
-    if !has_room(input, starts, counts, fill, signed, out, report) {
-        return Outcome::refused(8);
+    let groups = Groups {
+        input,
+        starts,
+        counts,
+    };
+    if !has_room(groups, fill, signed, out, report) {
+        return refused(8);
     }
-    write_all(input, starts, counts, fill, signed, out, report)
+    write_all(groups, fill, signed, out, report)
 }

@@ -1,4 +1,5 @@
-// A line of the report: `kept` or `replaced`, the group's number, its rows.
+// A line of the report: `kept` or `replaced`, the group's number, its rows. (No Display: there is no heap, and text goes into lent bytes `out`
+// from a place `at`, as `TextWritten` of `text` says.)
 ghost use Rattle.std.specs.Prelude.{◌≡◌, ◌+◌, ◌≤◌, length};
 ghost use Rattle.salvage.specs.Salvage as Salvage;
 ghost use Rattle.text.specs.Decimal.{decimal};
@@ -11,7 +12,7 @@ const KEPT: [u8; 5] = *b"kept ";
 
 const REPLACED: [u8; 9] = *b"replaced ";
 
-// How many digits a number has.
+// How many digits a number has. (The loop divides; its count of digits is what is asked.)
 fn decimal_size(x: u64) -> ByteOffset
     ensures { result.bytes ≡ length (decimal x) }
 {

@@ -1,11 +1,9 @@
 -- Totals of two inputs, and of one line more. Assumes nothing.
-use Rattle.std.proofs.Common.{◌≡◌, ℕ, ◌+◌, Bool, List, [], ◌∷◌, ◌++◌, length, ℤ, ◌+ℤ◌, sym, refl, ap, ◌∙◌, append_assoc, arith, length-append}
+use Rattle.std.proofs.Common.{◌≡◌, ℕ, ◌+◌, Bool, List, [], ◌∷◌, ◌++◌, length, ℤ, ◌+ℤ◌, sym, refl, ap, ◌∙◌, append_assoc, arith, length-append, Option, None, Some}
 use lib.IntN.{+ℤ_idl, +ℤ_idr, +ℤ_assoc}
 use Rattle.format.specs.declared.Kind.{Kind}
 use Rattle.tally.specs.Totals.{Line, is_bad, is_end, is_refusal, is_run, rows_in, counted, rows_over, lower, higher, of_two, of_all, sum_of, Tally, totals}
 use Rattle.tally.specs.Totals.{empty, combine}
-use Rattle.tally.specs.declared.totals.Extreme.{Extreme}
-use Rattle.tally.specs.declared.totals.Extreme.TheVariants.{None, Row}
 use Rattle.tally.specs.Laws.{Combining}
 use Rattle.tally.proofs.Order.{lowers, highers, of_two-assoc, of_all-append}
 
@@ -50,9 +48,9 @@ joined xs ys =
     (ap (of_all higher) (rows-over-append xs ys) ∙ of_all-append _ higher highers (rows_over xs) (rows_over ys))
     (ap sum_of (rows-over-append xs ys) ∙ sum-append (rows_over xs) (rows_over ys))
 
-none_right : (choice : ℤ → ℤ → ℤ) (e : Extreme) → of_two choice e None ≡ e
+none_right : (choice : ℤ → ℤ → ℤ) (e : Option ℤ) → of_two choice e None ≡ e
 none_right choice None = refl
-none_right choice (Row z) = refl
+none_right choice (Some z) = refl
 
 assoc : (a b c : Tally) → combine (combine a b) c ≡ combine a (combine b c)
 assoc a b c =

@@ -1,17 +1,15 @@
 -- The README's five lines and others, by computation. Assumes nothing.
-use Rattle.std.proofs.Common.{◌≡◌, ℕ, List, [], ◌∷◌, map, ℤ, pos, negsuc, refl}
+use Rattle.std.proofs.Common.{◌≡◌, ℕ, List, [], ◌∷◌, map, ℤ, pos, negsuc, refl, Option, None, Some}
 use Rattle.format.specs.declared.Kind.TheVariants.{ShortRepeat, Direct}
 use Rattle.format.proofs.Examples.{told}
 use Rattle.tally.specs.Totals.{run, answered, counted, rows_over, of_all, sum_of, Tally, totals}
-use Rattle.tally.specs.declared.totals.Extreme.{Extreme}
-use Rattle.tally.specs.declared.totals.Extreme.TheVariants.{None, Row}
 use Rattle.tally.specs.Wide.{wide_of, wide_value}
 
 -- lines, bad, end, refused 1, refused 2, short, direct; rows, smallest, largest and sum
 pub record Seen : Type 0 where
   pub counts : List ℕ
-  pub smallest : Extreme
-  pub largest : Extreme
+  pub smallest : Option ℤ
+  pub largest : Option ℤ
   pub sum : ℤ
 
 unfoldable seen : Tally → Seen
@@ -27,13 +25,13 @@ seen t = record {
 five-lines : seen (totals
     (map answered ((0x00 ∷ 0x0A ∷ 0x01 ∷ 0x2C ∷ []) ∷ (0x00 ∷ 0x46 ∷ 0x02 ∷ 0x12 ∷ 0x30 ∷ []) ∷ (0x00 ∷ 0x86 ∷ 0x03 ∷ 0x1F ∷ 0x21 ∷ []) ∷
     (0x01 ∷ []) ∷ [] ∷ [])))
-    ≡ record { counts = 5 ∷ 1 ∷ 1 ∷ 0 ∷ 1 ∷ 1 ∷ 1 ∷ 8 ∷ []; smallest = Row (pos 1); largest = Row (pos 300); sum = pos 1506 }
+    ≡ record { counts = 5 ∷ 1 ∷ 1 ∷ 0 ∷ 1 ∷ 1 ∷ 1 ∷ 8 ∷ []; smallest = Some (pos 1); largest = Some (pos 300); sum = pos 1506 }
 unfolding seen
 five-lines = refl
 
 -- rows are read by the line's flag
 signed-line : seen (totals (map answered ((0x01 ∷ 0x46 ∷ 0x02 ∷ 0x12 ∷ 0x30 ∷ []) ∷ [])))
-    ≡ record { counts = 1 ∷ 0 ∷ 0 ∷ 0 ∷ 0 ∷ 0 ∷ 1 ∷ 3 ∷ []; smallest = Row (negsuc 1); largest = Row (pos 1); sum = negsuc 1 }
+    ≡ record { counts = 1 ∷ 0 ∷ 0 ∷ 0 ∷ 0 ∷ 0 ∷ 1 ∷ 3 ∷ []; smallest = Some (negsuc 1); largest = Some (pos 1); sum = negsuc 1 }
 unfolding seen
 signed-line = refl
 

@@ -1,5 +1,5 @@
 -- What the code holds is that of the lines that were taken. Assumes nothing.
-use Rattle.std.proofs.Common.{◌≡◌, ℕ, zero, suc, ◌+◌, ◌-◌, ◌<◌, ◌≤◌, List, [], ◌∷◌, ◌++◌, map, length, get_or, take, drop, set, replicate, ℤ, sym, refl, ap, ◌∙◌, append-nil, add-one, arith, take-append-drop, drop_of_length-le, take_all, drop-cons, take-suc-set, drop-set-lt, le-ltb, lt-ltb, eq-eqb, ne_eqb}
+use Rattle.std.proofs.Common.{◌≡◌, ℕ, zero, suc, ◌+◌, ◌-◌, ◌<◌, ◌≤◌, List, [], ◌∷◌, ◌++◌, map, length, get_or, take, drop, set, replicate, ℤ, sym, refl, ap, ◌∙◌, append-nil, add-one, arith, drop_of_length-le, take_all, drop-cons, take-suc-set, drop-set-lt, le-ltb, lt-ltb, eq-eqb, ne_eqb, None}
 use native.Mathlib.Decide.{dec_lt}
 use lib.Seq.{append_snoc}
 use Rattle.format.specs.Rows.{plus}
@@ -8,7 +8,6 @@ use Rattle.format.specs.declared.Kind.TheVariants.{ShortRepeat, Direct, PatchedB
 use Rattle.format.specs.Answers.{kind_number}
 use Rattle.tally.specs.Totals.{bad, ended, refusal, run, is_refusal, is_run, counted, rows_over, lower, higher, of_all, sum_of, totals, empty}
 use Rattle.tally.specs.declared.totals.Totals.{Totals}
-use Rattle.tally.specs.declared.totals.Extreme.TheVariants.{None}
 use Rattle.tally.specs.Wide.{wide_of}
 use Rattle.tally.specs.Held.{numbers, kinds, held, counting, slot, each_plus}
 
@@ -27,18 +26,10 @@ each_more xs ys i h k =
     rw (add-one, take-suc-set xs i v h, drop-set-lt (suc i) xs i v (omega arith))
     (append_snoc (take i xs) v (each_plus (drop (suc i) xs) (drop (suc i) ys)) ∙ ap (λ s. take i xs ++ s) (sym (each-cons xs ys i h k)))
 
--- at the end of either
+-- at the end
 pub each_all : (xs ys : List ℕ) (i : ℕ) → length xs ≤ i → xs ≡ take i xs ++ each_plus (drop i xs) (drop i ys)
 unfolding each_plus
 each_all xs ys i h = rw (drop_of_length-le xs h, take_all i xs h) (sym (append-nil xs))
-
-each-rest : (xs : List ℕ) → each_plus xs [] ≡ xs
-unfolding each_plus
-each-rest [] = refl
-each-rest (x ∷ xs) = refl
-
-pub each_left : (xs ys : List ℕ) (i : ℕ) → length ys ≤ i → xs ≡ take i xs ++ each_plus (drop i xs) (drop i ys)
-each_left xs ys i h = rw (drop_of_length-le ys h, each-rest (drop i xs)) (sym (take-append-drop i xs))
 
 -- ---- no line, and one, held
 

@@ -1,13 +1,13 @@
 -- The order of whole numbers, and the smallest and the largest of a list. Assumes nothing.
-use Rattle.std.proofs.Common.{◌≡◌, ℕ, ◌+◌, ◌<◌, Bool, true, false, T, ◌⊎◌, ◌↔◌, List, [], ◌∷◌, ◌++◌, length, get_or, take, ℤ, pos, negsuc, ◌≤ℤ◌, sym, refl, ap, ◌∙◌, inl, inr, add-one, arith, le→leb, leb→le, take-suc, to_z-of_z, w64, SFits, to_z, of_z, leb-false}
+use Rattle.std.proofs.Common.{◌≡◌, ℕ, ◌+◌, ◌<◌, Bool, true, false, T, ◌⊎◌, ◌↔◌, List, [], ◌∷◌, ◌++◌, length, get_or, take, ℤ, pos, negsuc, ◌≤ℤ◌, sym, refl, ap, ◌∙◌, inl, inr, add-one, arith, le→leb, leb→le, take-suc, to_z-of_z, w64, SFits, to_z, of_z, leb-false, Option, None, Some}
 use mathlib.Core.List.Memᴰ
 use mathlib.Core.List.{Memᴰ}
 use lib.Signed.{le_z, ≤ℤ_refl}
+use Rattle.std.proofs.lemmas.Grind.{common_steps}
+use Rattle.std.specs.Int.{int_min, int_max}
 use Rattle.format.specs.Fields.{pick}
 use Rattle.format.proofs.Tests.{never}
 use Rattle.tally.specs.Totals.{lower, higher, of_two, of_all}
-use Rattle.tally.specs.declared.totals.Extreme.{Extreme}
-use Rattle.tally.specs.declared.totals.Extreme.TheVariants.{None, Row}
 use Rattle.tally.specs.Laws.{Best, ExtremesHold}
 
 -- ---- the order
@@ -80,16 +80,16 @@ module _ (R : ℤ → ℤ → Type 0) (choice : ℤ → ℤ → ℤ) (o : Choice
       (to-chosen _ (choice a b) c (to-chosen _ a b (chosen-left a _) (o.R-trans (chosen-right a _) (chosen-left b c)))
       (o.R-trans (chosen-right a _) (chosen-right b c)))
 
-  pub of_two-assoc : (a b c : Extreme) → of_two choice (of_two choice a b) c ≡ of_two choice a (of_two choice b c)
+  pub of_two-assoc : (a b c : Option ℤ) → of_two choice (of_two choice a b) c ≡ of_two choice a (of_two choice b c)
   of_two-assoc None b c = refl
-  of_two-assoc (Row a) None c = refl
-  of_two-assoc (Row a) (Row b) None = refl
-  of_two-assoc (Row a) (Row b) (Row c) = ap Row (choice-assoc a b c)
+  of_two-assoc (Some a) None c = refl
+  of_two-assoc (Some a) (Some b) None = refl
+  of_two-assoc (Some a) (Some b) (Some c) = ap Some (choice-assoc a b c)
 
   pub of_all-append : (zs ys : List ℤ) → of_all choice (zs ++ ys) ≡ of_two choice (of_all choice zs) (of_all choice ys)
   unfolding of_all
   of_all-append [] ys = refl
-  of_all-append (z ∷ zs) ys = rw (of_all-append zs ys) (sym (of_two-assoc (Row z) (of_all choice zs) (of_all choice ys)))
+  of_all-append (z ∷ zs) ys = rw (of_all-append zs ys) (sym (of_two-assoc (Some z) (of_all choice zs) (of_all choice ys)))
 
   best-cons : (z m : ℤ) (zs : List ℤ) → Best R zs m → Best R (z ∷ zs) (choice z m)
   best-cons z m zs b = record { row = at (o.chooses z m); all-rows = to }
@@ -103,9 +103,9 @@ module _ (R : ℤ → ℤ → Type 0) (choice : ℤ → ℤ → ℤ) (o : Choice
       to y (Memᴰ.tail k) = o.R-trans (chosen-right z m) (b.all-rows y k)
 
   -- none of no rows, or the best
-  data Holds (zs : List ℤ) : Extreme → Type 0 where
+  data Holds (zs : List ℤ) : Option ℤ → Type 0 where
     holds-none : zs ≡ [] → Holds zs None
-    holds-best : {z : ℤ} → Best R zs z → Holds zs (Row z)
+    holds-best : {z : ℤ} → Best R zs z → Holds zs (Some z)
 
   only : (z y : ℤ) (zs : List ℤ) → zs ≡ [] → Memᴰ y (z ∷ zs) → R z y
   only z y zs e (Memᴰ.head h) = rw h (o.R-refl z)
@@ -116,26 +116,26 @@ module _ (R : ℤ → ℤ → Type 0) (choice : ℤ → ℤ → ℤ) (o : Choice
   holds [] = holds-none refl
   holds (z ∷ zs) = go (holds zs)
     where
-      go : {e : Extreme} → Holds zs e → Holds (z ∷ zs) (of_two choice (Row z) e)
+      go : {e : Option ℤ} → Holds zs e → Holds (z ∷ zs) (of_two choice (Some z) e)
       go (holds-none e) = holds-best (record { row = Memᴰ.head refl; all-rows = λ y k. only z y zs e k })
       go (holds-best b) = holds-best (best-cons z _ zs b)
 
   of_none : {zs : List ℤ} → Holds zs None → zs ≡ []
   of_none (holds-none e) = e
 
-  of-best : {zs : List ℤ} {z : ℤ} → Holds zs (Row z) → Best R zs z
+  of-best : {zs : List ℤ} {z : ℤ} → Holds zs (Some z) → Best R zs z
   of-best (holds-best b) = b
 
   none-exactly : (zs : List ℤ) → (of_all choice zs ≡ None) ↔ (zs ≡ [])
   unfolding of_all
   none-exactly zs = (λ e. of_none (rw e at (holds zs)), λ e. rw e)
 
-  best-exactly : (zs : List ℤ) (z : ℤ) → (of_all choice zs ≡ Row z) ↔ Best R zs z
+  best-exactly : (zs : List ℤ) (z : ℤ) → (of_all choice zs ≡ Some z) ↔ Best R zs z
   best-exactly zs z = (λ e. of-best (rw e at (holds zs)), λ b. same b (holds zs))
     where
-      same : {e : Extreme} → Best R zs z → Holds zs e → e ≡ Row z
+      same : {e : Option ℤ} → Best R zs z → Holds zs e → e ≡ Some z
       same b (holds-none e) = absurd (Memᴰ.not-nil (rw e at b.row))
-      same b (holds-best c) = ap Row (o.R-antisym (c.all-rows z b.row) (b.all-rows _ c.row))
+      same b (holds-best c) = ap Some (o.R-antisym (c.all-rows z b.row) (b.all-rows _ c.row))
 
 -- ---- the lower and the higher
 
@@ -161,27 +161,33 @@ extremes-hold zs = record {
   largest = best-exactly _ higher highers zs;
 }
 
--- ---- the code's tests and rows
+-- ---- the code's choices and rows
 
-module _ (a b : ℤ) (fa : SFits w64 a) (fb : SFits w64 b) where
-  pub at_most : le_z (to_z w64 (of_z w64 a)) (to_z w64 (of_z w64 b)) ≡ true → le_z a b ≡ true
-  at_most t = rw (to_z-of_z fa, to_z-of_z fb) at t
+pub least-lower : (a b : ℤ) → int_min a b ≡ lower a b
+least-lower a b = grind (arith, common_steps)
 
-  pub above : le_z (to_z w64 (of_z w64 a)) (to_z w64 (of_z w64 b)) ≡ false → le_z a b ≡ false
-  above t = rw (to_z-of_z fa, to_z-of_z fb) at t
+pub most-higher : (a b : ℤ) → int_max a b ≡ higher a b
+most-higher a b = grind (arith, common_steps)
 
 pub taken-row : (z : ℤ) → SFits w64 z → to_z w64 (of_z w64 z) ≡ z
 taken-row z f = to_z-of_z f
 
 -- one row more
 module _ (R : ℤ → ℤ → Type 0) (choice : ℤ → ℤ → ℤ) (o : Choice R choice) where
-  pub one-row : (zs : List ℤ) → 0 < length zs → of_all choice (take 1 zs) ≡ Row (get_or zs 0 (pos 0))
+  pub one-row : (zs : List ℤ) → 0 < length zs → of_all choice (take 1 zs) ≡ Some (get_or zs 0 (pos 0))
   unfolding of_all
   one-row [] h = absurd (omega arith)
   one-row (z ∷ zs) h = refl
 
-  pub more-row : (zs : List ℤ) (i : ℕ) (m : ℤ) → i < length zs → of_all choice (take i zs) ≡ Row m
-      → of_all choice (take (i + 1) zs) ≡ Row (choice m (get_or zs i (pos 0)))
+  pub more-row : (zs : List ℤ) (i : ℕ) (m : ℤ) → i < length zs → of_all choice (take i zs) ≡ Some m
+      → of_all choice (take (i + 1) zs) ≡ Some (choice m (get_or zs i (pos 0)))
   unfolding of_all
   more-row zs i m h e =
       rw (add-one, take-suc zs i (pos 0) h) (of_all-append R choice o (take i zs) (get_or zs i (pos 0) ∷ []) ∙ rw e)
+
+  -- and of the rows after a first
+  pub next-row : (z : ℤ) (zs : List ℤ) (i : ℕ) (m : ℤ) → i < length zs → of_all choice (take (i + 1) (z ∷ zs)) ≡ Some m
+      → of_all choice (take (i + 1 + 1) (z ∷ zs)) ≡ Some (choice m (get_or zs i (pos 0)))
+  next-row z zs i m h e =
+      let f : get_or (z ∷ zs) (i + 1) (pos 0) ≡ get_or zs i (pos 0) = rw add-one in
+      more-row (z ∷ zs) (i + 1) m (omega arith) e ∙ ap (λ x. Some (choice m x)) f

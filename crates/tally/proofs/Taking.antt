@@ -8,10 +8,9 @@ use Rattle.format.specs.Fields.{pick, two64}
 use Rattle.format.specs.Rows.{plus}
 use Rattle.format.specs.Writing.{AllI64}
 use Rattle.tally.specs.declared.totals.Totals.{Totals}
-use Rattle.tally.specs.declared.totals.Taken.{Taken}
 use Rattle.tally.specs.Totals.{Line, is_bad, is_end, is_refusal, is_run, counted, rows_over, sum_of, totals, step, limit, too_many, passes, twenty}
 use Rattle.tally.specs.Totals.{take_lines}
-use Rattle.tally.specs.Held.{numbers, kinds, held, each_plus, together, going, stopped, combined, take_line, unless_stopped, take_all, held_outcome}
+use Rattle.tally.specs.Held.{Taken, numbers, kinds, held, each_plus, together, going, stopped, combined, take_line, unless_stopped, take_all, held_outcome}
 use Rattle.tally.specs.Laws.{Within, I64, CodeHolds, CodeTells}
 use Rattle.tally.proofs.Combining.{rows-over-append, joined, counted-append}
 use Rattle.tally.proofs.Limits.{count-append, Passing, passing, staying, passing-is}
@@ -109,7 +108,7 @@ lines_from done (l ∷ ls) f =
 
     go : (t : Bool) (r : Taken) → r ≡ pick t (stopped (held (totals done))) (going (held (totals (done ++ (l ∷ [])))))
         → take_all (held (totals (done ++ (l ∷ [])))) ls ≡ held_outcome (take_lines (step (totals done) l) ls)
-        → unless_stopped r.stop r (take_all r.totals ls) ≡ held_outcome (pick t (twenty (totals done)) (take_lines (step (totals done) l) ls))
+        → unless_stopped r (λ u. take_all u ls) ≡ held_outcome (pick t (twenty (totals done)) (take_lines (step (totals done) l) ls))
     go true r e ih = rw e
     go false r e ih = rw e ih
 

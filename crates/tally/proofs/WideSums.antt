@@ -1,7 +1,7 @@
 -- The sum of at most 2^32 rows stands in two words. Assumes nothing.
-use Rattle.std.proofs.Common.{◌≡◌, ℕ, suc, ◌+◌, ◌-◌, ◌*◌, ◌/◌, ◌%◌, ◌^◌, ◌<◌, ◌≤◌, List, [], ◌∷◌, length, get_or, take, ℤ, pos, negsuc, ◌+ℤ◌, nat_abs, sym, refl, ap, ◌∙◌, add-zero, mod-lt, div-add-mod', add-one, arith, take-suc, pow_pos, w64, SFits, le-ltb, lt-ltb}
+use Rattle.std.proofs.Common.{◌≡◌, ℕ, suc, ◌+◌, ◌-◌, ◌*◌, ◌/◌, ◌%◌, ◌^◌, ◌<◌, ◌≤◌, List, [], ◌∷◌, length, get_or, take, ℤ, pos, negsuc, ◌+ℤ◌, nat_abs, sym, refl, ap, ◌∙◌, mod-lt, div-add-mod', add-one, arith, take-suc, pow_pos, w64, SFits, le-ltb, lt-ltb}
 use native.Mathlib.Decide.{dec_lt}
-use native.Mathlib.Nat.{mod-add-mod, div-le_of_le-mul}
+use native.Mathlib.Nat.{div-le_of_le-mul}
 use lib.Arith.{digits_div, digits_mod}
 use lib.IntN.{sub_ℕ, +ℤ_idr}
 use Rattle.format.specs.Fields.{two64}
@@ -131,24 +131,6 @@ row_low n h = pos-words {q = 0} (record { number = omega arith; fits = omega ari
 
 pub row-high : (n : ℕ) → n < 2 ^ 63 → wide_of (negsuc n) ≡ words (two64 - 1) (two64 - 1 - n)
 row-high n h = neg-words {q = 0} (record { number = omega arith; fits = omega arith })
-
--- the low words wrap exactly where their sum is below the first
-carried : (a b : ℕ) → a < two64 → b < two64 → (a + b) % two64 < a → (a + b) / two64 ≡ 1
-carried a b h k l = omega arith
-
-kept : (a b : ℕ) → a < two64 → b < two64 → a ≤ (a + b) % two64 → (a + b) / two64 ≡ 0
-kept a b h k l = omega arith
-
-module _ (v w : Wide) (hv : v.low < two64) (hw : w.low < two64) where
-  pub carries : (v.low + w.low) % two64 < v.low → words (((v.high + w.high) % two64 + 1) % two64) ((v.low + w.low) % two64) ≡ add_wide v w
-  carries l =
-      let e : (v.low + w.low) / two64 ≡ 1 = carried v.low w.low hv hw l in
-      rw e (same (mod-add-mod (v.high + w.high) two64 1) refl)
-
-  pub no-carry : v.low ≤ (v.low + w.low) % two64 → words ((v.high + w.high) % two64) ((v.low + w.low) % two64) ≡ add_wide v w
-  no-carry l =
-      let e : (v.low + w.low) / two64 ≡ 0 = kept v.low w.low hv hw l in
-      rw (e, add-zero)
 
 -- one row more: the sum so far is at most 2^63 for each row in size
 pub record Summed (rows : List ℤ) (i : ℕ) (w : Wide) : Type 0 where

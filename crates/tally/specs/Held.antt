@@ -1,21 +1,16 @@
 -- HOW THE CODE HOLDS TOTALS: a struct of counts below 2^64, refusals by number, runs by kind, and the sum in two words; and what each
 -- function answers, for every struct that a caller makes.
 -- Assumes nothing.
-use Rattle.std.specs.Prelude.{ℕ, ◌+◌, List, [], ◌∷◌, map, length, replicate, ℤ, nat_lt}
+use Rattle.std.specs.Prelude.{ℕ, ◌+◌, List, [], ◌∷◌, map, length, replicate, ℤ, nat_lt, Some, Ok, Err, None, Result}
 use Rattle.format.specs.declared.Kind.{Kind}
 use Rattle.format.specs.declared.Kind.TheVariants as kind
-use Rattle.format.specs.declared.Answer.{Answer}
-use Rattle.format.specs.declared.Answer.TheVariants as answer
-use Rattle.format.specs.Answers.{refusing}
+use Rattle.format.specs.Answers.{Answer, refusing}
 use Rattle.format.specs.Fields.{pick}
 use Rattle.format.specs.Rows.{plus}
 use Rattle.tally.specs.declared.totals.Reply.{Reply}
 use Rattle.tally.specs.declared.totals.Reply.TheVariants.{Bad, End, Refused, Run}
-use Rattle.tally.specs.declared.totals.Extreme.TheVariants.{None}
 use Rattle.tally.specs.declared.totals.Totals.{Totals}
-use Rattle.tally.specs.declared.totals.Taken.{Taken}
-use Rattle.tally.specs.declared.totals.Stop.{Stop}
-use Rattle.tally.specs.declared.totals.Stop.TheVariants as stop
+use Rattle.tally.specs.declared.totals.Stopped.{Stopped}
 use Rattle.tally.specs.Totals.{Line, bad, ended, refusal, run, rows_in, lower, higher, of_two, Tally, totals, too_many, Outcome, all}
 use Rattle.tally.specs.Totals.{twenty}
 use Rattle.tally.specs.Wide.{wide_of, add_wide}
@@ -34,9 +29,9 @@ line_with (Run kind) rows = run kind rows
 
 -- the run reader's answer as a reply
 abbrev pub reply_to : Answer → Reply
-reply_to answer.End = End
-reply_to (answer.Run r) = Run r.kind
-reply_to (answer.Refused f) = Refused f.number
+reply_to (Ok None) = End
+reply_to (Ok (Some r)) = Run r.kind
+reply_to (Err f) = Refused f.number
 
 -- ---- THE STRUCT that holds totals
 
@@ -95,11 +90,14 @@ together a b = record {
 
 -- ---- THE ANSWERS: the new totals; or 20, with the totals as before
 
+abbrev pub Taken : Type 0
+Taken = Result Totals Stopped
+
 abbrev pub going : Totals → Taken
-going t = record { totals = t; stop = stop.None }
+going t = Ok t
 
 abbrev pub stopped : Totals → Taken
-stopped t = record { totals = t; stop = stop.Refused (refusing 20 0) }
+stopped t = Err (record { totals = t; refusal = refusing 20 0 })
 
 -- two totals, the second's lines after the first's
 unfoldable pub combined : Totals → Totals → Taken
@@ -110,14 +108,14 @@ unfoldable pub take_line : Totals → Line → Taken
 take_line t l = pick (too_many (t.lines + 1) (t.rows + length (rows_in l))) (stopped t) (going (together t (held (totals (l ∷ [])))))
 
 -- go on unless stopped
-abbrev pub unless_stopped : Stop → Taken → Taken → Taken
-unless_stopped stop.None before more = more
-unless_stopped (stop.Refused f) before more = before
+abbrev pub unless_stopped : Taken → (Totals → Taken) → Taken
+unless_stopped (Ok t) more = more t
+unless_stopped (Err s) more = Err s
 
 -- lines, one after another, to the first that is refused
 unfoldable pub take_all : Totals → List Line → Taken
 take_all t [] = going t
-take_all t (l ∷ ls) = let r = take_line t l in unless_stopped r.stop r (take_all r.totals ls)
+take_all t (l ∷ ls) = unless_stopped (take_line t l) (λ u. take_all u ls)
 
 -- an outcome, as the code holds it
 abbrev pub held_outcome : Outcome → Taken

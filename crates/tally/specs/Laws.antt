@@ -1,5 +1,5 @@
 -- What the totals' definitions say. Assumes nothing.
-use Rattle.std.specs.Prelude.{◌≡◌, ℕ, ◌^◌, ◌<◌, ◌≤◌, ◌↔◌, List, [], ◌∷◌, ◌++◌, map, length, take, ℤ, ◌+ℤ◌, ◌≤ℤ◌, ◌==◌, slice_index, unsigned_abs}
+use Rattle.std.specs.Prelude.{◌≡◌, ℕ, ◌^◌, ◌<◌, ◌≤◌, ◌↔◌, List, [], ◌∷◌, ◌++◌, map, length, take, ℤ, ◌+ℤ◌, ◌≤ℤ◌, ◌==◌, slice_index, unsigned_abs, None, Some}
 use mathlib.Core.List.{Memᴰ}
 use Rattle.format.specs.Digits.{AllBelow}
 use Rattle.format.specs.Fields.{pick}
@@ -10,7 +10,6 @@ use Rattle.format.specs.Promises.{answer_of, run_places}
 use Rattle.format.specs.Writing.{AllI64}
 use Rattle.tally.specs.Totals.{Line, refusal, answered, rows_over, lower, higher, of_all, Tally, totals, empty, combine, step, too_many}
 use Rattle.tally.specs.Totals.{passes, limit, Outcome, all, twenty, take_lines}
-use Rattle.tally.specs.declared.totals.Extreme.TheVariants.{None, Row}
 use Rattle.tally.specs.Wide.{wide_of, wide_value, add_wide}
 use Rattle.tally.specs.Held.{line_with, reply_to, held, going, stopped, combined, take_line, take_all, held_outcome}
 
@@ -54,8 +53,8 @@ pub record Best (R : ℤ → ℤ → Type 0) (zs : List ℤ) (z : ℤ) : Type 0 
 pub record Extremes (zs : List ℤ) : Type 0 where
   pub no-smallest : (of_all lower zs ≡ None) ↔ (zs ≡ [])
   pub no-largest : (of_all higher zs ≡ None) ↔ (zs ≡ [])
-  pub smallest : (z : ℤ) → (of_all lower zs ≡ Row z) ↔ Best (λ a b. a ≤ℤ b) zs z
-  pub largest : (z : ℤ) → (of_all higher zs ≡ Row z) ↔ Best (λ a b. b ≤ℤ a) zs z
+  pub smallest : (z : ℤ) → (of_all lower zs ≡ Some z) ↔ Best (λ a b. a ≤ℤ b) zs z
+  pub largest : (z : ℤ) → (of_all higher zs ≡ Some z) ↔ Best (λ a b. b ≤ℤ a) zs z
 
 abbrev pub ExtremesHold : Type 0
 ExtremesHold = (zs : List ℤ) → Extremes zs

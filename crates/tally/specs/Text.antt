@@ -1,12 +1,10 @@
 -- A WHOLE NUMBER IN DECIMAL, of any size.
 -- Assumes nothing.
-use Rattle.std.specs.Prelude.{◌≡◌, ℕ, suc, ◌-◌, List, [], ◌∷◌, ◌++◌, map, length, drop, ℤ, pos, negsuc, nat_lt, slice_index}
+use Rattle.std.specs.Prelude.{◌≡◌, ℕ, suc, ◌-◌, List, [], ◌∷◌, ◌++◌, map, length, drop, ℤ, pos, negsuc, nat_lt, slice_index, Option, None, Some}
 use Prim.Native.Char.{code}
 use Rattle.format.specs.Digits.{number}
 use Rattle.format.specs.Fields.{pick}
 use Rattle.tally.specs.declared.totals.Totals.{Totals}
-use Rattle.tally.specs.declared.totals.Extreme.{Extreme}
-use Rattle.tally.specs.declared.totals.Extreme.TheVariants.{None, Row}
 use Rattle.tally.specs.Totals.{Line, totals}
 use Rattle.tally.specs.Wide.{wide_value}
 use Rattle.tally.specs.Held.{held}
@@ -30,11 +28,11 @@ unfoldable pub count_line : List ℕ → ℕ → List ℕ
 count_line word count = (word ++ decimal count) ++ ascii "\n"
 
 -- the smallest or the largest row, or none
-unfoldable pub extreme_text : Extreme → List ℕ
+unfoldable pub extreme_text : Option ℤ → List ℕ
 extreme_text None = ascii " none"
-extreme_text (Row z) = rows_text (z ∷ [])
+extreme_text (Some z) = rows_text (z ∷ [])
 
-unfoldable pub extreme_line : List ℕ → Extreme → List ℕ
+unfoldable pub extreme_line : List ℕ → Option ℤ → List ℕ
 extreme_line word e = (word ++ extreme_text e) ++ ascii "\n"
 
 -- a refusal's number, and its count

@@ -1,7 +1,7 @@
 -- TOTALS (FORMAT.md, "Totals") over lines of the program's input: lines, bad lines, refusals by number, runs by kind, rows, smallest and
 -- largest row, and the exact sum of all rows.
 -- Assumes nothing.
-use Rattle.std.specs.Prelude.{ℕ, ◌+◌, ◌^◌, Bool, true, false, ◌||◌, List, [], ◌∷◌, ◌++◌, length, ℤ, pos, ◌+ℤ◌, ◌==◌, int_le, nat_lt}
+use Rattle.std.specs.Prelude.{ℕ, ◌+◌, ◌^◌, Bool, true, false, ◌||◌, List, [], ◌∷◌, ◌++◌, length, ℤ, pos, ◌+ℤ◌, ◌==◌, int_le, nat_lt, Option, None, Some}
 use Rattle.format.specs.declared.Kind.{Kind}
 use Rattle.format.specs.Answers.{kind_number}
 use Rattle.format.specs.Fields.{pick}
@@ -9,8 +9,6 @@ use Rattle.format.specs.Runs.{Description}
 use Rattle.format.specs.Rows.{i64_rows}
 use Rattle.format.specs.Parse.{Reason, plain, cut, Parsed, end, got, refused, parse, into}
 use Rattle.format.specs.Promises.{kind_of}
-use Rattle.tally.specs.declared.totals.Extreme.{Extreme}
-use Rattle.tally.specs.declared.totals.Extreme.TheVariants.{None, Row}
 
 -- ---- A LINE'S ANSWER (FORMAT.md, "The programs"): a bad line, the end, a refusal, or a run with its rows as i64
 
@@ -91,14 +89,14 @@ abbrev pub higher : ℤ → ℤ → ℤ
 higher a b = pick (int_le a b) b a
 
 -- of two, by a choice between rows; none is no choice
-abbrev pub of_two : (ℤ → ℤ → ℤ) → Extreme → Extreme → Extreme
+abbrev pub of_two : (ℤ → ℤ → ℤ) → Option ℤ → Option ℤ → Option ℤ
 of_two choice None e = e
-of_two choice (Row a) None = Row a
-of_two choice (Row a) (Row b) = Row (choice a b)
+of_two choice (Some a) None = Some a
+of_two choice (Some a) (Some b) = Some (choice a b)
 
-unfoldable pub of_all : (ℤ → ℤ → ℤ) → List ℤ → Extreme
+unfoldable pub of_all : (ℤ → ℤ → ℤ) → List ℤ → Option ℤ
 of_all choice [] = None
-of_all choice (z ∷ zs) = of_two choice (Row z) (of_all choice zs)
+of_all choice (z ∷ zs) = of_two choice (Some z) (of_all choice zs)
 
 -- the whole-number sum
 unfoldable pub sum_of : List ℤ → ℤ
@@ -115,8 +113,8 @@ pub record Tally : Type 0 where
   pub refusals : ℕ → ℕ
   pub runs : Kind → ℕ
   pub rows : ℕ
-  pub smallest : Extreme
-  pub largest : Extreme
+  pub smallest : Option ℤ
+  pub largest : Option ℤ
   pub sum : ℤ
 
 unfoldable pub totals : List Line → Tally

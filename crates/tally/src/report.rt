@@ -1,4 +1,5 @@
-// The text of totals: a line for each count, for the smallest and the largest row, and for the sum as a whole number.
+// The text of totals: a line for each count, for the smallest and the largest row, and for the sum as a whole number. (No Display: there is no
+// heap, and text goes into lent bytes `out` from a place `at`, as `TextWritten` of `text` says for each word.)
 ghost use Rattle.std.specs.Prelude.{◌≡◌, ◌+◌, ◌≤◌, length};
 ghost use Rattle.text.specs.Written.{TextWritten};
 ghost use Rattle.tally.specs.Wide.{wide_value, size_of};
@@ -6,7 +7,7 @@ ghost use Rattle.tally.specs.Text.{number_text, whole_text, count_line, extreme_
 ghost use Rattle.tally.specs.Text.{totals_text, Shown};
 
 use crate::sums::{Tenth, Wide};
-use crate::totals::{Extreme, Totals};
+use crate::totals::Totals;
 use text::{put, put_decimal, put_rows, put_word};
 
 // The fixed words.
@@ -48,8 +49,7 @@ fn put_size(size: Wide, out: &mut [u8], at: usize) -> usize
         return put_decimal(size.low, out, at);
     }
     let tenth = size.tenth();
-    let quotient = tenth.quotient;
-    let next = put_size(quotient, out, at);
+    let next = put_size(tenth.quotient, out, at);
     put(48 + tenth.digit, out, next)
 }
 
@@ -78,20 +78,19 @@ fn put_count(word: &[u8], count: u64, out: &mut [u8], at: usize) -> usize
 }
 
 // A word, and a row or none, on a line.
-fn put_extreme(word: &[u8], extreme: Extreme, out: &mut [u8], at: usize) -> usize
+fn put_extreme(word: &[u8], extreme: Option<i64>, out: &mut [u8], at: usize) -> usize
     requires { at + (length word.now + 23) ≤ length out.old }
     ensures text_written { TextWritten (extreme_line word.now extreme) out.old at out.new result }
     ensures upper_bound { result ≤ at + (length word.now + 23) }
 {
     let place = put_word(word, out, at);
     match extreme {
-        Extreme::None => {
+        None => {
             let next = put_word(&NONE, out, place);
             put(b'\n', out, next)
         }
-        Extreme::Row(row) => {
-            let rows = [row];
-            let next = put_rows(&rows, 1, out, place);
+        Some(row) => {
+            let next = put_rows(&[row], 1, out, place);
             put(b'\n', out, next)
         }
     }
@@ -110,7 +109,7 @@ fn put_refusal(number: u64, count: u64, out: &mut [u8], at: usize) -> usize
     put(b'\n', out, place)
 }
 
-// The refusals by number.
+// The refusals by number. (No loop: `refusals_text` is written out line by line.)
 fn put_refusals(counts: [u64; 15], out: &mut [u8], at: usize) -> usize
     requires { at + 500 ≤ length out.old }
     ensures text_written { TextWritten (refusals_text counts) out.old at out.new result }
@@ -133,16 +132,12 @@ fn put_sum(sum: Wide, out: &mut [u8], at: usize) -> usize
     requires { at + 45 ≤ length out.old }
     ensures { TextWritten (sum_line (wide_value sum)) out.old at out.new result }
 {
-    let wide = Wide {
-        high: sum.high,
-        low: sum.low,
-    };
     let mut place = put_word(&SUM, out, at);
-    place = put_whole(wide, out, place);
+    place = put_whole(sum, out, place);
     put(b'\n', out, place)
 }
 
-// The runs by kind, and their rows.
+// The runs by kind, and their rows. (No loop: `runs_text` is written out line by line.)
 fn put_runs(runs: [u64; 6], rows: u64, out: &mut [u8], at: usize) -> usize
     requires { at + 140 ≤ length out.old }
     ensures text_written { TextWritten (runs_text runs rows) out.old at out.new result }
@@ -159,23 +154,19 @@ fn put_totals(totals: Totals, out: &mut [u8]) -> usize
     requires { 1024 ≤ length out.old }
     ensures { TextWritten (totals_text totals) out.old 0 out.new result }
 {
-    let refusals = totals.refusals;
-    let runs = totals.runs;
-    let smallest = totals.smallest;
-    let largest = totals.largest;
-    let sum = totals.sum;
     let mut at = put_count(&LINES, totals.lines, out, 0);
     at = put_count(&BAD, totals.bads, out, at);
     at = put_count(&END, totals.ends, out, at);
-    at = put_refusals(refusals, out, at);
-    at = put_runs(runs, totals.rows, out, at);
-    at = put_extreme(&SMALLEST, smallest, out, at);
-    at = put_extreme(&LARGEST, largest, out, at);
-    put_sum(sum, out, at)
+    at = put_refusals(totals.refusals, out, at);
+    at = put_runs(totals.runs, totals.rows, out, at);
+    at = put_extreme(&SMALLEST, totals.smallest, out, at);
+    at = put_extreme(&LARGEST, totals.largest, out, at);
+    put_sum(totals.sum, out, at)
 }
 
 // The lines of totals, in the first bytes of `out`: how many bytes they
-// are. Nothing is written where `out` has less room than any totals need.
+// are. Nothing is written where `out` has less room than any totals need (0
+// and no Option: `Shown` promises a length).
 pub fn show(totals: Totals, out: &mut [u8]) -> usize
     ensures { Shown totals out.old out.new result }
 {

@@ -5,7 +5,7 @@ ghost use Rattle.tally.specs.Wide.{wide_of, wide_value, size_of, is_negative, Is
 
 use format::{ALL_BITS, TOP_BIT};
 
-// A whole number in two words of 64 bits, two's complement.
+// A whole number in two words of 64 bits, two's complement. (No i128: `wide_of`, `wide_value` and the theorem `Sums` speak of the words.)
 #[derive(Clone, Copy)]
 pub struct Wide {
     pub high: u64,
@@ -24,32 +24,21 @@ impl Wide {
     pub fn of_row(row: i64) -> Self
         ensures { result ≡ wide_of row }
     {
-        if row < 0 {
-            Wide {
-                high: ALL_BITS,
-                low: ALL_BITS - ((!row) as u64),
-            }
-        } else {
-            Wide {
-                high: 0,
-                low: row as u64,
-            }
+        Wide {
+            high: if row < 0 { u64::MAX } else { 0 },
+            low: row.cast_unsigned(),
         }
     }
 
-    // The low words wrap where their sum is below either of them: then one is carried into the high words.
+    // What the low words carry is added to the high words.
     pub fn plus(self, more: Wide) -> Self
         ensures { result ≡ add_wide self more }
     {
-        let low = std::num::wrapping_add_u64(self.low, more.low);
-        let high = std::num::wrapping_add_u64(self.high, more.high);
-        if low < self.low {
-            Wide {
-                high: std::num::wrapping_add_u64(high, 1),
-                low,
-            }
-        } else {
-            Wide { high, low }
+        let (low, carry) = self.low.overflowing_add(more.low);
+        let high = self.high.wrapping_add(more.high);
+        Wide {
+            high: high.wrapping_add(u64::from(carry)),
+            low,
         }
     }
 
@@ -97,10 +86,8 @@ pub(crate) fn sum_of(rows: &[i64]) -> Wide
     ensures { result ≡ wide_of (sum_of rows.now) }
 {
     let mut sum = Wide { high: 0, low: 0 };
-    let mut i: usize = 0;
-    while i < rows.len() {
-        sum = sum.plus(Wide::of_row(rows[i]));
-        i += 1;
+    for row in rows {
+        sum = sum.plus(Wide::of_row(*row));
     }
     sum
 }

@@ -1,25 +1,18 @@
 // Totals over lines of the program's input, taken line by line or combined:
 // counts, the smallest and the largest row, and the exact sum of all rows.
-ghost use Rattle.std.specs.Prelude.{◌≡◌, ◌+◌, ◌≤◌, [], ◌∷◌, length, nat_lt};
+ghost use Rattle.std.specs.Prelude.{◌≡◌, ◌+◌, ◌≤◌, [], ◌∷◌, length, nat_lt, Err};
 ghost use Rattle.format.specs.Fields.{pick};
 ghost use Rattle.tally.specs.Totals.{run, rows_in, lower, higher, of_two, of_all, totals, empty, limit};
-ghost use Rattle.tally.specs.Held.{slot, line_with, reply_to, held, counting, each_plus, together, going, stopped, combined, take_line};
+ghost use Rattle.tally.specs.Held.{Taken, slot, line_with, reply_to, held, counting, each_plus, together, stopped, combined, take_line};
 
 use crate::sums::{Wide, sum_of};
 use format::{Answer, ByteOffset, Kind, Refusal};
-use util::number;
 
 // At most 2^32 lines, and at most 2^32 rows.
 pub const LIMIT: u64 = 4294967296;
 
-// The smallest or the largest of some rows: none where there are none.
-#[derive(Clone, Copy)]
-pub enum Extreme {
-    None,
-    Row(i64),
-}
-
-// How a line was answered, without its rows: a bad line, the end, a refusal by its number, or a run by its kind.
+// How a line was answered, without its rows: a bad line, the end, a refusal by its number, or a run by its kind. (Four cases, of which two
+// have no value: no Option or Result has that shape, and one in another would be no plainer.)
 #[derive(Clone, Copy)]
 pub enum Reply {
     Bad,
@@ -28,7 +21,8 @@ pub enum Reply {
     Run(Kind),
 }
 
-// Totals: refusals by number, runs by the number of their kind.
+// Totals: refusals by number, runs by the number of their kind. (Arrays with a place for each number, as the definitions `held`, `numbers` and
+// `kinds` and the theorem `CodeTells` have them; no heap, so no map.)
 #[derive(Clone, Copy)]
 pub struct Totals {
     pub lines: u64,
@@ -37,124 +31,83 @@ pub struct Totals {
     pub refusals: [u64; 15],
     pub runs: [u64; 6],
     pub rows: u64,
-    pub smallest: Extreme,
-    pub largest: Extreme,
+    pub smallest: Option<i64>,
+    pub largest: Option<i64>,
     pub sum: Wide,
 }
 
-// Whether taking stopped: not, or by refusal 20.
+// Taking stopped, by refusal 20: the totals as before.
 #[derive(Clone, Copy)]
-pub enum Stop {
-    None,
-    Refused(Refusal),
-}
-
-// The totals after taking: as before, where it stopped.
-#[derive(Clone, Copy)]
-pub struct Taken {
+pub struct Stopped {
     pub totals: Totals,
-    pub stop: Stop,
+    pub refusal: Refusal,
 }
 
 // Both extremes of some rows.
 #[derive(Clone, Copy)]
 struct Range {
-    smallest: Extreme,
-    largest: Extreme,
+    smallest: Option<i64>,
+    largest: Option<i64>,
 }
 
-fn lower_row(a: i64, b: i64) -> i64
-    ensures { result ≡ lower a b }
+// The smaller of two rows, where there are two. (`lower` and `higher` are two: one over a closure could promise its `post` alone.)
+pub fn lower(a: Option<i64>, b: Option<i64>) -> Option<i64>
+    ensures { result ≡ of_two lower a b }
 {
-    if a <= b { a } else { b }
-}
-
-fn higher_row(a: i64, b: i64) -> i64
-    ensures { result ≡ higher a b }
-{
-    if a <= b { b } else { a }
-}
-
-// Of two rows, the smaller or the larger.
-fn row_of_two(least: bool, a: i64, b: i64) -> i64
-    ensures { result ≡ pick least lower higher a b }
-{
-    if least {
-        lower_row(a, b)
-    } else {
-        higher_row(a, b)
+    match (a, b) {
+        (Some(a), Some(b)) => Some(a.min(b)),
+        _ => a.or(b),
     }
 }
 
-impl Extreme {
-    // The smaller of two, where there are two.
-    pub fn lower(self, other: Extreme) -> Self
-        ensures { result ≡ of_two lower self other }
-    {
-        self.of_two(true, other)
-    }
-
-    // The larger of two, where there are two.
-    pub fn higher(self, other: Extreme) -> Self
-        ensures { result ≡ of_two higher self other }
-    {
-        self.of_two(false, other)
-    }
-
-    fn of_two(self, least: bool, other: Extreme) -> Self
-        ensures { result ≡ of_two (pick least lower higher) self other }
-    {
-        match self {
-            Extreme::None => other,
-            Extreme::Row(a) => match other {
-                Extreme::None => self,
-                Extreme::Row(b) => Extreme::Row(row_of_two(least, a, b)),
-            },
-        }
+// The larger of two rows, where there are two.
+pub fn higher(a: Option<i64>, b: Option<i64>) -> Option<i64>
+    ensures { result ≡ of_two higher a b }
+{
+    match (a, b) {
+        (Some(a), Some(b)) => Some(a.max(b)),
+        _ => a.or(b),
     }
 }
 
 fn range_of(rows: &[i64]) -> Range
     ensures { (result.smallest ≡ of_all lower rows.now) × (result.largest ≡ of_all higher rows.now) }
 {
-    if rows.len() == 0 {
-        let none = Extreme::None;
+    let Some((first, more)) = rows.split_first() else {
+        let none = None;
         return Range {
             smallest: none,
             largest: none,
         };
-    }
-    let mut smallest = rows[0];
-    let mut largest = rows[0];
-    let mut i: usize = 1;
-    while i < rows.len() {
-        smallest = lower_row(smallest, rows[i]);
-        largest = higher_row(largest, rows[i]);
-        i += 1;
+    };
+    let mut smallest = *first;
+    let mut largest = *first;
+    for row in more {
+        smallest = smallest.min(*row);
+        largest = largest.max(*row);
     }
     Range {
-        smallest: Extreme::Row(smallest),
-        largest: Extreme::Row(largest),
+        smallest: Some(smallest),
+        largest: Some(largest),
     }
 }
 
-// Each count and the one at its place, where there is one, modulo 2^64: no lines lead to so many.
-fn add_each(counts: &mut [u64], more: &[u64])
-    ensures { counts.new ≡ each_plus counts.old more.now }
+// Each count and the one at its place, modulo 2^64: no lines lead to so many.
+fn add_each<const N: usize>(counts: [u64; N], more: [u64; N]) -> [u64; N]
+    ensures { result ≡ each_plus counts.entry more.entry }
 {
-    let n = number::least(counts.len(), more.len());
-    let mut i: usize = 0;
-    while i < n {
-        counts[i] = std::num::wrapping_add_u64(counts[i], more[i]);
-        i += 1;
+    let mut sums = counts;
+    for i in 0..N {
+        sums[i] = sums[i].wrapping_add(more[i]);
     }
+    sums
 }
 
-// Where a refusal is counted.
+// Where a refusal is counted. (By its number, as `Refusal` of the format has it and the definition `slot` takes it.)
 fn slot(number: u8) -> usize
     ensures { result ≡ slot number }
 {
-    if number < 15 { number as usize } else { 0 }
+    if number < 15 { usize::from(number) } else { 0 }
 }
 
 // Only a run has rows.
@@ -163,9 +116,7 @@ fn row_count(reply: Reply, rows: &[i64]) -> u64
 {
     match reply {
         Reply::Run(_) => rows.len() as u64,
-        Reply::Bad => 0,
-        Reply::End => 0,
-        Reply::Refused(_) => 0,
+        Reply::Bad | Reply::End | Reply::Refused(_) => 0,
     }
 }
 
@@ -173,44 +124,29 @@ fn row_count(reply: Reply, rows: &[i64]) -> u64
 fn too_many(a: u64, b: u64) -> bool
     ensures { result ≡ nat_lt limit (a + b) }
 {
-    if LIMIT < a {
-        return true;
-    }
-    LIMIT - a < b
+    LIMIT < a.saturating_add(b)
 }
 
-impl Reply {
-    // The reply to a line that is not bad: what the run reader answers.
-    pub fn to(answer: Answer) -> Self
-        ensures { result ≡ reply_to answer }
-    {
+// The reply to a line that is not bad: what the run reader answers.
+impl From<Answer> for Reply {
+    ghost from_gives = { λ answer reply. reply ≡ reply_to answer };
+
+    fn from(answer: Answer) -> Self {
         match answer {
-            Answer::End => Reply::End,
-            Answer::Run(run) => {
-                let kind = run.kind;
-                Reply::Run(kind)
-            }
-            Answer::Refused(f) => Reply::Refused(f.number),
+            Ok(None) => Reply::End,
+            Ok(Some(run)) => Reply::Run(run.kind),
+            Err(refusal) => Reply::Refused(refusal.number),
         }
     }
 }
 
-impl Taken {
-    fn going(totals: Totals) -> Self
-        ensures { result ≡ going totals }
+impl Stopped {
+    fn at(totals: Totals) -> Self
+        ensures { ◌≡◌ {A = Taken} (Err result) (stopped totals) }
     {
-        Taken {
+        Stopped {
             totals,
-            stop: Stop::None,
-        }
-    }
-
-    fn stopped(totals: Totals) -> Self
-        ensures { result ≡ stopped totals }
-    {
-        Taken {
-            totals,
-            stop: Stop::Refused(Refusal::new(20, ByteOffset { bytes: 0 })),
+            refusal: Refusal::new(20, ByteOffset { bytes: 0 }),
         }
     }
 }
@@ -234,8 +170,8 @@ impl Totals {
             refusals: [0; 15],
             runs: [0; 6],
             rows: 0,
-            smallest: Extreme::None,
-            largest: Extreme::None,
+            smallest: None,
+            largest: None,
             sum: Wide { high: 0, low: 0 },
         }
     }
@@ -246,8 +182,6 @@ impl Totals {
         ensures { result ≡ held (totals (run kind rows.now ∷ [])) }
     {
         let range = range_of(rows);
-        let smallest = range.smallest;
-        let largest = range.largest;
         let mut runs = [0u64; 6];
         runs[kind.number() as usize] = 1;
         Totals {
@@ -257,8 +191,8 @@ impl Totals {
             refusals: [0; 15],
             runs,
             rows: rows.len() as u64,
-            smallest,
-            largest,
+            smallest: range.smallest,
+            largest: range.largest,
             sum: sum_of(rows),
         }
     }
@@ -285,57 +219,44 @@ impl Totals {
     fn together(self, more: Totals) -> Self
         ensures { result ≡ together self more }
     {
-        let mut refusals = self.refusals;
-        let more_refusals = more.refusals;
-        add_each(&mut refusals, &more_refusals);
-        let mut runs = self.runs;
-        let more_runs = more.runs;
-        add_each(&mut runs, &more_runs);
-        let smallest = self.smallest;
-        let largest = self.largest;
-        let sum = self.sum;
-        let more_smallest = more.smallest;
-        let more_largest = more.largest;
-        let more_sum = more.sum;
         Totals {
-            lines: std::num::wrapping_add_u64(self.lines, more.lines),
-            bads: std::num::wrapping_add_u64(self.bads, more.bads),
-            ends: std::num::wrapping_add_u64(self.ends, more.ends),
-            refusals,
-            runs,
-            rows: std::num::wrapping_add_u64(self.rows, more.rows),
-            smallest: smallest.lower(more_smallest),
-            largest: largest.higher(more_largest),
-            sum: sum.plus(more_sum),
+            lines: self.lines.wrapping_add(more.lines),
+            bads: self.bads.wrapping_add(more.bads),
+            ends: self.ends.wrapping_add(more.ends),
+            refusals: add_each(self.refusals, more.refusals),
+            runs: add_each(self.runs, more.runs),
+            rows: self.rows.wrapping_add(more.rows),
+            smallest: lower(self.smallest, more.smallest),
+            largest: higher(self.largest, more.largest),
+            sum: self.sum.plus(more.sum),
         }
     }
 
     // Two inputs, the second's lines after the first's. Refusal 20, with
     // the first's totals, where they are more lines or rows than the limit.
-    pub fn combine(self, more: Totals) -> Taken
+    pub fn combine(self, more: Totals) -> Result<Totals, Stopped>
         ensures { result ≡ combined self more }
     {
         if too_many(self.lines, more.lines) {
-            return Taken::stopped(self);
+            return Err(Stopped::at(self));
         }
         if too_many(self.rows, more.rows) {
-            return Taken::stopped(self);
+            return Err(Stopped::at(self));
         }
-        Taken::going(self.together(more))
+        Ok(self.together(more))
     }
 
     // One line more: its reply, and its rows, which count for a run alone.
     // Refusal 20, with the totals as before, where it would pass a limit.
-    pub fn take(self, reply: Reply, rows: &[i64]) -> Taken
+    pub fn take(self, reply: Reply, rows: &[i64]) -> Result<Totals, Stopped>
         ensures { result ≡ take_line self (line_with reply rows.now) }
     {
-        let count = row_count(reply, rows);
         if too_many(self.lines, 1) {
-            return Taken::stopped(self);
+            return Err(Stopped::at(self));
         }
-        if too_many(self.rows, count) {
-            return Taken::stopped(self);
+        if too_many(self.rows, row_count(reply, rows)) {
+            return Err(Stopped::at(self));
         }
-        Taken::going(self.together(Totals::of_line(reply, rows)))
+        Ok(self.together(Totals::of_line(reply, rows)))
     }
 }

@@ -1,13 +1,49 @@
 -- Hexadecimal digits, two by two; and what the promise of `hexadecimal::bytes` says.
 -- Assumes nothing.
-use Rattle.format.proofs.Common.{◌≡◌, refl, sym, ap, ◌∙◌, ℕ, suc, ◌+◌, ◌*◌, ◌/◌, ◌<◌, ◌≤◌, arith, Bool, true, false, ◌&&◌, List, [], ◌∷◌}
+use Rattle.format.proofs.Common.{◌≡◌, refl, sym, ap, ◌∙◌, ℕ, suc, ◌+◌, ◌-◌, ◌*◌, ◌/◌, ◌<◌, ◌≤◌, arith, dec_lt, Bool, true, false, ◌&&◌, List, [], ◌∷◌}
 use Rattle.format.proofs.Common.{◌++◌, append-nil, ltb, length, take, drop, set, get_or, length-set, drop_of_length-le, drop-cons, take_at}
-use Rattle.format.proofs.Common.{length-take-le, lt-ltb, le-ltb}
+use Rattle.format.proofs.Common.{length-take-le, leb, lt-ltb, le-ltb, lt-leb, le-leb}
 use Rattle.format.specs.Fields.{pick}
 use Rattle.format.proofs.Tests.{never}
 use Rattle.util.proofs.Grow.{grow, kept, filled}
 use Rattle.text.specs.Ascii.{ascii}
 use Rattle.text.specs.Hexadecimal.{hex_value, all_hex, hex_bytes, hex_begun, HexRead}
+
+-- ---- the value of a character
+
+pub value-digit : (x : ℕ) → 48 ≤ x → x ≤ 57 → hex_value x ≡ x - 48
+unfolding hex_value
+value-digit x h g = simp (le-ltb x 48 h, le-leb x 57 g)
+
+pub value-upper : (x : ℕ) → 65 ≤ x → x ≤ 70 → hex_value x ≡ x - 65 + 10
+unfolding hex_value
+value-upper x h g = simp (le-ltb x 48 (omega arith), lt-leb x 57 (omega arith), le-ltb x 65 h, le-leb x 70 g)
+
+-- above `F`
+above : (x : ℕ) → 70 < x → hex_value x ≡ pick (ltb x 97) 16 (pick (leb x 102) (x - 97 + 10) 16)
+unfolding hex_value
+above x h = simp (le-ltb x 48 (omega arith), lt-leb x 57 (omega arith), le-ltb x 65 (omega arith), lt-leb x 70 h)
+
+pub value-lower : (x : ℕ) → 97 ≤ x → x ≤ 102 → hex_value x ≡ x - 97 + 10
+value-lower x h g = simp (above x (omega arith), le-ltb x 97 h, le-leb x 102 g)
+
+-- a character of none of the three ranges
+value-below : (x : ℕ) → x < 48 → hex_value x ≡ 16
+unfolding hex_value
+value-below x l = simp (lt-ltb x 48 l)
+
+value-between : (x : ℕ) → 57 < x → x < 65 → hex_value x ≡ 16
+unfolding hex_value
+value-between x l m = simp (le-ltb x 48 (omega arith), lt-leb x 57 l, lt-ltb x 65 m)
+
+pub no-value : (x : ℕ) → (48 ≤ x → 57 < x) → (65 ≤ x → 70 < x) → (97 ≤ x → 102 < x) → 16 ≤ hex_value x
+no-value x h g k = by (dec_lt x 48) (dec_lt x 65) (dec_lt x 97)
+  where
+    by : Dec (x < 48) → Dec (x < 65) → Dec (x < 97) → 16 ≤ hex_value x
+    by (yes l) d e = omega (arith, value-below x l)
+    by (no l) (yes m) e = omega (arith, value-between x (h (omega arith)) m)
+    by (no l) (no m) (yes u) = simp (above x (g (omega arith)), lt-ltb x 97 u) (omega arith)
+    by (no l) (no m) (no u) = simp (above x (omega arith), le-ltb x 97 (omega arith), lt-leb x 102 (k (omega arith))) (omega arith)
 
 -- two characters at the place p of a line
 module _ (s : List ℕ) (p : ℕ) (h : p + 1 < length s) where

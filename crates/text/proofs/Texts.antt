@@ -1,12 +1,14 @@
 -- Texts written one after the other are the joined text; the digits of a number, the characters of a row, and how many they are.
 -- Assumes nothing.
-use Rattle.format.proofs.Common.{◌≡◌, refl, sym, ap, ◌∙◌, ℕ, zero, suc, ◌+◌, ◌-◌, ◌/◌, ◌%◌, ◌^◌, ◌<◌, ◌≤◌, arith, dec_le, dec_lt, pow-suc}
+use Rattle.format.proofs.Common.{◌≡◌, refl, sym, ap, ◌∙◌, ℕ, zero, suc, ◌+◌, ◌/◌, ◌%◌, ◌^◌, ◌<◌, ◌≤◌, arith, dec_le, dec_lt, pow-suc}
 use Rattle.format.proofs.Common.{add-one, Bool, true, false, List, [], ◌∷◌, ◌++◌, append_assoc, append-nil, length, take, drop, set, get_or}
 use Rattle.format.proofs.Common.{length-append, length-take, drop_of_length-le, length-take-le, take_all, drop-drop, take-suc, append_snoc}
-use Rattle.format.proofs.Common.{ltb, ℤ, pos, negsuc, w64, SFits, lt-ltb, le-ltb}
+use Rattle.format.proofs.Common.{ltb, ℤ, pos, negsuc, w64, SFits, to_z, of_z, to_z-of_z, lt-ltb, le-ltb, le-leb}
+use lib.Signed.{le_z}
 use lib.Seq.{set_split}
 use Rattle.format.specs.Fields.{pick, two64}
-use Rattle.format.specs.Rows.{as_u64}
+use Rattle.std.specs.Prelude.{unsigned_abs}
+use Rattle.format.proofs.Tests.{never}
 use Rattle.util.proofs.Grow.{same-is, front-is, kept_by}
 use Rattle.text.specs.Decimal.{decimal_in, decimal, row_text, rows_text}
 use Rattle.text.specs.Written.{TextWritten}
@@ -115,19 +117,27 @@ pub decimal-length : (x : ℕ) → length (decimal x) ≤ 20
 unfolding decimal
 decimal-length x = decimal_in-length 20 x
 
--- ---- rows, by their bits
+-- ---- rows, as the machine has them: n is the size of the row
 
-pub row_low : (z : ℤ) (b : ℕ) → SFits w64 z → b ≡ as_u64 z → b < 2 ^ 63 → row_text z ≡ decimal b
-unfolding row_text
-row_low (pos n) b f e h = ap decimal (sym e)
-row_low (negsuc n) b f e h = absurd (omega (arith, f.sfits))
+module _ (z : ℤ) (n : ℕ) (f : SFits w64 z) (e : n ≡ unsigned_abs (to_z w64 (of_z w64 z))) where
+  size : n ≡ unsigned_abs z
+  size = rw (to_z-of_z {w = w64} f) at e
 
-pub row-high : (z : ℤ) (b : ℕ) → SFits w64 z → b ≡ as_u64 z → 2 ^ 63 ≤ b → row_text z ≡ (45 ∷ []) ++ decimal (two64 - 1 - b + 1)
-unfolding row_text
-row-high (pos n) b f e h = absurd (omega (arith, f.sfits))
-row-high (negsuc n) b f e h =
-    let m : two64 - 1 - b + 1 ≡ suc n = omega (arith, f.sfits) in
-    rw m
+  pub row-plain : le_z (pos 0) (to_z w64 (of_z w64 z)) ≡ true → row_text z ≡ decimal n
+  unfolding row_text
+  row-plain h = rw size (by z (rw (to_z-of_z {w = w64} f) at h))
+    where
+      by : (z : ℤ) → le_z (pos 0) z ≡ true → row_text z ≡ decimal (unsigned_abs z)
+      by (pos n) h = refl
+      by (negsuc n) h = never (cc)
+
+  pub row-minus : le_z (pos 0) (to_z w64 (of_z w64 z)) ≡ false → row_text z ≡ (45 ∷ []) ++ decimal n
+  unfolding row_text
+  row-minus h = rw size (by z (rw (to_z-of_z {w = w64} f) at h))
+    where
+      by : (z : ℤ) → le_z (pos 0) z ≡ false → row_text z ≡ (45 ∷ []) ++ decimal (unsigned_abs z)
+      by (pos n) h = never (cc (le-leb 0 n (omega arith)))
+      by (negsuc n) h = refl
 
 pub row-length : (z : ℤ) → length (row_text z) ≤ 21
 unfolding row_text

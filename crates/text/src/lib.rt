@@ -7,9 +7,6 @@ ghost use Rattle.std.specs.Prelude.{◌≡◌, ◌∷◌, [], ◌++◌, ◌+◌,
 ghost use Rattle.text.specs.Decimal.{decimal, row_text, rows_text};
 ghost use Rattle.text.specs.Written.{TextWritten};
 
-use format::{ALL_BITS, TOP_BIT};
-use util::pattern;
-
 // One character.
 pub fn put(c: u8, out: &mut [u8], at: usize) -> usize
     requires { at < length out.old }
@@ -19,18 +16,14 @@ pub fn put(c: u8, out: &mut [u8], at: usize) -> usize
     at + 1
 }
 
-// A fixed word.
+// A fixed word. Here and below the buffer and the place in it stay two parameters: `TextWritten` (specs) names both.
 pub fn put_word(word: &[u8], out: &mut [u8], at: usize) -> usize
     requires { at + length word.now ≤ length out.old }
     ensures { TextWritten word.now out.old at out.new result }
 {
-    let mut place = at;
-    let mut i = 0;
-    while i < word.len() {
-        place = put(word[i], out, place);
-        i += 1;
-    }
-    place
+    let end = at + word.len();
+    out[at..end].copy_from_slice(word);
+    end
 }
 
 // The character of the lowest digit of x.
@@ -40,7 +33,7 @@ fn low_digit(x: u64) -> u8
     (48 + x % 10) as u8
 }
 
-// A number in decimal: the digits above its lowest, and then that.
+// A number in decimal: the digits above its lowest, and then that. By hand, since `Display` writes to what may fail, and this can't.
 pub fn put_decimal(x: u64, out: &mut [u8], at: usize) -> usize
     requires { at + length (decimal x) ≤ length out.old }
     ensures { TextWritten (decimal x) out.old at out.new result }
@@ -68,25 +61,23 @@ fn put_row(row: i64, out: &mut [u8], at: usize) -> usize
     requires { at + length (row_text row) ≤ length out.old }
     ensures { TextWritten (row_text row) out.old at out.new result }
 {
-    let bits = pattern::to_u64(row);
-    if bits < TOP_BIT {
-        return put_decimal(bits, out, at);
+    let size = row.unsigned_abs();
+    if 0 <= row {
+        return put_decimal(size, out, at);
     }
     let next = put(b'-', out, at);
-    put_decimal(ALL_BITS - bits + 1, out, next)
+    put_decimal(size, out, next)
 }
 
-// The first n rows, with a space before each. With its space, a row takes 22 characters at most.
+// The first n rows (the clauses name n), with a space before each. With its space, a row takes 22 characters at most.
 pub fn put_rows(rows: &[i64], n: usize, out: &mut [u8], at: usize) -> usize
     requires { (n ≤ length rows.now) × (at + 22 * n ≤ length out.old) }
     ensures { TextWritten (rows_text (take n rows.now)) out.old at out.new result }
 {
     let mut place = at;
-    let mut i = 0;
-    while i < n {
+    for row in &rows[..n] {
         let next = put(b' ', out, place);
-        place = put_row(rows[i], out, next);
-        i += 1;
+        place = put_row(*row, out, next);
     }
     place
 }

@@ -10,21 +10,19 @@ use lib.IntN.{ℤ}
 use borrow.Author.Tests.{lt-ltb, ne_eqb, ltb-true}
 use Rattle.format.specs.Digits.{AllBelow}
 use Rattle.format.specs.Fields.{pick}
-use Rattle.format.specs.Answers.{answer_rows}
+use Rattle.format.specs.Answers.{Answer, answer_rows}
 use Rattle.format.specs.Runs.{Description, row_count}
 use Rattle.format.specs.Rows.{i64_rows}
 use Rattle.format.specs.Parse.{plain, cut, Parsed, end, got, refused, parse, into}
 use Rattle.format.proofs.Rows.{i64-count}
 use Rattle.format.specs.Promises.{answer_of, run_places}
-use Rattle.format.specs.declared.Answer.{Answer}
 use Rattle.format.proofs.Tests.{both, never}
 use Rattle.text.specs.Hexadecimal.{hex_value, all_hex, hex_bytes}
-use Rattle.lines.specs.declared.Reading.TheVariants.{Bad, Answered}
+use Rattle.std.specs.Prelude.{Some, None}
 use Rattle.lines.specs.Line.{bad_line, frame_of, frame_reading, frame_places, LineRead}
 use Rattle.tally.specs.Totals.{Line, bad, answered}
-use Rattle.tally.specs.Held.{line_with, reply_to, take_line}
+use Rattle.tally.specs.Held.{Taken, line_with, reply_to, take_line}
 use Rattle.tally.specs.declared.totals.Totals.{Totals}
-use Rattle.tally.specs.declared.totals.Taken.{Taken}
 use Rattle.tally.specs.Laws.{AllBytes, I64}
 use Rattle.tally.proofs.Lines.{lines-read}
 use Rattle.tally.proofs.Sizes.{all_fit}
@@ -73,15 +71,15 @@ all-i64 lines = rw (map-map answered frame_of lines) at (all_fit (map frame_of l
 
 -- ---- what was read
 
-bad-is : (n : ℕ) (f : List ℕ) → Bad ≡ frame_reading n f → answered f ≡ bad
+bad-is : (n : ℕ) (f : List ℕ) → None ≡ frame_reading n f → answered f ≡ bad
 unfolding frame_reading answered
 bad-is n [] e = refl
 bad-is n (flag ∷ run) e = never (cc)
 
-read-bad : (line : List ℕ) (out out' : List ℤ) → LineRead line out out' Bad → bad ≡ answer_to line
+read-bad : (line : List ℕ) (out out' : List ℤ) → LineRead line out out' None → bad ≡ answer_to line
 read-bad line out out' r = sym (bad-is (length out) (frame_of line) r.answer)
 
-answer-is : (f : List ℕ) (out out' : List ℤ) (a : Answer) → AllBelow 256 f → length out ≡ 512 → Answered a ≡ frame_reading (length out) f → out' ≡ frame_places out f
+answer-is : (f : List ℕ) (out out' : List ℤ) (a : Answer) → AllBelow 256 f → length out ≡ 512 → Some a ≡ frame_reading (length out) f → out' ≡ frame_places out f
     → line_with (reply_to a) (take (answer_rows a) out') ≡ answered f
 unfolding frame_reading frame_places
 answer-is [] out out' a b l e p = never (cc)
@@ -91,7 +89,7 @@ answer-is (flag ∷ run) out out' a b l e p =
     let q : out' ≡ run_places (eqb flag 1) out (into 512 (parse run)) = rw l at p in
     rw (h, q) (lines-read flag run 1 out b.1).as-answered
 
-read_answer : (line : List ℕ) (out out' : List ℤ) (a : Answer) → length out ≡ 512 → LineRead line out out' (Answered a)
+read_answer : (line : List ℕ) (out out' : List ℤ) (a : Answer) → length out ≡ 512 → LineRead line out out' (Some a)
     → line_with (reply_to a) (take (answer_rows a) out') ≡ answer_to line
 read_answer line out out' a l r = answer-is (frame_of line) out out' a (frame_below line) l r.answer r.places
 
@@ -102,21 +100,21 @@ answer-within signed at total out (got d rest) = omega (arith, length-append (i6
 answer-within signed at total out (refused (plain n)) = omega arith
 answer-within signed at total out (refused (cut n left)) = omega arith
 
-rows-within : (f : List ℕ) (out out' : List ℤ) (a : Answer) → Answered a ≡ frame_reading (length out) f → out' ≡ frame_places out f → answer_rows a ≤ length out'
+rows-within : (f : List ℕ) (out out' : List ℤ) (a : Answer) → Some a ≡ frame_reading (length out) f → out' ≡ frame_places out f → answer_rows a ≤ length out'
 unfolding frame_reading frame_places
 rows-within [] out out' a e p = never (cc)
 rows-within (flag ∷ run) out out' a e p =
     let g : a ≡ answer_of 1 (length run) (into (length out) (parse run)) = cc in
     rw (g, p) (answer-within (eqb flag 1) 1 (length run) out (into (length out) (parse run)))
 
-pub read-within : (line : List ℕ) (out out' : List ℤ) (a : Answer) → LineRead line out out' (Answered a) → answer_rows a ≤ length out'
+pub read-within : (line : List ℕ) (out out' : List ℤ) (a : Answer) → LineRead line out out' (Some a) → answer_rows a ≤ length out'
 read-within line out out' a r = rows-within (frame_of line) out out' a r.answer r.places
 
 -- ---- and taken
 
-pub took-bad : (t : Totals) (line : List ℕ) (out out' : List ℤ) (r : Taken) → LineRead line out out' Bad → r ≡ take_line t bad → r ≡ take_line t (answer_to line)
+pub took-bad : (t : Totals) (line : List ℕ) (out out' : List ℤ) (r : Taken) → LineRead line out out' None → r ≡ take_line t bad → r ≡ take_line t (answer_to line)
 took-bad t line out out' r l e = e ∙ ap (λ (x : Line). take_line t x) (read-bad line out out' l)
 
-pub took : (t : Totals) (line : List ℕ) (out out' : List ℤ) (a : Answer) (r : Taken) → length out ≡ 512 → LineRead line out out' (Answered a)
+pub took : (t : Totals) (line : List ℕ) (out out' : List ℤ) (a : Answer) (r : Taken) → length out ≡ 512 → LineRead line out out' (Some a)
     → r ≡ take_line t (line_with (reply_to a) (take (answer_rows a) out')) → r ≡ take_line t (answer_to line)
 took t line out out' a r n l e = e ∙ ap (λ (x : Line). take_line t x) (read_answer line out out' a n l)

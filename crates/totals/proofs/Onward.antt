@@ -5,39 +5,33 @@ use native.Mathlib.Omega.{arith}
 use mathlib.Core.Bool.{Bool, true, false}
 use mathlib.Core.List.{List, [], ◌∷◌, ◌++◌, map-append}
 use lib.ListN.{length, take, drop, take-append-drop, length-drop}
-use borrow.Author.Tests.{eq-eqb, ne_eqb}
+use lib.Dec.{eqb}
 use Rattle.format.specs.Fields.{pick}
 use Rattle.format.proofs.Tests.{never}
 use Rattle.blocks.specs.Blocks.{lines_from, begun_from, last_line, line_length}
 use Rattle.blocks.proofs.Lines.{line-open, lines-append, end-le, next-lines, next-whole}
 use Rattle.tally.specs.declared.totals.Totals.{Totals}
-use Rattle.tally.specs.declared.totals.Taken.{Taken}
-use Rattle.tally.specs.declared.totals.Stop.{Stop}
-use Rattle.tally.specs.declared.totals.Stop.TheVariants.{None, Refused}
+use Rattle.std.specs.Prelude.{Ok, Err}
+use Rattle.tally.specs.declared.totals.Stopped.{Stopped}
 use Rattle.tally.specs.Totals.{Line, totals, rows_in, too_many}
-use Rattle.tally.specs.Held.{held, together, going, stopped, take_line, unless_stopped, take_all}
-use Rattle.totals.specs.Program.{answer_to, answers_to, is_stopped, Rest}
+use Rattle.tally.specs.Held.{Taken, held, together, going, stopped, take_line, unless_stopped, take_all}
+use Rattle.totals.specs.Program.{answer_to, answers_to, Rest}
 
 -- ---- one after another
 
-still : (r : Taken) → unless_stopped r.stop r (going r.totals) ≡ r
-still r = by r.totals r.stop
-  where
-    by : (t : Totals) (s : Stop) → unless_stopped s (record { totals = t; stop = s }) (going t) ≡ record { totals = t; stop = s }
-    by t None = refl
-    by t (Refused f) = refl
+still : (r : Taken) → unless_stopped r going ≡ r
+still (Ok t) = refl
+still (Err s) = refl
 
-pub all_append : (t : Totals) (xs ys : List Line) → take_all t (xs ++ ys) ≡ unless_stopped (take_all t xs).stop (take_all t xs) (take_all (take_all t xs).totals ys)
+pub all_append : (t : Totals) (xs ys : List Line) → take_all t (xs ++ ys) ≡ unless_stopped (take_all t xs) (λ u. take_all u ys)
 unfolding take_all
 all_append t [] ys = refl
-all_append t (x ∷ xs) ys = by (take_line t x).totals (take_line t x).stop (all_append (take_line t x).totals xs ys)
+all_append t (x ∷ xs) ys = by (take_line t x) (λ u. all_append u xs ys)
   where
-    by : (u : Totals) (s : Stop)
-        → take_all u (xs ++ ys) ≡ unless_stopped (take_all u xs).stop (take_all u xs) (take_all (take_all u xs).totals ys)
-        → unless_stopped s (record { totals = u; stop = s }) (take_all u (xs ++ ys))
-        ≡ (let q : Taken = unless_stopped s (record { totals = u; stop = s }) (take_all u xs) in unless_stopped q.stop q (take_all q.totals ys))
-    by u None ih = ih
-    by u (Refused f) ih = refl
+    by : (r : Taken) → ((u : Totals) → take_all u (xs ++ ys) ≡ unless_stopped (take_all u xs) (λ v. take_all v ys))
+        → unless_stopped r (λ u. take_all u (xs ++ ys)) ≡ unless_stopped (unless_stopped r (λ u. take_all u xs)) (λ u. take_all u ys)
+    by (Ok u) ih = ih u
+    by (Err s) ih = refl
 
 one : (t : Totals) (l : Line) → take_all t (l ∷ []) ≡ take_line t l
 unfolding take_all
@@ -46,33 +40,26 @@ one t l = still (take_line t l)
 module _ (t t' : Totals) (xs : List Line) where
   -- going, and stopped
   pub all-going : take_all t xs ≡ going t' → (ys : List Line) → take_all t (xs ++ ys) ≡ take_all t' ys
-  all-going e ys = all_append t xs ys ∙ ap (λ (r : Taken). unless_stopped r.stop r (take_all r.totals ys)) e
+  all-going e ys = all_append t xs ys ∙ ap (λ (r : Taken). unless_stopped r (λ u. take_all u ys)) e
 
   pub all-stopped : take_all t xs ≡ stopped t' → (ys : List Line) → take_all t (xs ++ ys) ≡ stopped t'
-  all-stopped e ys = all_append t xs ys ∙ ap (λ (r : Taken). unless_stopped r.stop r (take_all r.totals ys)) e
+  all-stopped e ys = all_append t xs ys ∙ ap (λ (r : Taken). unless_stopped r (λ u. take_all u ys)) e
 
   all_more : take_all t xs ≡ going t' → (l : Line) → take_all t (xs ++ (l ∷ [])) ≡ take_line t' l
   all_more e l = all-going e (l ∷ []) ∙ one t' l
 
--- ---- one line: stopped, or going
+-- ---- one line that is stopped
 
-pub line-stopped : (t : Totals) (l : Line) (r : Taken) → r ≡ take_line t l → is_stopped r.stop ≡ true → take_line t l ≡ stopped r.totals
+pub line-stopped : (t : Totals) (l : Line) (s : Stopped) → Err s ≡ take_line t l → take_line t l ≡ stopped s.totals
 unfolding take_line
-line-stopped t l r e h = by (too_many (t.lines + 1) (t.rows + length (rows_in l))) e
+line-stopped t l s e = by (too_many (t.lines + 1) (t.rows + length (rows_in l))) e
   where
-    by : (b : Bool) → r ≡ pick b (stopped t) (going (together t (held (totals (l ∷ [])))))
-        → pick b (stopped t) (going (together t (held (totals (l ∷ []))))) ≡ stopped r.totals
-    by true e = ap (λ (x : Taken). stopped x.totals) (sym e)
+    by : (b : Bool) → Err s ≡ pick b (stopped t) (going (together t (held (totals (l ∷ [])))))
+        → pick b (stopped t) (going (together t (held (totals (l ∷ []))))) ≡ stopped s.totals
+    by true e =
+        let f : s.totals ≡ t = cc in
+        rw f
     by false e = never (cc)
-
-pub line-going : (t : Totals) (l : Line) (r : Taken) → r ≡ take_line t l → is_stopped r.stop ≡ false → take_line t l ≡ going r.totals
-unfolding take_line
-line-going t l r e h = by (too_many (t.lines + 1) (t.rows + length (rows_in l))) e
-  where
-    by : (b : Bool) → r ≡ pick b (stopped t) (going (together t (held (totals (l ∷ [])))))
-        → pick b (stopped t) (going (together t (held (totals (l ∷ []))))) ≡ going r.totals
-    by true e = never (cc)
-    by false e = ap (λ (x : Taken). going x.totals) (sym e)
 
 -- ---- the whole lines of a block
 
@@ -100,7 +87,7 @@ module _ (before t : Totals) (input : List ℕ) (from end : ℕ) (o : Onward bef
     taken = o.taken;
   }
 
-  module _ (more : end ≡ length input → ⊥) (r : Taken) (e : r ≡ take_line t (answer_to (take (end - from) (drop from input)))) where
+  module _ (more : end ≡ length input → ⊥) where
     abbrev line : List ℕ
     line = take (end - from) (drop from input)
 
@@ -109,28 +96,28 @@ module _ (before t : Totals) (input : List ℕ) (from end : ℕ) (o : Onward bef
         rw (next-lines input from end o.within is o.whole more, map-append answer_to (lines_from [] (take from input)) (line ∷ []))
         (all_more before t (answers_to (lines_from [] (take from input))) o.taken (answer_to line))
 
-    pub onward-on : is_stopped r.stop ≡ false → Onward before input r.totals (end + 1)
-    onward-on h = record {
+    pub onward-on : (u : Totals) → Ok u ≡ take_line t (answer_to line) → Onward before input u (end + 1)
+    onward-on u e = record {
       within = omega (arith, ends-le, more);
       whole = next-whole input from end o.within is o.whole more;
-      taken = next-taken ∙ line-going t (answer_to line) r e h;
+      taken = next-taken ∙ sym e;
     }
 
     -- the lines after the one that would pass a limit are not taken
-    pub onward-stop : is_stopped r.stop ≡ true → take_all before (answers_to (lines_from [] input)) ≡ stopped r.totals
-    onward-stop h =
+    pub onward-stop : (r : Stopped) → Err r ≡ take_line t (answer_to line) → take_all before (answers_to (lines_from [] input)) ≡ stopped r.totals
+    onward-stop r e =
         let p = take (end + 1) input in
         let q = drop (end + 1) input in
-        let s = all-stopped before r.totals (answers_to (lines_from [] p)) (next-taken ∙ line-stopped t (answer_to line) r e h) (answers_to (lines_from (begun_from [] p) q)) in
+        let s = all-stopped before r.totals (answers_to (lines_from [] p)) (next-taken ∙ line-stopped t (answer_to line) r e) (answers_to (lines_from (begun_from [] p) q)) in
         ap (λ (i : List ℕ). take_all before (answers_to (lines_from [] i))) (sym (take-append-drop (end + 1) input))
         ∙ rw (lines-append [] p q, map-append answer_to (lines_from [] p) (lines_from (begun_from [] p) q)) s
 
 -- ---- the last line
 
-pub last_none : (before : Totals) (line : List ℕ) → length line ≡ 0 → take_all before (answers_to (last_line line)) ≡ going before
+pub last_none : (before : Totals) (line : List ℕ) → eqb (length line) 0 ≡ true → take_all before (answers_to (last_line line)) ≡ going before
 unfolding last_line take_all
-last_none before line h = rw (eq-eqb (length line) 0 h)
+last_none before line h = rw h
 
-pub last_one : (before : Totals) (line : List ℕ) → (length line ≡ 0 → ⊥) → take_all before (answers_to (last_line line)) ≡ take_line before (answer_to line)
+pub last_one : (before : Totals) (line : List ℕ) → eqb (length line) 0 ≡ false → take_all before (answers_to (last_line line)) ≡ take_line before (answer_to line)
 unfolding last_line
-last_one before line h = rw (ne_eqb (length line) 0 h) (one before (answer_to line))
+last_one before line h = rw h (one before (answer_to line))

@@ -12,11 +12,10 @@ use Rattle.blocks.proofs.Turns.{cut-is, left_is}
 use Rattle.blocks.proofs.Joined.{blocks-joined}
 use Rattle.blocks.proofs.Brought.{unread-only}
 use Rattle.tally.specs.declared.totals.Totals.{Totals}
-use Rattle.tally.specs.declared.totals.Taken.{Taken}
 use Rattle.tally.specs.Totals.{Line, empty, take_lines}
-use Rattle.tally.specs.Held.{held, stopped, take_all, held_outcome}
+use Rattle.tally.specs.Held.{Taken, held, stopped, take_all, held_outcome}
 use Rattle.tally.proofs.Taking.{code_holds}
-use Rattle.totals.specs.Program.{answer_to, answers_to, is_stopped, written_for, taken_text, program_text, Takes, over, at-end, in_block, of-input, whatever-comes, FinalSays, NoneUnread}
+use Rattle.totals.specs.Program.{answer_to, answers_to, written_for, taken_text, program_text, Takes, over, at-end, in_block, of-input, whatever-comes, FinalSays, NoneUnread}
 use Rattle.totals.specs.Program.Takes.{ends, stops, turns}
 use Rattle.totals.proofs.Answers.{long-alike, all-i64}
 use Rattle.totals.proofs.Onward.{all-going, all-stopped}
@@ -71,7 +70,7 @@ final-says reads t halted (in_block blocks e b h) = whatever-comes blocks b (λ 
 -- no totals are stopped where there is no line
 none-stopped : (t : Totals) → Takes [] [] (held empty) (stopped t) → ⊥
 unfolding block_lines last_line take_all
-none-stopped t h = never (cc (ap (λ (r : Taken). is_stopped r.stop) (takes-lines [] [] (held empty) (stopped t) h)))
+none-stopped t h = never (cc (takes-lines [] [] (held empty) (stopped t) h))
 
 pub none-unread : NoneUnread
 none-unread t halted (at-end blocks b h) = absurd (omega (arith, b.brought.each, length-append blocks ([] ∷ [])))

@@ -1,6 +1,6 @@
 -- THE PROGRAM totals (FORMAT.md, "The programs"): what it writes for its input, and the same for an input that comes in blocks.
 -- Assumes nothing.
-use Rattle.std.specs.Prelude.{◌≡◌, ℕ, zero, suc, ◌≤◌, Bool, true, false, List, [], ◌∷◌, ◌++◌, map, length, take, drop, ℤ, pos, negsuc}
+use Rattle.std.specs.Prelude.{◌≡◌, ℕ, zero, suc, ◌≤◌, Bool, true, false, List, [], ◌∷◌, ◌++◌, map, length, take, drop, ℤ, pos, negsuc, Ok, Err}
 use Rattle.format.specs.Fields.{pick}
 use Rattle.text.specs.Ascii.{ascii}
 use Rattle.lines.specs.Line.{frame_of}
@@ -9,11 +9,8 @@ use Rattle.blocks.specs.Reading.{no_reads, is_broken, ReadOnce, Brought, Brought
 use Rattle.blocks.specs.declared.reading.Reads.{Reads}
 use Rattle.blocks.specs.declared.reading.Read.{Read}
 use Rattle.tally.specs.Totals.{Line, answered, empty, take_lines}
-use Rattle.tally.specs.Held.{held, going, stopped, take_all, held_outcome}
+use Rattle.tally.specs.Held.{Taken, held, going, stopped, take_all, held_outcome}
 use Rattle.tally.specs.declared.totals.Totals.{Totals}
-use Rattle.tally.specs.declared.totals.Taken.{Taken}
-use Rattle.tally.specs.declared.totals.Stop.{Stop}
-use Rattle.tally.specs.declared.totals.Stop.TheVariants as stop
 use Rattle.tally.specs.Text.{totals_text}
 use Rattle.totals.specs.declared.taking.Next.{Next}
 use Rattle.totals.specs.declared.taking.Next.TheVariants.{Begun, Ended, Stopped, Failed}
@@ -25,17 +22,14 @@ answer_to line = answered (frame_of line)
 abbrev pub answers_to : List (List ℕ) → List Line
 answers_to lines = map answer_to lines
 
-abbrev pub is_stopped : Stop → Bool
-is_stopped stop.None = false
-is_stopped (stop.Refused f) = true
-
 -- the totals' lines, and `refused 20` last where reading stopped
 unfoldable pub written_for : Totals → Bool → List ℕ
 written_for t false = totals_text t
 written_for t true = totals_text t ++ ascii "refused 20\n"
 
 abbrev pub taken_text : Taken → List ℕ
-taken_text r = written_for r.totals (is_stopped r.stop)
+taken_text (Ok t) = written_for t false
+taken_text (Err s) = written_for s.totals true
 
 -- WHAT THE PROGRAM WRITES for its input: the totals of its lines, all of them or those before the one that would pass a limit
 unfoldable pub program_text : List ℕ → List ℕ

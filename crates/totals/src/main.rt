@@ -10,7 +10,7 @@ ghost use Rattle.text.specs.Written.{TextWritten};
 ghost use Rattle.totals.specs.Program.{written_for, After, Turned, Final, Over};
 
 use blocks::reading;
-use blocks::reading::Reads;
+use blocks::reading::{Read, Reads};
 use std::{io, thread};
 use taking::{Next, Turn};
 use tally::totals::Totals;
@@ -48,6 +48,7 @@ fn text_places() -> [u8; 65536]
     [0; 65536]
 }
 
+// `stopped` stays a flag: `written_for`, `Final` and the theorem `FinalSays` speak of it.
 // The lines of the totals, and the refusal last where one stopped the reading, in the first bytes of `out`: how many bytes they are.
 fn put_text(totals: Totals, stopped: bool, out: &mut [u8]) -> usize
     requires { 8192 ≤ length out.old }
@@ -70,119 +71,83 @@ fn tell(rt: &(impl Print + Eprint), totals: Totals, stopped: bool, reads: Reads)
     say(rt, totals, stopped, reads, &out[..end]);
 }
 
-// What to do with what is held and what came after it, by what the system answered. The error is handed in, so that the answer is
+// What to do with what is held and what came after it, by what the system answered. The error stands in `block`, so that the answer is
 // determined.
-fn take_came(
-    rt: &impl Eprint,
-    before: Totals,
-    input: &[u8],
-    held: usize,
-    got: isize,
-    error: i32,
-    rows: &mut [i64],
-) -> Turn
-    requires { (length input.now ≡ held + came got) × NoNewline (take held input.now) × (length rows.old ≡ 512) }
-    ensures { After before input.now held got error result.totals result.next }
+fn take_came(rt: &impl Eprint, before: Totals, block: Read, input: &[u8], rows: &mut [i64]) -> Turn
+    requires { (length input.now ≡ block.held + came block.got) × NoNewline (take block.held input.now) × (length rows.old ≡ 512) }
+    ensures { After before input.now block.held block.got block.error result.totals result.next }
 {
-    if got > 0 {
+    if block.got > 0 {
         return taking::take_block(before, input, rows);
     }
-    if got == 0 {
+    if block.got == 0 {
         return taking::take_last(before, input, rows);
     }
-    if !blocks::is_not_ready(error) {
-        let e = io::Error::from_raw_os_error(error);
+    if !blocks::is_not_ready(block.error) {
+        let e = io::Error::from_raw_os_error(block.error);
         let _ = eprintln!(rt; "totals: nothing is written, standard input cannot be read: {e}");
         return Turn {
             totals: before,
             next: Next::Failed,
         };
     }
-    if error == blocks::EAGAIN {
+    if block.error == blocks::EAGAIN {
         thread::yield_now();
     }
     Turn {
         totals: before,
-        next: Next::Begun(0, held),
+        next: Next::Begun(0, block.held),
     }
 }
 
 // One block, after what is left of the one before.
 fn turn(
     rt: &(impl Input + Eprint),
-    before: Totals,
-    reads: Reads,
+    before: Standing,
     input: &mut [u8],
     from: usize,
     end: usize,
     rows: &mut [i64],
 ) -> Standing
     requires { NoNewline (part from end input.old) × (length rows.old ≡ 512) }
-    ensures { Turned before reads (part from end input.old) input.new result.totals result.next result.reads }
+    ensures { Turned before.totals before.reads (part from end input.old) input.new result.totals result.next result.reads }
 {
-    let block = reading::one_more(rt, reads, input, from, end);
-    let stop = block.stop;
-    let taken = take_came(
-        rt,
-        before,
-        &input[..stop],
-        block.held,
-        block.got,
-        block.error,
-        rows,
-    );
-    let totals = taken.totals;
-    let next = taken.next;
-    let more = block.reads;
+    let block = reading::one_more(rt, before.reads, input, from, end);
+    let taken = take_came(rt, before.totals, block, &input[..block.stop], rows);
     Standing {
-        totals,
-        next,
-        reads: more,
+        totals: taken.totals,
+        next: taken.next,
+        reads: block.reads,
     }
 }
 
-// Reads and takes to the end. A proved loop has to end, and nothing says that the input does: the loop counts its turns down, from a number
-// that no input uses up.
+// (Not one function with `run` of the program `runs`: what `Ready` and `Over` say of a turn differs, so that one for both is no plainer.)
+// Reads and takes to the end. A proved loop has to end, and nothing says that the input does: the loop has as many turns as no input uses up.
 fn take_all(rt: &(impl Input + Eprint)) -> Standing
     ensures { Over result.next result.reads result.totals }
 {
     let mut input = blocks::input_places();
     let mut rows = taking::row_places();
-    let mut totals = Totals::empty();
-    let mut next = Next::Begun(0, 0);
-    let mut reads = reading::none();
-    let mut turns = u64::MAX;
-    while 0 < turns {
-        let Next::Begun(from, end) = next else {
-            return Standing {
-                totals,
-                next,
-                reads,
-            };
+    let mut all = Standing {
+        totals: Totals::empty(),
+        next: Next::Begun(0, 0),
+        reads: reading::none(),
+    };
+    for _ in 0..u64::MAX {
+        let Next::Begun(from, end) = all.next else {
+            return all;
         };
-        let taken = turn(rt, totals, reads, &mut input, from, end, &mut rows);
-        totals = taken.totals;
-        next = taken.next;
-        reads = taken.reads;
-        turns -= 1;
+        all = turn(rt, all, &mut input, from, end, &mut rows);
     }
-    Standing {
-        totals,
-        next,
-        reads,
-    }
+    all
 }
 
 // The totals are told, unless reading failed.
 fn main(rt: HostRuntime) {
     let all = take_all(&rt);
-    let totals = all.totals;
-    let next = all.next;
-    let reads = all.reads;
-    match next {
-        Next::Ended => tell(&rt, totals, false, reads),
-        Next::Stopped => tell(&rt, totals, true, reads),
-        Next::Failed => {}
-        Next::Begun(_, _) => {}
+    match all.next {
+        Next::Ended => tell(&rt, all.totals, false, all.reads),
+        Next::Stopped => tell(&rt, all.totals, true, all.reads),
+        Next::Failed | Next::Begun(_, _) => {}
     }
 }

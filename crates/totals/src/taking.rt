@@ -2,13 +2,14 @@
 ghost use Rattle.std.specs.Prelude.{◌≡◌, length};
 ghost use Rattle.tally.specs.Held.{take_line};
 ghost use Rattle.blocks.specs.Blocks.{NoNewline};
-ghost use Rattle.totals.specs.Program.{answer_to, is_stopped, AfterBlock, AfterEnd};
+ghost use Rattle.totals.specs.Program.{answer_to, AfterBlock, AfterEnd};
+ghost use Rattle.totals.specs.declared.taking.Next.TheVariants as Nexts;
 
 use format::Kind;
-use lines::Reading;
-use tally::totals::{Reply, Stop, Taken, Totals};
+use tally::totals::{Reply, Stopped, Totals};
 
 // From where to where in the input a line has begun; that the input has ended; that refusal 20 ended the reading; or that reading failed.
+// (Four cases: no Option or Result has that shape, and `AfterBlock`, `AfterEnd` and `Over` speak of each.)
 #[derive(Clone, Copy)]
 pub(crate) enum Next {
     Begun(usize, usize),
@@ -31,26 +32,27 @@ pub(crate) fn row_places() -> [i64; Kind::MAX_ROWS]
     [0; Kind::MAX_ROWS]
 }
 
-fn is_stopped(stop: Stop) -> bool
-    ensures { result ≡ is_stopped stop }
+// Refusal 20 ended the reading: the totals are those before the line that would pass a limit.
+fn stopped(stop: Stopped) -> Turn
+    ensures totals { result.totals ≡ stop.totals }
+    ensures next { result.next ≡ Nexts.Stopped }
 {
-    match stop {
-        Stop::None => false,
-        Stop::Refused(_) => true,
+    Turn {
+        totals: stop.totals,
+        next: Next::Stopped,
     }
 }
 
 // One line's answer taken into the totals.
-fn take_line(before: Totals, line: &[u8], rows: &mut [i64]) -> Taken
+fn take_line(before: Totals, line: &[u8], rows: &mut [i64]) -> Result<Totals, Stopped>
     requires { length rows.old ≡ 512 }
     ensures { result ≡ take_line before (answer_to line.now) }
 {
     match lines::read_line(line, rows) {
-        Reading::Bad => before.take(Reply::Bad, &rows[..0]),
-        Reading::Answered(answer) => {
-            let count = answer.rows();
-            let n = count.rows;
-            before.take(Reply::to(answer), &rows[..n])
+        None => before.take(Reply::Bad, &[]),
+        Some(answer) => {
+            let count = format::answer::rows(answer);
+            before.take(Reply::from(answer), &rows[..count.rows])
         }
     }
 }
@@ -70,14 +72,9 @@ pub(crate) fn take_block(before: Totals, input: &[u8], rows: &mut [i64]) -> Turn
                 next: Next::Begun(from, end),
             };
         }
-        let taken = take_line(totals, &input[from..end], rows);
-        let stop = taken.stop;
-        totals = taken.totals;
-        if is_stopped(stop) {
-            return Turn {
-                totals,
-                next: Next::Stopped,
-            };
+        match take_line(totals, &input[from..end], rows) {
+            Ok(more) => totals = more,
+            Err(stop) => return stopped(stop),
         }
         from = end + 1;
     }
@@ -88,23 +85,17 @@ pub(crate) fn take_last(before: Totals, line: &[u8], rows: &mut [i64]) -> Turn
     requires { NoNewline line.now × (length rows.old ≡ 512) }
     ensures { AfterEnd before line.now result.totals result.next }
 {
-    if line.len() == 0 {
+    if line.is_empty() {
         return Turn {
             totals: before,
             next: Next::Ended,
         };
     }
-    let taken = take_line(before, line, rows);
-    let stop = taken.stop;
-    let totals = taken.totals;
-    if is_stopped(stop) {
-        return Turn {
+    match take_line(before, line, rows) {
+        Ok(totals) => Turn {
             totals,
-            next: Next::Stopped,
-        };
-    }
-    Turn {
-        totals,
-        next: Next::Ended,
+            next: Next::Ended,
+        },
+        Err(stop) => stopped(stop),
     }
 }

@@ -30,6 +30,14 @@ pub number_more : (s : List ℕ) (at i : ℕ) → at + i < length s
     → number 256 (take (i + 1) (drop at s)) ≡ number 256 (take i (drop at s)) * 256 + get_or s (at + i) 0
 number_more s at i h = rw (add-one, number-take-suc 256 (drop at s) i (rw length-drop (omega arith)), get_or-drop)
 
+-- a byte's number is the byte
+pub one_byte : (s : List ℕ) (i : ℕ) → i < length s → number 256 (take 1 (drop i s)) ≡ get_or s i 0
+unfolding number
+one_byte s i h =
+    let z : i + 0 ≡ i = omega arith in
+    let e = rw z at (number_more s i 0 (omega arith)) in
+    e ∙ zero-add (get_or s i 0)
+
 -- ---- the value of a base of n bytes, by the bit of its sign
 
 module _ (n : ℕ) (h : 1 ≤ n) (g : n ≤ 8) where
@@ -52,3 +60,11 @@ module _ (n : ℕ) (h : 1 ≤ n) (g : n ≤ 8) where
         let t : 1 * 2 ^ (8 * n - 1) + (x - 2 ^ (8 * n - 1)) ≡ x = omega arith in
         let m : x % 2 ^ (8 * n - 1) ≡ x - 2 ^ (8 * n - 1) = rw t at (digits_mod 1 {m = 2 ^ (8 * n - 1)} {r = x - 2 ^ (8 * n - 1)} (omega arith)) in
         rw (part_length s at n f, ← q) (simp (le-leb (2 ^ (8 * n - 1)) x u, m, zero-add))
+
+    -- the one number below 2^64 that makes 0 of the magnitude, modulo 2^64
+    pub base_negated : (x r : ℕ) → x ≡ number 256 (take n (drop at s)) → 2 ^ (8 * n - 1) ≤ x → x < 2 ^ (8 * n) → r < 2 ^ 64
+        → (r + (x - 2 ^ (8 * n - 1))) % 2 ^ 64 ≡ 0 → r ≡ base_value (take n (drop at s))
+    base_negated x r q u v w e =
+        let l : 2 ^ (8 * n) ≤ 2 ^ 64 = pow_mono {i = 8 * n} {j = 64} (omega arith) in
+        let m : r ≡ (0 + (2 ^ 64 - (x - 2 ^ (8 * n - 1)))) % 2 ^ 64 = omega arith in
+        m ∙ base-minus x q u v

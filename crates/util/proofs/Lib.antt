@@ -6,4 +6,3 @@ pub mod VarintSize
 pub mod Widths
 pub mod Window
 pub mod Packing
-pub mod Copied

@@ -14,15 +14,17 @@ use Rattle.format.proofs.Below.{below_all, below-drop}
 use Rattle.format.proofs.Varints.{varint-length, varint-lt}
 use Rattle.format.proofs.Tests.{never}
 use Rattle.util.specs.declared.varint.Varint as Answer
-use Rattle.util.specs.declared.varint.Varint.TheVariants.{Value, Cut, TooLong}
+use Rattle.util.specs.declared.varint.VarintError.{VarintError}
+use Rattle.util.specs.declared.varint.VarintError.TheVariants.{Cut, TooLong}
+use Rattle.std.specs.Prelude.{Result, Ok, Err}
 use Rattle.util.specs.Varint.{told, varint_at}
 
 -- v is the value of the groups that came before, p the next group's weight and i the place: what is told then
-abbrev pub told_from : ℕ → ℕ → ℕ → Parsed (List ℕ) → Answer.Varint
-told_from i v p (got u rest) = Value ((v + p * varint_value u) % 2 ^ 64) (i + length u)
-told_from i v p (refused (plain n)) = TooLong
-told_from i v p (refused (cut n left)) = Cut
-told_from i v p end = Cut
+abbrev pub told_from : ℕ → ℕ → ℕ → Parsed (List ℕ) → Result Answer.Varint VarintError
+told_from i v p (got u rest) = Ok (record { bits = (v + p * varint_value u) % 2 ^ 64; next = i + length u })
+told_from i v p (refused (plain n)) = Err TooLong
+told_from i v p (refused (cut n left)) = Err Cut
+told_from i v p end = Err Cut
 
 -- the sum is taken modulo 2^64, and a varint's number is below it
 pub told-from : (r : Reason) (i : ℕ) (bs : List ℕ) → AllBelow 256 bs → told i (varint r 10 bs) ≡ told_from i 0 1 (varint r 10 bs)
@@ -45,21 +47,21 @@ shift i v p b (refused (cut n left)) = refl
 shift i v p b end = refl
 
 module _ (s : List ℕ) (i v p k left : ℕ) (h : k < 10) where
-  pub at-end : length s ≤ i → told_from i v p (varint (cut 12 left) (10 - k) (drop i s)) ≡ Cut
+  pub at-end : length s ≤ i → told_from i v p (varint (cut 12 left) (10 - k) (drop i s)) ≡ Err Cut
   unfolding varint
   at-end l =
       let e : 10 - k ≡ suc (10 - (k + 1)) = omega arith in
       rw (e, drop_of_length-le s l)
 
   pub at_last : i < length s → get_or s i 0 < 128 → get_or s i 0 < last_below (10 - (k + 1))
-      → told_from i v p (varint (cut 12 left) (10 - k) (drop i s)) ≡ Value ((v + p * (get_or s i 0 % 128)) % 2 ^ 64) (i + 1)
+      → told_from i v p (varint (cut 12 left) (10 - k) (drop i s)) ≡ Ok (record { bits = (v + p * (get_or s i 0 % 128)) % 2 ^ 64; next = i + 1 })
   unfolding varint
   at_last l b c =
       let e : 10 - k ≡ suc (10 - (k + 1)) = omega arith in
       let z : get_or s i 0 % 128 + 128 * 0 ≡ get_or s i 0 % 128 = omega arith in
       rw (e, drop-cons s i 0 l, lt-ltb (get_or s i 0) 128 b, lt-leb (last_below (10 - (k + 1))) (get_or s i 0) c, z)
 
-  pub at_long : i < length s → get_or s i 0 < 128 → last_below (10 - (k + 1)) ≤ get_or s i 0 → told_from i v p (varint (cut 12 left) (10 - k) (drop i s)) ≡ TooLong
+  pub at_long : i < length s → get_or s i 0 < 128 → last_below (10 - (k + 1)) ≤ get_or s i 0 → told_from i v p (varint (cut 12 left) (10 - k) (drop i s)) ≡ Err TooLong
   unfolding varint
   at_long l b c =
       let e : 10 - k ≡ suc (10 - (k + 1)) = omega arith in
@@ -120,14 +122,15 @@ module _ (s : List ℕ) (at : ℕ) (below : (i : ℕ) → get_or s i 0 < 256) wh
   here : Here (varint (cut_in 12 (drop at s)) 10 (drop at s))
   here = varint-sound (cut_in 12 (drop at s)) 10 (drop at s) (below-drop 256 at s (below_all 256 s below))
 
-  pub value-is : (bits next : ℕ) → varint_at s at ≡ Value bits next → Stood s at bits next
+  pub value-is : (bits next : ℕ) → varint_at s at ≡ Ok (record { bits = bits; next = next }) → Stood s at bits next
   unfolding varint_at
   value-is bits next q = by here refl q
     where
-      by : {m : Parsed (List ℕ)} → Here m → varint (cut_in 12 (drop at s)) 10 (drop at s) ≡ m → told at m ≡ Value bits next → Stood s at bits next
+      by : {m : Parsed (List ℕ)} → Here m → varint (cut_in 12 (drop at s)) 10 (drop at s) ≡ m → told at m ≡ Ok (record { bits = bits; next = next }) → Stood s at bits next
       by (at-got {a = v} {s = rest} t) e q =
-          let n : at + length v ≡ next = cc in
-          let b : varint_value v ≡ bits = cc in
+          let r : ◌≡◌ {A = Answer.Varint} (record { bits = varint_value v; next = at + length v }) (record { bits = bits; next = next }) = cc in
+          let n : at + length v ≡ next = ap (λ (y : Answer.Varint). y.next) r in
+          let b : varint_value v ≡ bits = ap (λ (y : Answer.Varint). y.bits) r in
           let l : length s - at ≡ length v + length rest = rw (← (length-drop at s), t.split) (length-append v rest) in
           let d : rest ≡ drop next s = sym (rw (← n, ← (drop-drop (length v) at s), t.split) (drop_at v rest (length v) refl)) in
           record {
@@ -141,21 +144,21 @@ module _ (s : List ℕ) (at : ℕ) (below : (i : ℕ) → get_or s i 0 < 256) wh
       by (at-refused {r = plain n}) e q = never (cc)
       by (at-refused {r = cut n left}) e q = never (cc)
 
-  pub cut-is : varint_at s at ≡ Cut → varint (cut_in 12 (drop at s)) 10 (drop at s) ≡ refused (cut_in 12 (drop at s))
+  pub cut-is : varint_at s at ≡ Err Cut → varint (cut_in 12 (drop at s)) 10 (drop at s) ≡ refused (cut_in 12 (drop at s))
   unfolding varint_at
   cut-is q = by (refuses (cut_in 12 (drop at s)) 10 (drop at s)) refl q
     where
-      by : {m : Parsed (List ℕ)} → Refuses (cut_in 12 (drop at s)) m → varint (cut_in 12 (drop at s)) 10 (drop at s) ≡ m → told at m ≡ Cut
+      by : {m : Parsed (List ℕ)} → Refuses (cut_in 12 (drop at s)) m → varint (cut_in 12 (drop at s)) 10 (drop at s) ≡ m → told at m ≡ Err Cut
           → varint (cut_in 12 (drop at s)) 10 (drop at s) ≡ refused (cut_in 12 (drop at s))
       by stands e q = never (cc)
       by ends e q = e
       by too_long e q = never (cc)
 
-  pub long-is : varint_at s at ≡ TooLong → varint (cut_in 12 (drop at s)) 10 (drop at s) ≡ refused (plain 5)
+  pub long-is : varint_at s at ≡ Err TooLong → varint (cut_in 12 (drop at s)) 10 (drop at s) ≡ refused (plain 5)
   unfolding varint_at
   long-is q = by (refuses (cut_in 12 (drop at s)) 10 (drop at s)) refl q
     where
-      by : {m : Parsed (List ℕ)} → Refuses (cut_in 12 (drop at s)) m → varint (cut_in 12 (drop at s)) 10 (drop at s) ≡ m → told at m ≡ TooLong
+      by : {m : Parsed (List ℕ)} → Refuses (cut_in 12 (drop at s)) m → varint (cut_in 12 (drop at s)) 10 (drop at s) ≡ m → told at m ≡ Err TooLong
           → varint (cut_in 12 (drop at s)) 10 (drop at s) ≡ refused (plain 5)
       by stands e q = never (cc)
       by ends e q = never (cc)

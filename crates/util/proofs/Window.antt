@@ -5,19 +5,18 @@ use Rattle.format.proofs.Common.{pow-zero, div-one, mod-eq_of_lt, div-lt_iff_lt-
 use Rattle.format.proofs.Common.{map-append, append_assoc, length, get_or, set, take, drop, length-append, length-drop, length-map}
 use Rattle.format.proofs.Common.{take-append-drop, ℤ, pos, take_at, take_all, drop_at, take-suc, drop-cons, set_at, take-add, drop-drop}
 use Rattle.format.proofs.Common.{take-append-le, drop-append-le, drop-append-add, length-take-le, pow-add, pow_pos, shr-shr, high}
-use Rattle.std.proofs.Common.{reverse, lt_of_not-le}
+use Rattle.std.proofs.Common.{lt_of_not-le}
 use native.Mathlib.Numerals.{towards_suc}
-use mathlib.Core.List.{reverse_aux, reverse-reverse}
-use lib.ListN.{length-reverse}
 use lib.Pow.{ones_split, ones_lt}
 use Rattle.format.specs.Digits.{AllBelow, number, digits, spread}
 use Rattle.format.specs.Fields.{bytes_for, pad_bits}
 use Rattle.format.specs.Rows.{as_i64}
-use Rattle.format.proofs.Digits.{spread-number, digits-add, length_digits, number-low, digits_number, getD-digits, pow-pow, length-spread, spread-append}
+use Rattle.format.proofs.Digits.{spread-number, digits-add, length_digits, number-low, getD-digits, pow-pow, length-spread, spread-append}
 use Rattle.format.proofs.Below.{below_all, below-take, below-drop}
 use Rattle.format.proofs.Widths.{IsWidth}
 use Rattle.util.proofs.BigEndian.{number-bits}
-use Rattle.util.specs.Packed.{fields, bits, field_at, Width, FieldsLaid, low_two, low_four, low_first, swap}
+use Rattle.util.specs.Packed.{fields, bits, field_at, Width, FieldsLaid}
+use Rattle.std.specs.Int.{w16, w32, w64, from_be_bytes}
 
 -- ---- bits
 
@@ -144,43 +143,17 @@ four_bytes s i h =
       drop-cons s (suc (suc (suc i))) 0 (omega arith),
     ))
 
--- four bytes that are read the lowest first and turned round, in the high half of a word
-turned : (a b c d : ℕ) → a < 256 → b < 256 → c < 256 → d < 256
-    → swap (a + b * 256 + c * 65536 + d * 16777216) / 4294967296 ≡ ((a * 256 + b) * 256 + c) * 256 + d
-turned a b c d ha hb hc hd =
-    let x = a + b * 256 + c * 65536 + d * 16777216 in
-    let e0 : x % 256 ≡ a = omega arith in
-    let e1 : x / 256 ≡ b + c * 256 + d * 65536 = omega arith in
-    let f1 : (b + c * 256 + d * 65536) % 256 ≡ b = omega arith in
-    let e2 : x / 65536 ≡ c + d * 256 = omega arith in
-    let f2 : (c + d * 256) % 256 ≡ c = omega arith in
-    let e3 : x / 16777216 ≡ d = omega arith in
-    let f3 : d % 256 ≡ d = omega arith in
-    let e4 : x / 4294967296 ≡ 0 = omega arith in
-    let e5 : x / 1099511627776 ≡ 0 = omega arith in
-    let e6 : x / 281474976710656 ≡ 0 = omega arith in
-    let e7 : x / 72057594037927936 ≡ 0 = omega arith in
-    rw (e0, e1, f1, e2, f2, e3, f3, e4, e5, e6, e7) (omega arith)
-
-pub half_is : (s : List ℕ) (i : ℕ) → i + 4 ≤ length s → ((k : ℕ) → get_or s k 0 < 256) → swap (low_four s i) / 4294967296 ≡ number 256 (take 4 (drop i s))
+pub half_is : (s : List ℕ) (i : ℕ) → i + 4 ≤ length s
+    → from_be_bytes w32 (get_or s i 0 ∷ get_or s (i + 1) 0 ∷ get_or s (i + 2) 0 ∷ get_or s (i + 3) 0 ∷ []) ≡ number 256 (take 4 (drop i s))
 unfolding number
-half_is s i h f =
-    turned (get_or s i 0) (get_or s (i + 1) 0) (get_or s (i + 2) 0) (get_or s (i + 3) 0) (f i) (f (i + 1)) (f (i + 2)) (f (i + 3)) ∙ rw (four_bytes s i h) (omega arith)
+half_is s i h = rw (four_bytes s i h) (omega arith)
 
--- if the lower quarter of a word's high half is empty, the upper one is all of it
-high-quarter : (x m : ℕ) → x / 4294967296 ≡ (m * 256 + 0) * 256 + 0 → x / 281474976710656 ≡ m
-high-quarter x m e = omega arith
-
--- two bytes alike, in the high quarter
-pub quarter-is : (s : List ℕ) (i : ℕ) → i + 2 ≤ length s → ((k : ℕ) → get_or s k 0 < 256) → swap (low_two s i) / 281474976710656 ≡ number 256 (take 2 (drop i s))
+pub quarter-is : (s : List ℕ) (i : ℕ) → i + 2 ≤ length s → from_be_bytes w16 (get_or s i 0 ∷ get_or s (i + 1) 0 ∷ []) ≡ number 256 (take 2 (drop i s))
 unfolding number
-quarter-is s i h f =
-    let a = get_or s i 0 in
-    let b = get_or s (i + 1) 0 in
-    let z : a + b * 256 ≡ a + b * 256 + 0 * 65536 + 0 * 16777216 = omega arith in
-    let t = ap (λ (x : ℕ). swap x / 4294967296) z ∙ turned a b 0 0 (f i) (f (i + 1)) (omega arith) (omega arith) in
-    let two : take 2 (drop i s) ≡ a ∷ b ∷ [] = simp towards_suc (rw (drop-cons s i 0 (omega arith), drop-cons s (suc i) 0 (omega arith))) in
-    high-quarter (swap (a + b * 256)) (a * 256 + b) t ∙ rw two (omega arith)
+quarter-is s i h =
+    let two : take 2 (drop i s) ≡ get_or s i 0 ∷ get_or s (i + 1) 0 ∷ []
+    = simp towards_suc (rw (drop-cons s i 0 (omega arith), drop-cons s (suc i) 0 (omega arith))) in
+    rw two (omega arith)
 
 eight-bytes : (s : List ℕ) (i : ℕ) → i + 8 ≤ length s
     → take 8 (drop i s) ≡ get_or s i 0 ∷ get_or s (i + 1) 0 ∷ get_or s (i + 2) 0 ∷ get_or s (i + 3) 0 ∷
@@ -191,25 +164,11 @@ eight-bytes s i h =
     let e3 : i + 4 + 3 ≡ i + 7 = omega arith in
     take-add 4 4 (drop i s) ∙ rw (drop-drop 4 i s, four_bytes s i (omega arith), four_bytes s (i + 4) (omega arith), e1, e2, e3)
 
-low-is : (s : List ℕ) (i : ℕ) → i + 8 ≤ length s → low_first s i ≡ number 256 (reverse (take 8 (drop i s)))
+pub word-is : (s : List ℕ) (i : ℕ) → i + 8 ≤ length s
+    → from_be_bytes w64 (get_or s i 0 ∷ get_or s (i + 1) 0 ∷ get_or s (i + 2) 0 ∷ get_or s (i + 3) 0 ∷
+    get_or s (i + 4) 0 ∷ get_or s (i + 5) 0 ∷ get_or s (i + 6) 0 ∷ get_or s (i + 7) 0 ∷ []) ≡ number 256 (take 8 (drop i s))
 unfolding number
-low-is s i h = rw (eight-bytes s i h) (omega arith)
-
-pub swap_is : (x : ℕ) → swap x ≡ number 256 (reverse (digits 256 8 x))
-unfolding number digits
-swap_is x = omega arith
-
-below-reverse : (b : ℕ) (l r : List ℕ) → AllBelow b l → AllBelow b r → AllBelow b (reverse_aux l r)
-below-reverse b [] r h g = g
-below-reverse b (x ∷ l) r h g = below-reverse b l (x ∷ r) h.1 (h.0, g)
-
--- eight bytes that are read the lowest first and turned round
-pub word-is : (s : List ℕ) (i : ℕ) → i + 8 ≤ length s → AllBelow 256 s → swap (low_first s i) ≡ number 256 (take 8 (drop i s))
-word-is s i h d =
-    let l = take 8 (drop i s) in
-    let n : length (reverse l) ≡ 8 = length-reverse l ∙ length-take-le 8 (drop i s) (rw length-drop (omega arith)) in
-    let t : AllBelow 256 (reverse l) = below-reverse 256 l [] (below-take 256 8 (drop i s) (below-drop 256 i s d)) tt in
-    swap_is (low_first s i) ∙ rw (low-is s i h, rw n at (digits_number 256 (reverse l) t), reverse-reverse)
+word-is s i h = rw (eight-bytes s i h) (omega arith)
 
 -- the w lowest of 64 set bits
 pub mask : (w : ℕ) → w ≤ 64 → (2 ^ 64 - 1) / 2 ^ (64 - w) ≡ 2 ^ w - 1

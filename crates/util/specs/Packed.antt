@@ -1,5 +1,5 @@
 -- Packed fields, as they are read out of bytes (FORMAT.md, "Packed blocks"). Assumes nothing.
-use Rattle.std.specs.Prelude.{◌≡◌, ℕ, ◌+◌, ◌*◌, ◌/◌, ◌%◌, ◌<◌, ◌≤◌, List, ◌++◌, map, length, take, drop, ℤ, slice_index}
+use Rattle.std.specs.Prelude.{◌≡◌, ℕ, ◌+◌, ◌*◌, ◌<◌, ◌≤◌, List, ◌++◌, map, length, take, drop, ℤ}
 use Rattle.format.specs.Digits.{number, spread}
 use Rattle.format.specs.Fields.{bytes_for, block_bytes}
 use Rattle.format.specs.Rows.{as_i64}
@@ -38,25 +38,3 @@ Lays w s k m out out' = (n : ℕ) (o : List ℤ) → m ≤ n → bytes_for (n * 
 -- bytes with a block of n fields of width w at `at`, with zero padding, and around it what stood there
 abbrev pub packed_at : ℕ → ℕ → List ℕ → ℕ → List ℕ → List ℕ
 packed_at w n vs at out = take at out ++ block_bytes w n (record { values = vs; pad = 0 }) ++ drop (at + bytes_for (n * w)) out
-
--- ---- eight bytes, as a machine's word has them
-
--- the two bytes at i as a number, the lowest first
-abbrev pub low_two : List ℕ → ℕ → ℕ
-low_two s i = slice_index s i + slice_index s (i + 1) * 256
-
--- the four bytes
-abbrev pub low_four : List ℕ → ℕ → ℕ
-low_four s i = low_two s i + slice_index s (i + 2) * 65536 + slice_index s (i + 3) * 16777216
-
--- the eight bytes
-abbrev pub low_first : List ℕ → ℕ → ℕ
-low_first s i =
-    low_four s i + slice_index s (i + 4) * 4294967296
-    + slice_index s (i + 5) * 1099511627776 + slice_index s (i + 6) * 281474976710656 + slice_index s (i + 7) * 72057594037927936
-
--- the eight bytes of x in the other order
-abbrev pub swap : ℕ → ℕ
-swap x =
-    x % 256 * 72057594037927936 + x / 256 % 256 * 281474976710656 + x / 65536 % 256 * 1099511627776 + x / 16777216 % 256 * 4294967296
-    + x / 4294967296 % 256 * 16777216 + x / 1099511627776 % 256 * 65536 + x / 281474976710656 % 256 * 256 + x / 72057594037927936 % 256

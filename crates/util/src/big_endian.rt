@@ -3,7 +3,7 @@ ghost use Rattle.std.specs.Prelude.{◌≡◌, ◌+◌, ◌/◌, ◌%◌, ◌^�
 ghost use Rattle.format.specs.Digits.{number, digits};
 ghost use Rattle.format.specs.Rows.{base_value};
 
-use crate::{number, packed, pattern};
+use crate::packed;
 
 // Byte k of x, the lowest being byte 0.
 fn byte_of(x: u64, k: usize) -> u8
@@ -19,10 +19,8 @@ pub(crate) fn bytes(s: &[u8], at: usize, n: usize) -> u64
     ensures { result ≡ number 256 (take n (drop at s.now)) }
 {
     let mut x: u64 = 0;
-    let mut i: usize = 0;
-    while i < n {
-        x = x * 256 + number::wide(s[at + i]);
-        i += 1;
+    for byte in &s[at..at + n] {
+        x = x * 256 + u64::from(*byte);
     }
     x
 }
@@ -43,13 +41,8 @@ pub fn write(x: u64, n: usize, out: &mut [u8], at: usize)
     requires { (1 ≤ n) × (n ≤ 8) × (at + n ≤ length out.old) }
     ensures { out.new ≡ take at out.old ++ digits 256 n x ++ drop (at + n) out.old }
 {
-    let mut place = at;
-    let mut left = n;
-    while 0 < left {
-        left -= 1;
-        let b = byte_of(x, left);
-        out[place] = b;
-        place += 1;
+    for i in 0..n {
+        out[at + i] = byte_of(x, n - 1 - i);
     }
 }
 
@@ -63,6 +56,6 @@ pub fn base_value(s: &[u8], at: usize, n: usize) -> u64
     if x < sign {
         x
     } else {
-        pattern::sub(0, x - sign)
+        (x - sign).wrapping_neg()
     }
 }

@@ -1,9 +1,7 @@
-// What the readers and the writer share: the fields of the layouts (docs/FORMAT.md), a module each, and copies into places.
+// What the readers and the writer share: the fields of the layouts (docs/FORMAT.md), a module each.
 #![tactic(auto)]
 
 pub mod big_endian;
-pub mod bytes;
-pub mod number;
 pub mod packed;
 pub mod pattern;
 pub mod rows;

@@ -3,56 +3,25 @@ ghost use Rattle.std.specs.Prelude.{◌≡◌, ◌+◌, ◌-◌, ◌*◌, ◌/�
 ghost use Rattle.format.specs.Digits.{AllBelow, number};
 ghost use Rattle.format.specs.Fields.{bytes_for, block_bytes};
 ghost use Rattle.format.specs.Rows.{as_i64};
-ghost use Rattle.util.specs.Packed.{fields, bits, field_at, Width, Room, FieldsLaid, Lays, low_two, low_four, low_first, swap};
+ghost use Rattle.util.specs.Packed.{fields, bits, field_at, Width, Room, FieldsLaid, Lays};
 
-use crate::{big_endian, number, pattern};
-
-// Eight bytes, the lowest first: one load. It stands apart from `swapped`, or the optimiser makes eight loads of the two.
-fn low_first(s: &[u8], i: usize) -> u64
-    requires { i + 8 ≤ length s.now }
-    ensures { result ≡ low_first s.now i }
-{
-    number::wide(s[i])
-        + number::wide(s[i + 1]) * 256
-        + number::wide(s[i + 2]) * 65536
-        + number::wide(s[i + 3]) * 16777216
-        + number::wide(s[i + 4]) * 4294967296
-        + number::wide(s[i + 5]) * 1099511627776
-        + number::wide(s[i + 6]) * 281474976710656
-        + number::wide(s[i + 7]) * 72057594037927936
-}
-
-// The bytes of x in the other order: one instruction.
-fn swapped(x: u64) -> u64
-    ensures { result ≡ swap x }
-{
-    x % 256 * 72057594037927936
-        + x / 256 % 256 * 281474976710656
-        + x / 65536 % 256 * 1099511627776
-        + x / 16777216 % 256 * 4294967296
-        + x / 4294967296 % 256 * 16777216
-        + x / 1099511627776 % 256 * 65536
-        + x / 281474976710656 % 256 * 256
-        + x / 72057594037927936 % 256
-}
+use crate::{big_endian, pattern};
 
 // The eight bytes at i as a number.
 pub(crate) fn word(s: &[u8], i: usize) -> u64
     requires { i + 8 ≤ length s.now }
     ensures { result ≡ number 256 (take 8 (drop i s.now)) }
 {
-    swapped(low_first(s, i))
-}
-
-// Four bytes, the lowest first: one load as well.
-fn low_four(s: &[u8], i: usize) -> u64
-    requires { i + 4 ≤ length s.now }
-    ensures { result ≡ low_four s.now i }
-{
-    number::wide(s[i])
-        + number::wide(s[i + 1]) * 256
-        + number::wide(s[i + 2]) * 65536
-        + number::wide(s[i + 3]) * 16777216
+    u64::from_be_bytes([
+        s[i],
+        s[i + 1],
+        s[i + 2],
+        s[i + 3],
+        s[i + 4],
+        s[i + 5],
+        s[i + 6],
+        s[i + 7],
+    ])
 }
 
 // The four bytes at i as a number.
@@ -60,15 +29,7 @@ fn half(s: &[u8], i: usize) -> u64
     requires { i + 4 ≤ length s.now }
     ensures { result ≡ number 256 (take 4 (drop i s.now)) }
 {
-    swapped(low_four(s, i)) / 4294967296
-}
-
-// Two bytes, the lowest first: one load as well.
-fn low_two(s: &[u8], i: usize) -> u64
-    requires { i + 2 ≤ length s.now }
-    ensures { result ≡ low_two s.now i }
-{
-    number::wide(s[i]) + number::wide(s[i + 1]) * 256
+    u64::from(u32::from_be_bytes([s[i], s[i + 1], s[i + 2], s[i + 3]]))
 }
 
 // The two bytes at i as a number.
@@ -76,7 +37,7 @@ fn quarter(s: &[u8], i: usize) -> u64
     requires { i + 2 ≤ length s.now }
     ensures { result ≡ number 256 (take 2 (drop i s.now)) }
 {
-    swapped(low_two(s, i)) / 281474976710656
+    u64::from(u16::from_be_bytes([s[i], s[i + 1]]))
 }
 
 // The w bits of x above its lowest `low`.
@@ -122,8 +83,11 @@ pub fn block_size(w: usize, n: usize) -> usize
     requires { (w ≤ 64) × (n ≤ 65536) }
     ensures { result ≡ bytes_for (n * w) }
 {
-    (n * w + 7) / 8
+    (n * w).div_ceil(8)
 }
+
+// The bytes, the eight's first, its word and the width stay parameters of these three: a struct of them with an invariant was tried, and its
+// methods' proofs didn't close, for want of the fact that its bytes are below 256.
 
 // Field j of the eight that start with byte b: two or four bytes, or bits of x, the word at b, or bits of a word of its own.
 fn one_of_eight(s: &[u8], b: usize, x: u64, j: usize, w: usize) -> u64
@@ -192,13 +156,10 @@ fn single_bytes(s: &[u8], w: usize, n: usize, out: &mut [i64]) -> usize
     requires room { Room w n s.now out.old }
     ensures { FieldsLaid w n s.now result out.old out.new }
 {
-    let mut k = 0;
-    while k < n {
-        let row = pattern::to_i64(big_endian::bytes(s, k, 1));
-        out[k] = row;
-        k += 1;
+    for k in 0..n {
+        out[k] = i64::from(s[k]);
     }
-    k
+    n
 }
 
 // As many fields, up to n, as eights that lie in whole words: how many. The width is said twice: a caller that gives v as a number has
@@ -209,22 +170,20 @@ fn eights(s: &[u8], w: usize, v: usize, n: usize, out: &mut [i64]) -> usize
     requires room { Room w n s.now out.old }
     ensures { FieldsLaid w n s.now result out.old out.new }
 {
-    let whole = n - n % 8;
-    let mut k = 0;
-    let mut b = 0;
-    while k < whole {
+    let turns = n / 8;
+    for turn in 0..turns {
+        let b = turn * v;
         // eight narrow fields are less than a word
         if v < 8 && s.len() < b + 8 {
-            return k;
+            return 8 * turn;
         }
-        eight(s, b, v, out, k);
-        b += v;
-        k += 8;
+        eight(s, b, v, out, 8 * turn);
     }
-    k
+    8 * turns
 }
 
-// The same, with a copy of the loop for each width of the table.
+// The same, with a copy of the loop for each width of the table. No const parameter: the last arm, whose width is no constant, would need a
+// second function beside it; and no table of functions, which would hide from the compiler which loop is called.
 fn eights_at(s: &[u8], w: usize, n: usize, out: &mut [i64]) -> usize
     requires width { Width w }
     requires room { Room w n s.now out.old }
@@ -276,16 +235,14 @@ fn few(s: &[u8], w: usize, n: usize, out: &mut [i64])
     let len = s.len();
     let x = big_endian::bytes(s, 0, len);
     let mut low = 8 * len;
-    let mut k = 0;
-    while k < n {
+    for k in 0..n {
         low -= w;
-        let row = pattern::to_i64(cut(x, low, w));
-        out[k] = row;
-        k += 1;
+        out[k] = pattern::to_i64(cut(x, low, w));
     }
 }
 
-// The n fields that s begins with, put into the first n places as rows with the same bits: the eights, and then the rest.
+// The n fields that s begins with, put into the first n places as rows with the same bits: the eights, and then the rest. A count beside the
+// slices, since the clauses name it and both may be longer.
 pub fn unpack(s: &[u8], w: usize, n: usize, out: &mut [i64])
     requires width { Width w }
     requires n_bound { (n ≤ 65536) × (n ≤ length out.old) × (bytes_for (n * w) ≤ length s.now) }
@@ -295,11 +252,9 @@ pub fn unpack(s: &[u8], w: usize, n: usize, out: &mut [i64])
         few(s, w, n, out);
         return;
     }
-    let mut k = eights_at(s, w, n, out);
-    while k < n {
-        let row = pattern::to_i64(field(s, w, k));
-        out[k] = row;
-        k += 1;
+    let laid = eights_at(s, w, n, out);
+    for k in laid..n {
+        out[k] = pattern::to_i64(field(s, w, k));
     }
 }
 
@@ -323,22 +278,19 @@ pub fn pack(vals: &[u64], n: usize, w: usize, out: &mut [u8], at: usize)
     let mut x = 0;
     let mut t = 0;
     let mut b = 0;
-    let mut k = 0;
-    while k < n {
-        let v = vals[k];
+    for v in &vals[..n] {
         t += w;
         if t < 64 {
-            x += v << (64 - t);
+            x += *v << (64 - t);
         } else {
             t -= 64;
-            big_endian::write(x + (v >> t), 8, out, at + b);
+            big_endian::write(x + (*v >> t), 8, out, at + b);
             b += 8;
-            x = raised(v, 64 - t);
+            x = raised(*v, 64 - t);
         }
-        k += 1;
     }
     if 0 < t {
-        let q = (t + 7) / 8;
+        let q = t.div_ceil(8);
         big_endian::write(x >> (64 - 8 * q), q, out, at + b);
     }
 }

@@ -1,44 +1,22 @@
-// Rows as 64-bit patterns: the i64 with the same bits and back, sums modulo 2^64, zigzag.
-ghost use Rattle.std.specs.Prelude.{◌≡◌, ◌+◌, ◌-◌, ◌%◌, ◌^◌};
+// Rows as 64-bit patterns: the i64 with the same bits and back, zigzag.
+ghost use Rattle.std.specs.Prelude.{◌≡◌};
 ghost use Rattle.format.specs.Fields as Fields;
 ghost use Rattle.format.specs.Rows.{as_i64, as_u64};
 
 use format::{ALL_BITS, TOP_BIT};
 
-// The i64 with the same bits. Both arms together are one move: `!` turns all bits over, and asks nothing of them.
+// The i64 with the same bits.
 pub fn to_i64(bits: u64) -> i64
     ensures { result ≡ as_i64 bits }
 {
-    if bits < TOP_BIT {
-        bits as i64
-    } else {
-        !((ALL_BITS - bits) as i64)
-    }
+    bits.cast_signed()
 }
 
 // The u64 with the same bits.
 pub fn to_u64(x: i64) -> u64
     ensures { result ≡ as_u64 x }
 {
-    if x < 0 {
-        ALL_BITS - ((!x) as u64)
-    } else {
-        x as u64
-    }
-}
-
-// The sum of two rows.
-pub fn add(a: u64, b: u64) -> u64
-    ensures { result ≡ (a + b) % 2 ^ 64 }
-{
-    std::num::wrapping_add_u64(a, b)
-}
-
-// The difference of two rows.
-pub fn sub(a: u64, b: u64) -> u64
-    ensures { result ≡ (a + (2 ^ 64 - b)) % 2 ^ 64 }
-{
-    std::num::wrapping_sub_u64(a, b)
+    x.cast_unsigned()
 }
 
 // The row that u stands for under zigzag: its half, with the bits turned over if u is odd.

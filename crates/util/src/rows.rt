@@ -16,10 +16,5 @@ pub fn copy(rows: &[i64], skip: RowNumber, n: RowNumber, out: &mut [i64])
     requires { (skip.rows + n.rows ≤ length rows.now) × (n.rows ≤ length out.old) }
     ensures { out.new ≡ take n.rows (drop skip.rows rows.now) ++ drop n.rows out.old }
 {
-    let mut i: usize = 0;
-    while i < n.rows {
-        let r = rows[skip.rows + i];
-        out[i] = r;
-        i += 1;
-    }
+    out[..n.rows].copy_from_slice(&rows[skip.rows..skip.rows + n.rows]);
 }

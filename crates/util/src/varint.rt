@@ -3,12 +3,16 @@ ghost use Rattle.std.specs.Prelude.{◌≡◌, ◌+◌, ◌-◌, ◌*◌, ◌%�
 ghost use Rattle.format.specs.Fields.{last_below, shortest};
 ghost use Rattle.util.specs.Varint.{varint_at, VarintWritten};
 
-use crate::pattern;
-
+// A varint that was read: its value, and the place after it.
 #[derive(Clone, Copy)]
-pub enum Varint {
-    // The value, and the place after it.
-    Value { bits: u64, next: usize },
+pub struct Varint {
+    pub bits: u64,
+    pub next: usize,
+}
+
+// Why there is none: an enum of its own, since the callers turn each reason into a refusal of the format by its number.
+#[derive(Clone, Copy)]
+pub enum VarintError {
     // The input ends in it: refusal 12.
     Cut,
     // The tenth byte is above 1: refusal 5.
@@ -20,7 +24,7 @@ fn group(b: u8, k: u64) -> u64
     requires { k < 10 }
     ensures { result ≡ b % 128 * 2 ^ (7 * k) % 2 ^ 64 }
 {
-    ((b as u64) % 128) << (7 * k)
+    u64::from(b % 128) << (7 * k)
 }
 
 // What the last byte of a varint is below, where k bytes stand before it: the tenth has one bit left.
@@ -32,28 +36,25 @@ fn last_below(k: u64) -> u8
 }
 
 // The varint at a place. A place past the end is empty input.
-pub fn read(s: &[u8], at: usize) -> Varint
+pub fn read(s: &[u8], at: usize) -> Result<Varint, VarintError>
     ensures { result ≡ varint_at s.now at }
 {
-    let mut i = at;
-    let mut v: u64 = 0;
-    let mut k: u64 = 0;
-    while k < 10 {
-        if s.len() <= i {
-            return Varint::Cut;
-        }
-        let b = s[i];
-        v = pattern::add(v, group(b, k));
-        i += 1;
+    let mut bits: u64 = 0;
+    let mut next = at;
+    for k in 0..10 {
+        let Some(&b) = s.get(next) else {
+            return Err(VarintError::Cut);
+        };
+        bits = bits.wrapping_add(group(b, k));
+        next += 1;
         if b < 128 {
             if last_below(k) <= b {
-                return Varint::TooLong;
+                return Err(VarintError::TooLong);
             }
-            return Varint::Value { bits: v, next: i };
+            return Ok(Varint { bits, next });
         }
-        k += 1;
     }
-    Varint::TooLong
+    Err(VarintError::TooLong)
 }
 
 // How many bytes the shortest varint of x has: one for each seven bits, and one at least.
@@ -63,8 +64,8 @@ pub fn size(x: u64) -> usize
     if x == 0 {
         return 1;
     }
-    let bits = (64 - u64::leading_zeros(x)) as usize;
-    (bits + 6) / 7
+    let bits = (64 - x.leading_zeros()) as usize;
+    bits.div_ceil(7)
 }
 
 // The lowest group of x with the top bit set: a byte that others follow.
@@ -74,7 +75,7 @@ fn low_group(x: u64) -> u8
     (x % 128 + 128) as u8
 }
 
-// The shortest varint of x, written at a place: the place after it.
+// The shortest varint of x, written at a place: the place after it. The loop counts nothing: it ends with what is left of x.
 pub fn write(x: u64, out: &mut [u8], at: usize) -> usize
     requires { at + length (shortest x) ≤ length out.old }
     ensures { VarintWritten x out.old at out.new result }

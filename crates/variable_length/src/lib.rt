@@ -4,20 +4,16 @@
 ghost use Rattle.std.specs.Prelude.{◌≡◌, ◌≤◌, length, drop};
 ghost use Rattle.format.specs.ByteValues.{ValueRead, ValueGiven};
 
-use format::{Answer, ByteOffset, Kind, RowNumber};
+use format::{Answer, ByteOffset, Kind, Refusal, RowNumber, Run};
 
 // Where the rest begins: a position past the end is empty input.
 fn rest(input: &[u8], at: ByteOffset) -> ByteOffset
     ensures { (result.bytes ≤ length input.now)
         × (drop result.bytes input.now ≡ drop at.bytes input.now) }
 {
-    let position = at.bytes;
-    let start = if position <= input.len() {
-        position
-    } else {
-        input.len()
-    };
-    ByteOffset { bytes: start }
+    ByteOffset {
+        bytes: at.bytes.min(input.len()),
+    }
 }
 
 // The value's counts, or refusal 6 if the input ends before the value does: the cut field begins at the call's position.
@@ -27,9 +23,9 @@ pub fn read_value(input: &[u8], at: ByteOffset, n: ByteOffset) -> Answer
     let start = rest(input, at).bytes;
     let size = n.bytes;
     if size <= input.len() - start {
-        Answer::run(Kind::ByteValues, 8, RowNumber { rows: size }, n)
+        Ok(Some(Run::new(Kind::ByteValues, 8, RowNumber { rows: size }, n)))
     } else {
-        Answer::cut(6, at, at)
+        Err(Refusal::cut(6, at, at))
     }
 }
 

@@ -3,8 +3,7 @@ use Rattle.format.proofs.Common.{◌≡◌, refl, sym, ap, ◌∙◌, ℕ, ◌+�
 use Rattle.format.proofs.Common.{drop, length-map, length-append, le-leb}
 use Rattle.format.specs.declared.Form.TheVariants.{FixedDelta}
 use Rattle.format.specs.declared.Kind.TheVariants as kind
-use Rattle.format.specs.declared.Answer.{Answer}
-use Rattle.format.specs.Answers.{ran, refused_at}
+use Rattle.format.specs.Answers.{Answer, ran, refused_at}
 use Rattle.format.specs.Fields.{zigzagged, shortest}
 use Rattle.format.specs.Runs.{layout, row_count}
 use Rattle.format.specs.Rows.{as_u64}

@@ -2,6 +2,9 @@
 use Rattle.format.proofs.Common.{◌≡◌, refl, sym, ap, ◌∙◌, ℕ, ◌+◌, ◌*◌, ◌/◌, ◌^◌, ◌<◌, ◌≤◌, div-lt_iff_lt-mul, add-one, dec_lt, arith, Bool}
 use Rattle.format.proofs.Common.{◌&&◌, and-true, and-false, List, [], ◌∷◌, map, ◌↔◌, ltb, eqb, ℤ, pos, length, get_or, drop, take}
 use Rattle.format.proofs.Common.{List·getD-map, slice, slice-cons, slice_empty, get_or-drop, pow_pos, lt-ltb, le-ltb, eq-eqb, ne_eqb}
+use Rattle.format.proofs.Common.{negsuc, w64, of_z, to_z, SFits, to_z-of_z}
+use Rattle.std.specs.Prelude.{max}
+use Rattle.std.proofs.Math.Seq.{take-length}
 use Rattle.format.specs.Rows.{as_u64}
 use Rattle.format.specs.Writing.{minus, steps_of, base_delta, every}
 use Rattle.writer.specs.PatchedBase.{Largest}
@@ -35,17 +38,27 @@ module _ (l : List ℕ) (n most i : ℕ) (m : Most l n most i) where
   unfolding every
   split h k b p = m.bounds b p ∙ rw (add-one, slice-cons i n l 0 h k)
 
-  pub most-next : i < n → n ≤ length l → most ≤ get_or l i 0 → Most l n (get_or l i 0) (i + 1)
+  most-next : i < n → n ≤ length l → most ≤ get_or l i 0 → Most l n (get_or l i 0) (i + 1)
   most-next h k g = record { bounds = λ b p. split h k b p ∙ larger (get_or l i 0) b _ g }
 
-  pub most-same : i < n → n ≤ length l → get_or l i 0 ≤ most → Most l n most (i + 1)
+  most-same : i < n → n ≤ length l → get_or l i 0 ≤ most → Most l n most (i + 1)
   most-same h k g = record { bounds = λ b p. split h k b p ∙ smaller (get_or l i 0) b _ g }
 
-  pub most-all : i ≤ n → n ≤ i → Largest (take n l) most
+  pub most-max : i < n → n ≤ length l → Most l n (max most (get_or l i 0)) (i + 1)
+  most-max h k = by (dec_lt most (get_or l i 0))
+    where
+      by : Dec (most < get_or l i 0) → Most l n (max most (get_or l i 0)) (i + 1)
+      by (yes g) = let e : max most (get_or l i 0) ≡ get_or l i 0 = omega arith in rw e (most-next h k (omega arith))
+      by (no g) = let e : max most (get_or l i 0) ≡ most = omega arith in rw e (most-same h k (omega arith))
+
+  most-all : i ≤ n → n ≤ i → Largest (take n l) most
   unfolding every
   most-all h k =
       let e : i ≡ n = omega arith in
       record { bounds = λ b p. m.bounds b p ∙ rw (e, slice_empty n l) (and-true (ltb most b)) }
+
+pub most-of : (l : List ℕ) (most i : ℕ) → Most l (length l) most i → i ≤ length l → length l ≤ i → Largest l most
+most-of l most i m h k = rw take-length at (most-all l (length l) most i m h k)
 
 -- ---- bits that a shift leaves
 
@@ -63,6 +76,15 @@ shifted-out x bits = by (dec_lt x (2 ^ bits))
 
 pub pattern-at : (rows : List ℤ) (i : ℕ) → get_or (map as_u64 rows) i 0 ≡ as_u64 (get_or rows i (pos 0))
 pattern-at rows i = List·getD-map as_u64 rows i (pos 0)
+
+pub bits-of : (z : ℤ) → of_z w64 z ≡ as_u64 z
+bits-of (pos n) = refl
+bits-of (negsuc k) = omega arith
+
+-- the row at a place, cast to its bits
+pub bits_at : (rows : List ℤ) (i : ℕ) → SFits w64 (get_or rows i (pos 0))
+    → of_z w64 (to_z w64 (of_z w64 (get_or rows i (pos 0)))) ≡ get_or (map as_u64 rows) i 0
+bits_at rows i f = rw (to_z-of_z {w = w64} f) (bits-of (get_or rows i (pos 0)) ∙ sym (pattern-at rows i))
 
 pub base-none : (l : List ℕ) → length l < 2 → 0 ≡ base_delta l
 unfolding base_delta steps_of

@@ -5,8 +5,7 @@ use Rattle.format.specs.declared.Form.{Form}
 use Rattle.format.specs.declared.Form.TheVariants.{Direct, PackedDelta}
 use Rattle.format.specs.declared.Kind.{Kind}
 use Rattle.format.specs.declared.Kind.TheVariants as kind
-use Rattle.format.specs.declared.Answer.{Answer}
-use Rattle.format.specs.Answers.{ran, refused_at}
+use Rattle.format.specs.Answers.{Answer, ran, refused_at}
 use Rattle.format.specs.Digits.{AllBelow}
 use Rattle.format.specs.Fields.{width, bytes_for, block_bytes, zigzagged, shortest}
 use Rattle.format.specs.Kept.{is_kept}

@@ -6,6 +6,7 @@ use Rattle.format.specs.Runs.{Patch}
 use Rattle.format.specs.PatchedWriting.{patches_above, Entry, skip, entries_from, field}
 use Rattle.format.proofs.PatchedWriting.{skip-next, entry_next}
 use Rattle.util.proofs.Grow.{grow}
+use Rattle.std.specs.Prelude.{None, Some}
 use Rattle.writer.specs.PatchedBase.{Listed}
 
 -- ---- rows and their patches
@@ -87,8 +88,8 @@ module _ {vals : List ℕ} {n w pw : ℕ} {list : List ℕ} {i from k : ℕ} (f 
             (rw (come, entry_next from this rest g) at f.whole));
       }
 
-      pub too_long : k ≡ length list → Listed pw (entries_from 0 (patches_above w 0 (take n vals))) list (k + 1)
-      too_long e = record { held = λ a. absurd (omega arith); over = λ a. omega (arith, count, some-entry from this rest) }
+      pub too_long : k ≡ length list → Listed pw (entries_from 0 (patches_above w 0 (take n vals))) list None
+      too_long e = omega (arith, count, some-entry from this rest)
         where
           count : length list + length (entries_from from (this ∷ rest)) ≡ length (entries_from 0 (patches_above w 0 (take n vals)))
           count =
@@ -96,8 +97,8 @@ module _ {vals : List ℕ} {n w pw : ℕ} {list : List ℕ} {i from k : ℕ} (f 
               sym (ap (λ (x : ℕ). x + length (entries_from from (this ∷ rest))) s)
               ∙ simp (length-append, length-map) at (ap (λ (x : List ℕ). length x) (rw come at f.whole))
 
-  pub filled-up : n ≤ i → Listed pw (entries_from 0 (patches_above w 0 (take n vals))) list k
+  pub filled-up : n ≤ i → Listed pw (entries_from 0 (patches_above w 0 (take n vals))) list (Some k)
   unfolding patches_above entries_from
   filled-up h =
       let e : i ≡ n = omega (arith, f.rows) in
-      record { held = λ a. sym (append-nil (take k list)) ∙ rw (e, slice_empty n vals) at f.whole; over = λ a. absurd (omega (arith, f.room)) }
+      (f.room, sym (append-nil (take k list)) ∙ rw (e, slice_empty n vals) at f.whole)

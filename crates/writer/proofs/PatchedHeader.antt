@@ -1,8 +1,7 @@
 -- The header of the run that is written: none where a field has no room in it, and else its fields with the values and the list. Assumes nothing.
 use Rattle.format.proofs.Common.{◌≡◌, ap, ℕ, ◌+◌, ◌-◌, ◌*◌, ◌^◌, ◌<◌, ◌≤◌, arith, true, false, and-false, List, map, leb, ltb, ltb→lt, ℤ}
 use Rattle.format.proofs.Common.{length, take, length-map, pow_pos, lt-ltb, le-ltb, lt-leb, le-leb}
-use Rattle.format.specs.declared.Answer.{Answer}
-use Rattle.format.specs.Answers.{refused_at}
+use Rattle.format.specs.Answers.{Answer, refused_at}
 use Rattle.format.specs.Digits.{digits}
 use Rattle.format.specs.Rows.{as_u64}
 use Rattle.format.specs.Fields.{width}

@@ -2,8 +2,7 @@
 use Rattle.format.proofs.Common.{◌≡◌, refl, sym, ap, ◌∙◌, ℕ, ◌+◌, ◌*◌, ◌<◌, ◌≤◌, arith, List, ◌++◌, append_assoc, length, take, drop}
 use Rattle.format.proofs.Common.{length-append, length-take-le, lt-ltb, le-ltb}
 use Rattle.format.specs.declared.Kind.TheVariants as kind
-use Rattle.format.specs.declared.Answer.{Answer}
-use Rattle.format.specs.Answers.{ran, refused_at}
+use Rattle.format.specs.Answers.{Answer, ran, refused_at}
 use Rattle.format.specs.Digits.{digits}
 use Rattle.format.specs.Fields.{width, bytes_for, block_bytes}
 use Rattle.format.specs.Runs.{entry_width, layout}

@@ -2,8 +2,7 @@
 use Rattle.format.proofs.Common.{◌≡◌, refl, arith, ℕ, ◌<◌, ◌≤◌, Bool, true, false, and-false, List, [], ◌++◌, map, ℤ, length, drop, lt-ltb}
 use Rattle.format.proofs.Common.{le-ltb}
 use Rattle.format.specs.declared.Form.{Form}
-use Rattle.format.specs.declared.Answer.{Answer}
-use Rattle.format.specs.Answers.{ran, refused_at}
+use Rattle.format.specs.Answers.{Answer, ran, refused_at}
 use Rattle.format.specs.Runs.{Description, layout, row_count}
 use Rattle.format.specs.Rows.{as_u64}
 use Rattle.format.specs.Parse.{Parsed, got, refused, plain}

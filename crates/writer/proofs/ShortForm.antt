@@ -4,8 +4,7 @@ use Rattle.format.proofs.Common.{and-true, List, [], ◌∷◌, ◌++◌, map, l
 use mathlib.Core.Bool.{and_self}
 use Rattle.format.specs.declared.Form.TheVariants.{ShortRepeat}
 use Rattle.format.specs.declared.Kind.TheVariants as kind
-use Rattle.format.specs.declared.Answer.{Answer}
-use Rattle.format.specs.Answers.{ran, refused_at}
+use Rattle.format.specs.Answers.{Answer, ran, refused_at}
 use Rattle.format.specs.Digits.{digits}
 use Rattle.format.specs.Runs.{layout, row_count}
 use Rattle.format.specs.Rows.{as_u64}

@@ -6,11 +6,10 @@ use Rattle.format.specs.Runs.{Description, layout}
 use Rattle.format.specs.Parse.{Parsed, unless}
 use Rattle.format.specs.Writing.{count_allowed, have_form, width_allowed, fit_width, described, writing}
 use Rattle.format.proofs.Tests.{never}
-use Rattle.writer.specs.Sizes.{size_in, Sized, unfit, fit, SizeDetermined}
+use Rattle.std.specs.Prelude.{Option, None, Some}
+use Rattle.format.specs.declared.ByteOffset.{ByteOffset}
+use Rattle.writer.specs.Sizes.{size_in, bytes_of, Sized, Measured, unfit, fit, SizeDetermined}
 use Rattle.writer.proofs.Pieces.{Allowed}
-
-pub for-form : {signed : Bool} {f g : Form} {w n : ℕ} {rs : List ℕ} → f ≡ g → Sized signed g w rs n → Sized signed f w rs n
-for-form e z = rw e z
 
 module _ (signed : Bool) (f : Form) (w : ℕ) (rs : List ℕ) where
   -- ---- of a run that has bytes
@@ -29,6 +28,10 @@ module _ (signed : Bool) (f : Form) (w : ℕ) (rs : List ℕ) where
   has-form (unfit e) h k = sym (and-true (have_form f rs)) ∙ rw k at e
   has-form (fit a e l b c) h k = absurd (omega arith)
 
+  pub none : Sized signed f w rs 0 → Measured signed f w rs None
+  none (unfit e) = e
+  none (fit a e l b c) = absurd (omega arith)
+
   -- ---- of any rows: no more is asked than the writer asks
 
   refused-both : (h t : Bool) (m : Parsed Description) → h && t ≡ false → 0 ≡ size_in (unless (not (h && true)) 10 (unless (not t) 11 m))
@@ -44,10 +47,14 @@ module _ (signed : Bool) (f : Form) (w : ℕ) (rs : List ℕ) where
   unfolding writing
   no-width c e = rw (c, e, and-false (have_form f rs))
 
-  pub sized : Allowed f (length rs) w → {n : ℕ} → Sized signed f w rs n → n ≡ size_in (writing signed f w rs 4356)
+  sized : Allowed f (length rs) w → {n : ℕ} → Sized signed f w rs n → n ≡ size_in (writing signed f w rs 4356)
   unfolding writing
   sized k (unfit e) = rw (k.count, k.width) (refused-both (have_form f rs) (fit_width signed f w rs) _ e)
   sized k (fit h e l a b) = rw (k.count, k.width, h, e, le-ltb 4356 (length (layout (described signed f w rs))) (rw l at b)) l
+
+  pub measured : Allowed f (length rs) w → (r : Option ByteOffset) → Measured signed f w rs r → bytes_of r ≡ size_in (writing signed f w rs 4356)
+  measured k None e = sized k (unfit e)
+  measured k (Some b) m = sized k m.0
 
 pub size-determined : SizeDetermined
 size-determined rows signed f w r r' p q = p ∙ sym q

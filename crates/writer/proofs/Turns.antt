@@ -2,6 +2,9 @@
 -- `rest k` is what is left of the list after k turns, so `rest 0` is all of it. Assumes nothing.
 use Rattle.format.proofs.Common.{◌≡◌, refl, sym, ap, ◌∙◌, ℕ, zero, suc, ◌+◌, ◌<◌, ◌≤◌, add-one, arith, Bool, true, false, ◌&&◌, List, []}
 use Rattle.format.proofs.Common.{◌∷◌, ◌++◌, map, ℤ, length, get_or, drop, take, set, length-set, length-map, drop_of_length-le, drop-cons}
+use Rattle.std.specs.Bool.{MatchBool}
+use Rattle.std.specs.List.{AllWithin, HoldsAt}
+use Rattle.format.proofs.Common.{and-false}
 use Rattle.format.specs.Rows.{as_u64}
 use Rattle.format.specs.Writing.{step_to, steps_of, every}
 use Rattle.util.proofs.Grow.{grow, kept, filled}
@@ -54,6 +57,31 @@ module _ {test : ℕ → Bool} {n : ℕ} {rest : ℕ → List ℕ} {i : ℕ} (t 
   pub test-end : rest i ≡ [] → true ≡ every test (rest 0)
   unfolding every
   test-end e = sym (t.left ∙ ap (λ (l : List ℕ). every test l) e)
+
+-- ---- what `all` answers of the rows: each passes, or one doesn't
+
+module _ (test : ℕ → Bool) where
+  passing : (rows : List ℤ) → AllWithin (λ z. test (as_u64 z) ≡ true) rows 0 (length rows) → true ≡ every test (map as_u64 rows)
+  unfolding every
+  passing [] h = refl
+  passing (z ∷ rows) h = rw (h 0 z (omega arith) (omega arith)) (passing rows (λ k d a b. h (suc k) d (omega arith) (omega arith)))
+
+  failing : (rows : List ℤ) (k : ℕ) → k < length rows → HoldsAt (λ z. test (as_u64 z) ≡ false) rows k → false ≡ every test (map as_u64 rows)
+  unfolding every
+  failing [] k h e = absurd (omega arith)
+  failing (z ∷ rows) zero h e = rw (e z)
+  failing (z ∷ rows) (suc k) h e = rw (← failing rows k (omega arith) e) (sym (and-false (test (as_u64 z))))
+
+  pub all-answer : (rows : List ℤ) (r : Bool)
+      → MatchBool r (AllWithin (λ z. test (as_u64 z) ≡ true) rows 0 (length rows)) ((k : ℕ) × (k < length rows) × HoldsAt (λ z. test (as_u64 z) ≡ false) rows k)
+      → r ≡ every test (map as_u64 rows)
+  all-answer rows true h = passing rows h
+  all-answer rows false h = failing rows h.0 h.1 h.2
+
+pub every-map : (test : ℕ → Bool) (f : ℕ → ℕ) (l : List ℕ) → every test (map f l) ≡ every (λ x. test (f x)) l
+unfolding every
+every-map test f [] = refl
+every-map test f (x ∷ l) = rw (every-map test f l)
 
 -- ---- the next number of a list, of what it is mapped to, and of the steps in it
 

@@ -2,17 +2,16 @@
 -- entries, and the header with the values and the list that it describes.
 -- Assumes nothing.
 use Rattle.std.specs.Prelude.{◌≡◌, ℕ, ◌+◌, ◌-◌, ◌*◌, ◌^◌, ◌<◌, ◌≤◌, true, false, List, [], ◌∷◌, ◌++◌, map, length, take, ltb}
-use Rattle.format.specs.declared.Answer.{Answer}
+use Rattle.format.specs.Answers.{Answer}
 use Rattle.format.specs.Digits.{AllBelow, digits}
 use Rattle.format.specs.Fields.{pick, width}
 use Rattle.format.specs.Runs.{Description, entry_width, head, layout}
 use Rattle.format.specs.Parse.{Parsed, got, unless}
 use Rattle.format.specs.Promises.{answer_of}
 use Rattle.format.specs.Writing.{falls, padded, every, bytes_in}
-use Rattle.format.specs.PatchedWriting.{Entry, field, magnitude, Parts, run, parts, header_holds}
+use Rattle.format.specs.PatchedWriting.{Entry, field, code_for, magnitude, Parts, run, parts, header_holds}
 use Rattle.writer.specs.declared.patched_base.Header.{Header}
-use Rattle.writer.specs.declared.patched_base.Found.{Found}
-use Rattle.writer.specs.declared.patched_base.Found.TheVariants as found
+use Rattle.std.specs.Prelude.{Option, None, Some}
 
 -- the numbers of a list are below a bound exactly if r is: r is the largest, or 0 if there is none
 pub record Largest (l : List ℕ) (r : ℕ) : Type 0 where
@@ -24,10 +23,15 @@ pub record BitLength (x n : ℕ) : Type 0 where
   pub holds : x < 2 ^ n
   pub least : 2 ^ n ≤ 2 * x + 1
 
--- The entries stand, as fields, in the first r places; or there are more of them than places.
-pub record Listed (pw : ℕ) (es : List Entry) (list : List ℕ) (r : ℕ) : Type 0 where
-  pub held : r ≤ length list → take r list ≡ map (field pw) es
-  pub over : length list < r → length list < length es
+-- the entries stand, as fields, in the first places, or there are more of them than places
+abbrev pub Listed : ℕ → List Entry → List ℕ → Option ℕ → Type 0
+Listed pw es list None = length list < length es
+Listed pw es list (Some r) = (r ≤ length list) × (take r list ≡ map (field pw) es)
+
+-- the code of a width, if the table has the width
+abbrev pub CodeOf : ℕ → Option ℕ → Type 0
+CodeOf bits None = code_for bits ≡ 32
+CodeOf bits (Some code) = (code ≡ code_for bits) × (code < 32)
 
 -- the base in that many bytes: the top bit is the sign, the rest the magnitude
 abbrev pub sign_magnitude : ℕ → ℕ → ℕ
@@ -72,9 +76,9 @@ pub record Headed (base w : ℕ) (rs vals list : List ℕ) (h : Header) : Type 0
   pub same : headed h base vals list ≡ parts base w rs
   pub holds : header_holds (parts base w rs) ≡ true
 
-abbrev pub HeaderOf : ℕ → ℕ → List ℕ → List ℕ → List ℕ → Found → Type 0
-HeaderOf base w rs vals list found.None = header_holds (parts base w rs) ≡ false
-HeaderOf base w rs vals list (found.Header h) = Headed base w rs vals list h
+abbrev pub HeaderOf : ℕ → ℕ → List ℕ → List ℕ → List ℕ → Option Header → Type 0
+HeaderOf base w rs vals list None = header_holds (parts base w rs) ≡ false
+HeaderOf base w rs vals list (Some h) = Headed base w rs vals list h
 
 -- refusal 8, or the run
 abbrev pub roomed : Parts → ℕ → Parsed Description

@@ -1,9 +1,10 @@
 -- How many bytes a run has, without writing it. Assumes nothing.
 use Rattle.std.specs.Prelude.{◌≡◌, ℕ, ◌≤◌, Bool, true, false, ◌&&◌, List, map, length, ℤ}
-use Rattle.format.specs.declared.Answer.{Answer}
 use Rattle.format.specs.declared.Form.{Form}
 use Rattle.format.specs.declared.Kind.{Kind}
-use Rattle.format.specs.Answers.{ran}
+use Rattle.format.specs.Answers.{Answer, ran}
+use Rattle.format.specs.declared.ByteOffset.{ByteOffset}
+use Rattle.std.specs.Prelude.{Option, None, Some}
 use Rattle.format.specs.Fields.{width}
 use Rattle.format.specs.Runs.{Description, layout}
 use Rattle.format.specs.Rows.{as_u64}
@@ -21,6 +22,16 @@ pub data Sized (signed : Bool) (f : Form) (w : ℕ) (rs : List ℕ) : ℕ → Ty
   unfit : have_form f rs && fit_width signed f w rs ≡ false → Sized signed f w rs 0
   fit : {r : ℕ} → have_form f rs ≡ true → fit_width signed f w rs ≡ true → r ≡ length (layout (described signed f w rs)) → 1 ≤ r
       → r ≤ 4356 → Sized signed f w rs r
+
+-- what a measure answers: none if the rows don't have the form or don't fit the width, or else the bytes
+abbrev pub Measured : Bool → Form → ℕ → List ℕ → Option ByteOffset → Type 0
+Measured signed f w rs None = have_form f rs && fit_width signed f w rs ≡ false
+Measured signed f w rs (Some b) = Sized signed f w rs b.bytes × (1 ≤ b.bytes)
+
+-- its bytes, and 0 if there are none
+abbrev pub bytes_of : Option ByteOffset → ℕ
+bytes_of None = 0
+bytes_of (Some b) = b.bytes
 
 -- the run stands in its places: with the answer for it, it is written
 abbrev pub Lays : List ℤ → Bool → Form → ℕ → Kind → ℕ → List ℕ → List ℕ → Type 0

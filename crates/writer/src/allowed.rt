@@ -7,10 +7,7 @@ use format::{Form, Kind, RowNumber};
 pub(crate) fn between(low: usize, high: usize, n: usize) -> bool
     ensures { result ≡ Writing.between low high n }
 {
-    if n < low {
-        return false;
-    }
-    n <= high
+    low <= n && n <= high
 }
 
 // The row counts of a form.
@@ -30,10 +27,7 @@ pub(crate) fn count(form: Form, rows: RowNumber) -> bool
 fn packed_width(w: u8) -> bool
     ensures { result ≡ Writing.width_allowed Form.PackedDelta w }
 {
-    if w == 0 {
-        return false;
-    }
-    util::width::is_kept(w)
+    w != 0 && util::width::is_kept(w)
 }
 
 // The widths of a form: bytes for a short repeat, a kept code otherwise.

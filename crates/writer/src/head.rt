@@ -5,9 +5,10 @@ ghost use Rattle.format.specs.Answers.{ran, refused_at};
 ghost use Rattle.format.specs.Fields as Fields;
 ghost use Rattle.format.specs.Runs as Runs;
 
-use format::{Answer, ByteOffset, Kind, RowNumber};
+use format::{Answer, ByteOffset, Kind, Refusal, RowNumber, Run};
 use util::width;
 
+// The bits of kind and code are numbers, as the contract names them (`Runs.head`).
 pub(crate) fn write(kind: u8, code: u8, rows: RowNumber, out: &mut [u8])
     requires { (kind < 4) × (code < 32) × (1 ≤ rows.rows) × (rows.rows ≤ 512) × (2 ≤ length out.old) }
     ensures { out.new ≡ Runs.head kind code rows.rows ++ drop 2 out.old }
@@ -24,12 +25,12 @@ pub(crate) fn answer(kind: Kind, code: u8, rows: RowNumber, bytes: ByteOffset) -
     ensures { result ≡ ran kind (Fields.width code) rows.rows bytes.bytes }
 {
     let bits = width::bits_of(code);
-    Answer::run(kind, bits, rows, bytes)
+    Ok(Some(Run::new(kind, bits, rows, bytes)))
 }
 
-// A writer's refusal: its run would begin at the first byte.
+// A writer's refusal: its run would begin at the first byte. The number is FORMAT.md's, which the promise names and C gets.
 pub(crate) fn refused(number: u8) -> Answer
     ensures { result ≡ refused_at number 0 }
 {
-    Answer::refused(number, ByteOffset { bytes: 0 })
+    Err(Refusal::new(number, ByteOffset { bytes: 0 }))
 }

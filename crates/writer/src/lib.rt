@@ -6,7 +6,7 @@ ghost use Rattle.format.specs.Kept.{NarrowestKept};
 ghost use Rattle.format.specs.Rows.{as_u64};
 ghost use Rattle.format.specs.Writing.{writing, Written};
 ghost use Rattle.format.specs.PatchedWriting.{PatchedWritten};
-ghost use Rattle.writer.specs.Sizes.{size_in};
+ghost use Rattle.writer.specs.Sizes.{size_in, bytes_of};
 
 use format::{Answer, ByteOffset, Form, Kind, RowNumber};
 
@@ -14,10 +14,13 @@ mod allowed;
 mod delta;
 mod direct;
 mod head;
+mod packed_rows;
 mod patch_list;
 mod patched_base;
 mod short_repeat;
 mod values;
+
+use packed_rows::PackedRows;
 
 // Writes one run. The width counts bytes for a short repeat, and is a width code otherwise.
 pub fn write_run(rows: &[i64], signed: bool, form: Form, width: u8, out: &mut [u8]) -> Answer
@@ -32,29 +35,59 @@ pub fn write_run(rows: &[i64], signed: bool, form: Form, width: u8, out: &mut [u
     }
     match form {
         Form::ShortRepeat => short_repeat::write(rows, signed, width, out),
-        Form::Direct => direct::write(rows, signed, width, out),
+        Form::Direct => direct::write(
+            PackedRows {
+                rows,
+                signed,
+                code: width,
+            },
+            out,
+        ),
         Form::FixedDelta => delta::write_fixed(rows, signed, width, out),
-        Form::PackedDelta => delta::write_packed(rows, signed, width, out),
+        Form::PackedDelta => delta::write_packed(
+            PackedRows {
+                rows,
+                signed,
+                code: width,
+            },
+            out,
+        ),
+    }
+}
+
+// The bytes of a run, if its form and width allow these rows.
+fn measure(rows: &[i64], signed: bool, form: Form, width: u8) -> Option<ByteOffset>
+    ensures { bytes_of result ≡ size_in (writing signed form width (map as_u64 rows.now) 4356) }
+{
+    let n = RowNumber { rows: rows.len() };
+    if !allowed::count(form, n) {
+        return None;
+    }
+    if !allowed::width(form, width) {
+        return None;
+    }
+    match form {
+        Form::ShortRepeat => short_repeat::size(rows, signed, width),
+        Form::Direct => direct::size(PackedRows {
+            rows,
+            signed,
+            code: width,
+        }),
+        Form::FixedDelta => delta::size_fixed(rows, signed, width),
+        Form::PackedDelta => delta::size_packed(PackedRows {
+            rows,
+            signed,
+            code: width,
+        }),
     }
 }
 
 // The bytes that `write_run` would write with room for any run, or 0 if it would refuse. Nothing is written.
+// Not an Option: its promise says 0 (`size_in`).
 pub fn size_of_run(rows: &[i64], signed: bool, form: Form, width: u8) -> ByteOffset
     ensures { result.bytes ≡ size_in (writing signed form width (map as_u64 rows.now) 4356) }
 {
-    let n = RowNumber { rows: rows.len() };
-    if !allowed::count(form, n) {
-        return ByteOffset { bytes: 0 };
-    }
-    if !allowed::width(form, width) {
-        return ByteOffset { bytes: 0 };
-    }
-    match form {
-        Form::ShortRepeat => short_repeat::size(rows, signed, width),
-        Form::Direct => direct::size(rows, signed, width),
-        Form::FixedDelta => delta::size_fixed(rows, signed, width),
-        Form::PackedDelta => delta::size_packed(rows, signed, width),
-    }
+    measure(rows, signed, form, width).unwrap_or(ByteOffset { bytes: 0 })
 }
 
 // Writes one patched run: every row as its difference from the base. The low bits of the difference, as many as the width says, are the

@@ -5,12 +5,7 @@ ghost use Rattle.format.specs.PatchedWriting.{patches_above, entries_from, least
 ghost use Rattle.writer.specs.PatchedBase.{Listed};
 
 use crate::values;
-use format::{Kind, RowNumber};
-
-// Room for a list.
-pub(crate) fn scratch() -> [u64; Kind::MAX_PATCHES] {
-    [0u64; Kind::MAX_PATCHES]
-}
+use format::RowNumber;
 
 // An entry: the patch is the low patch-width bits, and the gap is all bits above.
 fn entry(gap: usize, patch: u64, pw: usize) -> u64
@@ -20,9 +15,15 @@ fn entry(gap: usize, patch: u64, pw: usize) -> u64
     ((gap as u64) << pw) + patch
 }
 
-// Fills the list for the first rows' values: a patch is what stands above `bits`. Answers how many entries there are, or one more than
-// the list has places if they don't fit. Gaps count from `from`, the row of the last entry.
-pub(crate) fn fill(vals: &[u64], rows: RowNumber, bits: usize, pw: usize, list: &mut [u64]) -> usize
+// Fills the list for the first rows' values: a patch is what stands above `bits`. Answers how many entries there are, if the list has places for
+// them. Gaps count from `from`, the row of the last entry. A while, since a skip is an entry and no row: i stands still at it.
+pub(crate) fn fill(
+    vals: &[u64],
+    rows: RowNumber,
+    bits: usize,
+    pw: usize,
+    list: &mut [u64],
+) -> Option<usize>
     requires rows_in_bounds { (rows.rows ≤ length vals.now) × (rows.rows ≤ 512) × (bits ≤ 64) × (pw ≤ 56) × (length list.old ≤ 31) }
     requires all_below { AllBelow (2 ^ (pw + bits)) (take rows.rows vals.now) }
     ensures { Listed pw (entries_from 0 (patches_above bits 0 (take rows.rows vals.now))) list.new result }
@@ -37,7 +38,7 @@ pub(crate) fn fill(vals: &[u64], rows: RowNumber, bits: usize, pw: usize, list: 
             i += 1;
         } else {
             if k == list.len() {
-                return k + 1;
+                return None;
             }
             if from + 255 < i {
                 list[k] = entry(255, 0, pw);
@@ -51,7 +52,7 @@ pub(crate) fn fill(vals: &[u64], rows: RowNumber, bits: usize, pw: usize, list: 
             }
         }
     }
-    k
+    Some(k)
 }
 
 // The least gap width for gaps up to the one given.

@@ -3,12 +3,12 @@ ghost use Rattle.std.specs.Prelude.{◌≡◌, true, ◌++◌, map, ◌-◌, ◌
 ghost use Rattle.format.specs.Kept.{is_kept_width};
 ghost use Rattle.format.specs.Rows.{as_u64};
 ghost use Rattle.format.specs.PatchedWriting as PatchedWriting;
-ghost use Rattle.format.specs.PatchedWriting.{code_for, base_size, PatchedWritten};
-ghost use Rattle.writer.specs.PatchedBase.{sign_magnitude, headed, head_bytes, Ready, HeaderOf, PatchedLaid};
+ghost use Rattle.format.specs.PatchedWriting.{base_size, PatchedWritten};
+ghost use Rattle.writer.specs.PatchedBase.{sign_magnitude, headed, head_bytes, Ready, CodeOf, HeaderOf, PatchedLaid};
 
 use crate::{head, patch_list, values};
-use format::{ALL_BITS, Answer, ByteOffset, Kind, RowNumber, TOP_BIT};
-use util::{big_endian, packed, pattern, width};
+use format::{ALL_BITS, Answer, ByteOffset, Kind, RowNumber, Run, TOP_BIT};
+use util::{big_endian, packed, width};
 
 // What the four header bytes say: width code, rows, base bytes, patch width code, gap width, list length.
 #[derive(Clone, Copy)]
@@ -21,25 +21,18 @@ struct Header {
     entries: usize,
 }
 
-// The header for some rows, or none if no header describes them.
-#[derive(Clone, Copy)]
-enum Found {
-    None,
-    Header(Header),
-}
-
-// The code of a width in bits, or 32 if it is not in the table.
-fn table_code(bits: usize) -> u8
-    ensures { result ≡ code_for bits }
+// The code of a width in bits that is in the table.
+fn table_code(bits: usize) -> Option<u8>
+    ensures { CodeOf bits result }
 {
     if 64 < bits {
-        return 32;
+        return None;
     }
     let code = width::code_of(bits);
     if width::bits_of(code) == bits {
-        code
+        Some(code)
     } else {
-        32
+        None
     }
 }
 
@@ -47,10 +40,13 @@ fn table_code(bits: usize) -> u8
 fn is_kept(bits: usize) -> bool
     ensures { result ≡ is_kept_width bits }
 {
-    width::is_kept(table_code(bits))
+    match table_code(bits) {
+        Some(code) => width::is_kept(code),
+        None => false,
+    }
 }
 
-// The base without its sign.
+// The base without its sign, as the definition has it (PatchedWriting.magnitude), of the pattern and not of the signed number.
 fn magnitude(base: u64) -> u64
     ensures { result ≡ PatchedWriting.magnitude base }
 {
@@ -81,35 +77,36 @@ fn sign_magnitude(base: u64, size: ByteOffset) -> u64
     (1 << (8 * bytes - 1)) + magnitude(base)
 }
 
-// The header for the rows, with the values and the list that it describes. A patch of 64 bits leaves no bit for a gap.
-fn header_of(rows: &[i64], base: u64, bits: usize, vals: &mut [u64], list: &mut [u64]) -> Found
+// The header for the rows, with the values and the list that it describes, if a header describes them. A patch of 64 bits leaves no bit for a
+// gap.
+fn header_of(
+    rows: &[i64],
+    base: u64,
+    bits: usize,
+    vals: &mut [u64],
+    list: &mut [u64],
+) -> Option<Header>
     requires { (1 ≤ length rows.now) × (length rows.now ≤ 512) × (length rows.now ≤ length vals.old)
         × (length list.old ≡ 31) }
     ensures { HeaderOf base bits (map as_u64 rows.now) vals.new list.new result }
 {
     let n = rows.len();
     let count = RowNumber { rows: n };
-    let code = table_code(bits);
+    let code = table_code(bits)?;
     let size = base_size(base).bytes;
-    if 31 < code {
-        return Found::None;
-    }
     if 8 < size {
-        return Found::None;
+        return None;
     }
     values::differences(rows, base, vals);
-    let patch = width::narrowest_code(values::above(values::largest(vals, n), bits));
+    let patch = width::narrowest_code(values::above(values::largest(&vals[..n]), bits));
     let pw = width::bits_of(patch);
     if pw == 64 {
-        return Found::None;
+        return None;
     }
-    let entries = patch_list::fill(vals, count, bits, pw, list);
-    if list.len() < entries {
-        return Found::None;
-    }
-    let gap = patch_list::gap_width(values::largest(list, entries) >> pw);
+    let entries = patch_list::fill(vals, count, bits, pw, list)?;
+    let gap = patch_list::gap_width(values::largest(&list[..entries]) >> pw);
     values::keep_low(vals, count, bits);
-    Found::Header(Header {
+    Some(Header {
         code,
         rows: count,
         base: ByteOffset { bytes: size },
@@ -147,7 +144,7 @@ fn lay(h: Header, base: u64, vals: &[u64], list: &[u64], out: &mut [u8]) -> Answ
     big_endian::write(sign_magnitude(base, h.base), h.base.bytes, out, 4);
     packed::pack(vals, h.rows.rows, bits, out, values);
     packed::pack(list, h.entries, entry, out, patches);
-    Answer::run(Kind::PatchedBase, bits, h.rows, ByteOffset { bytes: end })
+    Ok(Some(Run::new(Kind::PatchedBase, bits, h.rows, ByteOffset { bytes: end })))
 }
 
 // Writes a run of a kept width. The caller's buffer holds its values on the way.
@@ -156,11 +153,11 @@ fn write_over(rows: &[i64], base: i64, width: u8, vals: &mut [u64], out: &mut [u
     requires width_value { is_kept_width width ≡ true }
     ensures { PatchedWritten rows.now base width out.old out.new result }
 {
-    let base_bits = pattern::to_u64(base);
-    let mut list = patch_list::scratch();
+    let base_bits = base.cast_unsigned();
+    let mut list = [0u64; Kind::MAX_PATCHES];
     match header_of(rows, base_bits, width as usize, vals, &mut list) {
-        Found::None => head::refused(10),
-        Found::Header(h) => lay(h, base_bits, vals, &list, out),
+        Some(h) => lay(h, base_bits, vals, &list, out),
+        None => head::refused(10),
     }
 }
 
@@ -172,11 +169,11 @@ pub(crate) fn write(rows: &[i64], base: i64, width: u8, out: &mut [u8]) -> Answe
     if !is_kept(width as usize) {
         return head::refused(10);
     }
-    // a short run clears a small buffer, and not one for any run
+    // a short run clears a small buffer, and not one for any run; a const parameter for the size would copy the writer, and say no less
     if rows.len() <= values::FEW {
-        let mut few = values::few();
+        let mut few = [0u64; values::FEW];
         return write_over(rows, base, width, &mut few, out);
     }
-    let mut all = values::scratch();
+    let mut all = [0u64; Kind::MAX_ROWS];
     write_over(rows, base, width, &mut all, out)
 }

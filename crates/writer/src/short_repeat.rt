@@ -2,10 +2,10 @@
 ghost use Rattle.std.specs.Prelude.{◌≡◌, ◌∷◌, map, ◌+◌, ◌-◌, ◌*◌, ◌≤◌, length, drop};
 ghost use Rattle.format.specs.Rows.{as_u64};
 ghost use Rattle.format.specs.Writing.{have_form, Written};
-ghost use Rattle.writer.specs.Sizes.{Sized};
+ghost use Rattle.writer.specs.Sizes.{Measured};
 
 use crate::{head, values};
-use format::{Answer, ByteOffset, Form, Kind, RowNumber};
+use format::{Answer, ByteOffset, Form, Kind, RowNumber, Run};
 use util::big_endian;
 
 fn write_head(bytes: ByteOffset, rows: RowNumber, out: &mut [u8])
@@ -24,35 +24,30 @@ fn are_same(rows: &[i64]) -> bool
     values::all_are(rows, values::pattern_of(rows, 0))
 }
 
-// The bytes of the run, or 0 if the rows differ or don't fit.
-pub(crate) fn size(rows: &[i64], signed: bool, width: u8) -> ByteOffset
+// The bytes of the run, if the rows are equal and fit.
+pub(crate) fn size(rows: &[i64], signed: bool, width: u8) -> Option<ByteOffset>
     requires { (3 ≤ length rows.now) × (length rows.now ≤ 10) × (1 ≤ width) × (width ≤ 8) }
-    ensures { Sized signed Form.ShortRepeat width (map as_u64 rows.now) result.bytes }
+    ensures { Measured signed Form.ShortRepeat width (map as_u64 rows.now) result }
 {
     if !are_same(rows) {
-        return ByteOffset { bytes: 0 };
+        return None;
     }
     let bytes = width as usize;
     let value = values::stored(signed, values::pattern_of(rows, 0));
     if !values::fits(value, 8 * bytes) {
-        return ByteOffset { bytes: 0 };
+        return None;
     }
-    ByteOffset { bytes: 1 + bytes }
+    Some(ByteOffset { bytes: 1 + bytes })
 }
 
 pub(crate) fn write(rows: &[i64], signed: bool, width: u8, out: &mut [u8]) -> Answer
     requires { (3 ≤ length rows.now) × (length rows.now ≤ 10) × (1 ≤ width) × (width ≤ 8) }
     ensures { Written rows.now signed Form.ShortRepeat width out.old out.new result }
 {
-    let bytes = size(rows, signed, width);
-    let total = bytes.bytes;
-    if total == 0 {
-        if are_same(rows) {
-            return head::refused(11);
-        }
-        return head::refused(10);
-    }
-    if out.len() < total {
+    let Some(bytes) = size(rows, signed, width) else {
+        return head::refused(if are_same(rows) { 11 } else { 10 });
+    };
+    if out.len() < bytes.bytes {
         return head::refused(8);
     }
     let n = RowNumber { rows: rows.len() };
@@ -60,5 +55,5 @@ pub(crate) fn write(rows: &[i64], signed: bool, width: u8, out: &mut [u8]) -> An
     let value = values::stored(signed, values::pattern_of(rows, 0));
     write_head(ByteOffset { bytes: w }, n, out);
     big_endian::write(value, w, out, 1);
-    Answer::run(Kind::ShortRepeat, 8 * w, n, bytes)
+    Ok(Some(Run::new(Kind::ShortRepeat, 8 * w, n, bytes)))
 }

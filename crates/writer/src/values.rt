@@ -6,28 +6,25 @@ ghost use Rattle.format.specs.Writing.{step_to, steps_of, every};
 ghost use Rattle.format.specs.PatchedWriting as PatchedWriting;
 ghost use Rattle.writer.specs.PatchedBase.{Largest, BitLength};
 
-use format::{Kind, RowNumber};
+use format::RowNumber;
 use util::{packed, pattern};
-
-// Room for a run's values.
-pub(crate) fn scratch() -> [u64; Kind::MAX_ROWS] {
-    [0u64; Kind::MAX_ROWS]
-}
 
 // The most rows of a short run. A buffer for any run is 4 KB, and clearing it costs more than writing a few rows.
 pub(crate) const FEW: usize = 16;
 
-// Room for a short run's values.
-pub(crate) fn few() -> [u64; FEW] {
-    [0u64; FEW]
+// The 64 bits of a row.
+fn pattern(row: i64) -> u64
+    ensures { result ≡ as_u64 row }
+{
+    row.cast_unsigned()
 }
 
-// A row's 64 bits.
+// The 64 bits of the row at i.
 pub(crate) fn pattern_of(rows: &[i64], i: usize) -> u64
     requires { i < length rows.now }
     ensures { result ≡ get_or (map as_u64 rows.now) i 0 }
 {
-    pattern::to_u64(rows[i])
+    rows[i].cast_unsigned()
 }
 
 // A row as it is stored: zigzagged if signed.
@@ -37,18 +34,19 @@ pub(crate) fn stored(signed: bool, row: u64) -> u64
     if signed { pattern::zigzag_of(row) } else { row }
 }
 
-// The step from one row to the next: turned around if the run falls.
+// The step from one row to the next: turned around if the run falls. It takes the difference of two rows; rle_v2's `moved_by` goes the other way.
 fn step(falling: bool, x: u64, y: u64) -> u64
     ensures { result ≡ step_to falling x y }
 {
     if falling {
-        pattern::sub(x, y)
+        x.wrapping_sub(y)
     } else {
-        pattern::sub(y, x)
+        y.wrapping_sub(x)
     }
 }
 
-// What stands above the low bits. There is no shift by 64, so 64 bits are a case of their own.
+// What stands above the low bits. There is no shift by 64, so 64 bits are a case of their own. That bits are at most 64 stays a demand of four
+// functions: a type for it would be opened for each shift and for util's `pack`, which takes the number, and is no plainer.
 pub(crate) fn above(x: u64, bits: usize) -> u64
     requires { bits ≤ 64 }
     ensures { result ≡ x / 2 ^ bits }
@@ -60,7 +58,7 @@ pub(crate) fn above(x: u64, bits: usize) -> u64
 pub(crate) fn bit_length(x: u64) -> usize
     ensures { BitLength x result }
 {
-    (64 - u64::leading_zeros(x)) as usize
+    (64 - x.leading_zeros()) as usize
 }
 
 // Whether x fits that many bits.
@@ -77,10 +75,8 @@ pub(crate) fn store(rows: &[i64], signed: bool, vals: &mut [u64])
     ensures { vals.new ≡ map (Writing.stored signed) (map as_u64 rows.now)
         ++ drop (length rows.now) vals.old }
 {
-    let mut i: usize = 0;
-    while i < rows.len() {
-        vals[i] = stored(signed, pattern_of(rows, i));
-        i += 1;
+    for (i, row) in rows.iter().enumerate() {
+        vals[i] = stored(signed, row.cast_unsigned());
     }
 }
 
@@ -90,10 +86,8 @@ pub(crate) fn differences(rows: &[i64], base: u64, vals: &mut [u64])
     ensures { vals.new ≡ PatchedWriting.differences base (map as_u64 rows.now)
         ++ drop (length rows.now) vals.old }
 {
-    let mut i: usize = 0;
-    while i < rows.len() {
-        vals[i] = pattern::sub(pattern_of(rows, i), base);
-        i += 1;
+    for (i, row) in rows.iter().enumerate() {
+        vals[i] = row.cast_unsigned().wrapping_sub(base);
     }
 }
 
@@ -103,26 +97,18 @@ pub(crate) fn keep_low(vals: &mut [u64], rows: RowNumber, bits: usize)
     ensures { vals.new ≡ PatchedWriting.lows bits (take rows.rows vals.old)
         ++ drop rows.rows vals.old }
 {
-    let n = rows.rows;
-    let mut i: usize = 0;
-    while i < n {
-        vals[i] = packed::cut(vals[i], 0, bits);
-        i += 1;
+    for value in vals[..rows.rows].iter_mut() {
+        *value = packed::cut(*value, 0, bits);
     }
 }
 
-// The largest of the first n values, or 0 if there is none.
-pub(crate) fn largest(vals: &[u64], n: usize) -> u64
-    requires { n ≤ length vals.now }
-    ensures { Largest (take n vals.now) result }
+// The largest of the values, or 0 if there is none.
+pub(crate) fn largest(vals: &[u64]) -> u64
+    ensures { Largest vals.now result }
 {
     let mut most: u64 = 0;
-    let mut i: usize = 0;
-    while i < n {
-        if most < vals[i] {
-            most = vals[i];
-        }
-        i += 1;
+    for value in vals {
+        most = most.max(*value);
     }
     most
 }
@@ -133,10 +119,8 @@ pub(crate) fn steps(rows: &[i64], falling: bool, vals: &mut [u64])
     ensures { vals.new ≡ steps_of falling (map as_u64 rows.now)
         ++ drop (length rows.now - 1) vals.old }
 {
-    let mut i: usize = 0;
-    while i + 1 < rows.len() {
+    for i in 0..rows.len() - 1 {
         vals[i] = step(falling, pattern_of(rows, i), pattern_of(rows, i + 1));
-        i += 1;
     }
 }
 
@@ -144,12 +128,10 @@ pub(crate) fn steps(rows: &[i64], falling: bool, vals: &mut [u64])
 pub(crate) fn are_steps(rows: &[i64], value: u64) -> bool
     ensures { result ≡ every (λ x. eqb x value) (steps_of false (map as_u64 rows.now)) }
 {
-    let mut i: usize = 0;
-    while i + 1 < rows.len() {
-        if step(false, pattern_of(rows, i), pattern_of(rows, i + 1)) != value {
+    for i in 1..rows.len() {
+        if step(false, pattern_of(rows, i - 1), pattern_of(rows, i)) != value {
             return false;
         }
-        i += 1;
     }
     true
 }
@@ -158,14 +140,7 @@ pub(crate) fn are_steps(rows: &[i64], value: u64) -> bool
 pub(crate) fn all_are(rows: &[i64], value: u64) -> bool
     ensures { result ≡ every (λ x. eqb x value) (map as_u64 rows.now) }
 {
-    let mut i: usize = 0;
-    while i < rows.len() {
-        if pattern_of(rows, i) != value {
-            return false;
-        }
-        i += 1;
-    }
-    true
+    rows.iter().all(|row| pattern(*row) == value)
 }
 
 // Whether every row, as it is stored, fits that many bits. It stops at the first that does not.
@@ -173,14 +148,8 @@ pub(crate) fn all_stored_fit(rows: &[i64], signed: bool, bits: usize) -> bool
     requires { bits ≤ 64 }
     ensures { result ≡ every (λ x. ltb x (2 ^ bits)) (map (Writing.stored signed) (map as_u64 rows.now)) }
 {
-    let mut i: usize = 0;
-    while i < rows.len() {
-        if !fits(stored(signed, pattern_of(rows, i)), bits) {
-            return false;
-        }
-        i += 1;
-    }
-    true
+    rows.iter()
+        .all(|row| fits(stored(signed, pattern(*row)), bits))
 }
 
 // Whether every step from a row to the next fits that many bits.
@@ -188,13 +157,11 @@ pub(crate) fn all_steps_fit(rows: &[i64], falling: bool, bits: usize) -> bool
     requires { bits ≤ 64 }
     ensures { result ≡ every (λ x. ltb x (2 ^ bits)) (steps_of falling (map as_u64 rows.now)) }
 {
-    let mut i: usize = 0;
-    while i + 1 < rows.len() {
-        let x = step(falling, pattern_of(rows, i), pattern_of(rows, i + 1));
+    for i in 1..rows.len() {
+        let x = step(falling, pattern_of(rows, i - 1), pattern_of(rows, i));
         if !fits(x, bits) {
             return false;
         }
-        i += 1;
     }
     true
 }

@@ -1,4 +1,5 @@
 -- The words are stored one after another, and are the stream's. Assumes nothing.
+use mathlib.Core.Path.{◌∙◌}
 use lib.Seq.{sets-eq}
 use native.Mathlib.Omega.{arith}
 use lib.ListN.{length-set}
@@ -9,25 +10,27 @@ pub returns : goal.returns
 unfolding stream_words
 returns c =
     record {
-      number_is = c.stream_number-2.ensures;
+      number_is = c.number-2.ensures ∙ c.refusal_of-refusal.ensures.number;
       words_are =
           rw (
             c.stream_case.ensures,
-            c.stream_number.ensures,
-            c.stream_place.ensures,
-            c.stream_rows.ensures,
-            c.stream_consumed.ensures,
+            c.number.ensures,
+            c.place.ensures,
             c.cut_case.ensures,
-            c.stream_cut.ensures,
+            c.cut_field.ensures,
             c.cut_byte.ensures,
-            c.stream_cut-2.ensures,
+            c.cut_field-2.ensures,
             c.case.ensures,
             c.kind.ensures,
             c.width.ensures,
             c.rows.ensures,
             c.consumed.ensures,
-            c.last_answer-last.ensures,
-            c.stream_last.ensures,
+            c.refusal_of-refusal.ensures.number,
+            c.refusal_of-refusal.ensures.place,
+            c.refusal_of-refusal.ensures.cut,
+            c.runs_of-counts.ensures.rows,
+            c.runs_of-counts.ensures.bytes,
+            c.runs_of-counts.ensures.last,
           ) (sets-eq (stream_words c.args.stream) c.args.words.now 0 c.requires);
     }
 

@@ -1,4 +1,6 @@
 -- What the run reader laid aside holds the run's rows, so the part that is copied is the run's own. Assumes nothing.
+use mathlib.Core.Path.{◌∙◌, ap}
+use Rattle.std.specs.Prelude.{Ok}
 use Prim.Native.Nat.{◌<◌}
 use native.Mathlib.Omega.{arith}
 use lib.ListN.{length}
@@ -10,28 +12,28 @@ use Rattle.batches.proofs.read_aside.Goals as goal
 pub lay_part-requires : goal.lay_part-requires
 lay_part-requires c =
     let small : length c.args.input.now < two64 = omega (arith, c.well_formed) in
-    held-run c.requires c.read_run-a.ensures c.in-Run.is (small)
+    held-run c.requires c.read_run-a.ensures (c.in-Ok-Some.is ∙ ap Ok (rw c.in-Ok-Some.is at c.in-Ok-Some.field-0-is)) (small)
 
-pub returns-in-Run : goal.returns-in-Run
-returns-in-Run c =
-    part-read c.requires c.read_run-a.ensures c.in-Run.is c.lay_part.ensures
+pub returns-in-Ok-Some : goal.returns-in-Ok-Some
+returns-in-Ok-Some c =
+    part-read c.requires c.read_run-a.ensures (c.in-Ok-Some.is ∙ ap Ok (rw c.in-Ok-Some.is at c.in-Ok-Some.field-0-is)) c.lay_part.ensures
 
 -- ---- or not
-pub lay_part-requires-in-Run-b : goal.lay_part-requires-in-Run-b
-lay_part-requires-in-Run-b c =
+pub lay_part-requires-in-Ok-Some-b : goal.lay_part-requires-in-Ok-Some-b
+lay_part-requires-in-Ok-Some-b c =
     let small : length c.args.input.now < two64 = omega (arith, c.well_formed) in
-    held-run c.requires c.read_run-b.ensures c.in-Run-b.is (small)
+    held-run c.requires c.read_run-b.ensures (c.in-Ok-Some-b.is ∙ ap Ok (rw c.in-Ok-Some-b.is at c.in-Ok-Some-b.field-0-is)) (small)
 
-pub returns-in-Run-b : goal.returns-in-Run-b
-returns-in-Run-b c =
-    part-read c.requires c.read_run-b.ensures c.in-Run-b.is c.lay_part-in-Run-b.ensures
+pub returns-in-Ok-Some-b : goal.returns-in-Ok-Some-b
+returns-in-Ok-Some-b c =
+    part-read c.requires c.read_run-b.ensures (c.in-Ok-Some-b.is ∙ ap Ok (rw c.in-Ok-Some-b.is at c.in-Ok-Some-b.field-0-is)) c.lay_part-in-Ok-Some-b.ensures
 
-pub returns-in-Refused : goal.returns-in-Refused
-returns-in-Refused c =
+pub returns-in-Err : goal.returns-in-Err
+returns-in-Err c =
     let enough = c.scratch-held.ensures in
-    absurd (not-refused c.requires c.read_run-b.ensures enough _ c.in-Refused.is)
+    absurd (not-refused c.requires c.read_run-b.ensures enough _ c.in-Err.is)
 
-pub returns-in-End : goal.returns-in-End
-returns-in-End c =
+pub returns-in-Ok-None : goal.returns-in-Ok-None
+returns-in-Ok-None c =
     let enough = c.scratch-held.ensures in
-    absurd (not-ended c.requires c.read_run-b.ensures enough c.in-End.is)
+    absurd (not-ended c.requires c.read_run-b.ensures enough (c.in-Ok-None.is ∙ ap Ok (rw c.in-Ok-None.is at c.in-Ok-None.field-0-is)))

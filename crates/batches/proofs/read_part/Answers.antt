@@ -7,21 +7,21 @@ use Rattle.batches.proofs.read_part.Goals as goal
 -- ---- a direct run
 pub overflow_sub-left : goal.overflow_sub-left
 overflow_sub-left c =
-    omega (arith, some-rows c.requires c.read.ensures c.in-Read.is)
+    omega (arith, some-rows c.requires c.read.ensures c.in-Some.is)
 
 pub returns-then-room-left : goal.returns-then-room-left
 returns-then-room-left c =
-    rw c.new.ensures (in-places-cut c.requires c.read.ensures c.in-Read.is (omega (arith, c.if-room-left.true)))
+    rw c.new.ensures (in-places-cut c.requires c.read.ensures c.in-Some.is (omega (arith, c.if-room-left.true)))
 
 pub overflow_add-end : goal.overflow_add-end
 overflow_add-end c =
-    omega (arith, end_fits c.requires c.read.ensures c.in-Read.is (omega arith))
+    omega (arith, end_fits c.requires c.read.ensures c.in-Some.is (omega arith))
 
 pub returns-else-room-left : goal.returns-else-room-left
 returns-else-room-left c =
-    rw c.up_to.ensures (in-places-whole c.requires c.read.ensures c.in-Read.is (omega (arith, c.if-room-left.false)))
+    rw c.up_to.ensures (in-places-whole c.requires c.read.ensures c.in-Some.is (omega (arith, c.if-room-left.false)))
 
 -- ---- another
-pub returns-in-NotRead : goal.returns-in-NotRead
-returns-in-NotRead c =
-    rw (untouched c.requires c.read.ensures c.in-NotRead.is) at c.read_aside.ensures
+pub returns-in-None : goal.returns-in-None
+returns-in-None c =
+    rw (untouched c.requires c.read.ensures c.in-None.is) at c.read_aside.ensures

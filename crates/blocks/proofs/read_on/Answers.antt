@@ -7,19 +7,19 @@ use Rattle.blocks.proofs.Turns.{kept-le, came-is, held-le, room-is, stop_le, fro
 use Rattle.blocks.proofs.read_on.Goals as goal
 
 pub keep-held-requires : goal.keep-held-requires
-keep-held-requires g c = omega (arith, c.least.ensures, c.least-last.ensures)
+keep-held-requires g c = omega (arith, c.min.ensures, c.min-last.ensures)
 
 pub slice_bounds-read_into-start : goal.slice_bounds-read_into-start
 slice_bounds-read_into-start g c =
     let a = c.args in
-    let held = kept-clamped a.from a.end c.least.result c.least-last.result a.input.now c.least.ensures c.least-last.ensures c.keep-held.ensures in
+    let held = kept-clamped a.from a.end c.min.result c.min-last.result a.input.now c.min.ensures c.min-last.ensures c.keep-held.ensures in
     let w = part-le a.from a.end a.input.now in
     omega (arith, kept-le _ _ _ _ held w c.keep-held.auto.input)
 
 pub slice_bounds-read_into-count : goal.slice_bounds-read_into-count
 slice_bounds-read_into-count g c =
     let a = c.args in
-    let held = kept-clamped a.from a.end c.least.result c.least-last.result a.input.now c.least.ensures c.least-last.ensures c.keep-held.ensures in
+    let held = kept-clamped a.from a.end c.min.result c.min-last.result a.input.now c.min.ensures c.min-last.ensures c.keep-held.ensures in
     let w = part-le a.from a.end a.input.now in
     kept-le _ _ _ _ held w c.keep-held.auto.input
 
@@ -27,7 +27,7 @@ pub slice_bounds-count-count : goal.slice_bounds-count-count
 slice_bounds-count-count g c =
     let a = c.args in
     let r = c.read_into-answer in
-    let held = kept-clamped a.from a.end c.least.result c.least-last.result a.input.now c.least.ensures c.least-last.ensures c.keep-held.ensures in
+    let held = kept-clamped a.from a.end c.min.result c.min-last.result a.input.now c.min.ensures c.min-last.ensures c.keep-held.ensures in
     let w = part-le a.from a.end a.input.now in
     held-le _ _ _ r.new.places _ held w c.keep-held.auto.input r.auto.places
 
@@ -35,7 +35,7 @@ pub slice_bounds-count-start : goal.slice_bounds-count-start
 slice_bounds-count-start g c =
     let a = c.args in
     let r = c.read_into-answer in
-    let held = kept-clamped a.from a.end c.least.result c.least-last.result a.input.now c.least.ensures c.least-last.ensures c.keep-held.ensures in
+    let held = kept-clamped a.from a.end c.min.result c.min-last.result a.input.now c.min.ensures c.min-last.ensures c.keep-held.ensures in
     let w = part-le a.from a.end a.input.now in
     omega (arith, held-le _ _ _ r.new.places _ held w c.keep-held.auto.input r.auto.places)
 
@@ -43,7 +43,7 @@ pub returns : goal.returns
 returns g c =
     let a = c.args in
     let r = c.read_into-answer in
-    let held = kept-clamped a.from a.end c.least.result c.least-last.result a.input.now c.least.ensures c.least-last.ensures c.keep-held.ensures in
+    let held = kept-clamped a.from a.end c.min.result c.min-last.result a.input.now c.min.ensures c.min-last.ensures c.keep-held.ensures in
     let w = part-le a.from a.end a.input.now in
     let n = c.keep-held.result in
     let m = c.count.result in

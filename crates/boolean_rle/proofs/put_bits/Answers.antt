@@ -8,7 +8,7 @@ use Rattle.boolean_rle.proofs.RunBytes.{wrote_none, one_more, bit_is}
 use Rattle.boolean_rle.proofs.put_bits.Goals as goal
 
 pub loop-j-init : goal.loop-j-init
-loop-j-init c = (omega arith, refl, wrote_none c.args.k (drop c.args.skip (digits 2 8 c.args.byte)) c.args.out.now)
+loop-j-init c = (refl, wrote_none c.args.k (drop c.args.skip (digits 2 8 c.args.byte)) c.args.out.now)
 
 pub loop-j-preserved : goal.loop-j-preserved
 loop-j-preserved c =
@@ -16,16 +16,12 @@ loop-j-preserved c =
     let a = c.args in
     let wanted = drop a.skip (digits 2 8 a.byte) in
     let more : l.j < length wanted = rw (length-drop, length_digits) (omega arith) in (
-      omega arith,
-      simp length-set l.invariant.1,
+      simp length-set l.invariant.0,
       one_more wanted a.k l.j _ a.out.now l.out more (omega arith)
-          (bit_is a.byte a.skip l.j (omega arith)) l.invariant.2,
+          (bit_is a.byte a.skip l.j (omega arith)) l.invariant.1,
     )
 
 pub returns : goal.returns
 returns c =
     let all : c.loop-j.j ≡ c.args.m = omega arith in
-    rw all at c.loop-j.invariant.2
-
-pub shape_of-out : goal.shape_of-out
-shape_of-out c = c.loop-j.invariant.1
+    rw all at c.loop-j.invariant.1

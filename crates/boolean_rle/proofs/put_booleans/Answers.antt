@@ -27,33 +27,29 @@ returns-in_default c =
     let s : List ℕ = c.args.input.now in
     let a = c.args in
     absurd (laid-whole bits (spread-append 2 8) (s) refl _ a.k a.n a.out.now c.loop-done.place c.loop-done.left
-    c.loop-done.done c.loop-done.out c.in_default.field-0 c.in_default.field-1 c.loop-done-test.true
+    c.loop-done.done c.loop-done.out c.in_default.field-0 c.loop-done-test.true
     (sym c.run_at.ensures ∙ c.in_default.is) c.loop-done.invariant.3)
-
-pub put_run-done-requires : goal.put_run-done-requires
-put_run-done-requires c =
-    (sym c.run_at.ensures ∙ c.in-Run.is, omega arith, omega arith)
 
 pub loop-done-preserved : goal.loop-done-preserved
 loop-done-preserved c =
     let s : List ℕ = c.args.input.now in
-    let run : code.ByteRun = c.in-Run.run' in
+    let run : code.ByteRun = c.in-Ok.run' in
     let run-here : (d : ByteRun) × Here (s) c.loop-done.place (run) d = here (s) c.loop-done.place (run) (λ i. (c.shared_slice_known-1.given i).fits)
-    (sym c.run_at.ensures ∙ c.in-Run.is) in
+    (sym c.run_at.ensures ∙ c.in-Ok.is) in
     let l = c.loop-done in
     let a = c.args in
-    let done = c.put_run-done.result in
+    let done = c.put-done.result in
     let (d, h) = run-here in
     let up : done ≡ min a.n (l.done + length (bits (drop l.left (run_bytes d)))) =
-    c.put_run-done.ensures.value ∙ rw (length-bits, length-left d l.left, h.count-is) in
+    c.put-done.ensures.value ∙ rw (length-bits, length-left d l.left, h.count-is) in
     let (from, to) = between a.k a.n l.done _ done l.invariant.0 l.invariant.1 up in (
       from,
       to,
-      c.put_run-done.auto.out ∙ l.invariant.2,
-      rw c.less-left.ensures
+      c.put-done.auto.out ∙ l.invariant.2,
+      rw c.saturating_sub-left.ensures
           (laid_on bits (spread-append 2 8) (s) _ a.k a.n a.out.now l.place l.left l.done l.out _ done
           (run) d h c.loop-done-test.true l.invariant.0 up
-          (rw (bytes-are (s) l.place (run) d h) at c.put_run-done.ensures.wrote) l.invariant.3),
+          (rw (bytes-are (s) l.place (run) d h) at c.put-done.ensures.wrote) l.invariant.3),
     )
 
 pub returns : goal.returns
@@ -61,30 +57,18 @@ returns c =
     let all : c.loop-done.done ≡ c.args.n = omega arith in
     rw all at c.loop-done.invariant.3.wrote
 
-pub run_at-requires : goal.run_at-requires
-run_at-requires c = tt
-
-pub shape_of-out-in_default : goal.shape_of-out-in_default
-shape_of-out-in_default c = c.loop-done.invariant.2
-
-pub less-left-requires : goal.less-left-requires
-less-left-requires c = tt
-
 pub overflow_add-place : goal.overflow_add-place
 overflow_add-place c =
     let s : List ℕ = c.args.input.now in
-    let run : code.ByteRun = c.in-Run.run' in
+    let run : code.ByteRun = c.in-Ok.run' in
     let run-here : (d : ByteRun) × Here (s) c.loop-done.place (run) d = here (s) c.loop-done.place (run) (λ i. (c.shared_slice_known-1.given i).fits)
-    (sym c.run_at.ensures ∙ c.in-Run.is) in
+    (sym c.run_at.ensures ∙ c.in-Ok.is) in
     omega (arith, run-here.1.inside)
 
 pub loop-done-smaller : goal.loop-done-smaller
 loop-done-smaller c =
     let s : List ℕ = c.args.input.now in
-    let run : code.ByteRun = c.in-Run.run' in
+    let run : code.ByteRun = c.in-Ok.run' in
     let run-here : (d : ByteRun) × Here (s) c.loop-done.place (run) d = here (s) c.loop-done.place (run) (λ i. (c.shared_slice_known-1.given i).fits)
-    (sym c.run_at.ensures ∙ c.in-Run.is) in
+    (sym c.run_at.ensures ∙ c.in-Ok.is) in
     let h = run-here.1 in omega (arith, h.inside, h.takes)
-
-pub shape_of-out : goal.shape_of-out
-shape_of-out c = c.loop-done.invariant.2

@@ -11,27 +11,23 @@ use Rattle.boolean_rle.proofs.put_byte.Goals as goal
 pub loop-j-init : goal.loop-j-init
 loop-j-init c =
     let a = c.args in
-    (omega arith, refl, c.spread-left.ensures, wrote_none a.k (digits 2 8 a.byte) a.out.now)
+    (refl, c.spread-left.ensures, wrote_none a.k (digits 2 8 a.byte) a.out.now)
 
 pub loop-j-preserved : goal.loop-j-preserved
 loop-j-preserved c =
     let l = c.loop-j in
     let a = c.args in
     let more : l.j < length (digits 2 8 a.byte) = rw length_digits (omega arith) in
-    let bit = bit-here a.byte l.j l.left (omega arith) l.invariant.2 in (
-      omega arith,
-      simp length-set l.invariant.1,
-      left-next a.byte l.j l.left (omega arith) l.invariant.2,
-      one_more (digits 2 8 a.byte) a.k l.j _ a.out.now l.out more (omega arith) bit l.invariant.3,
+    let bit = bit-here a.byte l.j l.left (omega arith) l.invariant.1 in (
+      simp length-set l.invariant.0,
+      left-next a.byte l.j l.left (omega arith) l.invariant.1,
+      one_more (digits 2 8 a.byte) a.k l.j _ a.out.now l.out more (omega arith) bit l.invariant.2,
     )
 
 pub returns : goal.returns
 returns c =
     let all : c.loop-j.j ≡ 8 = omega arith in
-    rw all at c.loop-j.invariant.3
+    rw all at c.loop-j.invariant.2
 
 pub spread-left-requires : goal.spread-left-requires
 spread-left-requires c = tt
-
-pub shape_of-out : goal.shape_of-out
-shape_of-out c = c.loop-j.invariant.1

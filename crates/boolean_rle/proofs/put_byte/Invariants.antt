@@ -1,7 +1,7 @@
 -- Each turn stores one byte of the number in which the bits are spread, so that the bits after the first j are the bytes left of it.
 -- Assumes nothing.
 use mathlib.Core.Path.{◌≡◌}
-use Prim.Native.Nat.{◌+◌, ◌-◌, ◌≤◌}
+use Prim.Native.Nat.{◌+◌}
 use lib.ListN.{length}
 use Rattle.format.specs.Digits.{digits}
 use Rattle.boolean_rle.specs.Found.{Wrote}
@@ -10,7 +10,4 @@ use Rattle.boolean_rle.proofs.put_byte.Given as goal
 
 abbrev pub invariant-loop-j : goal.invariant-loop-j
 invariant-loop-j l =
-    (l.j ≤ 8) × (length l.out ≡ length l.initial.out) × Left l.byte l.j l.left × Wrote l.k (l.k + l.j) (digits 2 8 l.byte) l.initial.out l.out
-
-abbrev pub decreases-loop-j : goal.decreases-loop-j
-decreases-loop-j l = 8 - l.j
+    (length l.out ≡ length l.initial.out) × Left l.byte l.j l.left × Wrote l.k (l.k + l.j) (digits 2 8 l.byte) l.initial.out l.out

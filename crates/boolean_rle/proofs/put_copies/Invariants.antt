@@ -1,13 +1,10 @@
 -- Each turn lays down the bits of one copy more. Assumes nothing.
 use mathlib.Core.Path.{◌≡◌}
-use Prim.Native.Nat.{◌+◌, ◌-◌, ◌*◌, ◌≤◌}
+use Prim.Native.Nat.{◌+◌, ◌*◌}
 use lib.ListN.{length, replicate}
 use Rattle.format.specs.Booleans.{bits}
 use Rattle.boolean_rle.specs.Found.{Wrote}
 use Rattle.boolean_rle.proofs.put_copies.Given as goal
 
 abbrev pub invariant-loop-i : goal.invariant-loop-i
-invariant-loop-i l = (l.i ≤ l.count) × (length l.out ≡ length l.initial.out) × Wrote l.k (l.k + 8 * l.i) (bits (replicate l.count l.byte)) l.initial.out l.out
-
-abbrev pub decreases-loop-i : goal.decreases-loop-i
-decreases-loop-i l = l.count - l.i
+invariant-loop-i l = (length l.out ≡ length l.initial.out) × Wrote l.k (l.k + 8 * l.i) (bits (replicate l.count l.byte)) l.initial.out l.out

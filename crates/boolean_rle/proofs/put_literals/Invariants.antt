@@ -1,6 +1,6 @@
 -- Each turn lays down the bits of one byte more. Assumes nothing.
 use mathlib.Core.Path.{◌≡◌}
-use Prim.Native.Nat.{◌+◌, ◌-◌, ◌*◌, ◌≤◌}
+use Prim.Native.Nat.{◌+◌, ◌*◌}
 use lib.ListN.{length, take, drop}
 use Rattle.format.specs.Booleans.{bits}
 use Rattle.boolean_rle.specs.Found.{Wrote}
@@ -8,7 +8,4 @@ use Rattle.boolean_rle.proofs.put_literals.Given as goal
 
 abbrev pub invariant-loop-i : goal.invariant-loop-i
 invariant-loop-i l =
-    (l.i ≤ l.count) × (length l.out ≡ length l.initial.out) × Wrote l.k (l.k + 8 * l.i) (bits (take l.count (drop l.first l.bytes))) l.initial.out l.out
-
-abbrev pub decreases-loop-i : goal.decreases-loop-i
-decreases-loop-i l = l.count - l.i
+    (length l.out ≡ length l.initial.out) × Wrote l.k (l.k + 8 * l.i) (bits (take l.count (drop l.first l.bytes))) l.initial.out l.out

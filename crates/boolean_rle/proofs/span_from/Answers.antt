@@ -2,9 +2,10 @@ use mathlib.Core.Path.{◌≡◌, sym, ◌∙◌}
 use native.Mathlib.Nat.{le_refl, add-zero}
 use native.Mathlib.Omega.{arith}
 use lib.ListN.{length, drop, length-drop}
+use Rattle.std.proofs.lemmas.Result.{err_from_is_err_and}
 use Rattle.format.specs.Booleans.{ByteRun, joined_runs, booleans}
 use Rattle.format.proofs.ByteRuns.{runs_none}
-use Rattle.boolean_rle.proofs.FirstPass.{Here, here, further-zero, span-cut, pass}
+use Rattle.boolean_rle.proofs.FirstPass.{Here, here, ceil-is, further-zero, span-cut, pass}
 use Rattle.boolean_rle.proofs.span_from.Goals as goal
 
 pub loop-left-init : goal.loop-left-init
@@ -15,30 +16,31 @@ loop-left-init c =
       (
         length (drop a.at a.input.now),
         omega (arith, length-drop a.at a.input.now),
-        rw c.bytes_for-left.ensures (further-zero a.at _),
+        rw (c.div_ceil-left.ensures, ceil-is a.n) (further-zero a.at _),
       ),
     )
 
 pub loop-left-smaller : goal.loop-left-smaller
 loop-left-smaller c =
-    let run-here : (d : ByteRun) × Here c.args.input.now c.loop-left.end c.in-Run.run' d = here c.args.input.now c.loop-left.end c.in-Run.run' (λ i. (c.shared_slice_known-1.given i).fits)
-    (sym c.run_at.ensures ∙ c.in-Run.is) in
+    let run-here : (d : ByteRun) × Here c.args.input.now c.loop-left.end c.in_ok-run.run' d = here c.args.input.now c.loop-left.end c.in_ok-run.run' (λ i. (c.shared_slice_known-1.given i).fits)
+    (sym c.run_at.ensures ∙ c.in_ok-run.was) in
     omega (arith, run-here.1.some)
 
 pub loop-left-preserved : goal.loop-left-preserved
 loop-left-preserved c =
-    let run-here : (d : ByteRun) × Here c.args.input.now c.loop-left.end c.in-Run.run' d = here c.args.input.now c.loop-left.end c.in-Run.run' (λ i. (c.shared_slice_known-1.given i).fits)
-    (sym c.run_at.ensures ∙ c.in-Run.is) in
+    let run-here : (d : ByteRun) × Here c.args.input.now c.loop-left.end c.in_ok-run.run' d = here c.args.input.now c.loop-left.end c.in_ok-run.run' (λ i. (c.shared_slice_known-1.given i).fits)
+    (sym c.run_at.ensures ∙ c.in_ok-run.was) in
     let h = run-here in
-    rw c.less-left.ensures
+    rw c.saturating_sub-left.ensures
     (pass c.args.input.now _ _ c.loop-left.end c.loop-left.left _ h.0 h.1 (omega arith) c.loop-left.invariant)
 
-pub returns-in-Cut : goal.returns-in-Cut
-returns-in-Cut c =
+pub returns-in_err-run : goal.returns-in_err-run
+returns-in_err-run c =
     let l = c.loop-left in
     let i = l.invariant.1 in
     let s = c.args.input.now in
-    sym (i.2 ∙ rw (span-cut (length s) i.0 l.left (drop l.end s) c.in-Cut.number c.in-Cut.field c.loop-left-test.true (rw length-drop i.1) (sym c.run_at.ensures ∙ c.in-Cut.is)))
+    let p = err_from_is_err_and c.from_residual.result c.from_residual.ensures.1 in
+    rw (p.1, p.2) (sym (i.2 ∙ rw (span-cut (length s) i.0 l.left (drop l.end s) _ c.loop-left-test.true (rw length-drop i.1) (sym c.run_at.ensures ∙ c.in_err-run.was))))
 
 pub returns : goal.returns
 unfolding joined_runs
@@ -48,20 +50,8 @@ returns c =
     let z : l.left ≡ 0 = omega arith in
     sym (i.2 ∙ rw (z, runs_none, add-zero))
 
-pub bytes_for-left-requires : goal.bytes_for-left-requires
-bytes_for-left-requires c = tt
-
-pub run_at-requires : goal.run_at-requires
-run_at-requires c = tt
-
 pub overflow_add-end : goal.overflow_add-end
 overflow_add-end c =
-    let run-here : (d : ByteRun) × Here c.args.input.now c.loop-left.end c.in-Run.run' d = here c.args.input.now c.loop-left.end c.in-Run.run' (λ i. (c.shared_slice_known-1.given i).fits)
-    (sym c.run_at.ensures ∙ c.in-Run.is) in
+    let run-here : (d : ByteRun) × Here c.args.input.now c.loop-left.end c.in_ok-run.run' d = here c.args.input.now c.loop-left.end c.in_ok-run.run' (λ i. (c.shared_slice_known-1.given i).fits)
+    (sym c.run_at.ensures ∙ c.in_ok-run.was) in
     omega (arith, run-here.1.inside)
-
-pub less-left-requires : goal.less-left-requires
-less-left-requires c = tt
-
-pub overflow_sub-result : goal.overflow_sub-result
-overflow_sub-result c = c.loop-left.invariant.0

@@ -6,7 +6,7 @@ use Rattle.boolean_rle.proofs.spread.Goals as goal
 
 pub returns : goal.returns
 unfolding spread_of
-returns c = rw c.wide-zeros.ensures.0 (spread-is c.args.byte (omega (arith, c.wide-zeros.ensures)))
+returns c = rw c.from-zeros.ensures (spread-is c.args.byte (omega arith))
 
 pub overflow_sub-result : goal.overflow_sub-result
 overflow_sub-result c = search and_le_r

@@ -58,9 +58,3 @@ shape_of-out c = c.loop-at.invariant.same
 
 pub returns : goal.returns
 returns c = laying-ends c.loop-at.invariant (omega arith)
-
-pub count-n-requires : goal.count-n-requires
-count-n-requires c = tt
-
-pub count-at-requires : goal.count-at-requires
-count-at-requires c = tt

@@ -49,9 +49,3 @@ returns c =
     let bs = source a.packed a.s.now in
     let e : written (drop c.loop-at.at bs) ≡ [] = ap written (drop_of_length-le bs {i = c.loop-at.at} (omega arith)) ∙ written_none in
     omega (arith, ap length e)
-
-pub count-n-requires : goal.count-n-requires
-count-n-requires c = tt
-
-pub count-at-requires : goal.count-at-requires
-count-at-requires c = tt

@@ -3,8 +3,8 @@ use Rattle.format.proofs.Common.{◌-◌, length}
 use Rattle.convert.proofs.Walks.{Along}
 use Rattle.convert.proofs.walk.Given as goal
 
-abbrev pub invariant-loop-p : goal.invariant-loop-p
-invariant-loop-p l = Along l.signed l.input l.room.bytes l.initial.out l.out l.p l.altered l.at
+abbrev pub invariant-loop-t : goal.invariant-loop-t
+invariant-loop-t l = Along l.signed l.input l.room.bytes l.initial.out l.out l.p l.altered l.at
 
-abbrev pub decreases-loop-p : goal.decreases-loop-p
-decreases-loop-p l = length l.input - l.p
+abbrev pub decreases-loop-t : goal.decreases-loop-t
+decreases-loop-t l = length l.input - l.p

@@ -10,24 +10,24 @@ use Rattle.labels.proofs.part_of.Goals as goal
 
 pub overflow_add-to : goal.overflow_add-to
 overflow_add-to c =
-    let inside-block : c.in-Name.name.start.bytes + c.in-Name.name.size.bytes ≤ length c.args.block.now = name-inside _ _ _ _ _ _ _ (sym c.label_of-said.ensures.answer ∙ c.in-Name.is) in
+    let inside-block : c.in-Ok-Name.name.start.bytes + c.in-Ok-Name.name.size.bytes ≤ length c.args.block.now = name-inside _ _ _ _ _ _ _ (rw c.in-Ok-Name.field-0-is at (sym c.label_of.ensures.answer ∙ c.in-Ok-Name.is)) in
     omega (arith, inside-block)
 
 pub slice_bounds-result-end : goal.slice_bounds-result-end
 slice_bounds-result-end c =
-    let inside-block : c.in-Name.name.start.bytes + c.in-Name.name.size.bytes ≤ length c.args.block.now = name-inside _ _ _ _ _ _ _ (sym c.label_of-said.ensures.answer ∙ c.in-Name.is) in
+    let inside-block : c.in-Ok-Name.name.start.bytes + c.in-Ok-Name.name.size.bytes ≤ length c.args.block.now = name-inside _ _ _ _ _ _ _ (rw c.in-Ok-Name.field-0-is at (sym c.label_of.ensures.answer ∙ c.in-Ok-Name.is)) in
     omega (arith, inside-block)
 
-pub returns-in-Name : goal.returns-in-Name
-returns-in-Name c =
+pub returns-in-Ok-Name : goal.returns-in-Ok-Name
+returns-in-Ok-Name c =
     record {
       part-is = rw (add-sub_cancel_left)
-          (sym (ap (part_of _ _) (sym c.label_of-said.ensures.answer ∙ c.in-Name.is)));
+          (sym (ap (part_of _ _) (rw c.in-Ok-Name.field-0-is at (sym c.label_of.ensures.answer ∙ c.in-Ok-Name.is))));
     }
 
-pub returns-in-Fallback : goal.returns-in-Fallback
-returns-in-Fallback c = record { part-is = sym (ap (part_of _ _) (sym c.label_of-said.ensures.answer ∙ c.in-Fallback.is)) }
+pub returns-in-Ok-Fallback : goal.returns-in-Ok-Fallback
+returns-in-Ok-Fallback c = record { part-is = sym (ap (part_of _ _) (rw c.in-Ok-Fallback.field-0-is at (sym c.label_of.ensures.answer ∙ c.in-Ok-Fallback.is))) }
 
-pub returns-in-Refused : goal.returns-in-Refused
-returns-in-Refused c =
-    record { part-is = sym (ap (part_of _ _) (sym c.label_of-said.ensures.answer ∙ c.in-Refused.is)) }
+pub returns-in-Err : goal.returns-in-Err
+returns-in-Err c =
+    record { part-is = sym (ap (part_of _ _) (sym c.label_of.ensures.answer ∙ c.in-Err.is)) }

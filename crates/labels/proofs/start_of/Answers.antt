@@ -1,34 +1,52 @@
-use Prim.Native.Nat.{ℕ, suc, ◌+◌}
-use mathlib.Core.Path.{◌≡◌, refl, sym, ap, ◌∙◌}
+-- No length is below 0, so the cast is the length, and no sum passes the block. Assumes nothing.
+use Prim.Native.Nat.{ℕ, ◌+◌, ◌<◌}
+use mathlib.Core.Path.{◌≡◌, refl, sym, ◌∙◌}
 use native.Mathlib.Omega.{arith}
-use Rattle.labels.specs.Labels.{start_of, total}
-use Rattle.labels.proofs.Columns.{adds-whole, adds-start, whole-size}
+use native.Mathlib.Numerals.{add-one}
+use mathlib.Core.Bool.{true}
+use mathlib.Core.List.{List}
+use lib.IntN.{ℤ, pos}
+use lib.ListN.{length, take, get_or}
+use lib.Seq.{length-take-le}
+use mir.Syntax.{w64}
+use mir.Val.{SFits}
+use Rattle.std.proofs.Common.{rules}
+use Rattle.std.proofs.lemmas.List.{get_or-take}
+use Rattle.labels.specs.Labels.{add_up, start_of, size_of, total}
+use Rattle.labels.proofs.Labels.{start-suc}
+use Rattle.labels.proofs.Columns.{adds-start, cast_is, cast_fits, size_in}
 use Rattle.labels.proofs.start_of.Goals as goal
 
-pub loop-i-init : goal.loop-i-init
-unfolding start_of total
-loop-i-init c = (omega arith, refl)
+-- the entry of the part that is lent
+size_here : (l : List ℤ) (b : List ℕ) (k i : ℕ) → add_up l b ≡ true → i < k → pos (size_of l i) ≡ get_or (take k l) i (pos 0)
+size_here l b k i a h = size_in l (length b) i a ∙ sym (get_or-take k l i (pos 0) h)
 
-pub returns-in_default : goal.returns-in_default
-returns-in_default c =
-    let l = c.loop-i in
-    absurd (adds-whole c.args.lengths.now c.args.block.now l.i c.requires.0 (omega arith) (sym c.entry.ensures ∙ c.in_default.is))
+pub loop-length-init : goal.loop-length-init
+unfolding start_of total
+loop-length-init c = (omega arith, refl)
+
+pub overflow_cast-sum : goal.overflow_cast-sum
+overflow_cast-sum c =
+    let a = c.args in
+    let l = c.loop-length in
+    let h : l.length-index < a.k = omega (arith, length-take-le a.k a.lengths.now c.requires.1) in
+    let f : SFits w64 (get_or (take a.k a.lengths.now) l.length-index (pos 0)) = search rules in
+    cast_fits _ f (size_here a.lengths.now a.block.now a.k l.length-index c.requires.0 h)
 
 pub overflow_add-sum : goal.overflow_add-sum
 overflow_add-sum c =
-    let more : start_of c.args.lengths.now (c.loop-i.i + 1)
-    ≡ c.loop-i.sum + c.in-Number.size = let l = c.loop-i in
-    let s : l.i + 1 ≡ suc l.i = omega arith in
-    rw s (whole-size _ l.i _ (sym c.entry.ensures ∙ c.in-Number.is) ∙ ap (λ (n : ℕ). n + c.in-Number.size) (sym l.invariant.1)) in
-    omega (arith, more, adds-start _ _ (c.loop-i.i + 1) c.requires.0)
+    let a = c.args in
+    let l = c.loop-length in
+    let h : l.length-index < a.k = omega (arith, length-take-le a.k a.lengths.now c.requires.1) in
+    let f : SFits w64 (get_or (take a.k a.lengths.now) l.length-index (pos 0)) = search rules in
+    rw (cast_is _ f (size_here a.lengths.now a.block.now a.k l.length-index c.requires.0 h))
+    (omega (arith, l.invariant.1, rw (← add-one l.length-index) at (start-suc a.lengths.now l.length-index), adds-start a.lengths.now (length a.block.now) (l.length-index + 1) c.requires.0))
 
-pub returns : goal.returns
-returns c = let e : c.loop-i.i ≡ c.args.k = omega arith in c.loop-i.invariant.1 ∙ ap (start_of _) e
-
-pub loop-i-preserved : goal.loop-i-preserved
-loop-i-preserved c =
-    let more : start_of c.args.lengths.now (c.loop-i.i + 1)
-    ≡ c.loop-i.sum + c.in-Number.size = let l = c.loop-i in
-    let s : l.i + 1 ≡ suc l.i = omega arith in
-    rw s (whole-size _ l.i _ (sym c.entry.ensures ∙ c.in-Number.is) ∙ ap (λ (n : ℕ). n + c.in-Number.size) (sym l.invariant.1)) in
-    (omega arith, sym (more))
+pub loop-length-preserved : goal.loop-length-preserved
+loop-length-preserved c =
+    let a = c.args in
+    let l = c.loop-length in
+    let h : l.length-index < a.k = omega (arith, length-take-le a.k a.lengths.now c.requires.1) in
+    let f : SFits w64 (get_or (take a.k a.lengths.now) l.length-index (pos 0)) = search rules in
+    rw (cast_is _ f (size_here a.lengths.now a.block.now a.k l.length-index c.requires.0 h))
+    (omega arith, rw (add-one l.length-index, start-suc a.lengths.now l.length-index, l.invariant.1))

@@ -1,10 +1,11 @@
 -- A run whose front is held is told to be unfinished before any byte is copied. Assumes nothing.
-use Rattle.std.proofs.Common.{sym, ◌∙◌, arith, length-take, rules}
+use Rattle.std.proofs.Common.{◌+◌, ◌-◌, sym, ◌∙◌, arith, length-take, rules}
 use Rattle.format.specs.Digits.{AllBelow}
 use Rattle.format.proofs.Below.{below_all}
 use Rattle.parts.specs.Steps.{Begun}
 use Rattle.parts.proofs.Joined.{waiting, not-by-front}
 use Rattle.parts.proofs.Restored.{stays}
+use Rattle.parts.proofs.Lent.{pasted}
 use Rattle.parts.proofs.begun.Goals as goal
 
 pub returns-then-is_cut : goal.returns-then-is_cut
@@ -16,7 +17,7 @@ returns-then-is_cut c =
     rw c.hold.ensures
     (waiting a.reader a.part.now a.buffer.now a.held.bytes a.more.bytes it-began buffer-bytes
     part_bytes a.signed
-    a.out.now _ (omega arith) c.measure-a.ensures (sym c.is_cut.ensures ∙ c.if-is_cut.true) _ c.copy.ensures)
+    a.out.now _ (omega arith) c.measure-a.ensures (sym c.is_cut.ensures ∙ c.if-is_cut.true) _ (pasted a.buffer.now a.part.now _ a.held.bytes a.more.bytes (a.held.bytes + a.more.bytes - a.held.bytes) (omega arith) c.copy_from_slice.ensures.after))
 
 pub returns-then-buffer-ge3 : goal.returns-then-buffer-ge3
 returns-then-buffer-ge3 c =

@@ -31,7 +31,7 @@ returns-in-Opened c =
     let a = c.args in
     rw c.on_close.ensures
     (closes-open a.reader a.buffer.now a.signed a.out.now (omega arith) (omega arith) _ _ _
-    (below_all 256 a.buffer.now (search rules)) c.least-h.ensures c.in-Opened.is c.read_run-a.ensures)
+    (below_all 256 a.buffer.now (search rules)) c.min-h.ensures c.in-Opened.is c.read_run-a.ensures)
 
 pub slice_bounds-read_run-end : goal.slice_bounds-read_run-end
 slice_bounds-read_run-end c = rw length-take (omega arith)

@@ -4,11 +4,11 @@ use Rattle.planner.specs.Check.{proposal}
 use Rattle.planner.proofs.Checking.{unequal}
 use Rattle.planner.proofs.check.Goals as goal
 
-pub returns-then-not-are_equal : goal.returns-then-not-are_equal
-returns-then-not-are_equal c =
+pub returns-then-not-is_level : goal.returns-then-not-is_level
+returns-then-not-is_level c =
     let a = c.args in
     unequal a.signed a.rows.now (proposal a.first.now a.counts.now a.forms.now a.widths.now a.bases.now) a.room.bytes
-    (sym c.are_equal.ensures ∙ c.if-not-are_equal.true)
+    (sym c.is_level.ensures ∙ c.if-not-is_level.true)
 
 pub walk-requires : goal.walk-requires
-walk-requires c = sym c.are_equal.ensures ∙ c.if-not-are_equal.false
+walk-requires c = sym c.is_level.ensures ∙ c.if-not-is_level.false

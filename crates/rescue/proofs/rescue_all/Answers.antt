@@ -3,7 +3,7 @@ use native.Mathlib.Omega.{arith}
 use lib.ListN.{length, get_or}
 use mir.Syntax.{w64}
 use mir.Facts.{to_z-of_z}
-use Rattle.rescue.proofs.GroupsWalk.{few-verdict, begun, end_fits, mark-fits, onward, done}
+use Rattle.rescue.proofs.GroupsWalk.{few-verdict, byte-verdict, begun, end_fits, mark-fits, onward, done}
 use Rattle.rescue.proofs.rescue_all.Goals as goal
 
 -- ---- before the first group
@@ -47,24 +47,19 @@ bounds-verdicts-i c =
 
 pub overflow_add-kept : goal.overflow_add-kept
 overflow_add-kept c =
-    let small : c.verdict-mark.result ≤ 1 = omega (arith, c.verdict-mark.ensures, few-verdict c.rescue-keep.result) in
+    let small : c.from-kept.result ≤ 1 = rw (c.from-kept.ensures, byte-verdict) (few-verdict c.rescue-keep.result) in
     omega (arith, small, c.loop-i.invariant.few)
 
 pub loop-i-preserved : goal.loop-i-preserved
 loop-i-preserved c =
-    onward _ _ _ _ _ _ _ _ c.requires _ _ _ _ _ _ c.loop-i.invariant (omega arith) _ _ _ _ _ c.verdict-mark.ensures
-    c.position_at-in-loop-i.ensures c.make_plain-next.ensures c.rescue-keep.ensures
+    rw (c.from.ensures, c.from-kept.ensures)
+    (onward _ _ _ _ _ _ _ _ c.requires _ _ _ _ _ _ c.loop-i.invariant (omega arith) _ _ _ _ _ (byte-verdict c.rescue-keep.result)
+    c.position_at-in-loop-i.ensures c.make_plain-next.ensures c.rescue-keep.ensures)
 
 -- ---- after the last group
 pub returns : goal.returns
 returns c =
-    rw c.written.ensures
-    (rw (to_z-of_z {w = w64} c.ranges.fill) at (done _ _ _ _ _ _ _ _ c.requires _ _ _ _ _ _ c.loop-i.invariant (omega arith)))
-
-pub overflow_cast-kept : goal.overflow_cast-kept
-overflow_cast-kept c =
-    let small : c.verdict-mark.result ≤ 1 = omega (arith, c.verdict-mark.ensures, few-verdict c.rescue-keep.result) in
-    omega (arith, small)
+    rw (to_z-of_z {w = w64} c.ranges.fill) at (done _ _ _ _ _ _ _ _ c.requires _ _ _ _ _ _ c.loop-i.invariant (omega arith))
 
 pub shape_of-rows : goal.shape_of-rows
 shape_of-rows c = c.loop-i.invariant.rows_long

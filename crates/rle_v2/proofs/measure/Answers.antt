@@ -4,20 +4,16 @@ use Rattle.rle_v2.proofs.ByKind.{nothing-there, is-short, is-direct, is-patched,
 use Rattle.rle_v2.proofs.measure.Goals as goal
 
 pub returns-then-input-p : goal.returns-then-input-p
-returns-then-input-p c = let a = c.args in rw (c.end.ensures, nothing-there a.input.now a.at.bytes c.if-input-p.true)
+returns-then-input-p c = let a = c.args in rw (nothing-there a.input.now a.at.bytes c.if-input-p.true)
 
-pub returns-then-kind-eq0 : goal.returns-then-kind-eq0
-returns-then-kind-eq0 c = let a = c.args in rw (is-short a.input.now a.at.bytes c.if-input-p.false c.if-kind-eq0.true) c.measure.ensures
+pub returns-in-0 : goal.returns-in-0
+returns-in-0 c = let a = c.args in rw (is-short a.input.now a.at.bytes c.if-input-p.false c.in-0.is) c.measure.ensures
 
-pub returns-then-kind-eq1 : goal.returns-then-kind-eq1
-returns-then-kind-eq1 c = let a = c.args in rw (is-direct a.input.now a.at.bytes c.if-input-p.false c.if-kind-eq1.true) c.measure-then-kind-eq1.ensures
+pub returns-in-1 : goal.returns-in-1
+returns-in-1 c = let a = c.args in rw (is-direct a.input.now a.at.bytes c.if-input-p.false c.in-1.is) c.measure-in-1.ensures
 
-pub returns-then-kind-eq2 : goal.returns-then-kind-eq2
-returns-then-kind-eq2 c =
-    let a = c.args in rw (is-patched a.input.now a.at.bytes c.if-input-p.false c.if-kind-eq2.true) c.measure-then-kind-eq2.ensures
+pub returns-in-2 : goal.returns-in-2
+returns-in-2 c = let a = c.args in rw (is-patched a.input.now a.at.bytes c.if-input-p.false c.in-2.is) c.measure-in-2.ensures
 
-pub returns : goal.returns
-returns c =
-    let a = c.args in
-    rw (is-delta a.input.now a.at.bytes c.if-input-p.false (omega (arith, c.shared_slice_known-2-1.given a.at.bytes, c.if-kind-eq0.false, c.if-kind-eq1.false, c.if-kind-eq2.false)))
-    c.measure-2.ensures
+pub returns-in_default : goal.returns-in_default
+returns-in_default c = let a = c.args in rw (is-delta a.input.now a.at.bytes c.if-input-p.false (omega (arith, c.type_inv.input a.at.bytes))) c.measure-in_default.ensures

@@ -1,3 +1,4 @@
+use Rattle.std.specs.Prelude.{Ok}
 use Prim.Native.Nat.{◌-◌}
 use mathlib.Core.Path.{◌≡◌, ◌∙◌, ap}
 use mathlib.Core.List.{[], ◌++◌}
@@ -18,7 +19,7 @@ overflow_add-k c =
     let step : (let l = c.loop-p in let a = c.args in
     Step a.input.now l.p (length a.out.now - l.k) c.read_run-a.result) = walked_step c.loop-p.invariant (given) (below_all 256 c.args.input.now (λ i. (c.shared_slice_known-1.given i).fits)) in
     let ran-is : (let l = c.loop-p in let a = c.args in
-    OneRun a.input.now l.p (length a.out.now - l.k) c.in-Run.r) = rw c.in-Run.is at (step) in
+    OneRun a.input.now l.p (length a.out.now - l.k) c.in-Ok-Some.r) = rw (c.in-Ok-Some.is ∙ ap Ok (rw c.in-Ok-Some.is at c.in-Ok-Some.field-0-is)) at (step) in
     omega (arith, fits _ (ran-is), c.loop-p.invariant.counted.fits)
 
 pub overflow_add-p : goal.overflow_add-p
@@ -28,7 +29,7 @@ overflow_add-p c =
     let step : (let l = c.loop-p in let a = c.args in
     Step a.input.now l.p (length a.out.now - l.k) c.read_run-a.result) = walked_step c.loop-p.invariant (given) (below_all 256 c.args.input.now (λ i. (c.shared_slice_known-1.given i).fits)) in
     let ran-is : (let l = c.loop-p in let a = c.args in
-    OneRun a.input.now l.p (length a.out.now - l.k) c.in-Run.r) = rw c.in-Run.is at (step) in
+    OneRun a.input.now l.p (length a.out.now - l.k) c.in-Ok-Some.r) = rw (c.in-Ok-Some.is ∙ ap Ok (rw c.in-Ok-Some.is at c.in-Ok-Some.field-0-is)) at (step) in
     omega (arith, ran-is.within)
 
 pub loop-p-smaller : goal.loop-p-smaller
@@ -38,7 +39,7 @@ loop-p-smaller c =
     let step : (let l = c.loop-p in let a = c.args in
     Step a.input.now l.p (length a.out.now - l.k) c.read_run-a.result) = walked_step c.loop-p.invariant (given) (below_all 256 c.args.input.now (λ i. (c.shared_slice_known-1.given i).fits)) in
     let ran-is : (let l = c.loop-p in let a = c.args in
-    OneRun a.input.now l.p (length a.out.now - l.k) c.in-Run.r) = rw c.in-Run.is at (step) in
+    OneRun a.input.now l.p (length a.out.now - l.k) c.in-Ok-Some.r) = rw (c.in-Ok-Some.is ∙ ap Ok (rw c.in-Ok-Some.is at c.in-Ok-Some.field-0-is)) at (step) in
     let o = ran-is in omega (arith, o.within, o.some_bytes)
 
 pub loop-p-preserved : goal.loop-p-preserved
@@ -48,60 +49,60 @@ loop-p-preserved c =
     let step : (let l = c.loop-p in let a = c.args in
     Step a.input.now l.p (length a.out.now - l.k) c.read_run-a.result) = walked_step c.loop-p.invariant (given) (below_all 256 c.args.input.now (λ i. (c.shared_slice_known-1.given i).fits)) in
     let ran-is : (let l = c.loop-p in let a = c.args in
-    OneRun a.input.now l.p (length a.out.now - l.k) c.in-Run.r) = rw c.in-Run.is at (step) in
+    OneRun a.input.now l.p (length a.out.now - l.k) c.in-Ok-Some.r) = rw (c.in-Ok-Some.is ∙ ap Ok (rw c.in-Ok-Some.is at c.in-Ok-Some.field-0-is)) at (step) in
     walked-run c.loop-p.invariant (given) c.loop-p-test.true (ran-is)
 
-pub shape_of-out-in-Refused : goal.shape_of-out-in-Refused
-shape_of-out-in-Refused c =
+pub shape_of-out-in-Err : goal.shape_of-out-in-Err
+shape_of-out-in-Err c =
     let given : (let l = c.loop-p in let a = c.args in
     Gives l.p (length a.input.now - l.p) a.signed (parse (drop l.p a.input.now)) (drop l.k l.out) c.read_run-a.new.out c.read_run-a.result) = let l = c.loop-p in rw (rest-is l.out l.k) at c.read_run-a.ensures in
     let step : (let l = c.loop-p in let a = c.args in
     Step a.input.now l.p (length a.out.now - l.k) c.read_run-a.result) = walked_step c.loop-p.invariant (given) (below_all 256 c.args.input.now (λ i. (c.shared_slice_known-1.given i).fits)) in
     let refused-is : (let l = c.loop-p in let a = c.args in
-    NoRun a.input.now l.p (length a.out.now - l.k) c.in-Refused.f) = rw c.in-Refused.is at (step) in
+    NoRun a.input.now l.p (length a.out.now - l.k) c.in-Err.f) = rw c.in-Err.is at (step) in
     let same-refused : (let l = c.loop-p in
     take l.k l.out ++ (c.read_run-a.new.out ++ drop (length l.out - l.k) (drop l.k l.out)) ≡ l.out) = back-refused c.loop-p.invariant (given) (refused-is) in
     ap length (same-refused) ∙ c.loop-p.invariant.long
 
-pub returns-in-Refused : goal.returns-in-Refused
-returns-in-Refused c =
+pub returns-in-Err : goal.returns-in-Err
+returns-in-Err c =
     let given : (let l = c.loop-p in let a = c.args in
     Gives l.p (length a.input.now - l.p) a.signed (parse (drop l.p a.input.now)) (drop l.k l.out) c.read_run-a.new.out c.read_run-a.result) = let l = c.loop-p in rw (rest-is l.out l.k) at c.read_run-a.ensures in
     let step : (let l = c.loop-p in let a = c.args in
     Step a.input.now l.p (length a.out.now - l.k) c.read_run-a.result) = walked_step c.loop-p.invariant (given) (below_all 256 c.args.input.now (λ i. (c.shared_slice_known-1.given i).fits)) in
     let refused-is : (let l = c.loop-p in let a = c.args in
-    NoRun a.input.now l.p (length a.out.now - l.k) c.in-Refused.f) = rw c.in-Refused.is at (step) in
+    NoRun a.input.now l.p (length a.out.now - l.k) c.in-Err.f) = rw c.in-Err.is at (step) in
     let same-refused : (let l = c.loop-p in
     take l.k l.out ++ (c.read_run-a.new.out ++ drop (length l.out - l.k) (drop l.k l.out)) ≡ l.out) = back-refused c.loop-p.invariant (given) (refused-is) in
-    rw (c.refused.ensures, same-refused) (walked-refused c.loop-p.invariant (refused-is))
+    rw (c.new-in-Err.ensures, same-refused) (walked-refused c.loop-p.invariant (refused-is))
 
-pub shape_of-out-in-End : goal.shape_of-out-in-End
-shape_of-out-in-End c =
+pub shape_of-out-in-Ok-None : goal.shape_of-out-in-Ok-None
+shape_of-out-in-Ok-None c =
     let given : (let l = c.loop-p in let a = c.args in
     Gives l.p (length a.input.now - l.p) a.signed (parse (drop l.p a.input.now)) (drop l.k l.out) c.read_run-a.new.out c.read_run-a.result) = let l = c.loop-p in rw (rest-is l.out l.k) at c.read_run-a.ensures in
     let step : (let l = c.loop-p in let a = c.args in
     Step a.input.now l.p (length a.out.now - l.k) c.read_run-a.result) = walked_step c.loop-p.invariant (given) (below_all 256 c.args.input.now (λ i. (c.shared_slice_known-1.given i).fits)) in
     let ended_is : (let l = c.loop-p in let a = c.args in
-    drop l.p a.input.now ≡ []) = rw c.in-End.is at (step) in
+    drop l.p a.input.now ≡ []) = rw (c.in-Ok-None.is ∙ ap Ok (rw c.in-Ok-None.is at c.in-Ok-None.field-0-is)) at (step) in
     let same_ended : (let l = c.loop-p in
     take l.k l.out ++ (c.read_run-a.new.out ++ drop (length l.out - l.k) (drop l.k l.out)) ≡ l.out) = back-ended c.loop-p.invariant (given) (ended_is) in
     ap length (same_ended) ∙ c.loop-p.invariant.long
 
-pub returns-in-End : goal.returns-in-End
-returns-in-End c =
+pub returns-in-Ok-None : goal.returns-in-Ok-None
+returns-in-Ok-None c =
     let given : (let l = c.loop-p in let a = c.args in
     Gives l.p (length a.input.now - l.p) a.signed (parse (drop l.p a.input.now)) (drop l.k l.out) c.read_run-a.new.out c.read_run-a.result) = let l = c.loop-p in rw (rest-is l.out l.k) at c.read_run-a.ensures in
     let step : (let l = c.loop-p in let a = c.args in
     Step a.input.now l.p (length a.out.now - l.k) c.read_run-a.result) = walked_step c.loop-p.invariant (given) (below_all 256 c.args.input.now (λ i. (c.shared_slice_known-1.given i).fits)) in
     let ended_is : (let l = c.loop-p in let a = c.args in
-    drop l.p a.input.now ≡ []) = rw c.in-End.is at (step) in
+    drop l.p a.input.now ≡ []) = rw (c.in-Ok-None.is ∙ ap Ok (rw c.in-Ok-None.is at c.in-Ok-None.field-0-is)) at (step) in
     let same_ended : (let l = c.loop-p in
     take l.k l.out ++ (c.read_run-a.new.out ++ drop (length l.out - l.k) (drop l.k l.out)) ≡ l.out) = back-ended c.loop-p.invariant (given) (ended_is) in
-    rw (c.whole.ensures, same_ended) (walked_whole c.loop-p.invariant (ended_is))
+    rw (c.new.ensures, same_ended) (walked_whole c.loop-p.invariant (ended_is))
 
 pub returns : goal.returns
 returns c =
-    rw c.whole-2.ensures (walked_whole c.loop-p.invariant (drop_of_length-le _ c.loop-p-test.false))
+    rw c.new-2.ensures (walked_whole c.loop-p.invariant (drop_of_length-le _ c.loop-p-test.false))
 
 pub loop-p-init : goal.loop-p-init
 loop-p-init c = walked-first _ _ _ _

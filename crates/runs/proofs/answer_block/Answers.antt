@@ -10,15 +10,15 @@ pub loop-reads-init : goal.loop-reads-init
 unfolding begun_from
 loop-reads-init g c = (omega arith, refl, refl, c.requires.0)
 
-pub shape_of-output-then-taken-eq0 : goal.shape_of-output-then-taken-eq0
-shape_of-output-then-taken-eq0 g c = c.answer_lines-p.auto.out ∙ c.loop-reads.invariant.1
+pub shape_of-output-then-p-eq0 : goal.shape_of-output-then-p-eq0
+shape_of-output-then-p-eq0 g c = c.answer_lines-p.auto.out ∙ c.loop-reads.invariant.1
 
-pub returns-then-taken-eq0 : goal.returns-then-taken-eq0
-returns-then-taken-eq0 g c =
+pub returns-then-p-eq0 : goal.returns-then-p-eq0
+returns-then-p-eq0 g c =
     let l = c.loop-reads in
     let a = c.args in
     let t = rw (rest-is a.input.now l.from) at c.answer_lines-p.ensures in
-    let o = rw c.if-taken-eq0.true at (t.all (omega (arith, t.some c.if-taken-eq0.true, l.invariant.1, c.requires.1))) in
+    let o = rw c.if-p-eq0.true at (t.all (omega (arith, t.some c.if-p-eq0.true, l.invariant.1, c.requires.1))) in
     (record { ends = refl; order = l.invariant.0; whole = l.invariant.2; begun = o }, pending-open _ _ _ o l.invariant.3)
 
 pub overflow_add-next : goal.overflow_add-next

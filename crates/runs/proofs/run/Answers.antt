@@ -10,12 +10,12 @@ use Rattle.runs.proofs.TextSaid.{reached-first}
 use Rattle.runs.proofs.Turns.{turned-ready, ready-over}
 use Rattle.runs.proofs.run.Goals as goal
 
-pub loop-turns-init : goal.loop-turns-init
-loop-turns-init g c = (
+pub loop-init : goal.loop-init
+loop-init g c = (
   sym (ap length c.input_places-input.ensures ∙ length-replicate {A = ℕ} 74337 0),
   c.text_places-output.ensures,
-  rw c.none-reads.ensures (omega arith),
-  (tt, reached-first c.none-reads.result c.nothing-said.result c.none-reads.ensures c.nothing-said.ensures),
+  rw c.none.ensures (omega arith),
+  (tt, reached-first c.none.result c.nothing.result c.none.ensures c.nothing.ensures),
 )
 
 -- where a line has begun the loop goes on
@@ -27,31 +27,31 @@ ended-over input Failed reads said n r = r
 ended-over input Unwritten reads said n r = r
 
 pub returns-in_default : goal.returns-in_default
-returns-in_default g c = let l = c.loop-turns in ended-over l.input l.left l.reads l.said c.in_default.not-Begun l.invariant.3
+returns-in_default g c = let l = c.loop in ended-over l.input l.all.left l.all.reads l.all.said c.in_default.not-Begun l.invariant.3
 
 pub slice_bounds-turn-end : goal.slice_bounds-turn-end
-slice_bounds-turn-end g c = c.loop-turns.invariant.0
+slice_bounds-turn-end g c = c.loop.invariant.0
 
-pub slice_bounds-turn-end-in-loop-turns : goal.slice_bounds-turn-end-in-loop-turns
-slice_bounds-turn-end-in-loop-turns g c = c.loop-turns.invariant.1
+pub slice_bounds-turn-end-in-loop : goal.slice_bounds-turn-end-in-loop
+slice_bounds-turn-end-in-loop g c = c.loop.invariant.1
 
-pub turn-answered-requires : goal.turn-answered-requires
-turn-answered-requires g c =
-    let l = c.loop-turns in
+pub turn-all-requires : goal.turn-all-requires
+turn-all-requires g c =
+    let l = c.loop in
     let r = rw c.in-Begun.is at l.invariant.3 in
     (omega (arith, l.invariant.2), r, omega (arith, l.invariant.1))
 
-pub loop-turns-preserved : goal.loop-turns-preserved
-loop-turns-preserved g c =
+pub loop-preserved : goal.loop-preserved
+loop-preserved g c =
     let n = c.in-Begun in
-    let l = c.loop-turns in
+    let l = c.loop in
     let r = rw n.is at l.invariant.3 in (
-      l.invariant.0 ∙ sym c.turn-answered.auto.input,
-      l.invariant.1 ∙ sym c.turn-answered.auto.output,
-      rw (c.turn-answered.ensures.is, c.turn-answered.ensures.once.reads) (omega (arith, l.invariant.2)),
-      turned-ready l.reads l.said (part n.from n.end l.input) c.turn-answered.new.input c.turn-answered.result.left c.turn-answered.result.reads c.turn-answered.result.said r.0 r.1
-          (omega (arith, l.invariant.2)) c.turn-answered.ensures,
+      l.invariant.0 ∙ sym c.turn-all.auto.input,
+      l.invariant.1 ∙ sym c.turn-all.auto.output,
+      rw (c.turn-all.ensures.is, c.turn-all.ensures.once.reads) (omega (arith, l.invariant.2)),
+      turned-ready l.all.reads l.all.said (part n.from n.end l.input) c.turn-all.new.input c.turn-all.result.left c.turn-all.result.reads c.turn-all.result.said r.0 r.1
+          (omega (arith, l.invariant.2)) c.turn-all.ensures,
     )
 
 pub returns : goal.returns
-returns g c = let l = c.loop-turns in ready-over l.input l.left l.reads l.said (omega (arith, l.invariant.2)) l.invariant.3
+returns g c = let l = c.loop in ready-over l.input l.all.left l.all.reads l.all.said (omega (arith, l.invariant.2)) l.invariant.3

@@ -1,5 +1,5 @@
 -- `runs::turn` meets its contract, and hands on as many bytes as the system says that came. Assumes nothing.
-use Rattle.std.proofs.Common.{sym, refl, arith, length-take-le, to_z-of_z, w32, w64}
+use Rattle.std.proofs.Common.{sym, refl, arith, length-take-le}
 use Rattle.runs.proofs.TextSaid.{read-given}
 use Rattle.runs.proofs.turn.Goals as goal
 
@@ -10,12 +10,9 @@ pub answer_came-answers-requires : goal.answer_came-answers-requires
 answer_came-answers-requires g c =
     let r = c.one_more-block in
     let h = c.requires in
-    let f = to_z-of_z {w = w64} {z = r.result.got} (record { sfits = omega arith }) in
-    (rw f (read-given _ _ _ _ r.result r.ensures h.1.1 (omega (arith, h.0)) h.1.0 r.result.got refl), h.2)
+    (read-given _ _ _ _ r.result r.ensures h.1.1 (omega (arith, h.0)) h.1.0 r.result.got refl, h.2)
 
 pub returns : goal.returns
 returns g c =
     let r = c.one_more-block in
-    let f = to_z-of_z {w = w64} {z = r.result.got} (record { sfits = omega arith }) in
-    let e = to_z-of_z {w = w32} {z = r.result.error} (record { sfits = omega arith }) in
-    record { read = r.result; once = r.ensures; is = refl; after = rw (f, e) at c.answer_came-answers.ensures }
+    record { read = r.result; once = r.ensures; is = refl; after = c.answer_came-answers.ensures }

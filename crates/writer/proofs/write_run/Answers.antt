@@ -1,5 +1,5 @@
 -- A count or a width that the form does not allow is refused; the rest is what the form's own writer promises. Assumes nothing.
-use Rattle.format.proofs.Common.{sym, ◌∙◌, length, length-map}
+use Rattle.format.proofs.Common.{sym, ◌∙◌, length, length-map, arith}
 use Rattle.format.specs.Rows.{as_u64}
 use Rattle.writer.proofs.Pieces.{Allowed, allowed, short-allowed, direct-allowed, fixed-allowed, packed-allowed}
 use Rattle.writer.proofs.Promised.{bad-count, bad-width}
@@ -25,11 +25,11 @@ write-requires c =
     let passed : (let a = c.args in Allowed a.form (length a.rows.now) a.width) = allowed c.count.ensures c.if-not-count.false c.width.ensures c.if-not-width.false in
     short-allowed (passed) c.in-ShortRepeat.is
 
-pub write-requires-in-Direct : goal.write-requires-in-Direct
-write-requires-in-Direct c =
+pub invariant_of-write : goal.invariant_of-write
+invariant_of-write c =
     let passed : (let a = c.args in Allowed a.form (length a.rows.now) a.width) = allowed c.count.ensures c.if-not-count.false c.width.ensures c.if-not-width.false in
     let p = direct-allowed (passed) c.in-Direct.is in
-    record { in_bounds = p.0; code_value = p.1 }
+    record { some = p.0.0; few = p.0.1; low = p.0.2; kept = p.1 }
 
 pub write_fixed-requires : goal.write_fixed-requires
 write_fixed-requires c =
@@ -40,7 +40,13 @@ pub write_packed-requires : goal.write_packed-requires
 write_packed-requires c =
     let passed : (let a = c.args in Allowed a.form (length a.rows.now) a.width) = allowed c.count.ensures c.if-not-count.false c.width.ensures c.if-not-width.false in
     let p = packed-allowed (passed) c.in-PackedDelta.is in
-    record { in_bounds = p.0; code_value = p.1 }
+    (p.0.0, p.0.2)
+
+pub invariant_of-write_packed : goal.invariant_of-write_packed
+invariant_of-write_packed c =
+    let passed : (let a = c.args in Allowed a.form (length a.rows.now) a.width) = allowed c.count.ensures c.if-not-count.false c.width.ensures c.if-not-width.false in
+    let p = packed-allowed (passed) c.in-PackedDelta.is in
+    record { some = omega (arith, p.0.0); few = p.0.1; low = p.0.3; kept = p.1 }
 
 pub returns-in-ShortRepeat : goal.returns-in-ShortRepeat
 returns-in-ShortRepeat c = rw c.in-ShortRepeat.is c.write.ensures

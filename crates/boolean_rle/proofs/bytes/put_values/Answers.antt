@@ -28,40 +28,39 @@ returns-in_default c =
     let s : List ℕ = c.args.input.now in
     let a = c.args in
     absurd (laid-whole itself (λ x y. refl) (s) refl _ 0 a.n a.out.now c.loop-done.place c.loop-done.left
-    c.loop-done.done c.loop-done.out c.in_default.field-0 c.in_default.field-1 c.loop-done-test.true
+    c.loop-done.done c.loop-done.out c.in_default.field-0 c.loop-done-test.true
     (sym c.run_at.ensures ∙ c.in_default.is) c.loop-done.invariant.2)
 
-pub put_part-requires : goal.put_part-requires
-put_part-requires c = (
-  sym c.run_at.ensures ∙ c.in-Run.is,
-  omega (arith, c.lesser-count.ensures, c.less.ensures),
-  omega (arith, c.lesser-count.ensures, c.loop-done.invariant.0, c.loop-done.invariant.1, c.requires.0),
+pub put_bytes-requires : goal.put_bytes-requires
+put_bytes-requires c = (
+  omega (arith, c.min-count.ensures, c.saturating_sub.ensures),
+  omega (arith, c.min-count.ensures, c.loop-done.invariant.0, c.loop-done.invariant.1, c.requires.0),
 )
 
 pub overflow_add-done : goal.overflow_add-done
 overflow_add-done c =
-    omega (arith, c.lesser-count.ensures, c.loop-done.invariant.0, c.requires.0)
+    omega (arith, c.min-count.ensures, c.loop-done.invariant.0, c.requires.0)
 
 pub loop-done-preserved : goal.loop-done-preserved
 loop-done-preserved c =
     let s : List ℕ = c.args.input.now in
-    let run : code.ByteRun = c.in-Run.run' in
+    let run : code.ByteRun = c.in-Ok.run' in
     let run-here : (d : ByteRun) × Here (s) c.loop-done.place (run) d = here (s) c.loop-done.place (run) (λ i. (c.shared_slice_known-1.given i).fits)
-    (sym c.run_at.ensures ∙ c.in-Run.is) in
+    (sym c.run_at.ensures ∙ c.in-Ok.is) in
     let l = c.loop-done in
     let a = c.args in
-    let count = c.lesser-count.result in
+    let count = c.min-count.result in
     let (d, h) = run-here in
     let up : l.done + count ≡ min a.n (l.done + length (drop l.left (run_bytes d))) =
-    up_to a.n l.done _ count l.invariant.0 c.lesser-count.ensures
-    ∙ rw (c.less.ensures, length-left d l.left, h.count-is) in
+    up_to a.n l.done _ count l.invariant.0 c.min-count.ensures
+    ∙ rw (c.saturating_sub.ensures, length-left d l.left, h.count-is) in
     let (from, to) = between 0 a.n l.done _ (l.done + count) (omega arith) l.invariant.0 up in (
       to,
-      c.put_part.auto.out ∙ l.invariant.1,
-      rw c.less-left.ensures
+      c.put_bytes.auto.out ∙ l.invariant.1,
+      rw c.saturating_sub-left.ensures
           (laid_on itself (λ x y. refl) (s) _ 0 a.n a.out.now l.place l.left l.done l.out _ (l.done + count)
           (run) d h c.loop-done-test.true (omega arith) up
-          (rw (bytes-are (s) l.place (run) d h) at c.put_part.ensures) l.invariant.2),
+          (rw (bytes-are (s) l.place (run) d h) at c.put_bytes.ensures) l.invariant.2),
     )
 
 pub returns : goal.returns
@@ -69,36 +68,18 @@ returns c =
     let all : c.loop-done.done ≡ c.args.n = omega arith in
     rw all at c.loop-done.invariant.2.wrote
 
-pub run_at-requires : goal.run_at-requires
-run_at-requires c = tt
-
-pub shape_of-out-in_default : goal.shape_of-out-in_default
-shape_of-out-in_default c = c.loop-done.invariant.1
-
-pub less-requires : goal.less-requires
-less-requires c = tt
-
-pub lesser-count-requires : goal.lesser-count-requires
-lesser-count-requires c = tt
-
-pub less-left-requires : goal.less-left-requires
-less-left-requires c = tt
-
 pub overflow_add-place : goal.overflow_add-place
 overflow_add-place c =
     let s : List ℕ = c.args.input.now in
-    let run : code.ByteRun = c.in-Run.run' in
+    let run : code.ByteRun = c.in-Ok.run' in
     let run-here : (d : ByteRun) × Here (s) c.loop-done.place (run) d = here (s) c.loop-done.place (run) (λ i. (c.shared_slice_known-1.given i).fits)
-    (sym c.run_at.ensures ∙ c.in-Run.is) in
+    (sym c.run_at.ensures ∙ c.in-Ok.is) in
     omega (arith, run-here.1.inside)
 
 pub loop-done-smaller : goal.loop-done-smaller
 loop-done-smaller c =
     let s : List ℕ = c.args.input.now in
-    let run : code.ByteRun = c.in-Run.run' in
+    let run : code.ByteRun = c.in-Ok.run' in
     let run-here : (d : ByteRun) × Here (s) c.loop-done.place (run) d = here (s) c.loop-done.place (run) (λ i. (c.shared_slice_known-1.given i).fits)
-    (sym c.run_at.ensures ∙ c.in-Run.is) in
+    (sym c.run_at.ensures ∙ c.in-Ok.is) in
     let h = run-here.1 in omega (arith, h.inside, h.takes)
-
-pub shape_of-out : goal.shape_of-out
-shape_of-out c = c.loop-done.invariant.1

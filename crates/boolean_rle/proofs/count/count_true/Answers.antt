@@ -2,7 +2,7 @@
 use Prim.Native.Nat.{ℕ, ◌+◌, ◌*◌, ◌/◌, ◌%◌, ◌≤◌}
 use mathlib.Core.Path.{◌≡◌, sym, ap, ◌∙◌}
 use lib.ListN.{get_or}
-use Rattle.boolean_rle.specs.declared.count.Count.TheVariants.{True, Refused}
+use Rattle.std.specs.Prelude.{Ok, Err}
 use Rattle.boolean_rle.specs.Ones.{ones_in}
 use Rattle.boolean_rle.proofs.Ones.{ones-more, ones_at_most, ones-part, too_few, enough}
 use native.Mathlib.Omega.{arith}
@@ -11,18 +11,18 @@ use Rattle.boolean_rle.proofs.count.count_true.Goals as goal
 pub returns-then-bytes-whole : goal.returns-then-bytes-whole
 returns-then-bytes-whole c =
     let a = c.args in
-    ap Refused c.cut.ensures ∙ sym (too_few a.n.rows a.bytes.now (omega arith))
+    ap Err c.cut.ensures ∙ sym (too_few a.n.rows a.bytes.now (omega arith))
 
 pub returns-then-left-eq0 : goal.returns-then-left-eq0
 returns-then-left-eq0 c =
     let a = c.args in
     let e : 8 * (a.n.rows / 8) ≡ a.n.rows = omega arith in
-    ap True (c.ones_in-ones.ensures ∙ ap (λ (m : ℕ). ones_in m a.bytes.now) e) ∙ sym (enough a.n.rows a.bytes.now (omega arith))
+    ap Ok (c.ones_in-ones.ensures ∙ ap (λ (m : ℕ). ones_in m a.bytes.now) e) ∙ sym (enough a.n.rows a.bytes.now (omega arith))
 
 pub returns-then-bytes-whole-2 : goal.returns-then-bytes-whole-2
 returns-then-bytes-whole-2 c =
     let a = c.args in
-    ap Refused c.cut-then-bytes-whole-2.ensures ∙ sym (too_few a.n.rows a.bytes.now (omega arith))
+    ap Err c.cut-then-bytes-whole-2.ensures ∙ sym (too_few a.n.rows a.bytes.now (omega arith))
 
 pub overflow_add-result : goal.overflow_add-result
 overflow_add-result c =
@@ -41,4 +41,4 @@ returns c =
     ap (λ (m : ℕ). ones_in m bytes) e
     ∙ ones-more (a.n.rows / 8) (a.n.rows % 8) bytes (omega arith) (omega arith) (omega arith) (λ j. (c.shared_slice_known-1.given j).fits)
     ∙ rw (c.ones_in-ones.ensures, c.ones_of.ensures) in
-    ap True (sym more) ∙ sym (enough a.n.rows bytes (omega arith))
+    ap Ok (sym more) ∙ sym (enough a.n.rows bytes (omega arith))

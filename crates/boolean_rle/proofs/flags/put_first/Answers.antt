@@ -16,30 +16,28 @@ returns-in_default c =
     let s : List ℕ = c.args.input.now in
     let a = c.args in
     absurd (first_found (s) a.from a.n c.requires.0 (omega (arith, c.requires)) c.in_default.field-0
-    c.in_default.field-1 (sym c.run_at.ensures ∙ c.in_default.is))
+    (sym c.run_at.ensures ∙ c.in_default.is))
 
-pub run_byte-byte-requires : goal.run_byte-byte-requires
-run_byte-byte-requires c =
+pub byte-byte-requires : goal.byte-byte-requires
+byte-byte-requires c =
     let s : List ℕ = c.args.input.now in
-    let run : code.ByteRun = c.in-Run.run' in
+    let run : code.ByteRun = c.in-Ok.run' in
     let run-here : (d : ByteRun) × Here (s) c.args.from.run.bytes (run) d = here (s) c.args.from.run.bytes (run) (λ i. (c.shared_slice_known-1.given i).fits)
-    (sym c.run_at.ensures ∙ c.in-Run.is) in
-    let (d, h) = run-here in (
-      sym c.run_at.ensures ∙ c.in-Run.is,
-      first-in (s) c.args.from c.args.n c.requires.0 (run) d h,
-    )
+    (sym c.run_at.ensures ∙ c.in-Ok.is) in
+    let (d, h) = run-here in
+    first-in (s) c.args.from c.args.n c.requires.0 (run) d h
 
 pub returns : goal.returns
 returns c =
     let s : List ℕ = c.args.input.now in
-    let run : code.ByteRun = c.in-Run.run' in
+    let run : code.ByteRun = c.in-Ok.run' in
     let run-here : (d : ByteRun) × Here (s) c.args.from.run.bytes (run) d = here (s) c.args.from.run.bytes (run) (λ i. (c.shared_slice_known-1.given i).fits)
-    (sym c.run_at.ensures ∙ c.in-Run.is) in
+    (sym c.run_at.ensures ∙ c.in-Ok.is) in
     let a = c.args in
     let (d, h) = run-here in
-    let byte-is = c.run_byte-byte.ensures
+    let byte-is = c.byte-byte.ensures
     ∙ ap (λ (x : List ℕ). get_or x a.from.bytes.bytes 0) (bytes-are (s) a.from.run.bytes (run) d h) in record {
-      value = c.lesser-count.ensures;
-      wrote = first-wrote (s) a.from a.n c.requires.0 (run) d h c.lesser-count.result c.run_byte-byte.result
+      value = c.min-count.ensures;
+      wrote = first-wrote (s) a.from a.n c.requires.0 (run) d h c.min-count.result c.byte-byte.result
           a.out.now _ byte-is c.put_bits.ensures;
     }

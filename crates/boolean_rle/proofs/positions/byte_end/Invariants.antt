@@ -6,8 +6,8 @@ use lib.ListN.{length}
 use Rattle.boolean_rle.specs.Found.{byte_end}
 use Rattle.boolean_rle.proofs.positions.byte_end.Given as goal
 
-abbrev pub invariant-loop-run : goal.invariant-loop-run
-invariant-loop-run l = byte_end l.input l.initial.place (l.initial.left + l.n) ≡ byte_end l.input l.place (l.left + l.rest)
+abbrev pub invariant-loop-n : goal.invariant-loop-n
+invariant-loop-n l = byte_end l.input l.initial.place (l.initial.left + l.n) ≡ byte_end l.input l.place (l.left + l.rest)
 
-abbrev pub decreases-loop-run : goal.decreases-loop-run
-decreases-loop-run l = length l.input - l.place
+abbrev pub decreases-loop-n : goal.decreases-loop-n
+decreases-loop-n l = length l.input - l.place

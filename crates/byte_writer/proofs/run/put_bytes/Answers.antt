@@ -7,7 +7,7 @@ use Rattle.byte_writer.proofs.run.put_bytes.Goals as goal
 pub loop-i-init : goal.loop-i-init
 loop-i-init c =
     let a = c.args in
-    (omega arith, refl, paste-zero a.out.now a.k (drop a.at (source a.packed a.s.now)))
+    (refl, paste-zero a.out.now a.k (drop a.at (source a.packed a.s.now)))
 
 pub overflow_add-at : goal.overflow_add-at
 overflow_add-at c =
@@ -19,9 +19,8 @@ loop-i-preserved c =
     let l = c.loop-i in
     let a = c.args in
     let bs = source a.packed a.s.now in (
-      omega arith,
-      length-set l.out (a.k + l.i) _ ∙ l.invariant.1,
-      rw (l.invariant.2, add-one, c.byte_at.ensures, ← get_or-drop a.at bs l.i 0)
+      length-set l.out (a.k + l.i) _ ∙ l.invariant.0,
+      rw (l.invariant.1, add-one, c.byte_at.ensures, ← get_or-drop a.at bs l.i 0)
           (paste-suc a.out.now a.k (drop a.at bs) l.i 0 (omega arith) (rw length-drop (omega arith))),
     )
 
@@ -31,7 +30,4 @@ returns c =
     let a = c.args in
     let bs = drop a.at (source a.packed a.s.now) in
     let e : l.i ≡ a.count = omega arith in
-    rw (length-take-le a.count bs (rw length-drop (omega arith))) (rw e at l.invariant.2)
-
-pub shape_of-out : goal.shape_of-out
-shape_of-out c = c.loop-i.invariant.1
+    rw (length-take-le a.count bs (rw length-drop (omega arith))) (rw e at l.invariant.1)

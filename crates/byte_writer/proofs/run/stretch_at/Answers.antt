@@ -7,7 +7,7 @@ use Rattle.byte_writer.proofs.run.stretch_at.Goals as goal
 pub loop-i-init : goal.loop-i-init
 loop-i-init c =
     let a = c.args in
-    (omega arith, omega arith, rw c.byte_at-first.ensures (stretch-here (source a.packed a.s.now) a.at (omega arith)))
+    (rw c.byte_at-first.ensures (stretch-here (source a.packed a.s.now) a.at (omega arith)))
 
 pub overflow_add-at : goal.overflow_add-at
 overflow_add-at c =
@@ -20,7 +20,7 @@ returns-then-byte_at-first c =
     let first : ℕ = c.byte_at-first.result in
     let l = c.loop-i in
     let e =
-    equal-stop (bytes) c.args.at l.i (first) (omega arith) (λ q. c.if-byte_at-first.true (c.byte_at.ensures ∙ q)) l.invariant.2 in
+    equal-stop (bytes) c.args.at l.i (first) (omega arith) (λ q. c.if-byte_at-first.true (c.byte_at.ensures ∙ q)) l.invariant in
     omega arith
 
 pub loop-i-preserved : goal.loop-i-preserved
@@ -29,16 +29,10 @@ loop-i-preserved c =
     let first : ℕ = c.byte_at-first.result in
     let l = c.loop-i in
     let same : get_or (bytes) (c.args.at + l.i) 0 ≡ first = sym c.byte_at.ensures ∙ c.if-byte_at-first.false in
-    (omega arith, omega arith, equal-more (bytes) c.args.at l.i (first) (omega arith) same l.invariant.2)
+    equal-more (bytes) c.args.at l.i (first) (omega arith) same l.invariant
 
 pub returns : goal.returns
 returns c =
     let a = c.args in
     let bs = source a.packed a.s.now in
     omega (arith, stretch-le (drop a.at bs), length-drop a.at bs)
-
-pub count-requires : goal.count-requires
-count-requires c = tt
-
-pub least-stop-requires : goal.least-stop-requires
-least-stop-requires c = tt

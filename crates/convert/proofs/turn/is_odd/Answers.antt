@@ -3,10 +3,10 @@ use Rattle.format.proofs.Common.{ne_eqb}
 use Rattle.convert.specs.Turn.{odd_first}
 use Rattle.convert.proofs.turn.is_odd.Goals as goal
 
-pub returns-then-first-eq0 : goal.returns-then-first-eq0
+pub returns-then-first-ne0 : goal.returns-then-first-ne0
 unfolding odd_first
-returns-then-first-eq0 c = rw c.if-first-eq0.true
+returns-then-first-ne0 c = rw (ne_eqb _ 0 c.if-first-ne0.true, c.is_kept.ensures)
 
-pub returns : goal.returns
+pub returns-else-first-ne0 : goal.returns-else-first-ne0
 unfolding odd_first
-returns c = rw (ne_eqb _ 0 c.if-first-eq0.false, c.is_kept.ensures)
+returns-else-first-ne0 c = rw c.if-first-ne0.false

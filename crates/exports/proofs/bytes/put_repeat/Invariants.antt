@@ -10,10 +10,7 @@ use Rattle.exports.proofs.bytes.put_repeat.Given as goal
 
 abbrev pub invariant-loop-i : goal.invariant-loop-i
 invariant-loop-i l =
-    (l.i ≤ l.n)
+    (l.i ≤ l.fn.count.rows)
     × (length l.out ≡ length l.initial.out)
-    × (take (8 * l.i) l.out ++ row_bytes (map as_i64 (replicate (l.n - l.i) l.x)) ≡ row_bytes (map as_i64 (replicate l.n l.x)))
+    × (take (8 * l.i) l.out ++ row_bytes (map as_i64 (replicate (l.fn.count.rows - l.i) l.x)) ≡ row_bytes (map as_i64 (replicate l.fn.count.rows l.x)))
     × (drop (8 * l.i) l.out ≡ drop (8 * l.i) l.initial.out)
-
-abbrev pub decreases-loop-i : goal.decreases-loop-i
-decreases-loop-i l = l.n - l.i

@@ -1,33 +1,16 @@
-use mathlib.Core.Path.{◌≡◌, refl}
-use Prim.Native.Nat.{◌+◌, ◌%◌}
-use native.Mathlib.Nat.{add-zero, add_assoc}
+-- The eight bytes are copied to their place. Assumes nothing.
+use mathlib.Core.List.{append_assoc}
+use mathlib.Core.Path.{sym, ◌∙◌}
 use native.Mathlib.Omega.{arith}
-use lib.ListN.{length-set}
+use lib.Seq.{take_all}
 use Rattle.format.specs.Digits.{lowest_first}
-use Rattle.util.proofs.Grow.{grow, kept, filled}
-use Rattle.exports.proofs.RowBytes.{byte_more}
+use Rattle.std.proofs.lemmas.Slice.{put_mid-paste}
+use Rattle.exports.proofs.RowBytes.{low-first, bytes-long}
 use Rattle.exports.proofs.bytes.put_row.Goals as goal
 
-pub loop-j-preserved : goal.loop-j-preserved
-loop-j-preserved c =
-    let l = c.loop-j in
-    let a = c.args in (
-      omega arith,
-      simp length-set l.invariant.1,
-      rw (← add_assoc) (grow l.out (a.at.bytes + l.j) _ _ _ (omega arith) (rw (byte_more l.j l.left (omega arith)) at l.invariant.2)),
-      rw (← add_assoc) (kept l.out a.out.now (a.at.bytes + l.j) (l.left % 256) l.invariant.3),
-    )
-
 pub returns : goal.returns
-unfolding lowest_first
 returns c =
-    let l = c.loop-j in
     let a = c.args in
-    let d : l.j ≡ 8 = omega arith in
-    filled l.out a.out.now _ (a.at.bytes + 8) (rw d at l.invariant.2) (rw d at l.invariant.3)
-
-pub loop-j-init : goal.loop-j-init
-loop-j-init c = (omega arith, refl, rw add-zero, refl)
-
-pub shape_of-out : goal.shape_of-out
-shape_of-out c = c.loop-j.invariant.1
+    let eight = lowest_first 8 a.x in
+    put_mid-paste a.at.bytes _ a.out.now _ eight 8 (c.copy_from_slice.ensures.after ∙ c.to_le_bytes.ensures ∙ low-first a.x) (omega arith) (sym (bytes-long 8 a.x))
+    ∙ rw (take_all 8 eight (rw bytes-long (omega arith)), append_assoc)

@@ -1,7 +1,5 @@
-use mir.Syntax.{w64}
-use mir.Facts.{to_z-of_z}
 use mathlib.Core.List.{append_assoc}
-use mathlib.Core.Path.{◌≡◌, refl, ◌∙◌, ap}
+use mathlib.Core.Path.{◌≡◌, refl, ◌∙◌}
 use Prim.Native.Nat.{◌-◌, ◌+◌, ◌*◌}
 use native.Mathlib.Nat.{sub-zero}
 use native.Mathlib.Omega.{arith}
@@ -10,6 +8,7 @@ use lib.ListN.{get_or}
 use Rattle.format.specs.Rows.{as_u64}
 use Rattle.format.specs.Digits.{lowest_first}
 use Rattle.exports.specs.RowBytes.{row_bytes}
+use Rattle.rle_v2.proofs.Pass.{bits_of}
 use Rattle.util.proofs.Grow.{front-is, kept_by, long-by, filled}
 use Rattle.exports.proofs.RowBytes.{row_more, bytes-long}
 use borrow.Author.Rules.{sfits_of}
@@ -19,11 +18,11 @@ pub loop-i-preserved : goal.loop-i-preserved
 loop-i-preserved c =
     let l = c.loop-i in
     let a = c.args in
-    let x = c.to_u64.result in
+    let x = c.cast_unsigned.result in
     let e = c.put_row.ensures in
     let n : 8 * (l.i + 1) ≡ 8 * l.i + 8 = omega arith in
     let u : x ≡ as_u64 (get_or a.rows.now l.i (pos 0))
-    = c.to_u64.ensures ∙ ap as_u64 (to_z-of_z {w = w64} {z = get_or a.rows.now l.i (pos 0)} (sfits_of c.row-1.given)) in (
+    = bits_of (get_or a.rows.now l.i (pos 0)) x (sfits_of c.row-1.given) c.cast_unsigned.ensures in (
       omega arith,
       long-by l.out c.put_row.new.out (lowest_first 8 x) (8 * l.i) 8 (omega arith) (bytes-long 8 x) e (omega arith) ∙ l.invariant.1,
       rw (n, front-is l.out c.put_row.new.out (lowest_first 8 x) (8 * l.i) 8 (omega arith) (bytes-long 8 x) e, append_assoc, u)

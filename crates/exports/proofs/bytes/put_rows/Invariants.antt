@@ -9,10 +9,7 @@ use Rattle.exports.proofs.bytes.put_rows.Given as goal
 
 abbrev pub invariant-loop-i : goal.invariant-loop-i
 invariant-loop-i l =
-    (l.i ≤ l.n)
+    (l.i ≤ l.fn.count.rows)
     × (length l.out ≡ length l.initial.out)
-    × (take (8 * l.i) l.out ++ row_bytes (take (l.n - l.i) (drop l.i l.rows)) ≡ row_bytes (take l.n l.rows))
+    × (take (8 * l.i) l.out ++ row_bytes (take (l.fn.count.rows - l.i) (drop l.i l.rows)) ≡ row_bytes (take l.fn.count.rows l.rows))
     × (drop (8 * l.i) l.out ≡ drop (8 * l.i) l.initial.out)
-
-abbrev pub decreases-loop-i : goal.decreases-loop-i
-decreases-loop-i l = l.n - l.i

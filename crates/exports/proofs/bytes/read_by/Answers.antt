@@ -10,22 +10,22 @@ use Rattle.exports.proofs.Reading.{Reads, reads}
 use Rattle.exports.proofs.bytes.read_by.Goals as goal
 
 pub slice_bounds-read_run-end-2 : goal.slice_bounds-read_run-end-2
-slice_bounds-read_run-end-2 c = let a = c.args in sym (length-take-le c.least-places.result a.rows.now (omega arith))
+slice_bounds-read_run-end-2 c = let a = c.args in sym (length-take-le c.min-places.result a.rows.now (omega arith))
 
 pub put_rows-requires : goal.put_rows-requires
 put_rows-requires c =
-    let told : (let k = c.least-places.result in let a = c.args in
-    Reads a.input.now a.signed a.out.now (c.read_run-answer.new.out ++ drop k a.rows.now) k c.read_run-answer.result) = let k = c.least-places.result in
+    let told : (let k = c.min-places.result in let a = c.args in
+    Reads a.input.now a.signed a.out.now (c.read_run-answer.new.out ++ drop k a.rows.now) k c.read_run-answer.result) = let k = c.min-places.result in
     let a = c.args in
     reads a.input.now a.signed a.out.now a.rows.now (take k a.rows.now) c.read_run-answer.new.out c.new.result.bytes k c.read_run-answer.result
     (below_all 256 a.input.now (λ i. (c.shared_slice_known-1.given i).fits))
     c.requires
-    c.least-places.ensures
+    c.min-places.ensures
     (length-take-le k a.rows.now (omega arith))
     c.new.ensures
     c.read_run-answer.ensures
     (drop k a.rows.now) in
-    let k = c.least-places.result in
+    let k = c.min-places.result in
     let a = c.args in
     let l : length c.read_run-answer.new.out ≡ length (take k a.rows.now) = c.read_run-answer.auto.out in
     let m : length (take k a.rows.now) ≡ k = length-take-le k a.rows.now (omega arith) in
@@ -33,13 +33,13 @@ put_rows-requires c =
 
 pub packed-requires : goal.packed-requires
 packed-requires c =
-    let told : (let k = c.least-places.result in let a = c.args in
-    Reads a.input.now a.signed a.out.now (c.read_run-answer.new.out ++ drop k a.rows.now) k c.read_run-answer.result) = let k = c.least-places.result in
+    let told : (let k = c.min-places.result in let a = c.args in
+    Reads a.input.now a.signed a.out.now (c.read_run-answer.new.out ++ drop k a.rows.now) k c.read_run-answer.result) = let k = c.min-places.result in
     let a = c.args in
     reads a.input.now a.signed a.out.now a.rows.now (take k a.rows.now) c.read_run-answer.new.out c.new.result.bytes k c.read_run-answer.result
     (below_all 256 a.input.now (λ i. (c.shared_slice_known-1.given i).fits))
     c.requires
-    c.least-places.ensures
+    c.min-places.ensures
     (length-take-le k a.rows.now (omega arith))
     c.new.ensures
     c.read_run-answer.ensures
@@ -49,13 +49,13 @@ packed-requires c =
 
 pub returns : goal.returns
 returns c =
-    let told : (let k = c.least-places.result in let a = c.args in
-    Reads a.input.now a.signed a.out.now (c.read_run-answer.new.out ++ drop k a.rows.now) k c.read_run-answer.result) = let k = c.least-places.result in
+    let told : (let k = c.min-places.result in let a = c.args in
+    Reads a.input.now a.signed a.out.now (c.read_run-answer.new.out ++ drop k a.rows.now) k c.read_run-answer.result) = let k = c.min-places.result in
     let a = c.args in
     reads a.input.now a.signed a.out.now a.rows.now (take k a.rows.now) c.read_run-answer.new.out c.new.result.bytes k c.read_run-answer.result
     (below_all 256 a.input.now (λ i. (c.shared_slice_known-1.given i).fits))
     c.requires
-    c.least-places.ensures
+    c.min-places.ensures
     (length-take-le k a.rows.now (omega arith))
     c.new.ensures
     c.read_run-answer.ensures

@@ -10,7 +10,7 @@ use Rattle.exports.proofs.forms.write.Goals as goal
 pub returns-then-form-gt3 : goal.returns-then-form-gt3
 returns-then-form-gt3 c =
     let e = lt-ltb 3 c.args.form c.if-form-gt3.true in
-    record { answer = rw e c.refused.ensures; places = rw e }
+    record { answer = rw (e, c.new.ensures); places = rw e }
 
 pub returns : goal.returns
 returns c =

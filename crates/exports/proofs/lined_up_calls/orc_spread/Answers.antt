@@ -8,9 +8,9 @@ use Rattle.exports.proofs.lined_up_calls.orc_spread.Goals as goal
 
 pub returns : goal.returns
 returns c =
-    let enough = c.if-words-lt-SPREAD_COUNT.false in
+    let enough = c.if-words-lt-COUNT.false in
     let spread = rw (to_z-of_z {w = w64} c.ranges.fill) at c.spread-spread.ensures in
-    told_of spread-long spread.answer enough spread.places (laid spread-long enough c.of_spread-said.ensures c.lay.ensures)
+    told_of spread-long spread.answer enough spread.places (laid spread-long enough c.of-said.ensures.spread c.lay.ensures)
 
-pub returns-then-words-lt-SPREAD_COUNT : goal.returns-then-words-lt-SPREAD_COUNT
-returns-then-words-lt-SPREAD_COUNT c = few-of spread-long (omega arith)
+pub returns-then-words-lt-COUNT : goal.returns-then-words-lt-COUNT
+returns-then-words-lt-COUNT c = few-of spread-long (omega arith)

@@ -1,140 +1,54 @@
-use mathlib.Core.Path.{◌≡◌}
+use mathlib.Core.Path.{◌∙◌, sym}
 use native.Mathlib.Omega.{arith}
-use mathlib.Core.List.{[]}
-use lib.ListN.{drop, drop_of_length-le}
 use Rattle.format.proofs.Below.{below_all}
-use Rattle.index.proofs.MeasuredRun.{Step, step_is, OneRun, NoRun}
-use Rattle.index.proofs.Fills.{filling-first, Room, has_room, filling-run, filling-refused, filling-end}
+use Rattle.index.proofs.MeasuredRun.{OneRun, run-there, no-run-there}
+use Rattle.index.proofs.Fills.{Filling, Room, filling-first, has_room, filling-run, filling-over}
+use Rattle.index.proofs.walk.fill.Goals.{In-Some}
 use Rattle.index.proofs.walk.fill.Goals as goal
 
-pub loop-place-init : goal.loop-place-init
-loop-place-init c = filling-first c.requires
+run-here : (c : In-Some) → OneRun c.args.input.now c.loop-run.place c.in-Some.run'
+run-here c = run-there (below_all 256 _ (λ i. (c.type_inv.input i).fits)) _ c.measure.ensures (sym c.unwrap_or.ensures ∙ c.in-Some.is)
+
+roomy : (c : In-Some) → Room c.loop-run.invariant (run-here c)
+roomy c = has_room c.loop-run.invariant (run-here c)
+
+pub loop-run-init : goal.loop-run-init
+loop-run-init c = filling-first c.requires
 
 pub offset_bounds-first-i : goal.offset_bounds-first-i
-offset_bounds-first-i c =
-    let step : Step c.args.input.now c.loop-place.place c.measure-a.result = let input = c.args.input.now in
-    step_is input c.loop-place.place _ (below_all 256 input (λ i. (c.shared_slice_known-1.given i).fits)) c.measure-a.ensures in
-    let ran-is : OneRun c.args.input.now c.loop-place.place c.in-Run.run' = rw c.in-Run.is at (step) in
-    let roomy : Room c.loop-place.invariant (ran-is) = has_room c.loop-place.invariant (ran-is) in
-    let y = roomy in omega (arith, y.in-first₀)
+offset_bounds-first-i c = let y = roomy (goal.at.offset_bounds-first-i c).In-Some in omega (arith, y.in-first₀)
 
 pub bounds-first-i : goal.bounds-first-i
-bounds-first-i c =
-    let step : Step c.args.input.now c.loop-place.place c.measure-a.result = let input = c.args.input.now in
-    step_is input c.loop-place.place _ (below_all 256 input (λ i. (c.shared_slice_known-1.given i).fits)) c.measure-a.ensures in
-    let ran-is : OneRun c.args.input.now c.loop-place.place c.in-Run.run' = rw c.in-Run.is at (step) in
-    let roomy : Room c.loop-place.invariant (ran-is) = has_room c.loop-place.invariant (ran-is) in
-    roomy.in-first
+bounds-first-i c = let y = roomy (goal.at.bounds-first-i c).In-Some in y.in-first
 
 pub offset_bounds-at-i : goal.offset_bounds-at-i
-offset_bounds-at-i c =
-    let step : Step c.args.input.now c.loop-place.place c.measure-a.result = let input = c.args.input.now in
-    step_is input c.loop-place.place _ (below_all 256 input (λ i. (c.shared_slice_known-1.given i).fits)) c.measure-a.ensures in
-    let ran-is : OneRun c.args.input.now c.loop-place.place c.in-Run.run' = rw c.in-Run.is at (step) in
-    let roomy : Room c.loop-place.invariant (ran-is) = has_room c.loop-place.invariant (ran-is) in
-    let y = roomy in omega (arith, y.in-at₀)
-
-pub offset_bounds-counts-i : goal.offset_bounds-counts-i
-offset_bounds-counts-i c =
-    let step : Step c.args.input.now c.loop-place.place c.measure-a.result = let input = c.args.input.now in
-    step_is input c.loop-place.place _ (below_all 256 input (λ i. (c.shared_slice_known-1.given i).fits)) c.measure-a.ensures in
-    let ran-is : OneRun c.args.input.now c.loop-place.place c.in-Run.run' = rw c.in-Run.is at (step) in
-    let roomy : Room c.loop-place.invariant (ran-is) = has_room c.loop-place.invariant (ran-is) in
-    let y = roomy in omega (arith, y.in-counts₀)
-
-pub bounds-counts-i : goal.bounds-counts-i
-bounds-counts-i c =
-    let step : Step c.args.input.now c.loop-place.place c.measure-a.result = let input = c.args.input.now in
-    step_is input c.loop-place.place _ (below_all 256 input (λ i. (c.shared_slice_known-1.given i).fits)) c.measure-a.ensures in
-    let ran-is : OneRun c.args.input.now c.loop-place.place c.in-Run.run' = rw c.in-Run.is at (step) in
-    let roomy : Room c.loop-place.invariant (ran-is) = has_room c.loop-place.invariant (ran-is) in
-    roomy.in-counts
-
-pub overflow_add-row : goal.overflow_add-row
-overflow_add-row c =
-    let step : Step c.args.input.now c.loop-place.place c.measure-a.result = let input = c.args.input.now in
-    step_is input c.loop-place.place _ (below_all 256 input (λ i. (c.shared_slice_known-1.given i).fits)) c.measure-a.ensures in
-    let ran-is : OneRun c.args.input.now c.loop-place.place c.in-Run.run' = rw c.in-Run.is at (step) in
-    let roomy : Room c.loop-place.invariant (ran-is) = has_room c.loop-place.invariant (ran-is) in
-    let y = roomy in omega (arith, y.rows-small)
-
-pub overflow_add-place : goal.overflow_add-place
-overflow_add-place c =
-    let step : Step c.args.input.now c.loop-place.place c.measure-a.result = let input = c.args.input.now in
-    step_is input c.loop-place.place _ (below_all 256 input (λ i. (c.shared_slice_known-1.given i).fits)) c.measure-a.ensures in
-    let ran-is : OneRun c.args.input.now c.loop-place.place c.in-Run.run' = rw c.in-Run.is at (step) in
-    omega (arith, ran-is.within)
-
-pub overflow_add-i : goal.overflow_add-i
-overflow_add-i c =
-    let step : Step c.args.input.now c.loop-place.place c.measure-a.result = let input = c.args.input.now in
-    step_is input c.loop-place.place _ (below_all 256 input (λ i. (c.shared_slice_known-1.given i).fits)) c.measure-a.ensures in
-    let ran-is : OneRun c.args.input.now c.loop-place.place c.in-Run.run' = rw c.in-Run.is at (step) in
-    let roomy : Room c.loop-place.invariant (ran-is) = has_room c.loop-place.invariant (ran-is) in
-    let y = roomy in omega (arith, y.in-first₀)
-
-pub loop-place-smaller : goal.loop-place-smaller
-loop-place-smaller c =
-    let step : Step c.args.input.now c.loop-place.place c.measure-a.result = let input = c.args.input.now in
-    step_is input c.loop-place.place _ (below_all 256 input (λ i. (c.shared_slice_known-1.given i).fits)) c.measure-a.ensures in
-    let ran-is : OneRun c.args.input.now c.loop-place.place c.in-Run.run' = rw c.in-Run.is at (step) in
-    let o = ran-is in omega (arith, o.within, o.some_bytes)
-
-pub loop-place-preserved : goal.loop-place-preserved
-loop-place-preserved c =
-    let step : Step c.args.input.now c.loop-place.place c.measure-a.result = let input = c.args.input.now in
-    step_is input c.loop-place.place _ (below_all 256 input (λ i. (c.shared_slice_known-1.given i).fits)) c.measure-a.ensures in
-    let ran-is : OneRun c.args.input.now c.loop-place.place c.in-Run.run' = rw c.in-Run.is at (step) in
-    filling-run c.loop-place.invariant (ran-is)
-
-pub shape_of-first-in-Refused : goal.shape_of-first-in-Refused
-shape_of-first-in-Refused c = c.loop-place.invariant.long-first
-
-pub shape_of-at-in-Refused : goal.shape_of-at-in-Refused
-shape_of-at-in-Refused c = c.loop-place.invariant.long-at
-
-pub shape_of-counts-in-Refused : goal.shape_of-counts-in-Refused
-shape_of-counts-in-Refused c = c.loop-place.invariant.long-counts
-
-pub returns-in-Refused : goal.returns-in-Refused
-returns-in-Refused c =
-    let step : Step c.args.input.now c.loop-place.place c.measure-a.result = let input = c.args.input.now in
-    step_is input c.loop-place.place _ (below_all 256 input (λ i. (c.shared_slice_known-1.given i).fits)) c.measure-a.ensures in
-    let q : NoRun c.args.input.now c.loop-place.place c.in-Refused.field-0 = rw c.in-Refused.is at (step) in
-    absurd (filling-refused c.loop-place.invariant q)
-
-pub shape_of-first-in-End : goal.shape_of-first-in-End
-shape_of-first-in-End c = c.loop-place.invariant.long-first
-
-pub shape_of-at-in-End : goal.shape_of-at-in-End
-shape_of-at-in-End c = c.loop-place.invariant.long-at
-
-pub shape_of-counts-in-End : goal.shape_of-counts-in-End
-shape_of-counts-in-End c = c.loop-place.invariant.long-counts
-
-pub returns-in-End : goal.returns-in-End
-returns-in-End c =
-    let step : Step c.args.input.now c.loop-place.place c.measure-a.result = let input = c.args.input.now in
-    step_is input c.loop-place.place _ (below_all 256 input (λ i. (c.shared_slice_known-1.given i).fits)) c.measure-a.ensures in
-    let z : drop c.loop-place.place c.args.input.now ≡ [] = rw c.in-End.is at (step) in
-    filling-end c.loop-place.invariant z
-
-pub returns : goal.returns
-returns c = filling-end c.loop-place.invariant (drop_of_length-le _ c.loop-place-test.false)
+offset_bounds-at-i c = let y = roomy (goal.at.offset_bounds-at-i c).In-Some in omega (arith, y.in-at₀)
 
 pub bounds-at-i : goal.bounds-at-i
-bounds-at-i c =
-    let step : Step c.args.input.now c.loop-place.place c.measure-a.result = let input = c.args.input.now in
-    step_is input c.loop-place.place _ (below_all 256 input (λ i. (c.shared_slice_known-1.given i).fits)) c.measure-a.ensures in
-    let ran-is : OneRun c.args.input.now c.loop-place.place c.in-Run.run' = rw c.in-Run.is at (step) in
-    let roomy : Room c.loop-place.invariant (ran-is) = has_room c.loop-place.invariant (ran-is) in
-    roomy.in-at
+bounds-at-i c = let y = roomy (goal.at.bounds-at-i c).In-Some in y.in-at
 
-pub shape_of-first : goal.shape_of-first
-shape_of-first c = c.loop-place.invariant.long-first
+pub offset_bounds-counts-i : goal.offset_bounds-counts-i
+offset_bounds-counts-i c = let y = roomy (goal.at.offset_bounds-counts-i c).In-Some in omega (arith, y.in-counts₀)
 
-pub shape_of-at : goal.shape_of-at
-shape_of-at c = c.loop-place.invariant.long-at
+pub bounds-counts-i : goal.bounds-counts-i
+bounds-counts-i c = let y = roomy (goal.at.bounds-counts-i c).In-Some in y.in-counts
 
-pub shape_of-counts : goal.shape_of-counts
-shape_of-counts c = c.loop-place.invariant.long-counts
+pub overflow_add-row : goal.overflow_add-row
+overflow_add-row c = let y = roomy (goal.at.overflow_add-row c).In-Some in omega (arith, y.rows-small)
+
+pub overflow_add-place : goal.overflow_add-place
+overflow_add-place c = let o = run-here (goal.at.overflow_add-place c).In-Some in omega (arith, o.within)
+
+pub overflow_add-i : goal.overflow_add-i
+overflow_add-i c = let y = roomy (goal.at.overflow_add-i c).In-Some in omega (arith, y.in-first₀)
+
+pub loop-run-smaller : goal.loop-run-smaller
+loop-run-smaller c = let o = run-here (goal.at.loop-run-smaller c).In-Some in omega (arith, o.within, o.some_bytes)
+
+pub loop-run-preserved : goal.loop-run-preserved
+loop-run-preserved c = filling-run c.loop-run.invariant (run-here (goal.at.loop-run-preserved c).In-Some)
+
+pub returns : goal.returns
+returns c =
+    filling-over c.loop-run.invariant
+    (no-run-there (below_all 256 _ (λ i. (c.type_inv.input i).fits)) _ c.measure.ensures (sym c.unwrap_or.ensures ∙ c.in_default.is))

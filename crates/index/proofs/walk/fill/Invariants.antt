@@ -4,8 +4,8 @@ use lib.ListN.{length}
 use Rattle.index.proofs.Fills.{Filling}
 use Rattle.index.proofs.walk.fill.Given as goal
 
-abbrev pub invariant-loop-place : goal.invariant-loop-place
-invariant-loop-place l = Filling l.input l.initial.first l.initial.at l.initial.counts l.first l.at l.counts l.place l.row l.i
+abbrev pub invariant-loop-run : goal.invariant-loop-run
+invariant-loop-run l = Filling l.input l.initial.first l.initial.at l.initial.counts l.first l.at l.counts l.place l.row l.i
 
-abbrev pub decreases-loop-place : goal.decreases-loop-place
-decreases-loop-place l = length l.input - l.place
+abbrev pub decreases-loop-run : goal.decreases-loop-run
+decreases-loop-run l = length l.input - l.place

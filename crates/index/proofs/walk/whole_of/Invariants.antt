@@ -4,8 +4,8 @@ use lib.ListN.{length}
 use Rattle.index.proofs.Walks.{Surveyed}
 use Rattle.index.proofs.walk.whole_of.Given as goal
 
-abbrev pub invariant-loop-place : goal.invariant-loop-place
-invariant-loop-place l = Surveyed l.input l.place l.runs l.total
+abbrev pub invariant-loop-run : goal.invariant-loop-run
+invariant-loop-run l = Surveyed l.input l.place l.runs l.rows
 
-abbrev pub decreases-loop-place : goal.decreases-loop-place
-decreases-loop-place l = length l.input - l.place
+abbrev pub decreases-loop-run : goal.decreases-loop-run
+decreases-loop-run l = length l.input - l.place

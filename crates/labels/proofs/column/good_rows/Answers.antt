@@ -18,7 +18,7 @@ returns-then-not-has_number c =
 pub overflow_add-next : goal.overflow_add-next
 overflow_add-next c =
     let flags : List ℕ = c.args.flags.now in
-    omega (arith, c.rows_for-one.ensures, at_most_one (get_or (flags) c.loop-i.i 0))
+    omega (arith, c.rows_for-next.ensures, at_most_one (get_or (flags) c.loop-i.i 0))
 
 pub loop-i-preserved : goal.loop-i-preserved
 loop-i-preserved c =
@@ -27,7 +27,7 @@ loop-i-preserved c =
     let l = c.loop-i in
     let passed = good-next a.lengths.now (flags) a.numbers.now l.i l.next (omega arith)
     (sym c.has_number.ensures ∙ c.if-not-has_number.false) in
-    rw c.rows_for-one.ensures (omega (arith, l.invariant.2, passed, at_most_one (get_or (flags) l.i 0)))
+    rw c.rows_for-next.ensures (omega (arith, l.invariant.2, passed, at_most_one (get_or (flags) l.i 0)))
 
 pub returns : goal.returns
 returns c =

@@ -1,42 +1,31 @@
--- A named row has its number, so both look-ups are within their columns; any other row has 0 and 0. Assumes nothing.
-use Prim.Native.Nat.{◌<◌}
-use native.Mathlib.Omega.{arith}
-use lib.ListN.{length}
-use borrow.Author.Tests.{eq-eqb, ne_eqb}
-use Rattle.labels.specs.Labels.{size_of}
+-- A named row has its number, and no length is below 0, so both casts are the numbers. Assumes nothing.
+use mathlib.Core.Path.{◌≡◌}
+use lib.ListN.{get_or}
+use lib.IntN.{pos, nat_abs}
+use mir.Syntax.{w64}
+use mir.Val.{SFits, to_z, of_z}
+use borrow.Author.Tests.{ne_eqb}
+use Rattle.std.proofs.Common.{rules}
+use Rattle.labels.specs.Labels.{size}
+use Rattle.labels.proofs.Labels.{sound_sizes}
+use Rattle.labels.proofs.Columns.{cast_is, cast_fits}
 use Rattle.labels.proofs.ColumnWalk.{Inside, next-inside}
 use Rattle.labels.proofs.column.name_for.Goals as goal
 
-pub returns-then-flag-eq0 : goal.returns-then-flag-eq0
-returns-then-flag-eq0 c = rw (eq-eqb _ _ c.if-flag-eq0.true)
-
-pub natural-k-requires : goal.natural-k-requires
-natural-k-requires c =
-    let inside : (let a = c.args in Inside a.lengths.now a.numbers.now a.at) = let a = c.args in
-    next-inside a.lengths.now a.numbers.now a.at (rw (ne_eqb a.flag 0 c.if-flag-eq0.false) at c.requires.0) in
-    inside.here
-
-pub offset_bounds-offsets-k : goal.offset_bounds-offsets-k
-offset_bounds-offsets-k c =
-    let inside : (let a = c.args in Inside a.lengths.now a.numbers.now a.at) = let a = c.args in
-    next-inside a.lengths.now a.numbers.now a.at (rw (ne_eqb a.flag 0 c.if-flag-eq0.false) at c.requires.0) in
-    let in-offsets : c.natural-k.result < length c.args.offsets.now = omega (arith, c.natural-k.ensures, inside.small, c.requires.1) in
-    omega (arith, in-offsets)
-
-pub bounds-offsets-k : goal.bounds-offsets-k
-bounds-offsets-k c =
-    let inside : (let a = c.args in Inside a.lengths.now a.numbers.now a.at) = let a = c.args in
-    next-inside a.lengths.now a.numbers.now a.at (rw (ne_eqb a.flag 0 c.if-flag-eq0.false) at c.requires.0) in
-    let in-offsets : c.natural-k.result < length c.args.offsets.now = omega (arith, c.natural-k.ensures, inside.small, c.requires.1) in
-    in-offsets
-
-pub natural-requires : goal.natural-requires
-natural-requires c =
-    let inside : (let a = c.args in Inside a.lengths.now a.numbers.now a.at) = let a = c.args in
-    next-inside a.lengths.now a.numbers.now a.at (rw (ne_eqb a.flag 0 c.if-flag-eq0.false) at c.requires.0) in
-    omega (arith, c.natural-k.ensures, inside.small)
+pub overflow_cast-result : goal.overflow_cast-result
+overflow_cast-result c =
+    let a = c.args in
+    let inside : Inside a.lengths.now a.numbers.now a.at = next-inside a.lengths.now a.numbers.now a.at (rw (ne_eqb a.flag 0 c.if-flag-eq0.false) at c.requires.0) in
+    let f : SFits w64 (get_or a.numbers.now a.at (pos 0)) = search rules in
+    let k : nat_abs (to_z w64 (of_z w64 (get_or a.numbers.now a.at (pos 0)))) ≡ size (get_or a.numbers.now a.at (pos 0)) = cast_is _ f inside.natural in
+    let g : SFits w64 (get_or a.lengths.now (nat_abs (to_z w64 (of_z w64 (get_or a.numbers.now a.at (pos 0))))) (pos 0)) = search rules in
+    rw k (cast_fits _ (rw k at g) (sound_sizes a.lengths.now _ c.requires.2))
 
 pub returns : goal.returns
-unfolding size_of
 returns c =
-    rw (ne_eqb _ _ c.if-flag-eq0.false, c.natural.ensures, c.natural-k.ensures)
+    let a = c.args in
+    let inside : Inside a.lengths.now a.numbers.now a.at = next-inside a.lengths.now a.numbers.now a.at (rw (ne_eqb a.flag 0 c.if-flag-eq0.false) at c.requires.0) in
+    let f : SFits w64 (get_or a.numbers.now a.at (pos 0)) = search rules in
+    let k : nat_abs (to_z w64 (of_z w64 (get_or a.numbers.now a.at (pos 0)))) ≡ size (get_or a.numbers.now a.at (pos 0)) = cast_is _ f inside.natural in
+    let g : SFits w64 (get_or a.lengths.now (nat_abs (to_z w64 (of_z w64 (get_or a.numbers.now a.at (pos 0))))) (pos 0)) = search rules in
+    rw (k, cast_is _ (rw k at g) (sound_sizes a.lengths.now _ c.requires.2), ne_eqb a.flag 0 c.if-flag-eq0.false)

@@ -1,38 +1,34 @@
 use native.Mathlib.Omega.{arith}
 use Rattle.present.proofs.SpreadLoop.{count-le, count_next}
-use Rattle.labels.proofs.LabelLoop.{labels-none, offsets-there, number-there, labels_next, labels-all}
+use Rattle.labels.proofs.LabelLoop.{offsets-there, number-there, labels_next, labels-all}
 use Rattle.labels.proofs.column.put_labels.Goals as goal
-
-pub loop-i-init : goal.loop-i-init
-loop-i-init c =
-    let a = c.args in
-    labels-none a.flags.now a.numbers.now a.lengths.now a.offsets.now a.starts.now a.sizes.now c.requires
 
 pub name_for-name-requires : goal.name_for-name-requires
 name_for-name-requires c =
     let a = c.args in (
-      number-there a.flags.now a.numbers.now a.lengths.now a.offsets.now a.starts.now a.sizes.now c.requires
+      number-there a.flags.now a.numbers.now a.lengths.now a.offsets.now a.starts.now a.sizes.now c.requires.0
           c.loop-i.invariant (omega arith),
-      offsets-there a.flags.now a.numbers.now a.lengths.now a.offsets.now a.starts.now a.sizes.now c.requires,
+      offsets-there a.flags.now a.numbers.now a.lengths.now a.offsets.now a.starts.now a.sizes.now c.requires.0,
+      c.requires.1,
     )
 
 pub overflow_add-next : goal.overflow_add-next
 overflow_add-next c =
     let flags = c.args.flags.now in
     let l = c.loop-i in
-    omega (arith, c.rows_for-one.ensures, l.invariant.of-starts.left, count_next flags l.i (omega arith), count-le flags)
+    omega (arith, c.rows_for-next.ensures, l.invariant.of-starts.left, count_next flags l.i (omega arith), count-le flags)
 
 pub loop-i-preserved : goal.loop-i-preserved
 loop-i-preserved c =
     let a = c.args in
-    rw (c.name_for-name.ensures, c.rows_for-one.ensures)
-    (labels_next a.flags.now a.numbers.now a.lengths.now a.offsets.now a.starts.now a.sizes.now c.requires
+    rw (c.name_for-name.ensures, c.rows_for-next.ensures)
+    (labels_next a.flags.now a.numbers.now a.lengths.now a.offsets.now a.starts.now a.sizes.now c.requires.0
     c.loop-i.invariant (omega arith))
 
 pub returns : goal.returns
 returns c =
     let a = c.args in
-    labels-all a.flags.now a.numbers.now a.lengths.now a.offsets.now a.starts.now a.sizes.now c.requires
+    labels-all a.flags.now a.numbers.now a.lengths.now a.offsets.now a.starts.now a.sizes.now c.requires.0
     c.loop-i.invariant c.loop-i-test.false
 
 pub shape_of-starts : goal.shape_of-starts

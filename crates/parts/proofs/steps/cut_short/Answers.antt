@@ -6,6 +6,6 @@ pub returns-in-None : goal.returns-in-None
 unfolding cut_short
 returns-in-None c = rw c.in-None.is
 
-pub returns-in-At : goal.returns-in-At
+pub returns-in-Some : goal.returns-in-Some
 unfolding cut_short
-returns-in-At c = rw c.in-At.is
+returns-in-Some c = rw c.in-Some.is

@@ -6,6 +6,6 @@ pub returns-in-None : goal.returns-in-None
 unfolding field_from
 returns-in-None c = rw (c.new.ensures, c.in-None.is)
 
-pub returns-in-At : goal.returns-in-At
+pub returns-in-Some : goal.returns-in-Some
 unfolding field_from
-returns-in-At c = rw (c.cut.ensures, c.wrapping_add_usize-byte.ensures.value, c.in-At.is)
+returns-in-Some c = rw (c.cut.ensures, c.in-Some.is)

@@ -1,7 +1,10 @@
-use mathlib.Core.Path.{sym}
+use mathlib.Core.Path.{◌≡◌, sym, ap, ◌∙◌}
+use Rattle.std.specs.Prelude.{Some}
+use Prim.Native.Nat.{ℕ}
+use lib.ListN.{length}
 use native.Mathlib.Omega.{arith}
 use borrow.Author.Rules.{rules}
-use Rattle.planner.specs.Check.{proposal}
+use Rattle.planner.specs.Walk.{columns}
 use Rattle.planner.proofs.Segments.{are-equal}
 use Rattle.planner.proofs.Checking.{along-first, along-short, along-end, along-out, along-taken, along-full, along-next}
 use Rattle.planner.proofs.accept.walk.Goals as goal
@@ -12,7 +15,7 @@ loop-k-init c = (search rules, along-first _ _ _ _ c.requires)
 pub at-s-requires : goal.at-s-requires
 at-s-requires c =
     let a = c.args in
-    let e = are-equal (proposal a.first.now a.counts.now a.forms.now a.widths.now a.bases.now) c.requires in
+    let e = are-equal (columns a.p) c.requires in
     omega (arith, e.counts, e.forms, e.widths, e.bases)
 
 pub slice_bounds-step_size-end : goal.slice_bounds-step_size-end
@@ -64,4 +67,6 @@ returns-then-row-rows c =
 pub returns : goal.returns
 returns c =
     let l = c.loop-k in
-    along-end _ _ _ _ l.k l.row l.bytes l.invariant.1 c.loop-k-test.false c.if-row-rows.false
+    let e : length c.args.p.first.now ≡ l.k = omega arith in
+    ap (λ (n : ℕ). Some (record { runs = n; rows = record { rows = l.row }; bytes = record { bytes = l.bytes } })) e
+    ∙ along-end _ _ _ _ l.k l.row l.bytes l.invariant.1 c.loop-k-test.false c.if-row-rows.false

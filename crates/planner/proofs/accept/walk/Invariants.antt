@@ -1,14 +1,11 @@
 -- Each turn takes one segment more, or ends with what the check says of the segment reached. Assumes nothing.
 use mathlib.Core.Path.{◌≡◌}
-use Prim.Native.Nat.{◌-◌}
 use lib.ListN.{length}
-use Rattle.planner.specs.Check.{proposal, any_run}
+use Rattle.planner.specs.Check.{any_run}
+use Rattle.planner.specs.Walk.{columns}
 use Rattle.planner.proofs.Checking.{Along}
 use Rattle.planner.proofs.accept.walk.Given as goal
 
 abbrev pub invariant-loop-k : goal.invariant-loop-k
 invariant-loop-k l =
-    (length l.run ≡ any_run) × Along l.signed l.rows (proposal l.first l.counts l.forms l.widths l.bases) l.limit l.k l.row l.bytes
-
-abbrev pub decreases-loop-k : goal.decreases-loop-k
-decreases-loop-k l = length l.first - l.k
+    (length l.run ≡ any_run) × Along l.signed l.rows (columns l.p) l.limit l.k l.row l.bytes

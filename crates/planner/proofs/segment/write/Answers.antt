@@ -5,6 +5,7 @@ use mir.Facts.{to_z-of_z}
 use borrow.Author.Rules.{sfits_of, rules}
 use Rattle.planner.proofs.Steps.{ran-none, none-wide, no-form, ran-form, ran-patched}
 use Rattle.format.proofs.Common.{w64}
+use Rattle.format.proofs.Patterns.{as-to_z}
 use Rattle.planner.proofs.segment.write.Goals as goal
 
 pub returns-then-s-gt255 : goal.returns-then-s-gt255
@@ -20,7 +21,7 @@ returns-then-s-gt4 c =
 pub returns-then-s-eq4 : goal.returns-then-s-eq4
 returns-then-s-eq4 c =
     let a = c.args in
-    let v = rw (to_z-of_z {w = w64} (sfits_of c.to_i64-base.type_inv), c.to_i64-base.ensures) at c.write_patched-a.ensures in
+    let v = rw (to_z-of_z {w = w64} (sfits_of c.cast_signed.type_inv), c.cast_signed.ensures, as-to_z c.args.s.base (omega arith)) at c.write_patched-a.ensures in
     rw c.consumed.ensures
     (ran-patched a.signed a.s.form a.s.width a.s.base a.part.now a.out.now _ _ c.if-s-eq4.true
     (search rules) v)

@@ -2,7 +2,7 @@ use Prim.Native.Nat.{◌+◌, ◌-◌}
 use native.Mathlib.Omega.{arith}
 use mathlib.Core.List.{◌++◌}
 use lib.ListN.{length, take, drop}
-use Rattle.planner.specs.Check.{proposal}
+use Rattle.planner.specs.Walk.{columns}
 use Rattle.planner.proofs.Segments.{are-equal, covers-le}
 use Rattle.planner.proofs.Accepting.{tests}
 use Rattle.planner.proofs.Planning.{Plan, plan-first, plan-end, the-next, plan-next}
@@ -14,8 +14,8 @@ loop-k-init c = plan-first _ _ _ _ c.requires
 pub at-s-requires : goal.at-s-requires
 at-s-requires c =
     let a = c.args in
-    let e = are-equal (proposal a.first.now a.counts.now a.forms.now a.widths.now a.bases.now)
-    (tests a.signed a.rows.now (proposal a.first.now a.counts.now a.forms.now a.widths.now a.bases.now)
+    let e = are-equal (columns a.p)
+    (tests a.signed a.rows.now (columns a.p)
     (length a.out.now) c.requires).0 in
     omega (arith, e.counts, e.forms, e.widths, e.bases)
 
@@ -38,7 +38,7 @@ overflow_add-row c =
 pub overflow_add-bytes : goal.overflow_add-bytes
 overflow_add-bytes c =
     let turn : (let l = c.loop-k in let a = c.args in
-    Plan a.signed a.rows.now (proposal a.first.now a.counts.now a.forms.now a.widths.now a.bases.now)
+    Plan a.signed a.rows.now (columns a.p)
     a.out.now (take l.bytes l.out
     ++ (c.step-n.new.out ++ drop (length l.out - l.bytes) (drop l.bytes l.out))) (l.k + 1)
     (l.row + c.at-s.result.count) (l.bytes + c.step-n.result.bytes)) = let l = c.loop-k in
@@ -52,7 +52,7 @@ returns c = let l = c.loop-k in plan-end _ _ _ _ l.out l.k l.row l.bytes l.invar
 pub loop-k-preserved : goal.loop-k-preserved
 loop-k-preserved c =
     let turn : (let l = c.loop-k in let a = c.args in
-    Plan a.signed a.rows.now (proposal a.first.now a.counts.now a.forms.now a.widths.now a.bases.now)
+    Plan a.signed a.rows.now (columns a.p)
     a.out.now (take l.bytes l.out
     ++ (c.step-n.new.out ++ drop (length l.out - l.bytes) (drop l.bytes l.out))) (l.k + 1)
     (l.row + c.at-s.result.count) (l.bytes + c.step-n.result.bytes)) = let l = c.loop-k in

@@ -1,13 +1,8 @@
 -- Each turn lays the next segment's run after those before it; the check has said that all of them have room. Assumes nothing.
-use Prim.Native.Nat.{◌-◌}
-use lib.ListN.{length}
-use Rattle.planner.specs.Check.{proposal}
+use Rattle.planner.specs.Walk.{columns}
 use Rattle.planner.proofs.Planning.{Plan}
 use Rattle.planner.proofs.write.planned.Given as goal
 
 abbrev pub invariant-loop-k : goal.invariant-loop-k
 invariant-loop-k l =
-    Plan l.signed l.rows (proposal l.first l.counts l.forms l.widths l.bases) l.initial.out l.out l.k l.row l.bytes
-
-abbrev pub decreases-loop-k : goal.decreases-loop-k
-decreases-loop-k l = length l.first - l.k
+    Plan l.signed l.rows (columns l.p) l.initial.out l.out l.k l.row l.bytes

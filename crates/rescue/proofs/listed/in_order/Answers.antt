@@ -3,47 +3,37 @@ use Prim.Native.Nat.{suc, ◌+◌, ◌<◌}
 use native.Mathlib.Omega.{arith}
 use mathlib.Core.Bool.{◌&&◌}
 use lib.ListN.{length, drop, get_or}
-use lib.Dec.{eqb}
 use borrow.Author.Tests.{eq-eqb, ne_eqb}
 use Rattle.batches.specs.BatchPromise.{position_in}
 use Rattle.batches.specs.declared.RowPosition.{RowPosition}
-use Rattle.rescue.specs.Rescue.{position, positions, not_after, rising, in_order}
+use Rattle.rescue.specs.Rescue.{positions, not_after, rising, in_order}
 use Rattle.rescue.proofs.ListedColumns.{order-none, order-some, rising_step, rising-end}
+use Rattle.std.proofs.lemmas.Bool.Decides.{nat_tests}
 use Rattle.rescue.proofs.listed.in_order.Goals as goal
+use Rattle.rescue.proofs.listed.in_order.Goals.{then-runs-ne0-via-then-runs-ne0, then-runs-ne0-via-else-runs-ne0+then-skips-ne0}
 
-pub returns-then-runs-eq0 : goal.returns-then-runs-eq0
-returns-then-runs-eq0 c =
+pub returns-then-is_empty : goal.returns-then-is_empty
+returns-then-is_empty c =
     let a = c.args in
-    sym (order-none a.end.bytes a.runs.now a.skips.now c.requires (omega arith))
+    sym (order-none a.end.bytes a.runs.now a.skips.now c.requires (grind (arith, nat_tests)))
 
 pub returns-then-runs-ne0 : goal.returns-then-runs-ne0
 returns-then-runs-ne0 c =
-    let some-order : (let a = c.args in let rs = a.runs.now in let ss = a.skips.now in
-    0 < length rs → in_order a.end.bytes (positions rs ss)
-    ≡ (eqb (get_or rs 0 0) 0 && (eqb (get_or ss 0 0) 0
-    && rising a.end.bytes (position (get_or rs 0 0) (get_or ss 0 0)) (drop 1 (positions rs ss))))) = λ h. let a = c.args in order-some a.end.bytes a.runs.now a.skips.now c.requires h in
-    sym (some-order (omega arith) ∙ rw (ne_eqb (get_or c.args.runs.now 0 0) 0 (λ e. omega arith)))
-
-pub returns-then-skips-ne0 : goal.returns-then-skips-ne0
-returns-then-skips-ne0 c =
-    let some-order : (let a = c.args in let rs = a.runs.now in let ss = a.skips.now in
-    0 < length rs → in_order a.end.bytes (positions rs ss)
-    ≡ (eqb (get_or rs 0 0) 0 && (eqb (get_or ss 0 0) 0
-    && rising a.end.bytes (position (get_or rs 0 0) (get_or ss 0 0)) (drop 1 (positions rs ss))))) = λ h. let a = c.args in order-some a.end.bytes a.runs.now a.skips.now c.requires h in
     let a = c.args in
-    sym (some-order (omega arith)
-    ∙ rw (eq-eqb (get_or a.runs.now 0 0) 0 (omega arith), ne_eqb (get_or a.skips.now 0 0) 0 (λ e. omega arith)))
+    let h : 0 < length a.runs.now = grind (arith, nat_tests) in
+    let some = order-some a.end.bytes a.runs.now a.skips.now c.requires h in
+    sym (some ∙ elim c.then-runs-ne0.branch [
+      | then-runs-ne0-via-then-runs-ne0 w ↦ rw (ne_eqb (get_or a.runs.now 0 0) 0 (λ e. omega arith))
+      | then-runs-ne0-via-else-runs-ne0+then-skips-ne0 w ↦ rw (eq-eqb (get_or a.runs.now 0 0) 0 (omega arith), ne_eqb (get_or a.skips.now 0 0) 0 (λ e. omega arith))
+    ])
 
 pub loop-i-init : goal.loop-i-init
 loop-i-init c =
-    let some-order : (let a = c.args in let rs = a.runs.now in let ss = a.skips.now in
-    0 < length rs → in_order a.end.bytes (positions rs ss)
-    ≡ (eqb (get_or rs 0 0) 0 && (eqb (get_or ss 0 0) 0
-    && rising a.end.bytes (position (get_or rs 0 0) (get_or ss 0 0)) (drop 1 (positions rs ss))))) = λ h. let a = c.args in order-some a.end.bytes a.runs.now a.skips.now c.requires h in
     let a = c.args in
+    let h : 0 < length a.runs.now = grind (arith, nat_tests) in
     let e : get_or a.runs.now 0 0 ≡ 0 = omega arith in
     let f : get_or a.skips.now 0 0 ≡ 0 = omega arith in
-    (omega arith, some-order (omega arith) ∙ rw (e, f, c.row_position-last.ensures))
+    (omega arith, order-some a.end.bytes a.runs.now a.skips.now c.requires h ∙ rw (e, f, c.row_position-last.ensures))
 
 pub returns-then-not-not_after : goal.returns-then-not-not_after
 returns-then-not-not_after c =

@@ -15,8 +15,8 @@ lay_packed-requires c =
 pub returns-then-f-eq0 : goal.returns-then-f-eq0
 returns-then-f-eq0 c =
     let a = c.args in
-    steps-laid a.input.now a.signed a.f a.out.now c.steps.new.out c.if-f-eq0.true c.requires.1
-    (rw (c.row-first.ensures, c.unzigzag-step.ensures) at c.steps.ensures)
+    steps-laid a.input.now a.signed a.f a.out.now _ c.if-f-eq0.true c.requires.1
+    (rw (rw (c.row-first.ensures, c.unzigzag-step.ensures) at c.steps.ensures))
 
 pub returns-else-f-eq0 : goal.returns-else-f-eq0
 returns-else-f-eq0 c =

@@ -8,5 +8,5 @@ use Rattle.rle_v2.proofs.delta.lay_packed.Goals as goal
 pub returns : goal.returns
 returns c =
     let a = c.args in
-    laid-is a.first a.step a.n.rows (map as_i64 (fields a.bits a.n.rows a.block.now)) a.out.now c.steps.new.out c.magnitudes.new.out
-    c.requires.rows_bound.1 c.steps.ensures (rw c.add-second.ensures at c.magnitudes.ensures)
+    laid-is a.first a.step a.n.rows (map as_i64 (fields a.bits a.n.rows a.block.now)) a.out.now _ c.magnitudes.new.out
+    c.requires.rows_bound.1 (rw c.steps.ensures) c.magnitudes.ensures

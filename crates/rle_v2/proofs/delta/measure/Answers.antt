@@ -12,7 +12,7 @@ pub returns : goal.returns
 returns c =
     let passed : (let a = c.args in Passed a.input.now a.at.bytes (run a.input.now a.at.bytes) c.measured-f.result) = c.measured-f.ensures.passed c.if-f-ne0.false in
     let a = c.args in
-    rw c.run.ensures (passed-answer a.input.now a.at.bytes _ _ (passed))
+    rw c.new.ensures (passed-answer a.input.now a.at.bytes _ _ (passed))
 
 pub overflow_sub-consumed : goal.overflow_sub-consumed
 overflow_sub-consumed c =

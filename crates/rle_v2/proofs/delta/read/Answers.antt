@@ -15,7 +15,7 @@ pub returns-then-out-rows : goal.returns-then-out-rows
 returns-then-out-rows c =
     let passed : (let a = c.args in Passed a.input.now a.at.bytes (run a.input.now a.at.bytes) c.measured-f.result) = c.measured-f.ensures.passed c.if-f-ne0.false in
     let a = c.args in
-    rw c.refused.ensures (passed-8 a.input.now a.at.bytes _ _ (passed) a.signed a.out.now c.if-out-rows.true)
+    rw c.new.ensures (passed-8 a.input.now a.at.bytes _ _ (passed) a.signed a.out.now c.if-out-rows.true)
 
 pub lay-requires : goal.lay-requires
 lay-requires c =
@@ -31,4 +31,4 @@ pub returns : goal.returns
 returns c =
     let passed : (let a = c.args in Passed a.input.now a.at.bytes (run a.input.now a.at.bytes) c.measured-f.result) = c.measured-f.ensures.passed c.if-f-ne0.false in
     let a = c.args in
-    rw c.run.ensures (passed-read a.input.now a.at.bytes _ _ (passed) a.signed a.out.now _ c.if-out-rows.false c.lay.ensures)
+    rw c.new-2.ensures (passed-read a.input.now a.at.bytes _ _ (passed) a.signed a.out.now _ c.if-out-rows.false c.lay.ensures)

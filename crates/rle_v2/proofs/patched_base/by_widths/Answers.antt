@@ -5,7 +5,6 @@ use mathlib.Core.Path.{◌≡◌, ap, ◌∙◌}
 use Rattle.format.specs.Fields.{width, least_width}
 use Rattle.format.proofs.Rows.{width-le}
 use Rattle.rle_v2.proofs.PatchedRun.{refused-2}
-use Rattle.rle_v2.proofs.PatchedFound.{gone-plain}
 use Rattle.rle_v2.proofs.patched_base.by_widths.Goals as goal
 
 pub overflow_add-patch : goal.overflow_add-patch
@@ -15,7 +14,7 @@ pub returns-then-patch-h-gt64 : goal.returns-then-patch-h-gt64
 returns-then-patch-h-gt64 c =
     let sum-2 : (let a = c.args in c.bits_of-patch.result + a.h.gap ≡ width a.h.patch + a.h.gap) = ap (λ (x : ℕ). x + c.args.h.gap) c.bits_of-patch.ensures in
     let a = c.args in
-    rw (c.gone.ensures, c.new.ensures) (gone-plain a.input.now a.at.bytes _ 2 (λ z. omega arith) (refused-2 a.input.now a.at.bytes a.h.code a.h.rows.rows a.h.base a.h.patch a.h.gap a.h.entries (rw (sum-2) at c.if-patch-h-gt64.true)))
+    rw c.new.ensures (refused-2 a.input.now a.at.bytes a.h.code a.h.rows.rows a.h.base a.h.patch a.h.gap a.h.entries (rw (sum-2) at c.if-patch-h-gt64.true))
 
 pub body-requires : goal.body-requires
 body-requires c =

@@ -7,7 +7,7 @@ pub put-requires : goal.put-requires
 put-requires c =
     let f = c.args.f in
     let r = c.requires.0 in
-    rw (rest-is c.args.input.now f.list.bytes) (record { listed = r.list-there; width_bound = (r.narrow, r.rows, omega arith, r.in_place) })
+    rw (rest-is c.args.input.now f.list.bytes) (omega arith, r.in_place)
 
 pub returns : goal.returns
 returns c =

@@ -1,23 +1,18 @@
-use mir.Facts.{to_z-of_z}
-use mathlib.Core.Path.{refl, ◌∙◌}
+use Rattle.rle_v2.proofs.Pass.{turn-first, turn-next, turn_last, written, bits_of}
+use mathlib.Core.Path.{refl}
 use lib.IntN.{pos}
-use Rattle.rle_v2.proofs.Pass.{turn-first, turn-next, turn_last}
-use borrow.Author.Rules.{sfits_of}
+use lib.ListN.{get_or}
 use native.Mathlib.Omega.{arith}
-use Rattle.format.proofs.Common.{w64}
 use Rattle.rle_v2.proofs.rows.add_base.Goals as goal
 
-pub loop-i-preserved : goal.loop-i-preserved
-loop-i-preserved c =
-    let l = c.loop-i in
-    turn-next _ _ _ _ _ l.out l.i _ (pos 0) _ _ l.invariant (omega arith) (omega arith)
-    (to_z-of_z {w = w64} (sfits_of c.to_i64-r.type_inv) ∙ c.to_i64-r.ensures ∙ rw (c.add.ensures, c.to_u64.ensures, to_z-of_z {w = w64} (sfits_of c.to_u64-arg-1.given))) refl
+pub loop-row-init : goal.loop-row-init
+loop-row-init c = turn-first _ _ _ _
+
+pub loop-row-preserved : goal.loop-row-preserved
+loop-row-preserved c =
+    let l = c.loop-row in
+    let e = bits_of (get_or l.out l.row-index (pos 0)) _ (omega arith) c.cast_unsigned.ensures in
+    turn-next _ _ _ _ l.out l.row-index _ (pos 0) _ _ l.invariant (omega arith) (rw (← e) (written _ _ (omega arith) (omega arith) c.cast_signed.ensures)) refl
 
 pub returns : goal.returns
-returns c = turn_last _ _ _ _ _ _ _ _ c.loop-i.invariant c.loop-i-test.false
-
-pub loop-i-init : goal.loop-i-init
-loop-i-init c = turn-first _ _ _ _ _
-
-pub shape_of-out : goal.shape_of-out
-shape_of-out c = c.loop-i.invariant.long
+returns c = turn_last _ _ _ _ _ _ _ c.loop-row.invariant c.loop-row-test.false

@@ -1,10 +1,7 @@
-use Prim.Native.Nat.{ℕ, ◌-◌}
+use Prim.Native.Nat.{ℕ}
 use Rattle.format.specs.Rows.{plus, as_i64, as_u64}
 use Rattle.rle_v2.proofs.Pass.{Turn}
 use Rattle.rle_v2.proofs.rows.add_base.Given as goal
 
-abbrev pub invariant-loop-i : goal.invariant-loop-i
-invariant-loop-i l = Turn (λ (x : ℕ) z. as_i64 (plus x (as_u64 z))) (λ x z. x) l.base l.count l.initial.out l.out l.i l.base
-
-abbrev pub decreases-loop-i : goal.decreases-loop-i
-decreases-loop-i l = l.count - l.i
+abbrev pub invariant-loop-row : goal.invariant-loop-row
+invariant-loop-row l = Turn (λ (x : ℕ) z. as_i64 (plus x (as_u64 z))) (λ x z. x) l.base l.initial.out l.out l.row-index l.base

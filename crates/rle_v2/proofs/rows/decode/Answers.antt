@@ -1,9 +1,18 @@
-use mathlib.Core.Path.{sym}
-use lib.ListN.{take-append-drop}
+use Rattle.rle_v2.proofs.Pass.{turn-first, turn-next, turn_last, written, bits_of}
+use mathlib.Core.Path.{refl}
+use lib.IntN.{pos}
+use lib.ListN.{get_or}
+use native.Mathlib.Omega.{arith}
 use Rattle.rle_v2.proofs.rows.decode.Goals as goal
 
-pub returns-then-signed : goal.returns-then-signed
-returns-then-signed c = rw c.if-signed.true c.unzigzag.ensures
+pub loop-row-init : goal.loop-row-init
+loop-row-init c = turn-first _ _ _ _
 
-pub returns-else-signed : goal.returns-else-signed
-returns-else-signed c = rw c.if-signed.false (sym (take-append-drop c.args.n.rows c.args.out.now))
+pub loop-row-preserved : goal.loop-row-preserved
+loop-row-preserved c =
+    let l = c.loop-row in
+    let e = rw (bits_of (get_or l.out l.row-index (pos 0)) _ (omega arith) c.cast_unsigned.ensures) at c.unzigzag.ensures in
+    turn-next _ _ _ _ l.out l.row-index _ (pos 0) _ _ l.invariant (omega arith) (rw (← e) (written _ _ (omega arith) (omega arith) c.cast_signed.ensures)) refl
+
+pub returns-after-loop-row : goal.returns-after-loop-row
+returns-after-loop-row c = rw c.if-signed.true (turn_last _ _ _ _ _ _ _ c.loop-row.invariant c.loop-row-test.false)

@@ -1,10 +1,6 @@
 use Rattle.rle_v2.proofs.Pass.{Turn}
 use Rattle.format.specs.Rows.{plus, as_i64}
-use Prim.Native.Nat.{◌-◌}
 use Rattle.rle_v2.proofs.rows.steps.Given as goal
 
-abbrev pub invariant-loop-i : goal.invariant-loop-i
-invariant-loop-i l = Turn (λ x z. as_i64 x) (λ x z. plus x l.step) l.first l.count l.initial.out l.out l.i l.x
-
-abbrev pub decreases-loop-i : goal.decreases-loop-i
-decreases-loop-i l = l.count - l.i
+abbrev pub invariant-loop-row : goal.invariant-loop-row
+invariant-loop-row l = Turn (λ x z. as_i64 x) (λ x z. plus x l.step) l.first l.initial.out l.out l.row-index l.x

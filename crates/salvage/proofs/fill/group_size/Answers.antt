@@ -2,7 +2,7 @@
 use Rattle.salvage.proofs.fill.group_size.Goals as goal
 
 pub returns : goal.returns
-returns c = rw c.if-keep.false c.runs_size.ensures
+returns c = rw c.if-group.false c.runs_size.ensures
 
-pub returns-then-keep : goal.returns-then-keep
-returns-then-keep c = rw c.if-keep.true
+pub returns-then-group : goal.returns-then-group
+returns-then-group c = rw c.if-group.true

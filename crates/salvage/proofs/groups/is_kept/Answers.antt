@@ -1,21 +1,23 @@
 -- A group without bytes is kept if no rows are listed; any other if its measure answers with as many rows as are listed. Assumes nothing.
 use mathlib.Core.Path.{sym, ◌∙◌}
 use native.Mathlib.Omega.{arith}
+use lib.ListN.{length}
+use borrow.Author.Tests.{eqb-true}
 use Rattle.format.proofs.Below.{below_all}
 use Rattle.salvage.proofs.Keeping.{kept-empty, kept_whole, kept-refused}
 use Rattle.salvage.proofs.groups.is_kept.Goals as goal
 
-pub returns-in-Whole : goal.returns-in-Whole
-returns-in-Whole c =
+pub returns-in-Ok : goal.returns-in-Ok
+returns-in-Ok c =
     let a = c.args in
     kept_whole a.rows.rows a.bytes.now (below_all 256 a.bytes.now (λ i. (c.shared_slice_known-1.given i).fits)) (omega arith) _
-    (sym c.measure_stream-said.ensures ∙ c.in-Whole.is)
+    (sym c.measure_stream.ensures ∙ c.in-Ok.is)
 
-pub returns-in-Refused : goal.returns-in-Refused
-returns-in-Refused c =
+pub returns-in-Err : goal.returns-in-Err
+returns-in-Err c =
     let a = c.args in
-    kept-refused a.rows.rows a.bytes.now (below_all 256 a.bytes.now (λ i. (c.shared_slice_known-1.given i).fits)) (omega arith) _ _
-    (sym c.measure_stream-said.ensures ∙ c.in-Refused.is)
+    kept-refused a.rows.rows a.bytes.now (below_all 256 a.bytes.now (λ i. (c.shared_slice_known-1.given i).fits)) (omega arith) _
+    (sym c.measure_stream.ensures ∙ c.in-Err.is)
 
-pub returns-then-bytes-eq0 : goal.returns-then-bytes-eq0
-returns-then-bytes-eq0 c = kept-empty _ _ c.if-bytes-eq0.true
+pub returns-then-is_empty : goal.returns-then-is_empty
+returns-then-is_empty c = kept-empty _ _ (eqb-true (length c.args.bytes.now) 0 (sym c.is_empty.ensures ∙ c.if-is_empty.true))

@@ -1,44 +1,37 @@
-use Rattle.std.proofs.Common.{◌≡◌, ◌<◌, List, [], ◌∷◌, length, get_or, ℤ, pos, sym, refl, ap, ◌∙◌, arith, take_all, w64, SFits}
+use Rattle.std.proofs.Common.{rules, ◌≡◌, List, [], ◌∷◌, length, get_or, ℤ, pos, refl, arith, w64, SFits, to_z}
 use borrow.Author.Rules.{sfits_of}
-use Rattle.tally.specs.declared.totals.Extreme.TheVariants.{Row}
 use Rattle.tally.specs.Totals.{lower, higher, of_all}
-use Rattle.tally.proofs.Order.{taken-row, lowers, highers, one-row, more-row}
+use Rattle.tally.proofs.Order.{taken-row, lowers, highers, least-lower, most-higher, next-row}
 use Rattle.tally.proofs.totals.range_of.Goals as goal
 
 empty-list : (rows : List ℤ) → length rows ≡ 0 → rows ≡ []
 empty-list [] e = refl
 empty-list (z ∷ rows) e = absurd (omega arith)
 
-pub returns-then-rows-eq0 : goal.returns-then-rows-eq0
+pub returns-in_default : goal.returns-in_default
 unfolding of_all
-returns-then-rows-eq0 c =
-    let e = empty-list c.args.rows.now c.if-rows-eq0.true in
+returns-in_default c =
+    let e = empty-list c.args.rows.now c.in_default.ensures.cases in
     (rw e, rw e)
 
-pub loop-i-init : goal.loop-i-init
-loop-i-init c =
-    let rows : List ℤ = c.args.rows.now in
-    let z : ℤ = get_or rows 0 (pos 0) in
-    let f : SFits w64 z = sfits_of c.smallest-1.given in
-    let h : 0 < length rows = omega arith in
-    (omega arith, rw (taken-row z f) (one-row _ lower lowers rows h), rw (taken-row z f) (one-row _ higher highers rows h))
+pub loop-row-init : goal.loop-row-init
+unfolding of_all
+loop-row-init c =
+    let z : ℤ = c.in-Some.first.now in
+    let f : SFits w64 z = search rules in
+    rw (c.in-Some.ensures.cases.0, taken-row z f) (record { lowest = refl; highest = refl })
 
-pub loop-i-preserved : goal.loop-i-preserved
-loop-i-preserved c =
-    let l = c.loop-i in
-    let rows = c.args.rows.now in
-    let z : ℤ = get_or rows l.i (pos 0) in
-    let f : SFits w64 z = sfits_of c.lower_row-arg-1.given in
-    let low = c.lower_row-smallest.ensures ∙ ap (lower _) (taken-row z f) in
-    let high = c.higher_row-largest.ensures ∙ ap (higher _) (taken-row z f) in
-    let h : l.i < length rows = omega arith in (
-      omega arith,
-      more-row _ lower lowers rows l.i _ h l.invariant.1 ∙ ap Row (sym (taken-row _ (sfits_of c.lower_row-smallest.type_inv) ∙ low)),
-      more-row _ higher highers rows l.i _ h l.invariant.2 ∙ ap Row (sym (taken-row _ (sfits_of c.higher_row-largest.type_inv) ∙ high)),
-    )
-
-pub returns : goal.returns
-returns c =
-    let l = c.loop-i in
-    let e = take_all l.i c.args.rows.now (omega arith) in
-    (sym l.invariant.1 ∙ ap (of_all lower) e, sym l.invariant.2 ∙ ap (of_all higher) e)
+pub loop-row-preserved : goal.loop-row-preserved
+loop-row-preserved c =
+    let l = c.loop-row in
+    let e = c.in-Some.ensures.cases.0 in
+    let more = c.in-Some.more.now in
+    let z : ℤ = get_or more l.row-index (pos 0) in
+    let f : SFits w64 z = search rules in
+    let low : c.min-smallest.result ≡ lower (to_z w64 l.smallest-bits) z = rw (c.min-smallest.ensures.value, least-lower, taken-row z f) in
+    let high : c.max-largest.result ≡ higher (to_z w64 l.largest-bits) z = rw (c.max-largest.ensures.value, most-higher, taken-row z f) in
+    rw (taken-row c.min-smallest.result (sfits_of c.min-smallest.type_inv), taken-row c.max-largest.result (sfits_of c.max-largest.type_inv), low, high, e)
+    (record {
+      lowest = next-row _ lower lowers _ more l.row-index _ (omega arith) (rw e at l.invariant.lowest);
+      highest = next-row _ higher highers _ more l.row-index _ (omega arith) (rw e at l.invariant.highest);
+    })

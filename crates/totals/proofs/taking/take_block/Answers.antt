@@ -1,4 +1,4 @@
-use mathlib.Core.Path.{refl, sym, ◌∙◌}
+use mathlib.Core.Path.{refl, ◌∙◌}
 use native.Mathlib.Omega.{arith}
 use Rattle.totals.proofs.Onward.{onward-first, ends-le, onward-open, onward-on, onward-stop}
 use Rattle.totals.proofs.taking.take_block.Goals as goal
@@ -15,17 +15,18 @@ slice_bounds-take_line-start c = omega (arith, c.line_end-end.ensures)
 pub slice_bounds-take_line-end : goal.slice_bounds-take_line-end
 slice_bounds-take_line-end c = ends-le _ _ _ _ _ c.loop-totals.invariant.1 c.line_end-end.ensures
 
-pub take_line-taken-requires : goal.take_line-taken-requires
-take_line-taken-requires c =
+pub take_line-requires : goal.take_line-requires
+take_line-requires c =
     c.loop-totals.invariant.0 ∙ c.requires
 
-pub shape_of-rows-then-is_stopped : goal.shape_of-rows-then-is_stopped
-shape_of-rows-then-is_stopped c =
-    c.take_line-taken.auto.rows ∙ c.loop-totals.invariant.0
+pub shape_of-rows-in-Err : goal.shape_of-rows-in-Err
+shape_of-rows-in-Err c =
+    c.take_line.auto.rows ∙ c.loop-totals.invariant.0
 
-pub returns-then-is_stopped : goal.returns-then-is_stopped
-returns-then-is_stopped c =
-    onward-stop _ _ _ _ _ c.loop-totals.invariant.1 c.line_end-end.ensures c.if-end-input.false c.take_line-taken.result c.take_line-taken.ensures (sym c.is_stopped.ensures ∙ c.if-is_stopped.true)
+pub returns-in-Err : goal.returns-in-Err
+returns-in-Err c =
+    rw (c.stopped.ensures.next, c.stopped.ensures.totals)
+    (onward-stop _ _ _ _ _ c.loop-totals.invariant.1 c.line_end-end.ensures c.if-end-input.false c.in-Err.stop c.in-Err.ensures)
 
 pub overflow_add-from : goal.overflow_add-from
 overflow_add-from c =
@@ -37,7 +38,7 @@ loop-totals-smaller c =
 
 pub loop-totals-preserved : goal.loop-totals-preserved
 loop-totals-preserved c =
-    (c.take_line-taken.auto.rows ∙ c.loop-totals.invariant.0, onward-on _ _ _ _ _ c.loop-totals.invariant.1 c.line_end-end.ensures c.if-end-input.false c.take_line-taken.result c.take_line-taken.ensures (sym c.is_stopped.ensures ∙ c.if-is_stopped.false))
+    (c.take_line.auto.rows ∙ c.loop-totals.invariant.0, onward-on _ _ _ _ _ c.loop-totals.invariant.1 c.line_end-end.ensures c.if-end-input.false c.in-Ok.more c.in-Ok.ensures)
 
 pub loop-totals-init : goal.loop-totals-init
 loop-totals-init c = (refl, onward-first _ _)

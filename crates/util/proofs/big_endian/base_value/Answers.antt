@@ -1,6 +1,6 @@
 -- Below the sign's bit the number itself, and else minus the magnitude. Assumes nothing.
 use Rattle.format.proofs.Common.{◌∙◌, arith}
-use Rattle.util.proofs.BigEndian.{sign_bit, base_plus, base-minus, number-bits}
+use Rattle.util.proofs.BigEndian.{sign_bit, base_plus, base_negated, number-bits}
 use Rattle.util.proofs.big_endian.base_value.Goals as goal
 
 pub returns-then-x-sign : goal.returns-then-x-sign
@@ -15,6 +15,6 @@ returns-else-x-sign c =
     let a = c.args in
     let e = c.read-x.ensures in
     let b = sign_bit a.n (omega arith) (omega arith) in
-    let l = number-bits a.s.now a.at (λ j. (c.shared_slice_known-1.given j).fits) a.n (omega arith) in
-    rw b at c.sub.ensures
-    ∙ base-minus a.n (omega arith) (omega arith) a.s.now a.at (omega arith) c.read-x.result e (rw b at c.if-x-sign.false) (rw e l)
+    let l = number-bits a.s.now a.at (λ j. (c.type_inv.s j).fits) a.n (omega arith) in
+    base_negated a.n (omega arith) (omega arith) a.s.now a.at (omega arith) c.read-x.result c.wrapping_neg.result e
+    (rw b at c.if-x-sign.false) (rw e l) (omega arith) (rw b at c.wrapping_neg.ensures)

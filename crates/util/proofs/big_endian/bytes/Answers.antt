@@ -1,38 +1,37 @@
-use Rattle.format.proofs.Common.{◌≡◌, refl, ◌+◌, ◌^◌, ◌<◌, arith}
+use Rattle.format.proofs.Common.{◌≡◌, refl, ◌∙◌, ◌+◌, ◌-◌, ◌<◌, arith, get_or, drop, get_or-take, get_or-drop}
 use Rattle.format.specs.Digits.{number}
 use Rattle.util.proofs.BigEndian.{number-room, number_more}
 use Rattle.util.proofs.big_endian.bytes.Goals as goal
-use Rattle.util.proofs.big_endian.bytes.Tie as tie
-use Rattle.util.proofs.big_endian.bytes.Lts
-use Rattle.util.proofs.big_endian.bytes.Reads
 
-abbrev In-loop : Type 0
-In-loop = Lts.In-loop tie.the-claims Reads.Pre Reads.Post goal.the-invariant-loop-i goal.the-decreases-loop-i
-
-pub loop-i-init : goal.loop-i-init
+pub loop-byte-init : goal.loop-byte-init
 unfolding number
-loop-i-init c = (omega arith, refl)
+loop-byte-init c = refl
 
 -- x is of 56 bits at the most
-bound : (c : In-loop) → c.before.loop-i.x < 2 ^ 56
-bound c =
-    let k = c.before.before in
-    let a = k.before.args in
-    rw c.before.loop-i.invariant.1 (number-room a.s.now a.at (λ j. (k.shared_slice_known-1.given j).fits) c.before.loop-i.i (omega arith) (omega arith))
+pub overflow_mul-x : goal.overflow_mul-x
+overflow_mul-x c =
+    let a = c.args in
+    omega (arith, c.loop-byte.invariant, number-room a.s.now a.at (λ j. (c.type_inv.s j).fits) c.loop-byte.byte-index (omega arith) (omega arith))
 
 pub overflow_add-x : goal.overflow_add-x
 overflow_add-x c =
-    let l = c.before.before.before.before in
-    omega (arith, bound c.before.before.before, c.shared_slice_known-in-loop-i-1.given (l.before.before.args.at + l.loop-i.i))
+    let a = c.args in
+    let i = c.loop-byte.byte-index in
+    let n : a.at + a.n - a.at ≡ a.n = omega arith in
+    let h : i < a.n = omega arith in
+    let e : c.from.result ≡ get_or a.s.now (a.at + i) 0 = c.from.ensures ∙ rw (n, get_or-take a.n (drop a.at a.s.now) i 0 h, get_or-drop) in
+    omega (arith, c.loop-byte.invariant, e, c.type_inv.s (a.at + i), number-room a.s.now a.at (λ j. (c.type_inv.s j).fits) i (omega arith) (omega arith))
 
-pub loop-i-preserved : goal.loop-i-preserved
-loop-i-preserved c =
-    let l = c.before.before.before.before in
-    let a = l.before.before.args in
-    (omega arith, omega (arith, number_more a.s.now a.at l.loop-i.i (omega arith)))
+pub loop-byte-preserved : goal.loop-byte-preserved
+loop-byte-preserved c =
+    let a = c.args in
+    let i = c.loop-byte.byte-index in
+    let n : a.at + a.n - a.at ≡ a.n = omega arith in
+    let h : i < a.n = omega arith in
+    let e : c.from.result ≡ get_or a.s.now (a.at + i) 0 = c.from.ensures ∙ rw (n, get_or-take a.n (drop a.at a.s.now) i 0 h, get_or-drop) in
+    omega (arith, c.loop-byte.invariant, e, number_more a.s.now a.at i (omega arith))
 
 pub returns : goal.returns
-returns c = let e : c.loop-i.i ≡ c.args.n = omega arith in rw (← e) c.loop-i.invariant.1
-
-pub overflow_mul-x : goal.overflow_mul-x
-overflow_mul-x c = omega (arith, bound c.before)
+returns c =
+    let e : c.loop-byte.byte-index ≡ c.args.n = omega arith in
+    rw (← e) c.loop-byte.invariant

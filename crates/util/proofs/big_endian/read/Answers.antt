@@ -6,4 +6,4 @@ use Rattle.util.proofs.big_endian.read.Goals as goal
 pub returns : goal.returns
 returns c =
     let a = c.args in
-    rw c.word.ensures (of_word a.s.now a.at a.n (λ k. (c.shared_slice_known-1.given k).fits) (omega arith) (omega arith))
+    rw c.word.ensures (of_word a.s.now a.at a.n (λ k. (c.type_inv.s k).fits) (omega arith) (omega arith))

@@ -8,7 +8,7 @@ pub returns-then-len-lt8 : goal.returns-then-len-lt8
 returns-then-len-lt8 c =
     let a = c.args in
     let s = a.s.now in
-    let bytes = below_all 256 s (λ k. (c.shared_slice_known-1.given k).fits) in
+    let bytes = below_all 256 s (λ k. (c.type_inv.s k).fits) in
     c.cut.ensures
     ∙ rw c.bytes.ensures
     (sym (rw zero-add at (window s 0 (length s) a.p a.w bytes (omega arith) (omega arith) (omega arith))))
@@ -17,7 +17,7 @@ pub returns : goal.returns
 returns c =
     let a = c.args in
     let s = a.s.now in
-    let bytes = below_all 256 s (λ k. (c.shared_slice_known-1.given k).fits) in
+    let bytes = below_all 256 s (λ k. (c.type_inv.s k).fits) in
     let i = c.window-i.result in
     let h = c.window-i.ensures in
     c.cut-2.ensures

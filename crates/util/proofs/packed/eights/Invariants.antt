@@ -1,11 +1,7 @@
--- The loop's invariant: field k starts with byte b, and those before it are laid. Assumes nothing.
-use Rattle.format.proofs.Common.{◌≡◌, ◌-◌, ◌*◌, ◌%◌, ◌≤◌, length}
+-- The loop's invariant: eight fields are laid for each turn. Assumes nothing.
+use Rattle.format.proofs.Common.{◌*◌}
 use Rattle.util.specs.Packed.{FieldsLaid}
 use Rattle.util.proofs.packed.eights.Given as goal
 
-abbrev pub invariant-loop-k : goal.invariant-loop-k
-invariant-loop-k l =
-    (8 * l.b ≡ l.k * l.w) × (l.k % 8 ≡ 0) × (l.k ≤ l.whole) × (length l.out ≡ length l.initial.out) × FieldsLaid l.w l.n l.s l.k l.initial.out l.out
-
-abbrev pub decreases-loop-k : goal.decreases-loop-k
-decreases-loop-k l = l.whole - l.k
+abbrev pub invariant-loop-turn : goal.invariant-loop-turn
+invariant-loop-turn l = FieldsLaid l.w l.n l.s (8 * l.turn) l.initial.out l.out

@@ -16,19 +16,19 @@ pub returns-then-w-eq32 : goal.returns-then-w-eq32
 returns-then-w-eq32 c =
     let a = c.args in
     let s = a.s.now in
-    let bytes = below_all 256 s (λ k. (c.shared_slice_known-1.given k).fits) in
+    let bytes = below_all 256 s (λ k. (c.type_inv.s k).fits) in
     let e : a.w ≡ 32 = c.if-w-eq32.true in
     let q : bits (8 * (a.b + 4 * a.j)) 32 s ≡ bits (8 * a.b + a.j * a.w) a.w s = rw e (ap (λ (y : ℕ). bits y 32 s) (omega arith)) in
-    c.half.ensures ∙ sym (whole s (a.b + 4 * a.j) 4 (λ k. (c.shared_slice_known-1.given k).fits) (omega arith)) ∙ q
+    c.half.ensures ∙ sym (whole s (a.b + 4 * a.j) 4 (λ k. (c.type_inv.s k).fits) (omega arith)) ∙ q
 
 pub returns-then-w-eq16 : goal.returns-then-w-eq16
 returns-then-w-eq16 c =
     let a = c.args in
     let s = a.s.now in
-    let bytes = below_all 256 s (λ k. (c.shared_slice_known-1.given k).fits) in
+    let bytes = below_all 256 s (λ k. (c.type_inv.s k).fits) in
     let e : a.w ≡ 16 = c.if-w-eq16.true in
     let q : bits (8 * (a.b + 2 * a.j)) 16 s ≡ bits (8 * a.b + a.j * a.w) a.w s = rw e (ap (λ (y : ℕ). bits y 16 s) (omega arith)) in
-    c.quarter.ensures ∙ sym (whole s (a.b + 2 * a.j) 2 (λ k. (c.shared_slice_known-1.given k).fits) (omega arith)) ∙ q
+    c.quarter.ensures ∙ sym (whole s (a.b + 2 * a.j) 2 (λ k. (c.type_inv.s k).fits) (omega arith)) ∙ q
 
 pub overflow_mul-p : goal.overflow_mul-p
 overflow_mul-p c = let p = c.requires in omega (arith, (ends _ _ p.width p.j_bound.0).1)
@@ -40,7 +40,7 @@ pub returns-then-p-w-le64 : goal.returns-then-p-w-le64
 returns-then-p-w-le64 c =
     let a = c.args in
     let s = a.s.now in
-    let bytes = below_all 256 s (λ k. (c.shared_slice_known-1.given k).fits) in
+    let bytes = below_all 256 s (λ k. (c.type_inv.s k).fits) in
     let p = a.j * a.w in
     let e : 8 * (a.b + 8) - (8 * a.b + p + a.w) ≡ 64 - (p + a.w) = omega arith in
     c.cut.ensures
@@ -58,7 +58,7 @@ pub returns : goal.returns
 returns c =
     let a = c.args in
     let s = a.s.now in
-    let bytes = below_all 256 s (λ k. (c.shared_slice_known-1.given k).fits) in
+    let bytes = below_all 256 s (λ k. (c.type_inv.s k).fits) in
     let p = a.j * a.w in
     let i = c.window-i.result in
     let e : 8 * (a.b + i + 8) - (8 * a.b + p + a.w) ≡ 8 * (i + 8) - (p + a.w) = omega arith in

@@ -1,5 +1,5 @@
 -- The leading zeros give the bits that x has. Assumes nothing.
-use Rattle.format.proofs.Common.{◌≡◌, sym, ap, ◌-◌, arith, length}
+use Rattle.format.proofs.Common.{◌≡◌, sym, ap, ◌∙◌, ◌+◌, ◌/◌, ◌-◌, arith, length}
 use lib.Count.{count_leading_zeros, leading_le, leading_length}
 use Rattle.format.specs.Fields.{shortest}
 use Rattle.format.proofs.Varints.{shortest-last}
@@ -16,7 +16,8 @@ returns c =
     let x = c.args.x in
     let l = leading_length 64 x c.ranges.x.fits in
     let e : 64 - count_leading_zeros 64 x ≡ l.0 = omega (arith, l.1) in
-    rw e (sym (sized 10 x l.0 (omega arith) (bits-some x l.0 (omega arith) l.2, l.2, l.3)))
+    let d : c.div_ceil.result ≡ (l.0 + 6) / 7 = omega arith in
+    d ∙ sym (sized 10 x l.0 (omega arith) (bits-some x l.0 (omega arith) l.2, l.2, l.3))
 
 pub overflow_sub-bits : goal.overflow_sub-bits
 overflow_sub-bits c = leading_le 64 c.args.x

@@ -10,5 +10,5 @@ returns-then-rows-lt2 c = let rows = c.args.rows.now in base-none (map as_u64 ro
 
 pub returns : goal.returns
 returns c = let rows = c.args.rows.now in
-    c.sub.ensures ∙ ap₂ minus c.pattern_of.ensures c.pattern_of-2.ensures
+    ap₂ minus c.pattern_of.ensures c.pattern_of-2.ensures
     ∙ base-some (map as_u64 rows) (rw (length-map rows as_u64) (omega arith))

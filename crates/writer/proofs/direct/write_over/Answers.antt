@@ -13,28 +13,28 @@ use Rattle.writer.proofs.direct.write_over.Goals as goal
 
 pub pack-requires : goal.pack-requires
 pack-requires c =
-    let known : Packed c.args.rows.now c.args.signed Direct kind.Direct c.args.code
-    (head 1 c.args.code (length c.args.rows.now)) (length c.args.rows.now) c.bits_of-bits.result = direct-packed c.args.rows.now c.args.signed c.args.code (omega arith) (omega arith) c.requires.code_value
+    let known : Packed c.args.run.rows.now c.args.run.signed Direct kind.Direct c.args.run.code
+    (head 1 c.args.run.code (length c.args.run.rows.now)) (length c.args.run.rows.now) c.bits_of-bits.result = direct-packed c.args.run.rows.now c.args.run.signed c.args.run.code (omega arith) (omega arith) c.args.run.kept
     c.bits_of-bits.ensures in
-    let size_is : c.args.bytes.bytes ≡ 2 + bytes_for (length c.args.rows.now * c.bits_of-bits.result) = all-of-it (known) c.requires.sized (omega arith) in
-    let stand : take (length c.args.rows.now) c.store.new.vals ≡ values_of c.args.signed Direct (map as_u64 c.args.rows.now) = direct-values c.args.rows.now c.args.signed c.store.new.vals _ c.store.ensures in
-    let i = width-known c.args.code c.bits_of-bits.ensures in record { width = (i.pos, i.le, i.window); n_bound = omega (arith, size_is, c.store.auto.vals); all_below = values-below (known) c.requires.sized (omega arith) _ (stand) }
+    let size_is : c.args.bytes.bytes ≡ 2 + bytes_for (length c.args.run.rows.now * c.bits_of-bits.result) = all-of-it (known) c.requires.sized (omega arith) in
+    let stand : take (length c.args.run.rows.now) c.store.new.vals ≡ values_of c.args.run.signed Direct (map as_u64 c.args.run.rows.now) = direct-values c.args.run.rows.now c.args.run.signed c.store.new.vals _ c.store.ensures in
+    let i = width-known c.args.run.code c.bits_of-bits.ensures in record { width = (i.pos, i.le, i.window); n_bound = omega (arith, size_is, c.store.auto.vals); all_below = values-below (known) c.requires.sized (omega arith) _ (stand) }
 
 pub returns : goal.returns
 returns c r e =
-    let known : Packed c.args.rows.now c.args.signed Direct kind.Direct c.args.code
-    (head 1 c.args.code (length c.args.rows.now)) (length c.args.rows.now) c.bits_of-bits.result = direct-packed c.args.rows.now c.args.signed c.args.code (omega arith) (omega arith) c.requires.code_value
+    let known : Packed c.args.run.rows.now c.args.run.signed Direct kind.Direct c.args.run.code
+    (head 1 c.args.run.code (length c.args.run.rows.now)) (length c.args.run.rows.now) c.bits_of-bits.result = direct-packed c.args.run.rows.now c.args.run.signed c.args.run.code (omega arith) (omega arith) c.args.run.kept
     c.bits_of-bits.ensures in
-    let stand : take (length c.args.rows.now) c.store.new.vals ≡ values_of c.args.signed Direct (map as_u64 c.args.rows.now) = direct-values c.args.rows.now c.args.signed c.store.new.vals _ c.store.ensures in
+    let stand : take (length c.args.run.rows.now) c.store.new.vals ≡ values_of c.args.run.signed Direct (map as_u64 c.args.run.rows.now) = direct-values c.args.run.rows.now c.args.run.signed c.store.new.vals _ c.store.ensures in
     packed (known) c.requires.sized (omega arith) _ c.args.out.now c.write.new.out
     c.pack.new.out 2 r (stand) (omega arith)
-    (e ∙ ap (λ (b : ℕ). ran kind.Direct b (length c.args.rows.now) c.args.bytes.bytes)
+    (e ∙ ap (λ (b : ℕ). ran kind.Direct b (length c.args.run.rows.now) c.args.bytes.bytes)
     (sym c.bits_of-bits.ensures)) refl c.write.ensures c.pack.ensures
 
 pub write-requires : goal.write-requires
 write-requires c =
-    let known : Packed c.args.rows.now c.args.signed Direct kind.Direct c.args.code
-    (head 1 c.args.code (length c.args.rows.now)) (length c.args.rows.now) c.bits_of-bits.result = direct-packed c.args.rows.now c.args.signed c.args.code (omega arith) (omega arith) c.requires.code_value
+    let known : Packed c.args.run.rows.now c.args.run.signed Direct kind.Direct c.args.run.code
+    (head 1 c.args.run.code (length c.args.run.rows.now)) (length c.args.run.rows.now) c.bits_of-bits.result = direct-packed c.args.run.rows.now c.args.run.signed c.args.run.code (omega arith) (omega arith) c.args.run.kept
     c.bits_of-bits.ensures in
-    let size_is : c.args.bytes.bytes ≡ 2 + bytes_for (length c.args.rows.now * c.bits_of-bits.result) = all-of-it (known) c.requires.sized (omega arith) in
+    let size_is : c.args.bytes.bytes ≡ 2 + bytes_for (length c.args.run.rows.now * c.bits_of-bits.result) = all-of-it (known) c.requires.sized (omega arith) in
     omega (arith, size_is)

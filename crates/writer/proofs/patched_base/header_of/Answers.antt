@@ -11,15 +11,16 @@ use Rattle.format.specs.PatchedWriting.{differences, lows, Entry, entries_from, 
 use Rattle.format.proofs.Rows.{width-le}
 use Rattle.format.proofs.Widths.{width-pos}
 use Rattle.format.proofs.PatchedWriting.{code-width, width-56, es-below, gaps-255}
+use Rattle.std.specs.Prelude.{Some}
 use Rattle.writer.specs.PatchedBase.{Largest, Listed}
 use Rattle.writer.proofs.PatchedLaws.{patch-code-is, values-held, gap-width-is, gap-small}
 use Rattle.writer.proofs.PatchedHeader.{no_code, no-base, no_gap, no-list, all_held}
 use Rattle.writer.proofs.patched_base.header_of.Goals as goal
 
-pub fill-entries-requires : goal.fill-entries-requires
-fill-entries-requires c =
+pub fill-requires : goal.fill-requires
+fill-requires c =
     let bits : ℕ = c.args.bits in
-    let is-code : code_for (bits) < 32 = omega (arith, c.table_code-code.ensures) in
+    let is-code : code_for (bits) < 32 = omega (arith, c.in_ok-code.ensures) in
     let bits-le : (bits) ≤ 64 = rw (code-width (bits) (is-code)) at (width-le (code_for (bits))) in
     let rows : List ℤ = c.args.rows.now in
     let ds : List ℕ = differences c.args.base (map as_u64 (rows)) in
@@ -44,7 +45,7 @@ fill-entries-requires c =
 pub returns : goal.returns
 returns c =
     let bits : ℕ = c.args.bits in
-    let is-code : code_for (bits) < 32 = omega (arith, c.table_code-code.ensures) in
+    let is-code : code_for (bits) < 32 = omega (arith, c.in_ok-code.ensures) in
     let rows : List ℤ = c.args.rows.now in
     let ds : List ℕ = differences c.args.base (map as_u64 (rows)) in
     let length-ds : length (ds) ≡ length (rows) = length-map (map as_u64 (rows)) (λ r. minus r c.args.base) ∙ length-map (rows) as_u64 in
@@ -54,19 +55,19 @@ returns c =
     let most : Largest (differences c.args.base (rs)) c.largest.result = rw (stand) at c.largest.ensures in
     let patch-is : c.narrowest_code-patch.result ≡ patch_code (patches_in c.args.base c.args.bits (rs)) = patch-code-is c.args.bits _ _ (differences c.args.base (rs)) (most) (rw c.above.ensures at c.narrowest_code-patch.ensures) in
     let qs : List Patch = patches_in c.args.base c.args.bits (map as_u64 (rows)) in
-    let long-list : length c.fill-entries.new.list ≡ 31 = omega (arith, c.fill-entries.auto.list) in
+    let long-list : length c.fill.new.list ≡ 31 = omega (arith, c.fill.auto.list) in
     let pw₂ : ℕ = c.bits_of-pw.result in
-    let few : c.fill-entries.result ≤ length c.fill-entries.new.list = c.if-list-entries.false in
-    let listed : Listed c.bits_of-pw.result (entries_from 0 (qs)) c.fill-entries.new.list c.fill-entries.result = rw (stand) at c.fill-entries.ensures in
-    let fields-are : take c.fill-entries.result c.fill-entries.new.list ≡ map (field (pw₂)) (entries_from 0 (qs)) = listed.held (few) in
+    let listed : Listed c.bits_of-pw.result (entries_from 0 (qs)) c.fill.new.list (Some c.in_ok-entries.entries) = rw (stand) at c.in_ok-entries.ensures in
+    let few : c.in_ok-entries.entries ≤ length c.fill.new.list = listed.0 in
+    let fields-are : take c.in_ok-entries.entries c.fill.new.list ≡ map (field (pw₂)) (entries_from 0 (qs)) = listed.1 in
     let most-entry : Largest (map (field (pw₂)) (entries_from 0 (qs))) c.largest-2.result = rw (fields-are) at c.largest-2.ensures in
     let pw : ℕ = c.bits_of-pw.result in
     let pw-is : (pw) ≡ width (patch_code (patches_in c.args.base c.args.bits (rs))) = c.bits_of-pw.ensures ∙ ap (λ (c : ℕ). width c) (patch-is) in
     let patches-fit : AllBelow (2 ^ (pw₂)) (map (λ e. e.patch) (entries_from 0 (qs))) = subst (λ (x : ℕ). AllBelow (2 ^ x) (map (λ e. e.patch) (entries_from 0 (qs)))) (sym (pw-is))
     (es-below c.args.base c.args.bits (map as_u64 c.args.rows.now)) in
     let a = c.args in
-    let ls : List ℕ = c.fill-entries.new.list in
-    let k : ℕ = c.fill-entries.result in
+    let ls : List ℕ = c.fill.new.list in
+    let k : ℕ = c.in_ok-entries.entries in
     let es : List Entry = entries_from 0 (qs) in
     let vs : c.keep_low.new.vals ≡ lows a.bits (ds) ++ drop (length a.rows.now) c.differences.new.vals =
     rw (stand) at c.keep_low.ensures in
@@ -74,7 +75,7 @@ returns c =
     let code : ℕ = c.narrowest_code-patch.result in
     let pw-code : pw₂ ≡ width code = c.bits_of-pw.ensures in
     all_held a.base a.bits (map as_u64 a.rows.now) _ c.keep_low.new.vals ls
-    c.table_code-code.ensures (sym (length-map a.rows.now as_u64))
+    (c.in_ok-code.ensures.0) (sym (length-map a.rows.now as_u64))
     c.base_size-size.ensures (patch-is)
     (c.gap_width-gap.ensures ∙ gap-width-is (pw₂) c.largest-2.result es (patches-fit) (most-entry))
     (sym (length-take-le k ls (few)) ∙ ap (λ (l : List ℕ). length l) (fields-are) ∙ length-map es (field (pw₂)))
@@ -86,8 +87,8 @@ returns c =
     (omega (arith, c.base_size-size.ensures, c.if-size-gt8.false))
     c.narrowest_code-patch.ensures.is_code (λ z. c.if-pw-eq64.false (pw-code ∙ z)) (width-le code) few-entries (few)
 
-pub returns-then-code-gt31 : goal.returns-then-code-gt31
-returns-then-code-gt31 c = no_code _ _ _ (omega (arith, c.table_code-code.ensures))
+pub returns-in_err-code : goal.returns-in_err-code
+returns-in_err-code c = rw c.from_residual.ensures (no_code c.args.base c.args.bits (map as_u64 c.args.rows.now) (omega (arith, c.in_err-code.ensures)))
 
 pub returns-then-size-gt8 : goal.returns-then-size-gt8
 returns-then-size-gt8 c = no-base _ _ _ (omega (arith, c.base_size-size.ensures))
@@ -95,7 +96,7 @@ returns-then-size-gt8 c = no-base _ _ _ (omega (arith, c.base_size-size.ensures)
 pub above-requires : goal.above-requires
 above-requires c =
     let bits : ℕ = c.args.bits in
-    let is-code : code_for (bits) < 32 = omega (arith, c.table_code-code.ensures) in
+    let is-code : code_for (bits) < 32 = omega (arith, c.in_ok-code.ensures) in
     let bits-le : (bits) ≤ 64 = rw (code-width (bits) (is-code)) at (width-le (code_for (bits))) in
     bits-le
 
@@ -110,16 +111,15 @@ returns-then-pw-eq64 c =
     let patch-is : c.narrowest_code-patch.result ≡ patch_code (patches_in c.args.base c.args.bits (rs)) = patch-code-is c.args.bits _ _ (differences c.args.base (rs)) (most) (rw c.above.ensures at c.narrowest_code-patch.ensures) in
     no_gap _ _ _ (sym (c.bits_of-pw.ensures ∙ ap (λ (n : ℕ). width n) (patch-is)) ∙ c.if-pw-eq64.true)
 
-pub returns-then-list-entries : goal.returns-then-list-entries
-returns-then-list-entries c =
+pub returns-in_err-entries : goal.returns-in_err-entries
+returns-in_err-entries c =
     let rows : List ℤ = c.args.rows.now in
     let ds : List ℕ = differences c.args.base (map as_u64 (rows)) in
     let length-ds : length (ds) ≡ length (rows) = length-map (map as_u64 (rows)) (λ r. minus r c.args.base) ∙ length-map (rows) as_u64 in
     let stand : take (length (rows)) c.differences.new.vals ≡ (ds) = ap (λ (l : List ℕ). take (length (rows)) l) c.differences.ensures ∙ take_at (ds) (drop (length (rows)) c.args.vals.now) (length (rows)) (length-ds) in
-    let qs : List Patch = patches_in c.args.base c.args.bits (map as_u64 (rows)) in
-    let listed : Listed c.bits_of-pw.result (entries_from 0 (qs)) c.fill-entries.new.list c.fill-entries.result = rw (stand) at c.fill-entries.ensures in
-    let long-list : length c.fill-entries.new.list ≡ 31 = omega (arith, c.fill-entries.auto.list) in
-    no-list _ _ _ (omega (arith, listed.over c.if-list-entries.true, long-list))
+    let long-list : length c.fill.new.list ≡ 31 = omega (arith, c.fill.auto.list) in
+    let over : length c.fill.new.list < length (entries_from 0 (patches_in c.args.base c.args.bits (map as_u64 (rows)))) = rw (stand) at c.in_err-entries.ensures in
+    rw c.from_residual-in_err-entries.ensures (no-list c.args.base c.args.bits (map as_u64 (rows)) (omega (arith, over, long-list)))
 
 pub overflow_shr-largest : goal.overflow_shr-largest
 overflow_shr-largest c =
@@ -136,9 +136,9 @@ gap_width-gap-requires c =
     let ds : List ℕ = differences c.args.base (map as_u64 (rows)) in
     let length-ds : length (ds) ≡ length (rows) = length-map (map as_u64 (rows)) (λ r. minus r c.args.base) ∙ length-map (rows) as_u64 in
     let stand : take (length (rows)) c.differences.new.vals ≡ (ds) = ap (λ (l : List ℕ). take (length (rows)) l) c.differences.ensures ∙ take_at (ds) (drop (length (rows)) c.args.vals.now) (length (rows)) (length-ds) in
-    let listed : Listed c.bits_of-pw.result (entries_from 0 (qs)) c.fill-entries.new.list c.fill-entries.result = rw (stand) at c.fill-entries.ensures in
-    let few : c.fill-entries.result ≤ length c.fill-entries.new.list = c.if-list-entries.false in
-    let fields-are : take c.fill-entries.result c.fill-entries.new.list ≡ map (field (pw₂)) (entries_from 0 (qs)) = listed.held (few) in
+    let listed : Listed c.bits_of-pw.result (entries_from 0 (qs)) c.fill.new.list (Some c.in_ok-entries.entries) = rw (stand) at c.in_ok-entries.ensures in
+    let few : c.in_ok-entries.entries ≤ length c.fill.new.list = listed.0 in
+    let fields-are : take c.in_ok-entries.entries c.fill.new.list ≡ map (field (pw₂)) (entries_from 0 (qs)) = listed.1 in
     let most-entry : Largest (map (field (pw₂)) (entries_from 0 (qs))) c.largest-2.result = rw (fields-are) at c.largest-2.ensures in
     let rs : List ℕ = map as_u64 c.args.rows.now in
     let most : Largest (differences c.args.base (rs)) c.largest.result = rw (stand) at c.largest.ensures in
@@ -152,7 +152,7 @@ gap_width-gap-requires c =
 pub keep_low-requires : goal.keep_low-requires
 keep_low-requires c =
     let bits : ℕ = c.args.bits in
-    let is-code : code_for (bits) < 32 = omega (arith, c.table_code-code.ensures) in
+    let is-code : code_for (bits) < 32 = omega (arith, c.in_ok-code.ensures) in
     let bits-le : (bits) ≤ 64 = rw (code-width (bits) (is-code)) at (width-le (code_for (bits))) in
     let bits_pos : 0 < (bits) = rw (code-width (bits) (is-code)) at (width-pos (code_for (bits))) in
     let rows : List ℤ = c.args.rows.now in

@@ -1,4 +1,6 @@
 -- The sizes are known before the first store; head, base, values and list are then laid one after another. Assumes nothing.
+use Rattle.std.specs.Prelude.{Some, Ok}
+use mathlib.Core.Path.{ap}
 use Rattle.format.proofs.Common.{◌∙◌, ◌+◌, ◌*◌, ◌≤◌, arith, length}
 use Rattle.format.specs.Fields.{bytes_for}
 use Rattle.format.proofs.Widths.{IsWidth, least-is}
@@ -96,8 +98,8 @@ returns c =
     } in
     laid c.requires (sized) c.args.out.now c.write_head.new.out
     c.write.new.out c.pack.new.out
-    c.pack-2.new.out c.run.result
-    c.if-out-end.false c.run.ensures
+    c.pack-2.new.out (Ok (Some c.new.result))
+    c.if-out-end.false (ap (λ r. Ok (Some r)) c.new.ensures)
     c.write_head.ensures
     (rw c.sign_magnitude.ensures at c.write.ensures)
     c.pack.ensures c.pack-2.ensures

@@ -1,16 +1,22 @@
 -- No size is refused by the test that failed; otherwise the header byte and the value are all of the run. Assumes nothing.
-use Rattle.format.proofs.Common.{◌≡◌, ap, ◌∙◌, map, ℕ, ◌+◌, ◌≤◌, arith}
+use Rattle.std.specs.Prelude.{Some, Ok}
+use Rattle.format.proofs.Common.{◌≡◌, ap, ◌∙◌, map, ℕ, arith, refl}
 use Rattle.format.specs.Rows.{as_u64}
 use Rattle.format.specs.Writing
 use Rattle.format.specs.Writing.{first_of}
 use Rattle.writer.proofs.ShortForm.{Short, short-known, refused-form, refused-fit, too-little, repeat-size, repeated}
+use Rattle.writer.specs.Sizes.{unfit}
 use Rattle.writer.proofs.short_repeat.write.Goals as goal
+use Rattle.writer.proofs.short_repeat.write.Goals.{then-are_same, else-are_same}
 
-pub returns-then-are_same : goal.returns-then-are_same
-returns-then-are_same c =
+pub returns-in_default : goal.returns-in_default
+returns-in_default c =
     let known : Short c.args.rows.now c.args.signed c.args.width = short-known c.args.rows.now c.args.signed c.args.width (omega arith) (omega arith) (omega arith) (omega arith) in
-    refused-fit (known) _ c.are_same.ensures c.if-are_same.true c.size-bytes.ensures c.if-total-eq0.true
-    c.args.out.now c.refused.result c.refused.ensures
+    let none = rw c.in_default.is at c.size.ensures in
+    elim c.if-are_same.branch [
+      | then-are_same w ↦ refused-fit (known) _ c.are_same.ensures w.if-are_same.true (unfit none) refl c.args.out.now c.refused.result (rw w.refused-is at c.refused.ensures)
+      | else-are_same w ↦ refused-form (known) _ c.are_same.ensures w.if-are_same.false c.args.out.now c.refused.result (rw w.refused-is at c.refused.ensures)
+    ]
 
 pub returns : goal.returns
 returns c =
@@ -18,27 +24,24 @@ returns c =
     let a = c.args in
     let v : c.stored-value.result ≡ first_of a.signed (map as_u64 a.rows.now) =
     c.stored-value.ensures ∙ ap (λ (x : ℕ). Writing.stored a.signed x) c.pattern_of.ensures in
-    repeated (known) c.size-bytes.ensures (omega arith) a.out.now c.write_head.new.out c.write.new.out c.run.result c.if-out-total.false
-    c.run.ensures c.write_head.ensures (rw v at c.write.ensures)
+    let m = rw c.in-Some.is at c.size.ensures in
+    repeated (known) m.0 m.1 a.out.now c.write_head.new.out c.write.new.out (Ok (Some c.new.result)) c.if-out-bytes.false
+    (ap (λ r. Ok (Some r)) c.new.ensures) c.write_head.ensures (rw v at c.write.ensures)
 
-pub returns-then-total-eq0 : goal.returns-then-total-eq0
-returns-then-total-eq0 c =
+pub returns-then-out-bytes : goal.returns-then-out-bytes
+returns-then-out-bytes c =
     let known : Short c.args.rows.now c.args.signed c.args.width = short-known c.args.rows.now c.args.signed c.args.width (omega arith) (omega arith) (omega arith) (omega arith) in
-    refused-form (known) _ c.are_same.ensures c.if-are_same.false c.args.out.now c.refused-then-total-eq0.result c.refused-then-total-eq0.ensures
-
-pub returns-then-out-total : goal.returns-then-out-total
-returns-then-out-total c =
-    let known : Short c.args.rows.now c.args.signed c.args.width = short-known c.args.rows.now c.args.signed c.args.width (omega arith) (omega arith) (omega arith) (omega arith) in
-    too-little (known) c.size-bytes.ensures (omega arith) c.args.out.now c.refused-then-out-total.result c.if-out-total.true c.refused-then-out-total.ensures
+    let m = rw c.in-Some.is at c.size.ensures in
+    too-little (known) m.0 m.1 c.args.out.now c.refused-then-out-bytes.result c.if-out-bytes.true c.refused-then-out-bytes.ensures
 
 pub write_head-requires : goal.write_head-requires
 write_head-requires c =
     let known : Short c.args.rows.now c.args.signed c.args.width = short-known c.args.rows.now c.args.signed c.args.width (omega arith) (omega arith) (omega arith) (omega arith) in
-    let size_is : 1 ≤ c.size-bytes.result.bytes → c.size-bytes.result.bytes ≡ 1 + c.args.width = λ h. repeat-size (known) c.size-bytes.ensures h in
-    omega (arith, size_is (omega arith))
+    let m = rw c.in-Some.is at c.size.ensures in
+    omega (arith, repeat-size (known) m.0 m.1)
 
 pub write-requires : goal.write-requires
 write-requires c =
     let known : Short c.args.rows.now c.args.signed c.args.width = short-known c.args.rows.now c.args.signed c.args.width (omega arith) (omega arith) (omega arith) (omega arith) in
-    let size_is : 1 ≤ c.size-bytes.result.bytes → c.size-bytes.result.bytes ≡ 1 + c.args.width = λ h. repeat-size (known) c.size-bytes.ensures h in
-    omega (arith, size_is (omega arith))
+    let m = rw c.in-Some.is at c.size.ensures in
+    omega (arith, repeat-size (known) m.0 m.1)

@@ -6,7 +6,4 @@ use Rattle.writer.proofs.Turns.{Tested}
 use Rattle.writer.proofs.values.all_steps_fit.Given as goal
 
 abbrev pub invariant-loop-i : goal.invariant-loop-i
-invariant-loop-i l = Tested (λ x. ltb x (2 ^ l.bits)) (length l.rows) (λ k. steps_of l.falling (drop k (map as_u64 l.rows))) l.i
-
-abbrev pub decreases-loop-i : goal.decreases-loop-i
-decreases-loop-i l = length l.rows - l.i
+invariant-loop-i l = Tested (λ x. ltb x (2 ^ l.bits)) (length l.rows) (λ k. steps_of l.falling (drop k (map as_u64 l.rows))) (l.i - 1)

@@ -1,5 +1,6 @@
-use Rattle.format.proofs.Common.{◌∙◌, arith}
+use Rattle.format.proofs.Common.{arith, rules}
 use Rattle.format.specs.Writing.{minus}
+use Rattle.writer.proofs.Laws.{bits_at}
 use Rattle.writer.proofs.Turns.{fill-first, store-next, store-end}
 use Rattle.writer.proofs.values.differences.Goals as goal
 
@@ -9,7 +10,7 @@ loop-i-init c = fill-first _ _ _
 pub loop-i-preserved : goal.loop-i-preserved
 loop-i-preserved c = let a = c.args in
     store-next (λ r. minus r a.base) a.rows.now c.loop-i.invariant (omega arith) (omega arith)
-    (c.sub.ensures ∙ rw c.pattern_of.ensures)
+    (rw (c.cast_unsigned.ensures, bits_at a.rows.now c.loop-i.i (search rules)))
 
 pub shape_of-vals : goal.shape_of-vals
 shape_of-vals c = c.loop-i.invariant.long

@@ -2,7 +2,7 @@
 use Rattle.writer.proofs.values.step.Goals as goal
 
 pub returns-then-falling : goal.returns-then-falling
-returns-then-falling c = rw c.if-falling.true c.sub.ensures
+returns-then-falling c = rw c.if-falling.true
 
 pub returns-else-falling : goal.returns-else-falling
-returns-else-falling c = rw c.if-falling.false c.sub-else-falling.ensures
+returns-else-falling c = rw c.if-falling.false

@@ -7,6 +7,3 @@ use Rattle.writer.proofs.values.steps.Given as goal
 
 abbrev pub invariant-loop-i : goal.invariant-loop-i
 invariant-loop-i l = Filled (length l.rows - 1) (λ k. steps_of l.falling (drop k (map as_u64 l.rows))) l.initial.vals l.vals l.i
-
-abbrev pub decreases-loop-i : goal.decreases-loop-i
-decreases-loop-i l = length l.rows - l.i

@@ -1,5 +1,6 @@
-use Rattle.format.proofs.Common.{◌∙◌, arith}
+use Rattle.format.proofs.Common.{◌∙◌, arith, rules}
 use Rattle.format.specs.Writing
+use Rattle.writer.proofs.Laws.{bits_at}
 use Rattle.writer.proofs.Turns.{fill-first, store-next, store-end}
 use Rattle.writer.proofs.values.store.Goals as goal
 
@@ -9,7 +10,7 @@ loop-i-init c = fill-first _ _ _
 pub loop-i-preserved : goal.loop-i-preserved
 loop-i-preserved c = let a = c.args in
     store-next (Writing.stored a.signed) a.rows.now c.loop-i.invariant (omega arith) (omega arith)
-    (c.stored.ensures ∙ rw c.pattern_of.ensures)
+    (c.stored.ensures ∙ rw c.cast_unsigned.ensures (rw (bits_at a.rows.now c.loop-i.i (search rules))))
 
 pub shape_of-vals : goal.shape_of-vals
 shape_of-vals c = c.loop-i.invariant.long

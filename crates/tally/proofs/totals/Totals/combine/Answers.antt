@@ -6,18 +6,17 @@ use Rattle.tally.proofs.totals.Totals.combine.Goals as goal
 pub returns-then-too_many : goal.returns-then-too_many
 unfolding combined
 returns-then-too_many c =
-    rw (c.stopped.ensures, sym c.too_many.ensures ∙ c.if-too_many.true)
+    rw (c.at.ensures, sym c.too_many.ensures ∙ c.if-too_many.true)
 
 pub returns-then-too_many-2 : goal.returns-then-too_many-2
 unfolding combined
 returns-then-too_many-2 c =
-    rw (c.stopped-then-too_many-2.ensures, sym c.too_many.ensures ∙ c.if-too_many.false, sym c.too_many-2.ensures ∙ c.if-too_many-2.true)
+    rw (c.at-then-too_many-2.ensures, sym c.too_many.ensures ∙ c.if-too_many.false, sym c.too_many-2.ensures ∙ c.if-too_many-2.true)
 
 pub returns : goal.returns
 unfolding combined
 returns c =
     rw (
-      c.going.ensures,
       c.together.ensures,
       sym c.too_many.ensures ∙ c.if-too_many.false,
       sym c.too_many-2.ensures

@@ -7,21 +7,21 @@ use Rattle.tally.proofs.totals.Totals.take.Goals as goal
 pub returns-then-too_many : goal.returns-then-too_many
 unfolding take_line
 returns-then-too_many c =
-    rw (c.stopped.ensures, sym c.too_many.ensures ∙ c.if-too_many.true)
+    rw (c.at.ensures, sym c.too_many.ensures ∙ c.if-too_many.true)
 
 pub returns-then-too_many-2 : goal.returns-then-too_many-2
 unfolding take_line
 returns-then-too_many-2 c =
     let a = c.args in
     let many : ltb limit (a.self.rows + length (rows_in (line_with a.reply a.rows.now))) ≡ true =
-    rw c.row_count-count.ensures at (sym c.too_many-2.ensures ∙ c.if-too_many-2.true) in
-    rw (c.stopped-then-too_many-2.ensures, sym c.too_many.ensures ∙ c.if-too_many.false, many)
+    rw c.row_count.ensures at (sym c.too_many-2.ensures ∙ c.if-too_many-2.true) in
+    rw (c.at-then-too_many-2.ensures, sym c.too_many.ensures ∙ c.if-too_many.false, many)
 
 pub of_line-requires : goal.of_line-requires
 of_line-requires c =
     let a = c.args in
     let n : ℕ = length (rows_in (line_with a.reply a.rows.now)) in
-    let few : ltb limit (a.self.rows + n) ≡ false = rw c.row_count-count.ensures at (sym c.too_many-2.ensures ∙ c.if-too_many-2.false) in
+    let few : ltb limit (a.self.rows + n) ≡ false = rw c.row_count.ensures at (sym c.too_many-2.ensures ∙ c.if-too_many-2.false) in
     let h : a.self.rows + n ≤ limit = ltb-false limit (a.self.rows + n) few in
     let g : n ≤ limit = omega arith in
     g
@@ -31,9 +31,8 @@ unfolding take_line
 returns c =
     let a = c.args in
     let few : ltb limit (a.self.rows + length (rows_in (line_with a.reply a.rows.now))) ≡ false =
-    rw c.row_count-count.ensures at (sym c.too_many-2.ensures ∙ c.if-too_many-2.false) in
+    rw c.row_count.ensures at (sym c.too_many-2.ensures ∙ c.if-too_many-2.false) in
     rw (
-      c.going.ensures,
       c.together.ensures,
       c.of_line.ensures,
       sym c.too_many.ensures

@@ -4,15 +4,4 @@ use Rattle.tally.proofs.totals.Totals.together.Goals as goal
 
 pub returns : goal.returns
 unfolding together
-returns c =
-    rw (
-      c.plus.ensures,
-      c.higher.ensures,
-      c.lower.ensures,
-      c.wrapping_add_u64-4.ensures.value,
-      c.wrapping_add_u64-3.ensures.value,
-      c.wrapping_add_u64-2.ensures.value,
-      c.wrapping_add_u64.ensures.value,
-      c.add_each-2.ensures,
-      c.add_each.ensures,
-    )
+returns c = rw (c.plus.ensures, c.higher.ensures, c.lower.ensures, c.add_each-2.ensures, c.add_each.ensures)

@@ -1,9 +1,0 @@
--- A number below the lower limit is refused, another is held to the upper one. Assumes nothing.
-use borrow.Author.Tests.{lt-leb, le-leb}
-use Rattle.writer.proofs.allowed.between.Goals as goal
-
-pub returns-then-n-low : goal.returns-then-n-low
-returns-then-n-low c = simp (lt-leb _ _ c.if-n-low.true)
-
-pub returns : goal.returns
-returns c = simp (le-leb _ _ c.if-n-low.false)
