@@ -102,7 +102,8 @@ fn stream_case(stream: Stream) -> u64
     }
 }
 
-// The refusal as the answer that a call would give; end where the whole stream was read.
+// The refusal as the answer that a call would give; end where the whole stream was read. Here and below two arms, as `stream_number` and
+// `stream_rows` have them: a method over a closure is no plainer.
 fn refusal_of(stream: Stream) -> Answer
     ensures number { answer_number result ≡ stream_number stream }
     ensures place { answer_place result ≡ stream_place stream }

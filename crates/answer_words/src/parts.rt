@@ -22,7 +22,8 @@ fn cut_of(flag: u64, byte: ByteOffset) -> Option<ByteOffset>
     Some(byte)
 }
 
-// The refusal that the words stand for.
+// The refusal that the words stand for. That they are all there stays a demand of each function here: C lends the words, and the public
+// functions count them once.
 fn refusal_of(state: &[u64]) -> Refusal
     requires { state_word_count ≤ length state.now }
     ensures { result ≡ refusal_of state.now }

@@ -10,7 +10,7 @@ use format::Refusal;
 // How many words the answer of the byte writer has.
 pub const COUNT: usize = 5;
 
-// What writing bytes came to, as words.
+// What writing bytes came to, as words. The C interface: each list of words has columns of its own, as `batch_words` says.
 #[tactic(auto, unfolding(crate::specs::ByteRuns::byte_run_words))]
 pub(crate) fn words_of(answer: Result<Written, Refusal>) -> [u64; COUNT]
     ensures { result ≡ byte_run_words answer }

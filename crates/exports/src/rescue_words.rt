@@ -8,6 +8,7 @@ use rescue::Totals;
 // How many words it has.
 pub const COUNT: usize = 5;
 
+// The C interface: each list of words has columns of its own, as `batch_words` says.
 #[tactic(auto, unfolding(crate::specs::Rescue::rescue_words))]
 pub(crate) fn of(rescued: Result<Totals, Refusal>) -> [u64; COUNT]
     ensures { result ≡ rescue_words rescued }

@@ -9,6 +9,7 @@ use format::{Refusal, RowNumber};
 // How many words it has.
 pub const COUNT: usize = 4;
 
+// The C interface: each list of words has columns of its own, as `batch_words` says.
 #[tactic(auto, unfolding(crate::specs::Index::preview_words, crate::specs::LinedUp::spread_words))]
 pub(crate) fn of(laid: Result<RowNumber, Refusal>) -> [u64; COUNT]
     ensures preview { result ≡ preview_words laid }

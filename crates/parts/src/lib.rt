@@ -152,10 +152,10 @@ fn opened(
 {
     let h = reader.held.min(buffer.len());
     let n = part.len();
+    let all = ByteOffset { bytes: n };
     if h == 0 {
         // a run that lies whole in its part is read from there
         let a = rle_v2::read_first(part, signed, out);
-        let all = ByteOffset { bytes: n };
         let step = steps::on_part(reader, ByteOffset { bytes: 0 }, all, all, a);
         let kept = step.reader.held;
         // asked first: a copy of no bytes is a call all the same, and a step that is held over a call goes through memory
@@ -174,13 +174,8 @@ fn opened(
     // a short repeat or a direct run is never refused, only unfinished
     buffer[h..h + k].copy_from_slice(&part[..k]);
     let a = rle_v2::read_gathered(&buffer[..h + k], signed, out);
-    steps::on_part(
-        reader,
-        held,
-        ByteOffset { bytes: h + k },
-        ByteOffset { bytes: n },
-        a,
-    )
+    let seen = ByteOffset { bytes: h + k };
+    steps::on_part(reader, held, seen, all, a)
 }
 
 // One call with a part: it is taken up to the end of a run, which is handed out, or all of it; a call that refuses takes nothing. For fewer

@@ -164,7 +164,7 @@ pub(crate) fn is_cut(a: Answer) -> bool
     }
 }
 
-// Whether it reads the run.
+// Whether it reads the run. No `matches!`: the case that it leaves has no name for the proof to cite.
 pub(crate) fn is_whole(a: Answer) -> bool
     ensures { result ≡ is_whole a }
 {

@@ -1,6 +1,6 @@
 -- Demand 2: one run. The run reader answers with a run exactly when the bytes from the position on begin with the layout of a valid run
 -- description for which there is room; kind, width, rows, counts and places are then those of the description, and it is the only one.
--- "(Ok None)" is the answer exactly when there are no bytes. Stated of the promise of the run reader, for every input of bytes, position,
+-- "End" is the answer exactly when there are no bytes. Stated of the promise of the run reader, for every input of bytes, position,
 -- flag and places.
 -- Assumes nothing.
 use Rattle.std.specs.Prelude.{◌≡◌, ◌↔◌, ℕ, ◌≤◌, Bool, List, [], ◌++◌, length, drop, ℤ, None, Ok}
