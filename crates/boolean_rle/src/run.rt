@@ -4,6 +4,7 @@ ghost use Rattle.format.specs.Booleans.{bits};
 ghost use Rattle.boolean_rle.specs.Found.{found_at, bytes_at, Wrote};
 
 use crate::ByteRun;
+use util::bytes;
 
 // The run that was found at a place.
 #[derive(Clone, Copy)]
@@ -43,7 +44,7 @@ impl RunAt<'_> {
             return;
         }
         let start = at + 1 + first;
-        places.copy_from_slice(&input[start..start + count]);
+        bytes::lay(&input[start..start + count], places);
     }
 
     // The bits of some bytes, from byte `first` on, in eight places each, from k on. The control is looked at once for all: a look at it for

@@ -17,7 +17,10 @@ fn weighed(flag: u8, weight: u8) -> u8
     if flag == 0 { 0 } else { weight }
 }
 
-// The last flags, fewer than eight, as a byte. Its loop is short, so that `byte_at` is small enough to stand in every loop of `run`.
+// The last flags, fewer than eight, as a byte: once a column, and so a call of its own. In `byte_at`, which stands in every loop of `run`, its
+// slice would keep registers from those loops.
+#[cold]
+#[inline(never)]
 fn last_byte(flags: &[u8], at: usize) -> u8
     requires { (at ≤ length flags.now) × (length flags.now < at + 8) }
     ensures { result ≡ Flags.first_byte (drop at flags.now) }

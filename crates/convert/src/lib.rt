@@ -85,10 +85,15 @@ fn finish(altered: usize, at: Option<ByteOffset>) -> Result<Conversion, Refusal>
 fn walk(input: &[u8], signed: bool, room: ByteOffset, out: &mut [u8]) -> Result<Conversion, Refusal>
     ensures { Walked signed input.now room.bytes out.old out.new result }
 {
+    let start = Some(ByteOffset { bytes: 0 });
+    // before the places for a run are cleared
+    if input.is_empty() {
+        return finish(0, start);
+    }
     let mut run = turn::bytes_room();
     let mut p: usize = 0;
     let mut altered: usize = 0;
-    let mut at = Some(ByteOffset { bytes: 0 });
+    let mut at = start;
     while let Some(t) = turn::convert_run(input, ByteOffset { bytes: p }, signed, &mut run)? {
         at = lay(&run, t.given, at, room, out);
         altered += count(t.odd);

@@ -69,6 +69,10 @@ pub(crate) fn convert_run(
     ensures { StepIs signed input.now at.bytes run.new result }
 {
     let p = at.bytes;
+    // before the places for rows are cleared
+    if input.len() <= p {
+        return Ok(None);
+    }
     let mut rows = rows_room();
     let Some(r) = rle_v2::read_run(input, at, signed, &mut rows)? else {
         return Ok(None);

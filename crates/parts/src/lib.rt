@@ -6,6 +6,7 @@ ghost use Rattle.format.specs.Parts.{fresh, Takes, Closes};
 ghost use Rattle.parts.specs.Steps.{Begun, Joins, Goes, goes};
 
 use format::{ByteOffset, Kind, PartAnswer, PartReader, PartStep, Standing};
+use util::bytes;
 
 mod steps;
 
@@ -39,7 +40,7 @@ fn join(
 {
     let h = held.bytes;
     let k = more.bytes;
-    buffer[h..h + k].copy_from_slice(&part[..k]);
+    bytes::lay(&part[..k], &mut buffer[h..h + k]);
     let a = rle_v2::read_run(&buffer[..h + k], ByteOffset { bytes: 0 }, signed, out);
     steps::on_part(
         reader,
@@ -69,12 +70,34 @@ fn join_or_restore(
 {
     let h = held.bytes;
     let k = more.bytes;
-    saved[..k].copy_from_slice(&buffer[h..h + k]);
+    bytes::lay(&buffer[h..h + k], &mut saved[..k]);
     let step = join(reader, part, held, more, signed, buffer, out);
     if steps::is_refused(step) {
-        buffer[h..h + k].copy_from_slice(&saved[..k]);
+        bytes::lay(&saved[..k], &mut buffer[h..h + k]);
     }
     step
+}
+
+// The same, with so many places for what is overwritten. A call of its own: the caller would have all these places on its stack, and lay
+// zeros into them before it knows how many it wants.
+#[inline(never)]
+fn restoring_by<const N: usize>(
+    reader: PartReader,
+    part: &[u8],
+    held: ByteOffset,
+    more: ByteOffset,
+    signed: bool,
+    buffer: &mut [u8],
+    out: &mut [i64],
+) -> PartStep
+    requires in_bounds { 512 ≤ length out.old }
+    requires bytes_in_bounds { (more.bytes ≤ N) × (N ≤ 4356) }
+    requires begun { Begun reader part.now buffer.old held.bytes more.bytes }
+    ensures { Goes reader part.now buffer.old buffer.new signed out.old
+        out.new result (goes reader part.now buffer.old) }
+{
+    let mut saved = [0; N];
+    join_or_restore(reader, part, held, more, signed, buffer, &mut saved, out)
 }
 
 // Zeros are laid into the places for what is overwritten at each call, so a short part has fewer of them.
@@ -92,13 +115,10 @@ fn restoring(
     ensures { Goes reader part.now buffer.old buffer.new signed out.old
         out.new result (goes reader part.now buffer.old) }
 {
-    let k = more.bytes;
-    if k <= 128 {
-        let mut saved = [0; 128];
-        return join_or_restore(reader, part, held, more, signed, buffer, &mut saved, out);
+    if more.bytes <= 128 {
+        return restoring_by::<128>(reader, part, held, more, signed, buffer, out);
     }
-    let mut saved = [0; Kind::MAX_BYTES];
-    join_or_restore(reader, part, held, more, signed, buffer, &mut saved, out)
+    restoring_by::<{ Kind::MAX_BYTES }>(reader, part, held, more, signed, buffer, out)
 }
 
 // A patched or delta run that began before the part. If its front is held, that and the length tell whether it stays unfinished: then what
@@ -122,7 +142,7 @@ fn begun(
     if Kind::MAX_FRONT <= h {
         let a = rle_v2::measure(&buffer[..h + k], ByteOffset { bytes: 0 });
         if steps::is_cut(a) {
-            buffer[h..h + k].copy_from_slice(&part[..k]);
+            bytes::lay(&part[..k], &mut buffer[h..h + k]);
             let seen = ByteOffset { bytes: h + k };
             return steps::hold(reader, seen, ByteOffset { bytes: part.len() });
         }
@@ -158,11 +178,11 @@ fn opened(
         let a = rle_v2::read_first(part, signed, out);
         let step = steps::on_part(reader, ByteOffset { bytes: 0 }, all, all, a);
         let kept = step.reader.held;
-        // asked first: a copy of no bytes is a call all the same, and a step that is held over a call goes through memory
+        // asked first: a step that is held over a call goes through memory
         if kept == 0 {
             return step;
         }
-        buffer[..kept].copy_from_slice(&part[..kept]);
+        bytes::lay(&part[..kept], &mut buffer[..kept]);
         return step;
     }
     let held = ByteOffset { bytes: h };
@@ -172,7 +192,7 @@ fn opened(
         return begun(reader, part, held, more, signed, buffer, out);
     }
     // a short repeat or a direct run is never refused, only unfinished
-    buffer[h..h + k].copy_from_slice(&part[..k]);
+    bytes::lay(&part[..k], &mut buffer[h..h + k]);
     let a = rle_v2::read_gathered(&buffer[..h + k], signed, out);
     let seen = ByteOffset { bytes: h + k };
     steps::on_part(reader, held, seen, all, a)

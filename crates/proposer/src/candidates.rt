@@ -58,6 +58,32 @@ impl Widths {
         }
     }
 
+    // A class that one row in 64 has; and the widest, which some row needs.
+    fn choose_direct(&mut self, numbers: &[u64; 16], rows: u64) {
+        let mut seen = 0u64;
+        for (class, here) in numbers[..11].iter().enumerate() {
+            seen = seen.wrapping_add(*here);
+            self.offer(
+                class as u64,
+                is_common(*here, rows) || 0 < *here && seen == rows,
+            );
+        }
+    }
+
+    // A class that one step in 64 has, from two bits on. A step that is wider than all of these ends a run, and may be the first of the next.
+    // At 64 bits a direct run is as good.
+    fn choose_packed(&mut self, steps: &[u64; 16], uneven: u64) {
+        self.offer(0, false);
+        // steps of one bit are packed in two
+        let mut narrow = steps[0];
+        for class in 1..10 {
+            let here = steps[class].wrapping_add(narrow);
+            self.offer(class as u64, is_common(here, uneven));
+            narrow = 0;
+        }
+        self.offer(10, false);
+    }
+
     // The first that has a class.
     pub(crate) fn first(&self, class: u64) -> u64 {
         self.first >> (class % 16 * 4) & 15
@@ -81,20 +107,29 @@ impl Frames {
 }
 
 impl Candidates {
-    pub(crate) fn of(rows: &[i64], signed: bool) -> Candidates {
+    // None yet.
+    pub(crate) fn none() -> Candidates {
+        Candidates {
+            direct: Widths::none(),
+            packed: Widths::none(),
+            frames: Frames {
+                one: None,
+                two: None,
+            },
+        }
+    }
+
+    // Those of a window, chosen where they stand: a function that answered with them would have them copied, twice a window.
+    pub(crate) fn choose(&mut self, rows: &[i64], signed: bool) {
         let mut counts = Counts {
             numbers: [0; 16],
             steps: [0; 16],
         };
         let uneven = counts.take_all(rows, signed);
-        let direct = choose_direct(&counts.numbers, rows.len() as u64);
-        let packed = choose_packed(&counts.steps, uneven);
-        let frames = choose_frames(&counts.steps, uneven, direct.widest());
-        Candidates {
-            direct,
-            packed,
-            frames,
-        }
+        self.direct
+            .choose_direct(&counts.numbers, rows.len() as u64);
+        self.packed.choose_packed(&counts.steps, uneven);
+        self.frames = choose_frames(&counts.steps, uneven, self.direct.widest());
     }
 }
 
@@ -132,36 +167,6 @@ impl Counts {
 // Whether one in 64 is here.
 fn is_common(here: u64, all: u64) -> bool {
     0 < here && all <= here << 6
-}
-
-// A class that one row in 64 has; and the widest, which some row needs.
-fn choose_direct(numbers: &[u64; 16], rows: u64) -> Widths {
-    let mut chosen = Widths::none();
-    let mut seen = 0u64;
-    for (class, here) in numbers[..11].iter().enumerate() {
-        seen = seen.wrapping_add(*here);
-        chosen.offer(
-            class as u64,
-            is_common(*here, rows) || 0 < *here && seen == rows,
-        );
-    }
-    chosen
-}
-
-// A class that one step in 64 has, from two bits on. A step that is wider than all of these ends a run, and may be the first of the next.
-// At 64 bits a direct run is as good.
-fn choose_packed(steps: &[u64; 16], uneven: u64) -> Widths {
-    let mut chosen = Widths::none();
-    chosen.offer(0, false);
-    // steps of one bit are packed in two
-    let mut narrow = steps[0];
-    for class in 1..10 {
-        let here = steps[class].wrapping_add(narrow);
-        chosen.offer(class as u64, is_common(here, uneven));
-        narrow = 0;
-    }
-    chosen.offer(10, false);
-    chosen
 }
 
 // The two narrowest frames that hold every fourth step: a frame of W bits has no wider step between two of its rows. A frame as wide as

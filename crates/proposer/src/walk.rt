@@ -243,7 +243,10 @@ impl Open {
 
 // Walks over the rows of a window, row after row.
 pub(crate) fn walk(rows: &[i64], signed: bool, path: &mut Path) {
-    let candidates = Candidates::of(rows, signed);
+    let mut chosen = Candidates::none();
+    chosen.choose(rows, signed);
+    // moved, to where nothing was lent: the walk reads them at each row
+    let candidates = chosen;
     let mut open = Open::none();
     let mut steps = Steps::none();
     path.start();

@@ -1,5 +1,5 @@
 // A group: its position made plain, whether it is kept, and its rows.
-ghost use Rattle.std.specs.Prelude.{◌≡◌, Some};
+ghost use Rattle.std.specs.Prelude.{◌≡◌, length, replicate, Some};
 ghost use Rattle.batches.specs.BatchPromise.{position_in};
 ghost use Rattle.rescue.specs.Rescue.{at, made_plain, meets};
 ghost use Rattle.rescue.specs.RescueSteps.{plain_in, GroupRead, GroupRescued};
@@ -78,6 +78,15 @@ fn read_between(
     }
 }
 
+// Puts the same row into every place. By index, and no `fill` of the library: the edit short_rows_left begins one place late.
+fn fill_all(row: i64, out: &mut [i64])
+    ensures { out.new ≡ replicate (length out.old) row }
+{
+    for i in 0..out.len() {
+        out[i] = row;
+    }
+}
+
 // A group of as many rows as there are places, from its position made plain to the next one's. Answers whether it is kept: its rows are
 // then in the places, and otherwise the fill row is in each.
 pub(crate) fn rescue(
@@ -94,6 +103,6 @@ pub(crate) fn rescue(
         return true;
     }
     // overwrites what was read of a group that is cut short
-    out.fill(fill);
+    fill_all(fill, out);
     false
 }

@@ -27,7 +27,14 @@ fn not_after(p: RowPosition, q: RowPosition) -> bool
     let skip = p.skip;
     let to_run = q.run;
     let to_skip = q.skip;
-    run.bytes < to_run.bytes || run.bytes == to_run.bytes && skip.rows <= to_skip.rows
+    // three tests with a branch each, for speed: positions mostly rise by their bytes, and of `||` and `&&` all three are made for each
+    if run.bytes < to_run.bytes {
+        return true;
+    }
+    if run.bytes != to_run.bytes {
+        return false;
+    }
+    skip.rows <= to_skip.rows
 }
 
 // Whether the positions are in order: the first is (0, 0), no byte falls or passes the end, and at the same byte no skip falls. An empty

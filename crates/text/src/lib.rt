@@ -7,6 +7,8 @@ ghost use Rattle.std.specs.Prelude.{◌≡◌, ◌∷◌, [], ◌++◌, ◌+◌,
 ghost use Rattle.text.specs.Decimal.{decimal, row_text, rows_text};
 ghost use Rattle.text.specs.Written.{TextWritten};
 
+use util::bytes;
+
 // One character.
 pub fn put(c: u8, out: &mut [u8], at: usize) -> usize
     requires { at < length out.old }
@@ -22,7 +24,7 @@ pub fn put_word(word: &[u8], out: &mut [u8], at: usize) -> usize
     ensures { TextWritten word.now out.old at out.new result }
 {
     let end = at + word.len();
-    out[at..end].copy_from_slice(word);
+    bytes::lay(word, &mut out[at..end]);
     end
 }
 

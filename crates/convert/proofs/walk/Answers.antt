@@ -1,11 +1,19 @@
 -- Each turn converts one run more, or ends with what the definition says of the rest. Assumes nothing.
 use Rattle.std.proofs.lemmas.Result.{err_from_is_err_and}
-use Rattle.format.proofs.Common.{arith, rules}
+use borrow.Author.Tests.{eqb-true}
+use Rattle.format.proofs.Common.{◌∙◌, sym, length, arith, drop_of_length-le, rules}
 use Rattle.format.proofs.Below.{below_all}
 use Rattle.format.proofs.Runs.{layout-pos}
 use Rattle.convert.specs.Turn.{Turned}
 use Rattle.convert.proofs.Walks.{along-first, along-next, along-end, along-refused, counted-le, within}
 use Rattle.convert.proofs.walk.Goals as goal
+
+pub returns-then-is_empty : goal.returns-then-is_empty
+returns-then-is_empty c =
+    let a = c.args in
+    let none = eqb-true (length a.input.now) 0 (sym c.is_empty.ensures ∙ c.if-is_empty.true) in
+    rw c.finish.ensures
+    (along-end a.signed a.input.now a.room.bytes a.out.now a.out.now 0 0 _ (along-first _ _ _ _) (drop_of_length-le a.input.now {i = 0} (omega (arith, none))))
 
 pub loop-t-init : goal.loop-t-init
 loop-t-init c = along-first _ _ _ _
@@ -63,7 +71,7 @@ pub returns : goal.returns
 returns c =
     let a = c.args in
     let l = c.loop-t in
-    rw c.finish.ensures
+    rw c.finish-2.ensures
     (along-end a.signed a.input.now a.room.bytes a.out.now l.out l.p l.altered l.at l.invariant
     (rw c.in_default.is at c.in_ok-t.ensures))
 

@@ -17,7 +17,7 @@ returns-then-is_cut c =
     rw c.hold.ensures
     (waiting a.reader a.part.now a.buffer.now a.held.bytes a.more.bytes it-began buffer-bytes
     part_bytes a.signed
-    a.out.now _ (omega arith) c.measure-a.ensures (sym c.is_cut.ensures ∙ c.if-is_cut.true) _ (pasted a.buffer.now a.part.now _ a.held.bytes a.more.bytes (a.held.bytes + a.more.bytes - a.held.bytes) (omega arith) c.copy_from_slice.ensures.after))
+    a.out.now _ (omega arith) c.measure-a.ensures (sym c.is_cut.ensures ∙ c.if-is_cut.true) _ (pasted a.buffer.now a.part.now _ a.held.bytes a.more.bytes (a.held.bytes + a.more.bytes - a.held.bytes) (omega arith) c.lay.ensures))
 
 pub returns-then-buffer-ge3 : goal.returns-then-buffer-ge3
 returns-then-buffer-ge3 c =

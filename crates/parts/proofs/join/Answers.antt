@@ -16,7 +16,7 @@ returns c =
     rw c.on_part.ensures
     (crossing a.reader a.part.now a.buffer.now a.held.bytes a.more.bytes it-began buffer-bytes
     part_bytes a.signed
-    a.out.now _ _ (omega arith) _ (pasted a.buffer.now a.part.now _ a.held.bytes a.more.bytes (a.held.bytes + a.more.bytes - a.held.bytes) (omega arith) c.copy_from_slice.ensures.after) c.read_run-a.ensures)
+    a.out.now _ _ (omega arith) _ (pasted a.buffer.now a.part.now _ a.held.bytes a.more.bytes (a.held.bytes + a.more.bytes - a.held.bytes) (omega arith) c.lay.ensures) c.read_run-a.ensures)
 
 pub slice_bounds-read_run-end-2 : goal.slice_bounds-read_run-end-2
 slice_bounds-read_run-end-2 c = rw length-take (omega arith)

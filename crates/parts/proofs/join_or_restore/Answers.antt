@@ -16,11 +16,11 @@ returns-then-is_refused c =
     let a = c.args in
     put_back a.reader a.part.now a.buffer.now _ a.held.bytes a.more.bytes it-began buffer-bytes
     part_bytes a.signed
-    a.out.now _ _ c.join-step.ensures (c.copy_from_slice.new.self ++ drop a.more.bytes a.saved.now) _
+    a.out.now _ _ c.join-step.ensures (c.lay.new.to ++ drop a.more.bytes a.saved.now) _
     (copied a.buffer.now a.saved.now _ a.held.bytes a.more.bytes (a.held.bytes + a.more.bytes - a.held.bytes) (in_lent a.reader a.part.now a.buffer.now a.held.bytes a.more.bytes it-began buffer-bytes part_bytes)
-    (omega arith) c.copy_from_slice.ensures.after)
-    (pasted c.join-step.new.buffer (c.copy_from_slice.new.self ++ drop a.more.bytes a.saved.now) _ a.held.bytes a.more.bytes (a.held.bytes + a.more.bytes - a.held.bytes) (omega arith)
-    c.copy_from_slice-then-is_refused.ensures.after)
+    (omega arith) c.lay.ensures)
+    (pasted c.join-step.new.buffer (c.lay.new.to ++ drop a.more.bytes a.saved.now) _ a.held.bytes a.more.bytes (a.held.bytes + a.more.bytes - a.held.bytes) (omega arith)
+    c.lay-then-is_refused.ensures)
     (sym c.is_refused.ensures ∙ c.if-is_refused.true)
 
 pub returns-else-is_refused : goal.returns-else-is_refused

@@ -14,7 +14,7 @@ returns-then-h-eq0 c =
     let none-held : c.args.reader.held ≡ 0 = omega arith in
     let a = c.args in
     from-part a.reader none-held a.part.now a.buffer.now a.signed a.out.now _ _ _ part_bytes (omega arith) (omega arith)
-    c.read_first-a.ensures c.on_part-step.ensures _ (pasted-first a.buffer.now a.part.now _ _ c.copy_from_slice.ensures.after)
+    c.read_first-a.ensures c.on_part-step.ensures _ (pasted-first a.buffer.now a.part.now _ _ c.lay.ensures)
 
 pub returns-then-kept-eq0 : goal.returns-then-kept-eq0
 returns-then-kept-eq0 c =
@@ -40,14 +40,23 @@ returns c =
     (stays a.reader a.part.now a.buffer.now _ _ _ began buffer-bytes part_bytes a.signed a.out.now _ _
     (crossing a.reader a.part.now a.buffer.now _ _ began buffer-bytes part_bytes a.signed a.out.now _ _
     (omega arith) _
-    (pasted a.buffer.now a.part.now _ c.min-h.result c.min-k.result (c.min-h.result + c.min-k.result - c.min-h.result) (omega arith) c.copy_from_slice-2.ensures.after) c.read_gathered-a.ensures)
+    (pasted a.buffer.now a.part.now _ c.min-h.result c.min-k.result (c.min-h.result + c.min-k.result - c.min-h.result) (omega arith) c.lay-2.ensures) c.read_gathered-a.ensures)
     (not-refused a.reader a.part.now a.buffer.now _ _ began buffer-bytes part_bytes (omega arith)))
 
 pub slice_bounds-read_gathered-end-2 : goal.slice_bounds-read_gathered-end-2
 slice_bounds-read_gathered-end-2 c = rw length-take (omega arith)
 
-pub slice_bounds-copy_from_slice-end-then-h-eq0 : goal.slice_bounds-copy_from_slice-end-then-h-eq0
-slice_bounds-copy_from_slice-end-then-h-eq0 c =
+pub slice_bounds-lay-end-then-h-eq0 : goal.slice_bounds-lay-end-then-h-eq0
+slice_bounds-lay-end-then-h-eq0 c =
+    let part_bytes : AllBelow 256 c.args.part.now = below_all 256 c.args.part.now (search rules) in
+    let none-held : c.args.reader.held ≡ 0 = omega arith in
+    let a = c.args in
+    let kept = kept-part a.reader none-held a.part.now a.buffer.now a.signed a.out.now _ _ _ part_bytes (omega arith) (omega arith)
+    c.read_first-a.ensures c.on_part-step.ensures in
+    omega (arith, kept.1)
+
+pub slice_bounds-lay-end-then-h-eq0-2 : goal.slice_bounds-lay-end-then-h-eq0-2
+slice_bounds-lay-end-then-h-eq0-2 c =
     let part_bytes : AllBelow 256 c.args.part.now = below_all 256 c.args.part.now (search rules) in
     let none-held : c.args.reader.held ≡ 0 = omega arith in
     let a = c.args in
@@ -55,17 +64,8 @@ slice_bounds-copy_from_slice-end-then-h-eq0 c =
     c.read_first-a.ensures c.on_part-step.ensures in
     sym (length-take-le _ c.args.buffer.now (omega (arith, kept.1)))
 
-pub slice_bounds-copy_from_slice-end-then-h-eq0-2 : goal.slice_bounds-copy_from_slice-end-then-h-eq0-2
-slice_bounds-copy_from_slice-end-then-h-eq0-2 c =
-    let part_bytes : AllBelow 256 c.args.part.now = below_all 256 c.args.part.now (search rules) in
-    let none-held : c.args.reader.held ≡ 0 = omega arith in
-    let a = c.args in
-    let kept = kept-part a.reader none-held a.part.now a.buffer.now a.signed a.out.now _ _ _ part_bytes (omega arith) (omega arith)
-    c.read_first-a.ensures c.on_part-step.ensures in
-    sym (length-take-le _ c.args.part.now kept.0)
-
-pub copy_from_slice-requires : goal.copy_from_slice-requires
-copy_from_slice-requires c =
+pub lay-requires : goal.lay-requires
+lay-requires c =
     let part_bytes : AllBelow 256 c.args.part.now = below_all 256 c.args.part.now (search rules) in
     let none-held : c.args.reader.held ≡ 0 = omega arith in
     let a = c.args in
@@ -73,11 +73,11 @@ copy_from_slice-requires c =
     c.read_first-a.ensures c.on_part-step.ensures in
     length-take-le _ c.args.buffer.now (omega (arith, kept.1)) ∙ sym (length-take-le _ c.args.part.now kept.0)
 
-pub slice_bounds-copy_from_slice-end : goal.slice_bounds-copy_from_slice-end
-slice_bounds-copy_from_slice-end c =
+pub slice_bounds-lay-end : goal.slice_bounds-lay-end
+slice_bounds-lay-end c =
     let part_bytes : AllBelow 256 c.args.part.now = below_all 256 c.args.part.now (search rules) in
     let none-held : c.args.reader.held ≡ 0 = omega arith in
     let a = c.args in
     let kept = kept-part a.reader none-held a.part.now a.buffer.now a.signed a.out.now _ _ _ part_bytes (omega arith) (omega arith)
     c.read_first-a.ensures c.on_part-step.ensures in
-    omega (arith, kept.1)
+    sym (length-take-le _ c.args.part.now kept.0)

@@ -29,14 +29,14 @@ overflow_add-start-2 c = let a = c.args in let w = part_of a.self c.type_inv.inp
 pub overflow_add-start-3 : goal.overflow_add-start-3
 overflow_add-start-3 c = let a = c.args in let w = part_of a.self c.type_inv.input a.first a.count (omega arith) c.requires.0 in omega (arith, (w.literal c.if-input-at-lt128.false).0)
 
-pub slice_bounds-copy_from_slice-end : goal.slice_bounds-copy_from_slice-end
-slice_bounds-copy_from_slice-end c = let a = c.args in let w = part_of a.self c.type_inv.input a.first a.count (omega arith) c.requires.0 in omega (arith, (w.literal c.if-input-at-lt128.false).0)
+pub slice_bounds-lay-end : goal.slice_bounds-lay-end
+slice_bounds-lay-end c = let a = c.args in let w = part_of a.self c.type_inv.input a.first a.count (omega arith) c.requires.0 in omega (arith, (w.literal c.if-input-at-lt128.false).0)
 
 pub returns : goal.returns
 returns c = let a = c.args in let w = part_of a.self c.shared_slice_known-1.given a.first a.count (omega arith) c.requires.0 in
     let start = a.self.at + 1 + a.first in
     let there = w.literal c.if-input-at-lt128.false in
     let z : start + a.count - start ≡ a.count = omega arith in
-    let laid = rw z at c.copy_from_slice.ensures.after in
+    let laid = rw z at c.lay.ensures in
     wrote-part a.k a.count _ _ a.out.now (there.1 ∙ sym laid)
     (rw laid (length-take-le a.count _ (rw length-drop (omega (arith, there.0)))))
