@@ -17,8 +17,8 @@ fn weighed(flag: u8, weight: u8) -> u8
     if flag == 0 { 0 } else { weight }
 }
 
-// The last flags, fewer than eight, as a byte: once a column, and so a call of its own. In `byte_at`, which stands in every loop of `run`, its
-// slice would keep registers from those loops.
+// The last flags, fewer than eight, as a byte: one byte of a column, and so a call of its own. In `byte_at`, which stands in every loop of `run`,
+// its slice would keep registers from those loops.
 #[cold]
 #[inline(never)]
 fn last_byte(flags: &[u8], at: usize) -> u8
